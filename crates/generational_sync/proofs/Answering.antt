@@ -1,30 +1,26 @@
 -- How a call that no borrow hinders is answered.
 use Rattle.std.proofs.Common.{◌≡◌, ℕ, Bool, true, false, cond, not, ◌&&◌, [], ◌∷◌, Option, None, Some}
-use Rattle.std.proofs.Common.{List, refl, sym, ap, subst, ◌∙◌, inl, inr, Result, Ok, Err}
-use Rattle.std.specs.Prelude.{nat_eq, nat_lt, is_some, unwrap_or, IfErr}
+use Rattle.std.proofs.Common.{List, refl, sym, ap, subst, ◌∙◌, inl, inr}
+use Rattle.std.specs.Prelude.{nat_eq, nat_lt, is_some, unwrap_or}
 use Rattle.std.specs.Option.{option_or}
 use Rattle.std.proofs.lemmas.Bool.{true≢false, and_parts, eqb-true}
 use Rattle.std.specs.FinMap as map
 use Rattle.generational_errors.specs.declared.error.Location.{Location}
-use Rattle.generational_errors.specs.declared.error.BorrowMutError.{BorrowMutError}
-use Rattle.generational_errors.specs.declared.error.BorrowMutError.TheVariants as writes
-use Rattle.generational_errors.specs.declared.error.Refused.{Refused}
-use Rattle.generational_errors.specs.declared.error.Refused.TheVariants as refused
 use Rattle.generational_errors.specs.declared.error.StoreError.{StoreError}
 use Rattle.generational_errors.specs.declared.error.StoreError.TheVariants.{OutOfMemory}
 use Rattle.generational_errors.specs.declared.error.StoreError.TheVariants.{NumbersExhausted}
 use Rattle.generational_errors.specs.declared.error.StoreError.TheVariants.{UnknownOwner}
 use Rattle.generational_core.specs.declared.boxes.GenerationalBoxId.{GenerationalBoxId}
 use Rattle.generational_core.specs.declared.boxes.GenerationalPointer.{GenerationalPointer}
-use Rattle.generational_core.specs.Answers.{end_answer, value_at, value_behind}
-use Rattle.generational_core.specs.Boxes.{has_same_id, name_in, name_of}
+use Rattle.generational_core.specs.Answers.{value_at, value_behind}
+use Rattle.generational_core.specs.Boxes.{box_of, has_same_id, name_in, name_of}
 use Rattle.generational_core.specs.Names.{Name, NameMap, is_name}
 use Rattle.generational_core.specs.Cells.{Content, Cell, content_of, location_of}
 use Rattle.generational_core.specs.Cells.Content.{Here, Lent}
 use Rattle.generational_core.specs.Cells.Cell.{Value, Shared, Ref}
 use Rattle.generational_core.specs.State.{State, Ownership, content_at, one_less}
 use Rattle.generational_core.specs.Borrowing.{BorrowRefusal, Guard, fill, leads_to, reach, read_refusal}
-use Rattle.generational_core.specs.Borrowing.{can_read, can_write, refusal_at, refusal_to_read}
+use Rattle.generational_core.specs.Borrowing.{refusal_at, refusal_to_read}
 use Rattle.generational_core.specs.Borrowing.{refusal_to_write}
 use Rattle.generational_core.specs.Borrowing.{write_refusal}
 use Rattle.generational_core.specs.Borrowing.BorrowRefusal.{Dropped, BeingRead, BeingWritten}
@@ -34,18 +30,19 @@ use Rattle.generational_core.specs.Machine.{Action, Answer, NewNames, Outcome, O
 use Rattle.generational_core.specs.Machine.{clone_owner, is_known, own_cell, own_name, ownership}
 use Rattle.generational_core.specs.Machine.{point, read_at, refer, release_owner, set_at, turn, unless}
 use Rattle.generational_core.specs.Machine.{add_cell, knows_reader, knows_writer, make}
-use Rattle.generational_core.specs.Machine.{remove_reader, set_ownership, write_at}
+use Rattle.generational_core.specs.Machine.{set_ownership, write_at}
 use Rattle.generational_core.specs.Machine.Action.{Make, MakeShared, Refer, NewOwner, CloneOwner}
 use Rattle.generational_core.specs.Machine.Action.{ReleaseOwner, LeakOwner, Read, Write}
 use Rattle.generational_core.specs.Machine.Action.{ReleaseReader, ReleaseWriter, SetValue, End}
 use Rattle.generational_core.specs.Machine.Action.{Point, CanRead, CanWrite}
-use Rattle.generational_core.specs.Machine.Answer.{Made, Owned, Reads, Writes, Back, Done}
-use Rattle.generational_core.specs.Machine.Answer.{Old, Flag, BorrowRefused, Refused as refuses}
+use Rattle.generational_core.specs.Machine.Answer.{Made, Back, Done}
+use Rattle.generational_core.specs.Machine.Answer.{BorrowRefused, Refused as refuses}
 use Rattle.generational_core.specs.Steps.{Meets, limit_tickets, takes_ticket, last_ticket}
-use Rattle.generational_core.specs.StepCalls.{is_hindered}
-use Rattle.shared_history.specs.Replies.{set_answer}
+use Rattle.generational_core.specs.declared.steps.StepCall.{StepCall}
+use Rattle.generational_core.specs.StepCalls.{is_hindered, recorded_as}
+use Rattle.generational_core.proofs.machine.Ends.{cond_gives}
 use Rattle.generational_sync.specs.Answering.{IsOwn, IsOwnList, MayDrop, MayAnswer}
-use Rattle.generational_sync.specs.Answering.{needs_owner, needs_ticket}
+use Rattle.generational_sync.specs.Answering.{TakesTicket, needs_owner}
 
 -- what hinders an end is a borrow
 abbrev is_borrow : Option BorrowRefusal → Bool
@@ -133,23 +130,14 @@ module _ {T : Type 0} where
 
   own_here : (S : State T) (id : GenerationalBoxId) (c : Cell T)
       → own_cell S id ≡ Some c → id.store ≡ S.number
-  own_here S id c e = at (nat_eq id.store S.number) refl e
-    where
-      at : (b : Bool) → nat_eq id.store S.number ≡ b
-          → cond b (map.get S.cells (name_in id)) None ≡ Some c → id.store ≡ S.number
-      at true own e = eqb-true _ _ own
-      at false own e = absurd cc
+  own_here S id c e = eqb-true _ _
+      (cond_gives (nat_eq id.store S.number) (map.get S.cells (name_in id)) c e).0
 
   reach_here : (S : State T) (b : GenerationalPointer) (n : Name)
       → reach S b ≡ Some n → b.id.store ≡ S.number
   unfolding reach
-  reach_here S b n e = at (nat_eq b.id.store S.number) refl e
-    where
-      at : (own : Bool) → nat_eq b.id.store S.number ≡ own
-          → cond own (leads_to (map.get S.cells (name_of b)) (name_of b)) None ≡ Some n
-          → b.id.store ≡ S.number
-      at true own e = eqb-true _ _ own
-      at false own e = absurd cc
+  reach_here S b n e = eqb-true _ _ (cond_gives (nat_eq b.id.store S.number)
+      (leads_to (map.get S.cells (name_of b)) (name_of b)) n e).0
 
   -- so are what may be read, and what may be written
   readable_here : (S : State T) (b : GenerationalPointer) → refusal_to_read S b ≡ None
@@ -176,12 +164,8 @@ module _ {T : Type 0} where
   -- an owner of which there is a record
   owner_here : (S : State T) (o : OwnerName) (h : Ownership) → ownership S o ≡ Some h
       → o.store ≡ S.number
-  owner_here S o h e = at (nat_eq o.store S.number) refl e
-    where
-      at : (b : Bool) → nat_eq o.store S.number ≡ b
-          → cond b (map.get S.owners o.key) None ≡ Some h → o.store ≡ S.number
-      at true own e = eqb-true _ _ own
-      at false own e = absurd cc
+  owner_here S o h e = eqb-true _ _
+      (cond_gives (nat_eq o.store S.number) (map.get S.owners o.key) h e).0
 
   list_here : (S : State T) (o : Option OwnerName) → is_known S o ≡ true → IsOwnList S.number o
   list_here S None known = tt
@@ -203,33 +187,7 @@ module _ {T : Type 0} where
 
   abbrev Fits : State T → Action T → Outcome T → Type 0
   Fits S a out = (is_hindered a out.0 ≡ false → MayAnswer S.number a out.0)
-      × (takes_ticket out.0 ≡ true → needs_ticket a ≡ true)
-
-  -- an answer that gives a ticket tells of no borrow, and grants the call
-  ticket_free : (a : Action T) (x : Answer T) → takes_ticket x ≡ true → is_hindered a x ≡ false
-  ticket_free a (Owned o) takes = refl
-  ticket_free a (Reads g) takes = refl
-  ticket_free a (Writes g v) takes = refl
-  ticket_free a (Made b) takes = never takes
-  ticket_free a Done takes = never takes
-  ticket_free a (Old v) takes = never takes
-  ticket_free a (Flag b) takes = never takes
-  ticket_free a (Back v) takes = never takes
-  ticket_free a (BorrowRefused t) takes = never takes
-  ticket_free a (refuses e) takes = never takes
-
-  ticket_own : (number : ℕ) (a : Action T) (x : Answer T) → takes_ticket x ≡ true
-      → MayAnswer number a x → IsOwn number a
-  ticket_own number a (Owned o) takes may = may
-  ticket_own number a (Reads g) takes may = may
-  ticket_own number a (Writes g v) takes may = may
-  ticket_own number a (Made b) takes may = never takes
-  ticket_own number a Done takes may = never takes
-  ticket_own number a (Old v) takes may = never takes
-  ticket_own number a (Flag b) takes may = never takes
-  ticket_own number a (Back v) takes may = never takes
-  ticket_own number a (BorrowRefused t) takes may = never takes
-  ticket_own number a (refuses e) takes may = never takes
+      × (takes_ticket out.0 ≡ true → TakesTicket S.number a)
 
   limited_fits : (S : State T) (a : Action T) (out : Outcome T) → Fits S a out
       → is_hindered a (limit_tickets S out).0 ≡ false
@@ -239,9 +197,7 @@ module _ {T : Type 0} where
       at : (b : Bool) → (takes_ticket out.0 && nat_eq S.next last_ticket) ≡ b
           → let limited : Outcome T = cond b (refuses NumbersExhausted, S) out in
           is_hindered a limited.0 ≡ false → MayAnswer S.number a limited.0
-      at true is free =
-          let takes = (and_parts (takes_ticket out.0) _ is).0 in
-          (h.1 takes, ticket_own S.number a out.0 takes (h.0 (ticket_free a out.0 takes)))
+      at true is free = h.1 (and_parts (takes_ticket out.0) _ is).0
       at false is free = h.0 free
 
   -- an answer that takes no ticket and may always come
@@ -249,17 +205,14 @@ module _ {T : Type 0} where
       → takes_ticket out.0 ≡ false → MayAnswer S.number a out.0 → Fits S a out
   unlimited S a out none may = (λ h. may, λ h. absurd (true≢false (sym h ∙ none)))
 
+  -- what a call is answered that goes on
   made_fits : (S Q : State T) (a : Action T) (o : Option OwnerName) (n : Name) (cell : Cell T)
-      (l : Location) → IsOwn S.number a → Fits S a (make Q o n cell l)
-  made_fits S Q a o n cell l own = (λ free. own, never)
+      (l : Location) → MayAnswer S.number a (Made (box_of Q.number n l))
+      → Fits S a (make Q o n cell l)
+  made_fits S Q a o n cell l may = (λ free. may, never)
 
   done_fits : (S : State T) (a : Action T) (R : State T) → IsOwn S.number a → Fits S a (Done, R)
   done_fits S a R own = (λ free. own, never)
-
-  flag_fits : (S : State T) (a : Action T) (b : Bool) (R : State T) → IsOwn S.number a
-      → Fits S a (Flag b, R)
-  flag_fits S a true R own = (λ free. own, never)
-  flag_fits S a false R own = (λ free. tt, never)
 
   unless_fits : (S : State T) (a : Action T) (t : Option BorrowRefusal) (out : Outcome T)
       → ((k : Location) → t ≡ Some (Dropped k) → MayDrop S.number a k)
@@ -298,7 +251,7 @@ module _ {T : Type 0} where
   refer_fits : (S : State T) (o : Option OwnerName) (b : GenerationalPointer) (m : Option Name)
       (c : Option (Cell T)) (n : Name) → IsOwn {T = T} S.number (Refer o b)
       → Fits S (Refer o b) (refer S o b m c n)
-  refer_fits S o b (Some m) (Some (Shared c l)) n own = (λ free. own, never)
+  refer_fits S o b (Some m) (Some (Shared c l)) n own = (λ free. (own, refl, tt), never)
   refer_fits S o b (Some m) (Some (Value c l)) n own = (λ free. refl, never)
   refer_fits S o b (Some m) (Some (Ref k l)) n own = (λ free. refl, never)
   refer_fits S o b (Some m) None n own = (λ free. refl, never)
@@ -314,7 +267,8 @@ module _ {T : Type 0} where
   clone_fits : (S : State T) (o : OwnerName) (h : Option Ownership) → ownership S o ≡ h
       → Fits S (CloneOwner o) (clone_owner S o h)
   clone_fits S o None e = (λ free. refl, never)
-  clone_fits S o (Some h) e = (λ free. owner_here S o h e, λ takes. refl)
+  clone_fits S o (Some h) e =
+      (λ free. (owner_here S o h e, refl), λ takes. owner_here S o h e)
 
   release_fits : (S : State T) (o : OwnerName) (h : Option Ownership) → ownership S o ≡ h
       → Fits S (ReleaseOwner o) (release_owner S o h)
@@ -332,17 +286,17 @@ module _ {T : Type 0} where
 
   read_fits : (S : State T) (b : GenerationalPointer) (l : Location) (o : Option Name)
       (c : Option (Content T)) → b.id.store ≡ S.number → Fits S (Read b l) (read_at S l o c)
-  read_fits S b l None c own = (λ free. own, never)
-  read_fits S b l (Some m) None own = (λ free. own, never)
-  read_fits S b l (Some m) (Some (Lent w)) own = (λ free. own, never)
-  read_fits S b l (Some m) (Some (Here v rs)) own = (λ free. own, λ e. refl)
+  read_fits S b l None c own = (λ free. tt, never)
+  read_fits S b l (Some m) None own = (λ free. tt, never)
+  read_fits S b l (Some m) (Some (Lent w)) own = (λ free. tt, never)
+  read_fits S b l (Some m) (Some (Here v rs)) own = (λ free. (own, refl), λ takes. own)
 
   write_fits : (S : State T) (b : GenerationalPointer) (l : Location) (o : Option Name)
       (c : Option (Content T)) → b.id.store ≡ S.number → Fits S (Write b l) (write_at S l o c)
-  write_fits S b l None c own = (λ free. own, never)
-  write_fits S b l (Some m) None own = (λ free. own, never)
-  write_fits S b l (Some m) (Some (Lent w)) own = (λ free. own, never)
-  write_fits S b l (Some m) (Some (Here v rs)) own = (λ free. own, λ e. refl)
+  write_fits S b l None c own = (λ free. tt, never)
+  write_fits S b l (Some m) None own = (λ free. tt, never)
+  write_fits S b l (Some m) (Some (Lent w)) own = (λ free. tt, never)
+  write_fits S b l (Some m) (Some (Here v rs)) own = (λ free. (own, refl), λ takes. own)
 
   set_fits : (S : State T) (b : GenerationalPointer) (v : T) (o : Option Name)
       (c : Option (Content T)) → reach S b ≡ o → Fits S (SetValue b v) (set_at S b v o c)
@@ -411,101 +365,67 @@ module _ {T : Type 0} where
   pointed_fits S a b (Some (BeingRead ls)) told = (λ h. never (sym h), never)
   pointed_fits S a b (Some (BeingWritten l)) told = (λ h. never (sym h), never)
 
-  act_fits : (S : State T) (a : Action T) (f : NewNames) → Fits S a (act S a f)
-  act_fits S (Make None v l) f = (λ free. tt, never)
-  act_fits S (Make (Some o) v l) f = known_fits S (Make (Some o) v l) o _ refl
-      (made_fits S S (Make (Some o) v l) (Some o) f.first (Value (Here v []) l) l)
-  act_fits S (MakeShared None v l) f = (λ free. tt, never)
-  act_fits S (MakeShared (Some o) v l) f = known_fits S (MakeShared (Some o) v l) o _ refl
-      (made_fits S (add_cell S f.first (Shared (Here v []) l)) (MakeShared (Some o) v l) (Some o)
-      f.second (Ref f.first l) l)
-  act_fits S (Refer None b) f = referred_fits S None b f.first tt
-  act_fits S (Refer (Some o) b) f =
+  -- a recorded call
+  act_fits : (S : State T) (a : Action T) (f : NewNames) → is_some (recorded_as a) ≡ true
+      → Fits S a (act S a f)
+  act_fits S (Make None v l) f is =
+      made_fits S S (Make None v l) None f.first (Value (Here v []) l) l (tt, refl, refl)
+  act_fits S (Make (Some o) v l) f is = known_fits S (Make (Some o) v l) o _ refl
+      (λ own. made_fits S S (Make (Some o) v l) (Some o) f.first (Value (Here v []) l) l
+      (own, refl, refl))
+  act_fits S (MakeShared None v l) f is =
+      made_fits S (add_cell S f.first (Shared (Here v []) l)) (MakeShared None v l) None f.second
+      (Ref f.first l) l (tt, refl, refl)
+  act_fits S (MakeShared (Some o) v l) f is = known_fits S (MakeShared (Some o) v l) o _ refl
+      (λ own. made_fits S (add_cell S f.first (Shared (Here v []) l)) (MakeShared (Some o) v l)
+      (Some o) f.second (Ref f.first l) l (own, refl, refl))
+  act_fits S (Refer None b) f is = referred_fits S None b f.first tt
+  act_fits S (Refer (Some o) b) f is =
       known_fits S (Refer (Some o) b) o _ refl (referred_fits S (Some o) b f.first)
-  act_fits S NewOwner f = (λ free. tt, λ e. refl)
-  act_fits S (CloneOwner o) f = clone_fits S o (ownership S o) refl
-  act_fits S (ReleaseOwner o) f = release_fits S o (ownership S o) refl
-  act_fits S (LeakOwner o) f = done_fits S (LeakOwner o) S tt
-  act_fits S (Read b l) f = unless_fits S (Read b l) (refusal_to_read S b) _ (read_dropped S b)
+  act_fits S NewOwner f is = (λ free. (tt, refl), λ takes. tt)
+  act_fits S (CloneOwner o) f is = clone_fits S o (ownership S o) refl
+  act_fits S (ReleaseOwner o) f is = release_fits S o (ownership S o) refl
+  act_fits S (LeakOwner o) f is = never is
+  act_fits S (Read b l) f is = unless_fits S (Read b l) (refusal_to_read S b) _ (read_dropped S b)
       (λ free. read_fits S b l (reach S b) (content_of (cell_at S (reach S b)))
       (readable_here S b free))
-  act_fits S (Write b l) f = unless_fits S (Write b l) (refusal_to_write S b) _ (write_dropped S b)
+  act_fits S (Write b l) f is =
+      unless_fits S (Write b l) (refusal_to_write S b) _ (write_dropped S b)
       (λ free. write_fits S b l (reach S b) (content_of (cell_at S (reach S b)))
       (writable_here S b free))
-  act_fits S (ReleaseReader g) f = either_fits S (ReleaseReader g) (knows_reader S g) _ _
-      (λ known. flag_fits S (ReleaseReader g) true
-      (remove_reader S g.cell g.ticket (content_at S g.cell)) (reader_here S g known))
-      (λ free. tt, never)
-  act_fits S (ReleaseWriter g v) f = either_fits S (ReleaseWriter g v) (knows_writer S g) _ _
+  act_fits S (ReleaseReader g) f is = either_fits S (ReleaseReader g) (knows_reader S g) _ _
+      (λ known. (λ free. reader_here S g known, never)) (λ free. tt, never)
+  act_fits S (ReleaseWriter g v) f is = either_fits S (ReleaseWriter g v) (knows_writer S g) _ _
       (λ known. done_fits S (ReleaseWriter g v) (fill S g.cell (Here v [])) (writer_here S g known))
       (unlimited S (ReleaseWriter g v) (Back v, S) refl refl)
-  act_fits S (SetValue b v) f =
+  act_fits S (SetValue b v) f is =
       set_fits S b v (reach S b) (content_of (cell_at S (reach S b))) refl
-  act_fits S (End b) f = hinder_fits S (End b) (hindrance_to S (own_name S b)) _
+  act_fits S (End b) f is = hinder_fits S (End b) (hindrance_to S (own_name S b)) _
       (hindered_borrow S (own_name S b)) (done_fits S (End b) (close S (own_name S b)) tt)
-  act_fits S (Point a b) f = either_fits S (Point a b) (has_same_id a b) (Done, S) _
+  act_fits S (Point a b) f is = either_fits S (Point a b) (has_same_id a b) (Done, S) _
       (λ same. done_fits S (Point a b) S (inl same)) (pointed_fits S a b (refusal_to_read S b) refl)
-  act_fits S (CanRead b) f = flag_fits S (CanRead b) (can_read S b) S tt
-  act_fits S (CanWrite b) f = flag_fits S (CanWrite b) (can_write S b) S tt
+  act_fits S (CanRead b) f is = never is
+  act_fits S (CanWrite b) f is = never is
 
-  pub answers_so : (S R : State T) (a : Action T) (answer : Answer T) → Meets S a answer R
-      → is_hindered a answer ≡ false → MayAnswer S.number a answer
-  answers_so S R a answer (inl m) =
+  pub answers_so : (S R : State T) (a : Action T) (c : StepCall) (answer : Answer T)
+      → recorded_as a ≡ Some c → Meets S a answer R → is_hindered a answer ≡ false
+      → MayAnswer S.number a answer
+  answers_so S R a c answer asked (inl m) =
       subst (λ (o : Outcome T). is_hindered a o.0 ≡ false → MayAnswer S.number a o.0) (sym m.2)
-      (limited_fits S a _ (act_fits S a m.0))
-  answers_so S R a answer (inr m) = λ free. subst (MayAnswer S.number a) (sym m.1) tt
-
-  limited_ticket : (S : State T) (a : Action T) (out : Outcome T) → Fits S a out
-      → takes_ticket (limit_tickets S out).0 ≡ true → needs_ticket a ≡ true
-  limited_ticket S a out h = at (takes_ticket out.0 && nat_eq S.next last_ticket)
-    where
-      at : (b : Bool) → let limited : Outcome T = cond b (refuses NumbersExhausted, S) out in
-          takes_ticket limited.0 ≡ true → needs_ticket a ≡ true
-      at true = never
-      at false = h.1
-
-  -- an answer gives a ticket only where its call needs one
-  pub ticket_needed : (S R : State T) (a : Action T) (answer : Answer T) → Meets S a answer R
-      → takes_ticket answer ≡ true → needs_ticket a ≡ true
-  ticket_needed S R a answer (inl m) =
-      subst (λ (o : Outcome T). takes_ticket o.0 ≡ true → needs_ticket a ≡ true) (sym m.2)
-      (limited_ticket S a _ (act_fits S a m.0))
-  ticket_needed S R a answer (inr m) =
-      subst (λ x. takes_ticket x ≡ true → needs_ticket a ≡ true) (sym m.1) never
+      (limited_fits S a _ (act_fits S a m.0 (ap is_some asked)))
+  answers_so S R a c answer asked (inr m) = λ free. subst (MayAnswer S.number a) (sym m.1) tt
 
   -- ---- what of it the callers see
 
   -- a guard that opens something is of the store
   pub opened_own : (S : State T) (g : Guard) (v : T) → Some v ≡ value_behind S g
       → g.store ≡ S.number
-  opened_own S g v e = at (knows_reader S g) refl e
-    where
-      at : (b : Bool) → knows_reader S g ≡ b → Some v ≡ cond b (value_at S g.cell) None
-          → g.store ≡ S.number
-      at true known e = reader_here S g known
-      at false known e = absurd cc
+  opened_own S g v e =
+      reader_here S g (cond_gives (knows_reader S g) (value_at S g.cell) v (sym e)).0
 
   -- a call that needs neither a ticket nor an owner is refused for want of memory alone
-  lacks : (number : ℕ) (a : Action T) (e : StoreError) → needs_ticket a ≡ false
+  pub lacks : (number : ℕ) (a : Action T) (e : StoreError) → (TakesTicket number a → ⊥)
       → needs_owner a ≡ false → MayAnswer number a (refuses e) → e ≡ OutOfMemory
-  lacks number a OutOfMemory ticket owner h = refl
-  lacks number a NumbersExhausted ticket owner h = absurd (true≢false (sym h.0 ∙ ticket))
-  lacks number a UnknownOwner ticket owner h = absurd (true≢false (sym h ∙ owner))
-
-  -- which value was let go doesn't matter
-  pub set_may : {U : Type 0} (number : ℕ) (a : Action T) (old other : T)
-      (r : Result U (T × Refused BorrowMutError)) → MayAnswer number a (set_answer old r)
-      → MayAnswer number a (set_answer other r)
-  set_may number a old other (Ok u) may = may
-  set_may number a old other (Err e) may = may
-
--- and an end
-pub end_lacks : (T : Type 0) {U : Type 0} (number : ℕ) (b : GenerationalPointer)
-    (r : Result U (Refused BorrowMutError)) → MayAnswer {T = T} number (End b) (end_answer r)
-    → IfErr r (λ e. e ≡ refused.Store OutOfMemory)
-end_lacks T number b (Ok u) may = tt
-end_lacks T number b (Err (refused.Store e)) may =
-    ap refused.Store (lacks {T = T} number (End b) e refl refl may)
-end_lacks T number b (Err (refused.Borrow (writes.Dropped e))) may = absurd may
-end_lacks T number b (Err (refused.Borrow (writes.AlreadyBorrowed e))) may = absurd may
-end_lacks T number b (Err (refused.Borrow (writes.AlreadyBorrowedMut e))) may = absurd may
+  lacks number a OutOfMemory ticket owner may = refl
+  lacks number a NumbersExhausted ticket owner may = absurd (ticket may)
+  lacks number a UnknownOwner ticket owner may = absurd (true≢false (sym may ∙ owner))

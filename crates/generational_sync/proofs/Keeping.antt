@@ -1,46 +1,57 @@
--- What lies under the lock stays as it is kept.
-use Rattle.std.proofs.Common.{◌≡◌, ℕ, ◌+◌, ◌≤◌, ◌<◌, Bool, true, false, cond, List, [], ◌∷◌, ◌++◌}
-use Rattle.std.proofs.Common.{length, Option, None, Some, Result, Ok, Err, refl, sym, ap, subst, ◌∙◌}
+-- What lies under the lock stays as it is kept, and each call that is recorded is a step.
+use Rattle.std.proofs.Common.{◌≡◌, ℕ, ◌+◌, ◌≤◌, ◌<◌, Bool, true, false, cond, List, [], ◌∷◌}
+use Rattle.std.proofs.Common.{length, Option, None, Some, Ok, refl, sym, ap, subst, ◌∙◌}
 use Rattle.std.proofs.Common.{arith, inl, inr, IfSome}
-use Rattle.std.specs.Prelude.{OnOk, option_to_list}
-use Rattle.std.proofs.lemmas.Bool.{true≢false}
+use Rattle.std.specs.Prelude.{is_some, nat_eq, option_map, option_to_list}
+use Rattle.std.proofs.lemmas.Bool.{and_parts, true≢false}
 use Rattle.std.specs.FinMap as map
 use Rattle.generational_errors.specs.declared.error.Location.{Location}
+use Rattle.generational_errors.specs.declared.error.StoreError.TheVariants.{OutOfMemory}
+use Rattle.generational_errors.specs.declared.error.StoreError.TheVariants.{NumbersExhausted}
+use Rattle.generational_errors.specs.declared.error.StoreError.TheVariants.{UnknownOwner}
+use Rattle.generational_core.specs.declared.boxes.GenerationalBoxId.{GenerationalBoxId}
+use Rattle.generational_core.specs.declared.boxes.GenerationalPointer.{GenerationalPointer}
 use Rattle.generational_core.specs.declared.steps.StepCall.{StepCall}
 use Rattle.generational_core.specs.Names.{Name, name_cmp}
 use Rattle.generational_core.specs.Cells.{Cell}
 use Rattle.generational_core.specs.Cells.Content.{Here}
-use Rattle.generational_core.specs.State.{State, IsSound}
+use Rattle.generational_core.specs.State.{State, IsSound, content_at}
 use Rattle.generational_core.specs.Conditions.{fresh}
 use Rattle.generational_core.specs.Borrowing.{Guard, fill}
-use Rattle.generational_core.specs.Machine.{Action, Answer, Outcome, OwnerName, knows_writer}
-use Rattle.generational_core.specs.Machine.Action.{Make, MakeShared, ReleaseReader, ReleaseWriter}
-use Rattle.generational_core.specs.Machine.Answer.{Back, Done, Flag}
+use Rattle.generational_core.specs.Borrowing.BorrowRefusal.{Dropped, BeingRead, BeingWritten}
+use Rattle.generational_core.specs.Machine.{Action, Answer, Outcome, OwnerName, knows_reader}
+use Rattle.generational_core.specs.Machine.{knows_writer, remove_reader}
+use Rattle.generational_core.specs.Machine.Action.{Make, MakeShared, Refer, ReleaseReader}
+use Rattle.generational_core.specs.Machine.Action.{ReleaseWriter}
+use Rattle.generational_core.specs.Machine.Answer.{Made, Owned, Reads, Writes, Done, Old, Flag}
+use Rattle.generational_core.specs.Machine.Answer.{Back, BorrowRefused, Refused}
 use Rattle.generational_core.specs.Steps.{Meets, limit_tickets}
-use Rattle.generational_core.specs.Answers.{back_answer, value_behind}
-use Rattle.generational_core.specs.StepCalls.{is_ready, recorded_as}
+use Rattle.generational_core.specs.Answers.{value_behind}
+use Rattle.generational_core.specs.StepCalls.{is_ready, recorded_as, target_of}
 use Rattle.generational_sessions.specs.History.{plain}
 use Rattle.step_records.specs.declared.step.Step.{Step}
 use Rattle.step_records.specs.declared.step.StepReply.{StepReply}
-use Rattle.step_records.specs.Kinds.{step_of}
+use Rattle.step_records.specs.declared.step.StepReply.TheVariants as reply
+use Rattle.step_records.specs.Kinds.{kind_of}
 use Rattle.step_records.specs.Records.{HasRecord}
-use Rattle.generational_sync.specs.Answering.{MayAnswer}
-use Rattle.shared_history.specs.Replies.{recorded, reply_of}
+use Rattle.generational_sync.specs.Answering.{GivesBox, MayAnswer}
+use Rattle.shared_history.specs.Counts.{Counts}
+use Rattle.shared_history.specs.Replies.{kind_in, made_reply, raised_by, recorded, reply_of, tallied}
 use Rattle.shared_history.specs.History.{Plain, start, plain_step, replay_from}
-use Rattle.shared_history.specs.Standing.{borrows, borrows_in, given_by, leaves, lent_in}
+use Rattle.shared_history.specs.Standing.{borrows, borrows_in, ends_borrow, given_by, leaves, lent_by}
+use Rattle.shared_history.specs.Standing.{lent_in}
 use Rattle.shared_history.specs.Bases.{BaseState, new_base, plain_of}
-use Rattle.generational_sync.specs.Shared.{IsKept, Replays, SharedState}
+use Rattle.generational_sync.specs.Keeping.{IsAnswered, IsKept, IsSettled, WasAnswered, shared}
+use Rattle.generational_sync.specs.Shared.{IsStep, IsUnseenStep, Replays, SharedState, with_step}
 use Rattle.shared_history.specs.Logs.{LogState}
 use Rattle.generational_core.specs.Rows.{ReadBack, told_by}
 use Rattle.generational_sync.proofs.Trimming.{told_number, told_start}
-use Rattle.generational_sync.proofs.Answering.{answers_so, opened_own}
+use Rattle.generational_sync.proofs.Answering.{opened_own}
 use Rattle.generational_sync.proofs.Counting.{meets_fine, written_stand}
+use Rattle.generational_sync.proofs.Making.{shared_named}
+use Rattle.generational_sync.proofs.Recording.{has_record}
 use Rattle.generational_sync.proofs.Replaying.{replays_on}
-use Rattle.generational_sync.proofs.Standings.{release_stand}
-
--- the history with one step more
-abbrev pub Appended : LogState → LogState → ℕ → StepCall → StepReply → Type 0
-Appended log after worker c r = after.steps ≡ log.steps ++ step_of worker c r ∷ []
+use Rattle.generational_sync.proofs.Standings.{without_stand}
 
 no_borrows : {T : Type 0} (es : List (Name × Cell T)) → length es ≡ 0 → borrows_in es ≡ 0
 no_borrows [] e = refl
@@ -72,13 +83,92 @@ FreeAnswers T = (S R : State T) (a : Action T) (c : StepCall) (answer : Answer T
     → recorded_as a ≡ Some c → is_ready S c ≡ true → Meets S a answer R
     → MayAnswer S.number a answer
 
--- what is known of each recorded step
-abbrev KnownRecords : Type 0 → Type 0
-KnownRecords T = (number : ℕ) (S R : State T) (a : Action T) (c : StepCall) (answer : Answer T)
-    (reply : Option StepReply) → S.number ≡ number → recorded_as a ≡ Some c → is_ready S c ≡ true
-    → Meets S a answer R → reply ≡ reply_of R a answer → IfSome reply (λ r. HasRecord number c r)
+-- a step keeps the store's number
+abbrev KeepNumber : Type 0 → Type 0
+KeepNumber T = (S R : State T) (a : Action T) (answer : Answer T) → Meets S a answer R
+    → R.number ≡ S.number
+
+-- an answer is counted and kept as its record is; one that isn't recorded leaves all as it was
+record Tells {T : Type 0} (answer : Answer T) (r : Option StepReply) : Type 0 where
+  kind : option_map kind_of r ≡ kind_in answer
+  lent : lent_in r ≡ given_by answer
+  left : r ≡ None → leaves answer ≡ true
+
+-- nothing is appended where no reply is recorded
+no_step : (steps : List Step) (worker : ℕ) (c : Option StepCall) → with_step steps worker c None ≡ steps
+no_step steps worker None = refl
+no_step steps worker (Some c) = refl
 
 module _ {T : Type 0} where
+  tells : (answer : Answer T) (r : StepReply) → Some (kind_of r) ≡ kind_in answer
+      → lent_by r ≡ given_by answer → Tells answer (Some r)
+  tells answer r kind lent = record { kind = kind; lent = lent; left = λ e. absurd cc }
+
+  tells_none : (answer : Answer T) → None ≡ kind_in answer → 0 ≡ given_by answer
+      → leaves answer ≡ true → Tells answer None
+  tells_none answer kind lent left = record { kind = kind; lent = lent; left = λ e. left }
+
+  made_tells : (S R : State T) (a : Action T) (b : GenerationalPointer) → Meets S a (Made b) R
+      → GivesBox a b → Tells {T = T} (Made b) (made_reply a R b)
+  made_tells S R (Make o v l) b m gives = tells (Made b) (reply.Made b) refl refl
+  made_tells S R (Refer o c) b m gives = tells (Made b) (reply.Made b) refl refl
+  made_tells S R (MakeShared o v l) b m gives =
+      at (target_of R b) (shared_named S R o v l (Ok b) m)
+    where
+      at : (id : Option GenerationalBoxId) → is_some id ≡ true
+          → Tells {T = T} (Made b) (option_map (λ id. reply.MadeShared id b) id)
+      at (Some id) is = tells (Made b) (reply.MadeShared id b) refl refl
+      at None is = absurd (true≢false (sym is))
+  made_tells S R _ b m gives = absurd gives
+
+  told : (number : ℕ) (S R : State T) (a : Action T) (answer : Answer T) → Meets S a answer R
+      → MayAnswer number a answer → Tells answer (reply_of R a answer)
+  told number S R a (Made b) m may = made_tells S R a b m may.2
+  told number S R a (Owned o) m may = tells (Owned o) _ refl refl
+  told number S R a (Reads g) m may = tells (Reads g) _ refl refl
+  told number S R a (Writes g v) m may = tells (Writes g v) _ refl refl
+  told number S R a Done m may = tells Done _ refl refl
+  told number S R a (Old v) m may = tells (Old v) _ refl refl
+  told number S R a (Flag true) m may = tells (Flag true) _ refl refl
+  told number S R a (Flag false) m may = tells_none (Flag false) refl refl refl
+  told number S R a (Back v) m may = tells_none (Back v) refl refl refl
+  told number S R a (BorrowRefused (Dropped l)) m may = tells (BorrowRefused (Dropped l)) _ refl refl
+  told number S R a (BorrowRefused (BeingRead ls)) m may = absurd may
+  told number S R a (BorrowRefused (BeingWritten l)) m may = absurd may
+  told number S R a (Refused OutOfMemory) m may = tells_none (Refused OutOfMemory) refl refl refl
+  told number S R a (Refused NumbersExhausted) m may = tells (Refused NumbersExhausted) _ refl refl
+  told number S R a (Refused UnknownOwner) m may = tells (Refused UnknownOwner) _ refl refl
+
+  -- a borrow that was ended stood
+  stood : (S R : State T) (a : Action T) (answer : Answer T) → ends_borrow a ≡ true
+      → Meets S a answer R → is_some (reply_of R a answer) ≡ true → borrows R + 1 ≤ borrows S
+  stood S R (ReleaseReader g) answer ends (inl m) is = at (knows_reader S g) refl m.2
+    where
+      at : (b : Bool) → knows_reader S g ≡ b → (answer, R) ≡ limit_tickets S (cond b
+          (Flag true, remove_reader S g.cell g.ticket (content_at S g.cell)) (Flag false, S))
+          → borrows R + 1 ≤ borrows S
+      at true known e =
+          let after = ap (λ (o : Outcome T). borrows o.1) e in
+          let less = without_stand S g.cell g.ticket (content_at S g.cell) refl
+          (and_parts (nat_eq g.store S.number) _ known).1 in
+          omega arith
+      at false known e = absurd (true≢false (sym is
+          ∙ ap (λ (o : Outcome T). is_some (reply_of o.1 (ReleaseReader g) o.0)) e))
+  stood S R (ReleaseWriter g v) answer ends (inl m) is = at (knows_writer S g) refl m.2
+    where
+      at : (b : Bool) → knows_writer S g ≡ b → (answer, R)
+          ≡ limit_tickets S (cond b (Done, fill S g.cell (Here v [])) (Back v, S))
+          → borrows R + 1 ≤ borrows S
+      at true known e =
+          let after = ap (λ (o : Outcome T). borrows o.1) e in
+          let less = written_stand S g v known in
+          omega arith
+      at false known e = absurd (true≢false (sym is
+          ∙ ap (λ (o : Outcome T). is_some (reply_of o.1 (ReleaseWriter g v) o.0)) e))
+  stood S R a answer ends (inr m) is =
+      absurd (true≢false (sym is ∙ ap (λ x. is_some (reply_of R a x)) m.1))
+  stood S R _ answer ends (inl m) is = absurd (true≢false (sym ends))
+
   -- the base of a state that it tells, from which an empty history goes on
   pub rebased : (lead : LeadTo Sound) → LeadTo Numbered → LeadTo Started → (number : ℕ)
       (S : State T) (log after : LogState) → IsKept number S log
@@ -86,20 +176,20 @@ module _ {T : Type 0} where
       → ReadBack S after.base.rows → after.steps ≡ [] → after.standing ≡ log.standing
       → (plain_of after.base ≡ plain S) × IsKept number S after
   rebased lead numbered started number S log after kept own next peak read none stay =
-      let sound = lead (plain_of log.base) log.steps (plain S) kept.2 kept.0 in
-      let same = numbered (plain_of log.base) log.steps (plain S) kept.2 kept.0
-      ∙ (told_number log.base ∙ kept.3) in
-      let first = started (plain_of log.base) log.steps (plain S) kept.2 kept.0
+      let sound = lead (plain_of log.base) log.steps (plain S) kept.sound kept.replays in
+      let same = numbered (plain_of log.base) log.steps (plain S) kept.sound kept.replays
+      ∙ (told_number log.base ∙ kept.own) in
+      let first = started (plain_of log.base) log.steps (plain S) kept.sound kept.replays
       ∙ told_start log.base in
       let told : plain_of after.base ≡ plain S =
       (λ i. told_by ((own ∙ sym same) i) (next i) (peak i) after.base.rows) ∙ read first in (
         told,
-        (
-          ap (replay_from (plain_of after.base)) none ∙ ap Some told,
-          (let had = kept.1 in omega arith),
-          subst IsSound (sym told) sound,
-          own,
-        ),
+        record {
+          own = own;
+          sound = subst IsSound (sym told) sound;
+          replays = ap (replay_from (plain_of after.base)) none ∙ ap Some told;
+          room = (let had = kept.room in omega arith);
+        },
       )
 
   pub fresh_kept : (number : ℕ) (S : State T) (log : LogState)
@@ -108,118 +198,77 @@ module _ {T : Type 0} where
   fresh_kept number S log begins sound is based none =
       let empty = no_borrows (map.entries map.empty)
       (sym (map.len-entries map.empty) ∙ map.len-empty name_cmp (Cell T)) in
-      let few = ap borrows is in (
-        ap (λ b. replay_from (plain_of b) log.steps) based
-            ∙ (ap (replay_from (start number)) none ∙ ap Some (begins ∙ ap plain (sym is))),
-        omega arith,
-        subst (λ b. IsSound (plain_of b)) (sym based) sound,
-        ap (λ (b : BaseState). b.number) based,
-      )
+      let few = ap borrows is in record {
+        own = ap (λ (b : BaseState). b.number) based;
+        sound = subst (λ b. IsSound (plain_of b)) (sym based) sound;
+        replays = ap (λ b. replay_from (plain_of b) log.steps) based
+            ∙ (ap (replay_from (start number)) none ∙ ap Some (begins ∙ ap plain (sym is)));
+        room = omega arith;
+      }
 
-  module _ (lawful : AreLawful T) (sound : LeadTo Sound) (number : ℕ) (S R : State T)
-      (log room after : LogState) (worker : ℕ)
-      (kept : IsKept number S log) (origin : room.base ≡ log.base) (same : room.steps ≡ log.steps)
-      (onward : after.base ≡ room.base) where
-    -- the history goes on from the same state
-    begins : IsSound (plain_of after.base) × (after.base.number ≡ number)
-    begins = subst (λ b. IsSound (plain_of b) × (b.number ≡ number)) (sym (onward ∙ origin))
-        (kept.2, kept.3)
+  -- where a log has made room, and is else as it was
+  pub room_kept : {number : ℕ} {S : State T} {log room : LogState} → IsKept number S log
+      → room.base ≡ log.base → room.steps ≡ log.steps → room.standing ≡ log.standing
+      → IsKept number S room
+  room_kept {S = S} {log = log} {room = room} kept base steps stay = record {
+    own = ap (λ (b : BaseState). b.number) base ∙ kept.own;
+    sound = subst (λ b. IsSound (plain_of b)) (sym base) kept.sound;
+    replays = (λ i. replay_from (plain_of (base i)) (steps i)) ∙ kept.replays;
+    room = (let had = kept.room in omega arith);
+  }
 
-    -- the history with the recorded step replays to the state after it
-    replays : (a : Action T) (c : StepCall) (answer : Answer T) (r : StepReply)
-        → Appended room after worker c r → recorded_as a ≡ Some c → Meets S a answer R
-        → reply_of R a answer ≡ Some r → replay_from (plain_of after.base) after.steps ≡ Some (plain R)
-    replays a c answer r more e m h =
-        ap (λ b. replay_from (plain_of b) after.steps) (onward ∙ origin)
-        ∙ replays_on (plain_of log.base) log.steps room.steps after.steps S R _ kept.0 same more
-        (lawful S R a c answer r (sound (plain_of log.base) log.steps (plain S) kept.2 kept.0) e m h)
+  -- a call that the store has answered, for whose step there is room
+  abbrev pub answered : {number : ℕ} {R : State T} {log room : LogState} {c : StepCall}
+      {r : Option StepReply} (S : State T) (a : Action T) (answer : Answer T) → IsKept number S log
+      → room.base ≡ log.base → room.steps ≡ log.steps → room.standing ≡ log.standing
+      → recorded_as a ≡ Some c → is_ready S c ≡ true → Meets S a answer R → r ≡ reply_of R a answer
+      → WasAnswered number room c r R
+  answered S a answer kept base steps stay asked ready met replied = record {
+    before = S;
+    action = a;
+    answer = answer;
+    answered = record {
+      kept = room_kept kept base steps stay;
+      asked = asked;
+      ready = ready;
+      met = met;
+      replied = replied;
+    };
+  }
 
-    -- where nothing is recorded, all is as it was
-    stays : (answer : Answer T) → R ≡ S → after.steps ≡ room.steps
-        → replay_from (plain_of after.base) after.steps ≡ Some (plain R)
-    stays answer left more =
-        ap (λ b. replay_from (plain_of b) after.steps) (onward ∙ origin)
-        ∙ (ap (replay_from (plain_of log.base)) (more ∙ same)
-        ∙ (kept.0 ∙ ap (λ s. Some (plain s)) (sym left)))
+  pub room_shared : (S : State T) (log room : LogState) {old : SharedState T}
+      → room.base ≡ log.base → room.steps ≡ log.steps → shared S log ≡ old → shared S room ≡ old
+  room_shared S log room base steps view =
+      (λ i. record { state = S; base = base i; history = steps i }) ∙ view
 
-    -- any call that ends no borrow by itself, whether its answer is recorded or not
-    pub settled : (a : Action T) (c : StepCall) (answer : Answer T) (reply : Option StepReply)
-        → recorded_as a ≡ Some c → Meets S a answer R → reply ≡ reply_of R a answer
-        → lent_in reply ≡ given_by answer → (reply ≡ None → leaves answer ≡ true)
-        → room.standing ≡ log.standing
-        → after.steps ≡ recorded room.steps worker c reply
-        → after.standing ≡ room.standing + lent_in reply → IsKept number R after
-    settled a c answer (Some r) e m h lent left still more stay = (
-      replays a c answer r more e m (sym h),
-      (let had = kept.1 in let now = (meets_fine S R a answer m).0 in omega arith),
-      begins.0,
-      begins.1,
-    )
-    settled a c answer None e m h lent left still more stay =
-        let same = (meets_fine S R a answer m).1 (left refl) in (
-          stays answer same more,
-          (let had = kept.1 in let as_it_was = ap borrows same in omega arith),
-          begins.0,
-          begins.1,
-        )
+  -- a call for which the log found no room
+  pub lacked : {number : ℕ} (S : State T) (log room : LogState) {old : SharedState T}
+      {counts : Counts} {a : Action T} → room.base ≡ log.base → room.steps ≡ log.steps
+      → shared S log ≡ old → IsStep number old counts a (Refused OutOfMemory) (shared S room) counts
+  lacked {number = number} S log room {counts = counts} {a = a} base steps view =
+      subst (λ old. IsStep number old counts a (Refused OutOfMemory) (shared S room) counts) view
+      (record {
+        state = inr (refl, refl);
+        history = steps ∙ sym (no_step log.steps counts.worker (recorded_as a));
+        base = base;
+        tally = refl;
+        reply = tt;
+      })
 
-    -- the end of a borrow
-    pub settled_end : (a : Action T) (c : StepCall) (answer : Answer T) (reply : Option StepReply)
-        → recorded_as a ≡ Some c → Meets S a answer R → reply ≡ reply_of R a answer
-        → IfSome reply (λ r. borrows R + 1 ≤ borrows S) → (reply ≡ None → leaves answer ≡ true)
-        → room.standing ≡ log.standing
-        → after.steps ≡ recorded room.steps worker c reply
-        → after.standing + length (option_to_list reply) ≡ room.standing → IsKept number R after
-    settled_end a c answer (Some r) e m h ends left still more less = (
-      replays a c answer r more e m (sym h),
-      (let had = kept.1 in omega arith),
-      begins.0,
-      begins.1,
-    )
-    settled_end a c answer None e m h ends left still more less =
-        let same = (meets_fine S R a answer m).1 (left refl) in (
-          stays answer same more,
-          (let had = kept.1 in let as_it_was = ap borrows same in omega arith),
-          begins.0,
-          begins.1,
-        )
+  -- a step, where the state before it, the call and the answer are known by other names
+  pub seen : {number : ℕ} {old before new : SharedState T} {counts raised : Counts}
+      {a b : Action T} {answer told : Answer T} → old ≡ before → a ≡ b
+      → IsStep number old counts a answer new raised → answer ≡ told
+      → IsStep number before counts b told new raised
+  seen {number = number} {new = new} {counts = counts} {raised = raised} is asks step same =
+      subst (λ (p : SharedState T × Action T × Answer T). IsStep number p.0 counts p.1 p.2 new raised)
+      (λ i. (is i, asks i, same i)) step
 
-  -- a known reader's borrow stood, so there is room for the step of its release
-  pub released : (S R : State T) (g : Guard) (known : Bool) (reply : Option StepReply)
-      → Meets S (ReleaseReader g) (Flag known) R → reply ≡ reply_of R (ReleaseReader g) (Flag known)
-      → IfSome reply (λ r. borrows R + 1 ≤ borrows S)
-  released S R g true (Some r) m h = release_stand S R g m
-  released S R g true None m h = tt
-  released S R g false (Some r) m h = absurd cc
-  released S R g false None m h = tt
-
-  abbrev is_done : Answer T → Bool
-  is_done Done = true
-  is_done answer = false
-
-  -- so does a known writer's
-  written : (S R : State T) (g : Guard) (v : T)
-      → Meets S (ReleaseWriter g v) Done R → borrows R + 1 ≤ borrows S
-  written S R g v (inl m) = at (knows_writer S g) refl m.2
-    where
-      at : (b : Bool) → knows_writer S g ≡ b → (Done, R)
-          ≡ limit_tickets S (cond b (Done, fill S g.cell (Here v [])) (Back v, S))
-          → borrows R + 1 ≤ borrows S
-      at true known e =
-          let after = ap (λ (o : Outcome T). borrows o.1) e in
-          let less = written_stand S g v known in
-          omega arith
-      at false known e = absurd (true≢false (ap (λ (o : Outcome T). is_done o.0) e))
-  written S R g v (inr m) = absurd cc
-
-  pub written_released : {U : Type 0} (S R : State T) (g : Guard) (v : T) (r : Result U T)
-      (reply : Option StepReply) → Meets S (ReleaseWriter g v) (back_answer r) R
-      → reply ≡ reply_of R (ReleaseWriter g v) (back_answer r)
-      → IfSome reply (λ x. borrows R + 1 ≤ borrows S)
-  written_released S R g v (Ok u) (Some x) m h = written S R g v m
-  written_released S R g v (Ok u) None m h = tt
-  written_released S R g v (Err back) (Some x) m h = absurd cc
-  written_released S R g v (Err back) None m h = tt
+  -- a step is one of a store that isn't seen
+  pub unseen : {number : ℕ} {old new : SharedState T} {counts raised : Counts} {a : Action T}
+      {answer : Answer T} → IsStep number old counts a answer new raised
+      → IsUnseenStep number counts a answer raised
+  unseen {old = old} {new = new} step = record { old = old; new = new; step = step }
 
   -- makings that hand in a value are always ready
   pub make_ready : (S : State T) (o : Option OwnerName) (v : T) (l : Location) (c : StepCall)
@@ -232,6 +281,11 @@ module _ {T : Type 0} where
   shared_ready S None v l c e = subst (λ x. IfSome x (λ d. is_ready S d ≡ true)) e refl
   shared_ready S (Some o) v l c e = subst (λ x. IfSome x (λ d. is_ready S d ≡ true)) e refl
 
+  -- a call that is ready where the state and the call are known by other names
+  pub ready_as : {s seen : SharedState T} {c d : StepCall} → s ≡ seen → c ≡ d
+      → is_ready seen.state d ≡ true → is_ready s.state c ≡ true
+  ready_as is same ready = (λ i. is_ready (is i).state (same i)) ∙ ready
+
   -- a guard that opens something is of the store
   pub opened_by : ((base : BaseState) (steps : List Step) (Q : Plain) → IsSound (plain_of base)
       → replay_from (plain_of base) steps ≡ Some Q → Q.number ≡ base.number)
@@ -241,54 +295,119 @@ module _ {T : Type 0} where
       opened_own s.state g v e
       ∙ (lead s.base s.history (plain s.state) replays.1 replays.2 ∙ replays.0)
 
-  module _ (number : ℕ) (S R : State T) (log : LogState) (kept : IsKept number S log) where
-    -- the store has the number of its history's start
-    numbered_so : LeadTo Numbered → S.number ≡ number
-    numbered_so numbered =
-        numbered (plain_of log.base) log.steps (plain S) kept.2 kept.0
-        ∙ told_number log.base ∙ kept.3
+-- ---- a call that the store has answered
 
-    -- a call that is ready where the state is seen so is answered as it may be
-    pub answered_as : FreeAnswers T → LeadTo Numbered → (seen : State T) (a : Action T) (c : StepCall)
-        (answer : Answer T) → S ≡ seen → recorded_as a ≡ Some c → is_ready seen c ≡ true
-        → Meets S a answer R → MayAnswer number a answer
-    answered_as answers numbered seen a c answer same e ready m =
-        subst (λ n. MayAnswer n a answer) (numbered_so numbered)
-        (answers S R a c answer e (ap (λ s. is_ready s c) same ∙ ready) m)
+module _ {T : Type 0} (lawful : AreLawful T) (sound : LeadTo Sound) (numbered : LeadTo Numbered)
+    (same : KeepNumber T) (answers : FreeAnswers T) (number : ℕ) where
+  -- the store has the number of its history's start
+  own_number : (S : State T) (log : LogState) → IsKept number S log → S.number ≡ number
+  own_number S log kept = numbered (plain_of log.base) log.steps (plain S) kept.sound kept.replays
+      ∙ told_number log.base ∙ kept.own
 
-    -- the same of a call that asks for what is known by another name
-    pub answered_by : FreeAnswers T → LeadTo Numbered → {X : Type 0} (seen : State T) (x asked : X)
-        (a : X → Action T) (c : X → StepCall) (answer : Answer T) → S ≡ seen → x ≡ asked
-        → ((y : X) → recorded_as (a y) ≡ Some (c y)) → is_ready seen (c asked) ≡ true
-        → Meets S (a x) answer R → MayAnswer number (a asked) answer
-    answered_by answers numbered seen x asked a c answer same is e ready m =
-        subst (λ y. MayAnswer number (a y) answer) is
-        (answered_as answers numbered seen (a x) (c x) answer same (e x)
-        (ap (λ y. is_ready seen (c y)) is ∙ ready) m)
+  module _ (S R : State T) (log : LogState) (a : Action T) (c : StepCall) (answer : Answer T)
+      (r : Option StepReply) (it : IsAnswered number S log a c answer r R) where
+    -- it is answered as it may be
+    may : MayAnswer number a answer
+    may = subst (λ n. MayAnswer n a answer) (own_number S log it.kept)
+        (answers S R a c answer it.asked it.ready it.met)
 
-    -- and what is known of its step, if it is recorded
-    pub known_as : KnownRecords T → LeadTo Numbered → (seen : State T) (a : Action T)
-        (c : StepCall) (answer : Answer T) (reply : Option StepReply) → S ≡ seen
-        → recorded_as a ≡ Some c → is_ready seen c ≡ true → Meets S a answer R
-        → reply ≡ reply_of R a answer → IfSome reply (λ r. HasRecord number c r)
-    known_as records numbered seen a c answer reply same e ready m is =
-        records number S R a c answer reply (numbered_so numbered) e
-        (ap (λ s. is_ready s c) same ∙ ready) m is
+    -- what is known of its step, if it is recorded
+    pub known_record : IfSome r (λ x. HasRecord number c x)
+    known_record = has_record number R a c answer r
+        (same S R a answer it.met ∙ own_number S log it.kept) may it.asked it.replied
 
-    -- a guard that was known is of the store
-    pub reader_own : LeadTo Numbered → (g : Guard) (b : Bool) → Meets S (ReleaseReader g) (Flag b) R
-        → b ≡ true → g.store ≡ number
-    reader_own numbered g true m known =
-        answers_so S R (ReleaseReader g) (Flag true) m refl ∙ numbered_so numbered
-    reader_own numbered g false m known = absurd (true≢false (sym known))
+    tell : Tells answer r
+    tell = subst (Tells answer) (sym it.replied) (told number S R a answer it.met may)
 
-    pub writer_own : {U : Type 0} → LeadTo Numbered → (g : Guard) (v : T) (r : Result U T)
-        → Meets S (ReleaseWriter g v) (back_answer r) R → OnOk r (g.store ≡ number)
-    writer_own numbered g v (Ok u) m =
-        answers_so S R (ReleaseWriter g v) Done m refl ∙ numbered_so numbered
-    writer_own numbered g v (Err back) m = tt
+    -- a borrow that it ended stood
+    ended : ends_borrow a ≡ true → is_some r ≡ true → borrows R + 1 ≤ borrows S
+    ended ends is = stood S R a answer ends it.met (ap is_some (sym it.replied) ∙ is)
 
-    pub end_counts : (reply : Option StepReply) → IfSome reply (λ r. borrows R + 1 ≤ borrows S)
-        → IfSome reply (λ r. 0 < log.standing)
-    end_counts (Some r) ends = let had = kept.1 in omega arith
-    end_counts None ends = tt
+    module _ (after : LogState) (counts : Counts) (based : after.base ≡ log.base)
+        (more : after.steps ≡ recorded log.steps counts.worker c r) where
+      stepped : (raised : Counts) → raised ≡ tallied r counts
+          → IsStep number (shared S log) counts a answer (shared R after) raised
+      stepped raised count = record {
+        state = inl it.met;
+        history = more
+            ∙ (λ i. with_step log.steps counts.worker (sym it.asked i) (it.replied i));
+        base = based;
+        tally = count ∙ ap (λ k. raised_by k counts) tell.kind;
+        reply = may;
+      }
+
+      -- the history replays to the state after it
+      replays : (x : Option StepReply) → r ≡ x
+          → replay_from (plain_of after.base) after.steps ≡ Some (plain R)
+      replays (Some x) is =
+          ap (λ b. replay_from (plain_of b) after.steps) based
+          ∙ replays_on (plain_of log.base) log.steps after.steps S R _ it.kept.replays
+          (more ∙ ap (recorded log.steps counts.worker c) is)
+          (lawful S R a c answer x
+          (sound (plain_of log.base) log.steps (plain S) it.kept.sound it.kept.replays) it.asked it.met
+          (sym it.replied ∙ is))
+      replays None is =
+          ap (λ b. replay_from (plain_of b) after.steps) based
+          ∙ (ap (replay_from (plain_of log.base)) (more ∙ ap (recorded log.steps counts.worker c) is)
+          ∙ (it.kept.replays
+          ∙ ap (λ s. Some (plain s)) (sym ((meets_fine S R a answer it.met).1 (tell.left is)))))
+
+      kept_on : borrows R ≤ after.standing → IsKept number R after
+      kept_on few = record {
+        own = ap (λ (b : BaseState). b.number) based ∙ it.kept.own;
+        sound = subst (λ b. IsSound (plain_of b)) (sym based) it.kept.sound;
+        replays = replays r refl;
+        room = few;
+      }
+
+      kept_more : after.standing ≡ log.standing + lent_in r → IsKept number R after
+      kept_more stay = kept_on (
+          let had = it.kept.room in
+          let now = (meets_fine S R a answer it.met).0 in
+          let lent = tell.lent in
+          omega arith)
+
+      fewer : (x : Option StepReply) → r ≡ x → ends_borrow a ≡ true
+          → after.standing + length (option_to_list x) ≡ log.standing → borrows R ≤ after.standing
+      fewer (Some x) is ends stay =
+          let had = it.kept.room in let less = ended ends (ap is_some is) in omega arith
+      fewer None is ends stay =
+          let had = it.kept.room in
+          let same = ap borrows ((meets_fine S R a answer it.met).1 (tell.left is)) in
+          omega arith
+
+      kept_fewer : ends_borrow a ≡ true
+          → after.standing + length (option_to_list r) ≡ log.standing → IsKept number R after
+      kept_fewer ends stay = kept_on (fewer r refl ends stay)
+
+    -- there is room for the release of a borrow that stands
+    stands : (x : Option StepReply) → r ≡ x → ends_borrow a ≡ true → IfSome x (λ y. 0 < log.standing)
+    stands (Some x) is ends =
+        let had = it.kept.room in let less = ended ends (ap is_some is) in omega arith
+    stands None is ends = tt
+
+    pub has_stood : ends_borrow a ≡ true → IfSome r (λ y. 0 < log.standing)
+    has_stood = stands r refl
+
+  -- what a log and a tally come to that record it
+  module _ (R : State T) (log after : LogState) (c : StepCall) (r : Option StepReply)
+      (counts raised : Counts) (based : after.base ≡ log.base)
+      (more : after.steps ≡ recorded log.steps counts.worker c r)
+      (count : raised ≡ tallied r counts) (it : WasAnswered number log c r R) where
+    pub settled : after.standing ≡ log.standing + lent_in r
+        → IsSettled number log counts c r R after raised
+    settled stay = record {
+      kept = kept_more it.before R log it.action c it.answer r it.answered after counts based more stay;
+      step = λ w. stepped w.before R log w.action c w.answer r w.answered after counts based more raised
+          count;
+    }
+
+    pub settled_end : ends_borrow it.action ≡ true
+        → after.standing + length (option_to_list r) ≡ log.standing
+        → IsSettled number log counts c r R after raised
+    settled_end ends stay = record {
+      kept = kept_fewer it.before R log it.action c it.answer r it.answered after counts based more ends
+          stay;
+      step = λ w. stepped w.before R log w.action c w.answer r w.answered after counts based more raised
+          count;
+    }

@@ -1,17 +1,15 @@
 -- What makings give.
 use Rattle.std.proofs.Common.{◌≡◌, Bool, true, false, cond, [], ◌∷◌, Option, None, Some, refl, sym}
 use Rattle.std.proofs.Common.{ap, subst, ◌∙◌, inl, inr, Result, Ok, Err}
-use Rattle.std.specs.Prelude.{nat_eq, is_none, is_some, IfOk}
+use Rattle.std.specs.Prelude.{is_none, is_some, IfOk}
 use Rattle.std.proofs.lemmas.Bool.{eq-eqb, true≢false}
 use Rattle.generational_errors.specs.declared.error.Location.{Location}
 use Rattle.generational_errors.specs.declared.error.Refusal.{Refusal}
-use Rattle.generational_errors.specs.declared.error.StoreError.{StoreError}
-use Rattle.generational_errors.specs.declared.error.StoreError.TheVariants.{NumbersExhausted}
 use Rattle.generational_errors.specs.declared.error.StoreError.TheVariants.{UnknownOwner}
 use Rattle.generational_core.specs.declared.boxes.GenerationalBoxId.{GenerationalBoxId}
 use Rattle.generational_core.specs.declared.boxes.GenerationalPointer.{GenerationalPointer}
 use Rattle.generational_core.specs.declared.steps.StepCall.TheVariants as call
-use Rattle.generational_core.specs.Answers.{make_answer, owner_answer}
+use Rattle.generational_core.specs.Answers.{make_answer}
 use Rattle.generational_core.specs.Borrowing.{can_write, reach, refusal_at}
 use Rattle.generational_core.specs.Borrowing.{refusal_to_write, write_refusal}
 use Rattle.generational_core.specs.Borrowing.BorrowRefusal.{Dropped}
@@ -20,13 +18,13 @@ use Rattle.generational_core.specs.Names.{Name}
 use Rattle.generational_core.specs.Cells.{Content, content_of}
 use Rattle.generational_core.specs.Cells.Content.{Here, Lent}
 use Rattle.generational_core.specs.Cells.Cell.{Shared, Ref}
-use Rattle.generational_core.specs.State.{State, Ownership, content_at}
-use Rattle.generational_core.specs.Machine.{Answer, NewNames, Outcome, OwnerName, add_cell, cell_at}
-use Rattle.generational_core.specs.Machine.{clone_owner, is_known, make, ownership}
+use Rattle.generational_core.specs.State.{State, content_at}
+use Rattle.generational_core.specs.Machine.{NewNames, Outcome, OwnerName, add_cell, cell_at}
+use Rattle.generational_core.specs.Machine.{is_known, make}
 use Rattle.generational_core.specs.Machine.{set_at}
-use Rattle.generational_core.specs.Machine.Action.{CloneOwner, MakeShared, SetValue}
-use Rattle.generational_core.specs.Machine.Answer.{BorrowRefused, Made, Owned, Refused}
-use Rattle.generational_core.specs.Steps.{Meets, last_ticket, limit_tickets, no_names}
+use Rattle.generational_core.specs.Machine.Action.{MakeShared, SetValue}
+use Rattle.generational_core.specs.Machine.Answer.{BorrowRefused, Made, Refused}
+use Rattle.generational_core.specs.Steps.{Meets, limit_tickets, no_names}
 use Rattle.generational_core.specs.StepCalls.{is_ready, may_set, target_of}
 use Rattle.generational_core.proofs.maps.Maps.{by_name, get-insert_here}
 
@@ -71,36 +69,6 @@ module _ {T : Type 0} where
       → IfOk r (λ b. told ≡ target_of R b) → IfOk r (λ b. is_some told ≡ true)
   shared_is (Ok b) told R named is = ap is_some is ∙ named
   shared_is (Err e) told R named is = tt
-
-  -- a clone is the owner itself
-  abbrev is_owned : Answer T → Bool
-  is_owned (Owned o) = true
-  is_owned answer = false
-
-  abbrev owner_or : OwnerName → Answer T → OwnerName
-  owner_or o (Owned p) = p
-  owner_or o answer = o
-
-  -- what an outcome is that may be the refusal for the last ticket
-  taken : (S : State T) (last : Bool) (o p : OwnerName) (R Q : State T)
-      → ◌≡◌ {A = Outcome T} (Owned p, R) (cond last (Refused NumbersExhausted, S) (Owned o, Q))
-      → p ≡ o
-  taken S true o p R Q e = absurd (true≢false (ap (λ (out : Outcome T). is_owned out.0) e))
-  taken S false o p R Q e = ap (λ (out : Outcome T). owner_or p out.0) e
-
-  clone_same : (S R : State T) (o p : OwnerName) → Meets S (CloneOwner o) (Owned p) R → p ≡ o
-  clone_same S R o p (inl m) = at (ownership S o) m.2
-    where
-      at : (h : Option Ownership)
-          → ◌≡◌ {A = Outcome T} (Owned p, R) (limit_tickets S (clone_owner S o h)) → p ≡ o
-      at None e = absurd (true≢false (ap (λ (out : Outcome T). is_owned out.0) e))
-      at (Some h) e = taken S (nat_eq S.next last_ticket) o p R _ e
-  clone_same S R o p (inr m) = absurd cc
-
-  pub clone_kept : (S R : State T) (o : OwnerName) (r : Result OwnerName StoreError)
-      → Meets S (CloneOwner o) (owner_answer r) R → IfOk r (λ p. p ≡ o)
-  clone_kept S R o (Ok p) m = clone_same S R o p m
-  clone_kept S R o (Err e) m = tt
 
   -- a value that may be set and can't be written isn't there
   pub set_drops : (S : State T) (b : GenerationalPointer) (v : T)

@@ -2,7 +2,6 @@
 use Rattle.std.proofs.Common.{◌≡◌, ℕ, true, false, Option, None, Some, refl, sym, subst}
 use Rattle.std.proofs.Common.{IfSome}
 use Rattle.std.specs.Prelude.{option_map}
-use Rattle.std.proofs.lemmas.Bool.{true≢false}
 use Rattle.generational_errors.specs.declared.error.Location.{Location}
 use Rattle.generational_errors.specs.declared.error.StoreError.TheVariants.{OutOfMemory}
 use Rattle.generational_errors.specs.declared.error.StoreError.TheVariants.{NumbersExhausted}
@@ -22,12 +21,11 @@ use Rattle.generational_core.specs.Machine.Action.{ReleaseReader, ReleaseWriter,
 use Rattle.generational_core.specs.Machine.Action.{Point, CanRead, CanWrite}
 use Rattle.generational_core.specs.Machine.Answer.{Made, Owned, Reads, Writes, Done, Old, Flag}
 use Rattle.generational_core.specs.Machine.Answer.{Back, BorrowRefused, Refused}
-use Rattle.generational_core.specs.Steps.{takes_ticket}
 use Rattle.generational_core.specs.StepCalls.{id_of_owner, recorded_as, target_in, target_of}
 use Rattle.step_records.specs.declared.step.StepReply.{StepReply}
 use Rattle.step_records.specs.declared.step.StepReply.TheVariants as reply
 use Rattle.step_records.specs.Records.{HasDropped, HasRecord, IsShort}
-use Rattle.generational_sync.specs.Answering.{MayAnswer, needs_ticket}
+use Rattle.generational_sync.specs.Answering.{MayAnswer}
 use Rattle.shared_history.specs.Replies.{made_reply, reply_of}
 
 dropped_short : (number : ℕ) (c : StepCall) (l : Location) → IsShort c → HasDropped number c l
@@ -75,22 +73,22 @@ module _ {T : Type 0} (number : ℕ) (R : State T) where
 
   -- of one that points a box at another
   point_known : (a b : GenerationalPointer) (answer : Answer T) → MayAnswer number (Point a b) answer
-      → (takes_ticket answer ≡ true → false ≡ true) → Known (Point a b) (call.PointTo a b) answer
-  point_known a b (Made c) may none = tt
-  point_known a b (Owned o) may none = absurd (true≢false (sym (none refl)))
-  point_known a b (Reads g) may none = absurd (true≢false (sym (none refl)))
-  point_known a b (Writes g v) may none = absurd (true≢false (sym (none refl)))
-  point_known a b Done may none = tt
-  point_known a b (Old v) may none = tt
-  point_known a b (Flag true) may none = tt
-  point_known a b (Flag false) may none = tt
-  point_known a b (Back v) may none = tt
-  point_known a b (BorrowRefused (Dropped l)) may none = may
-  point_known a b (BorrowRefused (BeingRead ls)) may none = tt
-  point_known a b (BorrowRefused (BeingWritten l)) may none = tt
-  point_known a b (Refused OutOfMemory) may none = tt
-  point_known a b (Refused NumbersExhausted) may none = tt
-  point_known a b (Refused UnknownOwner) may none = tt
+      → Known (Point a b) (call.PointTo a b) answer
+  point_known a b (Made c) may = tt
+  point_known a b (Owned o) may = absurd may.0
+  point_known a b (Reads g) may = absurd may.0
+  point_known a b (Writes g v) may = absurd may.0
+  point_known a b Done may = tt
+  point_known a b (Old v) may = tt
+  point_known a b (Flag true) may = tt
+  point_known a b (Flag false) may = tt
+  point_known a b (Back v) may = tt
+  point_known a b (BorrowRefused (Dropped l)) may = may
+  point_known a b (BorrowRefused (BeingRead ls)) may = tt
+  point_known a b (BorrowRefused (BeingWritten l)) may = tt
+  point_known a b (Refused OutOfMemory) may = tt
+  point_known a b (Refused NumbersExhausted) may = tt
+  point_known a b (Refused UnknownOwner) may = tt
 
   -- what a box names is of the store
   target_here : R.number ≡ number → (b : GenerationalPointer)
@@ -117,51 +115,50 @@ module _ {T : Type 0} (number : ℕ) (R : State T) where
   -- of each call, where a box that it gives is of the store
   known : (a : Action T) (answer : Answer T) → R.number ≡ number
       → ((b : GenerationalPointer) → answer ≡ Made b → b.id.store ≡ number)
-      → MayAnswer number a answer → (takes_ticket answer ≡ true → needs_ticket a ≡ true)
+      → MayAnswer number a answer
       → IfSome (recorded_as a) (λ c. Known a c answer)
-  known (Make None v l) answer same here may ticket =
+  known (Make None v l) answer same here may =
       short_known (Make None v l) (call.Leak l) answer tt here
-  known (Make (Some o) v l) answer same here may ticket =
+  known (Make (Some o) v l) answer same here may =
       short_known (Make (Some o) v l) (call.Insert (id_of_owner o) l) answer tt here
-  known (MakeShared None v l) answer same here may ticket =
+  known (MakeShared None v l) answer same here may =
       short_known (MakeShared None v l) (call.LeakRc l) answer tt
       (λ b e. shared_known (call.LeakRc l) b (λ id own. (own, here b e)) same)
-  known (MakeShared (Some o) v l) answer same here may ticket =
+  known (MakeShared (Some o) v l) answer same here may =
       short_known (MakeShared (Some o) v l) (call.InsertRc (id_of_owner o) l) answer tt
       (λ b e. shared_known (call.InsertRc (id_of_owner o) l) b (λ id own. (own, here b e)) same)
-  known (Refer None b) answer same here may ticket =
+  known (Refer None b) answer same here may =
       short_known (Refer None b) (call.LeakReference b) answer tt here
-  known (Refer (Some o) b) answer same here may ticket =
+  known (Refer (Some o) b) answer same here may =
       short_known (Refer (Some o) b) (call.InsertReference (id_of_owner o) b) answer tt here
-  known NewOwner answer same here may ticket =
+  known NewOwner answer same here may =
       short_known NewOwner call.Owner answer tt (λ b e. tt)
-  known (CloneOwner o) answer same here may ticket =
+  known (CloneOwner o) answer same here may =
       short_known (CloneOwner o) (call.CloneOwner (id_of_owner o)) answer tt (λ b e. tt)
-  known (ReleaseOwner o) answer same here may ticket =
+  known (ReleaseOwner o) answer same here may =
       short_known (ReleaseOwner o) (call.ReleaseOwner (id_of_owner o)) answer tt (λ b e. tt)
-  known (LeakOwner o) answer same here may ticket = tt
-  known (Read b l) answer same here may ticket =
+  known (LeakOwner o) answer same here may = tt
+  known (Read b l) answer same here may =
       short_known (Read b l) (call.Read b l) answer tt (λ c e. tt)
-  known (Write b l) answer same here may ticket =
+  known (Write b l) answer same here may =
       short_known (Write b l) (call.Write b l) answer tt (λ c e. tt)
-  known (ReleaseReader g) answer same here may ticket =
+  known (ReleaseReader g) answer same here may =
       short_known (ReleaseReader g) (call.ReleaseRead g.ticket) answer tt (λ b e. tt)
-  known (ReleaseWriter g v) answer same here may ticket =
+  known (ReleaseWriter g v) answer same here may =
       short_known (ReleaseWriter g v) (call.ReleaseWrite g.ticket) answer tt (λ b e. tt)
-  known (SetValue b v) answer same here may ticket =
+  known (SetValue b v) answer same here may =
       short_known (SetValue b v) (call.Set b) answer tt (λ c e. tt)
-  known (End b) answer same here may ticket =
+  known (End b) answer same here may =
       short_known (End b) (call.ManuallyDrop b) answer tt (λ c e. tt)
-  known (Point a b) answer same here may ticket = point_known a b answer may ticket
-  known (CanRead b) answer same here may ticket = tt
-  known (CanWrite b) answer same here may ticket = tt
+  known (Point a b) answer same here may = point_known a b answer may
+  known (CanRead b) answer same here may = tt
+  known (CanWrite b) answer same here may = tt
 
   -- and so of each recorded step
   pub has_record : (a : Action T) (c : StepCall) (answer : Answer T) (r : Option StepReply)
-      → R.number ≡ number → ((b : GenerationalPointer) → answer ≡ Made b → b.id.store ≡ number)
-      → MayAnswer number a answer → (takes_ticket answer ≡ true → needs_ticket a ≡ true)
-      → recorded_as a ≡ Some c → r ≡ reply_of R a answer
-      → IfSome r (λ x. HasRecord number c x)
-  has_record a c answer r same here may ticket e is =
+      → R.number ≡ number → MayAnswer number a answer → recorded_as a ≡ Some c
+      → r ≡ reply_of R a answer → IfSome r (λ x. HasRecord number c x)
+  has_record a c answer r same may e is =
       subst (λ o. IfSome o (λ x. HasRecord number c x)) (sym is)
-      (subst (λ o. IfSome o (λ d. Known a d answer)) e (known a answer same here may ticket))
+      (subst (λ o. IfSome o (λ d. Known a d answer)) e (known a answer same
+      (λ b made. (subst (MayAnswer number a) made may).1) may))

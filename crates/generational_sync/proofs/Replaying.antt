@@ -215,10 +215,9 @@ replay_more (y ∷ ys) (Some R) P Q x e k = replay_more ys (plain_step R y.call 
 
 module _ {T : Type 0} where
   -- the history after a step more replays to the state after it
-  pub replays_on : (P : Plain) (steps kept after : List Step) (S R : State T) (x : Step)
-      → replay_from P steps ≡ Some (plain S) → kept ≡ steps → after ≡ kept ++ x ∷ []
+  pub replays_on : (P : Plain) (steps after : List Step) (S R : State T) (x : Step)
+      → replay_from P steps ≡ Some (plain S) → after ≡ steps ++ x ∷ []
       → plain_step (plain S) x.call x.reply ≡ Some (plain R)
       → replay_from P after ≡ Some (plain R)
-  replays_on P steps kept after S R x e same more k =
-      ap (replay_from P) (more ∙ ap (λ xs. xs ++ x ∷ []) same)
-      ∙ replay_more steps (Some P) (plain S) (plain R) x e k
+  replays_on P steps after S R x e more k =
+      ap (replay_from P) more ∙ replay_more steps (Some P) (plain S) (plain R) x e k

@@ -1,10 +1,10 @@
 -- How many borrows stand after a call.
 use Rattle.std.proofs.Common.{◌≡◌, ℕ, ◌+◌, ◌≤◌, Bool, true, false, cond, not, List, [], ◌∷◌}
 use Rattle.std.proofs.Common.{◌++◌, length, Option, None, Some, refl, sym, ap, ◌∙◌, arith}
-use Rattle.std.proofs.Common.{inl, inr, length-append}
+use Rattle.std.proofs.Common.{length-append}
 use Rattle.std.specs.Prelude.{nat_eq, suc, ◌||◌}
 use Rattle.std.specs.List.{list_any, filter}
-use Rattle.std.proofs.lemmas.Bool.{true≢false, and_parts}
+use Rattle.std.proofs.lemmas.Bool.{true≢false}
 use Rattle.std.proofs.lemmas.List.{length-map}
 use Rattle.std.specs.FinMap as map
 use Rattle.generational_errors.specs.declared.error.Location.{Location}
@@ -14,13 +14,11 @@ use Rattle.generational_core.specs.Cells.{Content, Cell, content_of, refill, is_
 use Rattle.generational_core.specs.Cells.Content.{Here, Lent}
 use Rattle.generational_core.specs.Cells.Cell.{Value, Shared, Ref}
 use Rattle.generational_core.specs.State.{State, tickets_of, is_named, content_at}
-use Rattle.generational_core.specs.Borrowing.{Guard, fill}
+use Rattle.generational_core.specs.Borrowing.{fill}
 use Rattle.generational_core.specs.Ending.{sweep, take_away, close}
 use Rattle.generational_core.specs.Machine.{Answer, Outcome, read_at, cell_at, has_reader}
-use Rattle.generational_core.specs.Machine.{knows_reader, remove_reader}
-use Rattle.generational_core.specs.Machine.Action.{ReleaseReader}
-use Rattle.generational_core.specs.Machine.Answer.{Reads, Done, Flag}
-use Rattle.generational_core.specs.Steps.{Meets, limit_tickets}
+use Rattle.generational_core.specs.Machine.{remove_reader}
+use Rattle.generational_core.specs.Machine.Answer.{Reads, Done}
 use Rattle.shared_history.specs.Standing.{borrows, borrows_in}
 use Rattle.generational_sync.proofs.Weighing.{borrows_retained, borrows_changed}
 
@@ -126,24 +124,3 @@ module _ {T : Type 0} where
       let less = shorter t rs h in
       let one = size_here v rs in let two = size_here v left in
       omega arith
-
-  abbrev flag_in : Answer T → Bool
-  flag_in (Flag b) = b
-  flag_in _ = false
-
-  -- a borrow that was released stood
-  pub release_stand : (S R : State T) (g : Guard)
-      → Meets S (ReleaseReader g) (Flag true) R → borrows R + 1 ≤ borrows S
-  release_stand S R g (inl m) = at (knows_reader S g) refl m.2
-    where
-      at : (b : Bool) → knows_reader S g ≡ b
-          → (Flag true, R) ≡ limit_tickets S (cond b
-          (Flag true, remove_reader S g.cell g.ticket (content_at S g.cell)) (Flag false, S))
-          → borrows R + 1 ≤ borrows S
-      at true known e =
-          let after = ap (λ (o : Outcome T). borrows o.1) e in
-          let less = without_stand S g.cell g.ticket (content_at S g.cell) refl
-          (and_parts (nat_eq g.store S.number) _ known).1 in
-          omega arith
-      at false known e = absurd (true≢false (ap (λ (o : Outcome T). flag_in o.0) e))
-  release_stand S R g (inr m) = absurd cc

@@ -7,6 +7,7 @@ use Rattle.generational_core.specs.Plain.{Plain, plain}
 use Rattle.generational_core.specs.Rows.{read_row, read_rows, rows_of}
 use Rattle.generational_core.specs.State.{State}
 use Rattle.shared_history.specs.Bases.{BaseState, Trims, all_trimmed, counts_of, plain_of}
+use Rattle.generational_sync.specs.Keeping.{shared}
 use Rattle.generational_sync.specs.Shared.{IsCheckpoint, SharedState}
 use Rattle.shared_history.specs.Logs.{LogState}
 use Rattle.shared_history.specs.declared.base.TrimmedSteps.{TrimmedSteps}
@@ -99,10 +100,15 @@ module _ (base : BaseState) (steps : List Step) (t : TrimmedSteps)
 
 -- a checkpoint, as contracts see the states before and after it
 pub checkpoint_seen : {T : Type 0} {S : State T} {old : SharedState T} (log after : LogState)
-    → record { state = S; base = log.base; history = log.steps } ≡ old → after.steps ≡ []
-    → plain_of after.base ≡ plain S → after.base.rows ≡ rows_of S
-    → Trims log.base log.steps after.base
-    → IsCheckpoint old (record { state = S; base = after.base; history = after.steps })
-checkpoint_seen {S = S} log after view none told rows trims =
-    subst (λ o. IsCheckpoint o (record { state = S; base = after.base; history = after.steps }))
-    view (record { state = refl; history = none; told = told; rows = rows; trims = trims })
+    {trimmed : ℕ} → shared S log ≡ old → after.steps ≡ [] → plain_of after.base ≡ plain S
+    → after.base.rows ≡ rows_of S → Trims log.base log.steps after.base
+    → trimmed ≡ all_trimmed after.base → IsCheckpoint old (shared S after) trimmed
+checkpoint_seen {S = S} log after {trimmed = trimmed} view none told rows trims counted =
+    subst (λ o. IsCheckpoint o (shared S after) trimmed) view (record {
+      state = refl;
+      history = none;
+      told = told;
+      rows = rows;
+      trims = trims;
+      counted = counted;
+    })

@@ -1,18 +1,26 @@
 //! Laws of histories, each the contract of a function that does nothing.
 
-ghost use Rattle.std.specs.Prelude.{◌≡◌, ℕ, IfSome, List, ◌∷◌, ◌++◌, Option, Some, true};
+ghost use Rattle.std.specs.Prelude.{◌≡◌, ℕ, Bool, true, false, List, ◌∷◌, ◌++◌, Some, Result};
+ghost use Rattle.std.specs.Result.{is_ok};
+ghost use Rattle.generational_errors.specs.declared.error.StoreError.{StoreError};
+ghost use Rattle.generational_errors.specs.declared.error.StoreError.TheVariants.{OutOfMemory};
+ghost use Rattle.generational_core.specs.Answers.{back_answer};
+ghost use Rattle.generational_core.specs.Borrowing.{Guard};
 ghost use Rattle.generational_core.specs.State.{State, IsSound};
 ghost use Rattle.generational_core.specs.Conditions.{fresh};
 ghost use Rattle.generational_core.specs.declared.steps.StepCall.{StepCall};
-ghost use Rattle.generational_core.specs.Machine.{Action, Answer};
+ghost use Rattle.generational_core.specs.Machine.{Action, Answer, knows_reader, knows_writer};
+ghost use Rattle.generational_core.specs.Machine.Action.{ReleaseReader, ReleaseWriter};
+ghost use Rattle.generational_core.specs.Machine.Answer.{Flag, Refused};
 ghost use Rattle.generational_core.specs.Steps.{Meets};
 ghost use Rattle.generational_core.specs.StepCalls.{is_ready, recorded_as};
-ghost use Rattle.step_records.specs.Records.{HasRecord};
-ghost use Rattle.generational_sync.specs.Answering.{MayAnswer};
+ghost use Rattle.generational_sync.specs.Answering.{MayAnswer, TakesTicket, needs_owner};
+ghost use Rattle.generational_sync.specs.Shared.{IsStep, SharedState};
 ghost use Rattle.generational_sessions.specs.History.{plain};
 ghost use Rattle.step_records.specs.declared.step.Step.{Step};
 ghost use Rattle.step_records.specs.declared.step.StepReply.{StepReply};
 ghost use Rattle.shared_history.specs.Bases.{BaseState, plain_of};
+ghost use Rattle.shared_history.specs.Counts.{Counts};
 ghost use Rattle.shared_history.specs.Replies.{reply_of};
 ghost use Rattle.shared_history.specs.History.{Plain, IsTaken, LeadsOver, plain_step, start};
 ghost use Rattle.shared_history.specs.History.{replay_from};
@@ -66,8 +74,9 @@ pub fn histories_lead_to_sound_states()
 }
 
 /// A call in whose way no borrow stands is granted only where the owner, the boxes and the guard by
-/// which it goes are of this store. It is refused, if it is, as `Dropped`, for the last ticket, for
-/// an owner that the store doesn't know, or for want of memory; each only where such a call may be.
+/// which it goes are of this store, and so is what it gives. It is refused, if it is, as `Dropped`,
+/// for the last ticket, for an owner that the store doesn't know, or for want of memory; each only
+/// where such a call may be.
 pub fn free_calls_are_answered_so<T>()
     ensures { (S R : State T) (action : Action T) (call : StepCall) (answer : Answer T) →
         recorded_as action ≡ Some call → is_ready S call ≡ true → Meets S action answer R →
@@ -76,15 +85,23 @@ pub fn free_calls_are_answered_so<T>()
     laws::calls_are_ready_where_no_borrow_is_told::<T>();
 }
 
-// What is known of each recorded step, so that it needn't be kept.
-pub(crate) fn steps_have_records<T>()
-    ensures { (number : ℕ) (S R : State T) (action : Action T) (call : StepCall)
-        (answer : Answer T) (reply : Option StepReply) →
-        S.number ≡ number → recorded_as action ≡ Some call → is_ready S call ≡ true →
-        Meets S action answer R → reply ≡ reply_of R action answer →
-        IfSome reply (λ r. HasRecord number call r) }
-{
-    free_calls_are_answered_so::<T>();
-    laws::boxes_and_guards_are_new::<T>();
-    laws::steps_keep_the_store::<T>();
-}
+/// The release of a guard does the machine's step, and tells whether the state knew the guard.
+pub fn releases_tell_of_guards<T>()
+    ensures reader { (number : ℕ) (old new : SharedState T) (counts raised : Counts) (g : Guard)
+        (known : Bool) → IsStep number old counts (ReleaseReader g) (Flag known) new raised →
+        Meets old.state (ReleaseReader g) (Flag known) new.state
+        × (known ≡ knows_reader old.state g) }
+    ensures writer { (number : ℕ) (old new : SharedState T) (counts raised : Counts) (g : Guard)
+        (v : T) (released : Result (Unit {0}) T) →
+        IsStep number old counts (ReleaseWriter g v) (back_answer released) new raised →
+        Meets old.state (ReleaseWriter g v) (back_answer released) new.state
+        × (is_ok released ≡ knows_writer old.state g) }
+{}
+
+/// A call that takes no ticket and goes by no owner is refused by the store for want of memory
+/// alone.
+pub fn memory_alone_may_lack<T>()
+    ensures { (number : ℕ) (action : Action T) (cause : StoreError) →
+        (TakesTicket number action → ⊥) → needs_owner action ≡ false →
+        MayAnswer number action (Refused cause) → cause ≡ OutOfMemory }
+{}

@@ -1,21 +1,26 @@
 //! What lies under the lock.
 
-ghost use Rattle.std.specs.Prelude.{◌≡◌, ◌<◌, [], IfOk, IfErr, OnOk, OnErr, option_copied};
+ghost use Rattle.std.specs.Prelude.{◌≡◌, ◌<◌, [], IfOk, IfErr, OnErr, option_copied};
 ghost use Rattle.generational_errors.specs.declared.error.StoreError.TheVariants.{OutOfMemory};
 ghost use Rattle.generational_core.specs.declared.steps.StepCall.TheVariants as call;
 ghost use Rattle.generational_core.specs.Conditions.{fresh};
 ghost use Rattle.generational_core.specs.Answers.{value_behind};
 ghost use Rattle.generational_core.specs.StepCalls.{id_of_owner, is_ready};
 ghost use Rattle.shared_history.specs.Counts.{new_tallies};
-ghost use Rattle.shared_history.specs.Bases.{IsCounted, all_trimmed, new_base};
-ghost use Rattle.generational_sync.specs.Shared.{IsCheckpoint, MayRefuseCheckpoint, Replays};
+ghost use Rattle.shared_history.specs.Bases.{IsCounted, new_base};
+ghost use Rattle.generational_sync.specs.Keeping.{HasEnded, IsSettled, WasAnswered};
+ghost use Rattle.generational_sync.specs.Shared.{IsBlank, IsCheckpoint, MayRefuseCheckpoint};
+ghost use Rattle.generational_sync.specs.Shared.{Replays};
 
 mod borrowing;
 mod ending;
 mod making;
 
 // A law does nothing when it is called: the caller's proof cites it.
-use crate::laws::{histories_lead_to_sound_states, recorded_calls_are_lawful};
+use crate::laws::{
+    free_calls_are_answered_so, histories_lead_to_sound_states, recorded_calls_are_lawful,
+};
+use generational_box::laws::steps_keep_the_store;
 use generational_box::{
     AnyStorage, GenerationalRef, Owner, StepCall, Storage, StoreError, UnsyncStorage,
 };
@@ -24,7 +29,7 @@ use shared_history::{Base, Count, Tally, tallies};
 use std::alloc::Global;
 use std::marker::Model;
 use std::sync::ledger::Blank;
-use step_records::Step;
+use step_records::{Step, StepReply};
 
 /// A store with the history of its steps. Contracts see it as the machine's state, a base and that
 /// list.
@@ -36,10 +41,12 @@ use step_records::Step;
 /// store until a checkpoint.
 ///
 /// Each call that is answered is a step of the machine, and of the tally's worker: exactly that
-/// step is appended, and exactly the count of its kind is raised by one. A call that is answered
-/// `OutOfMemory` is no step and changes nothing, and neither does the release of a guard that the
-/// store doesn't know. A step takes memory for its place in the history, so a call may also find
-/// none where the sequential store's would; `OutOfMemory` then comes in the place of any answer.
+/// step is appended, and exactly the count of its kind is raised by one; the call goes by what is
+/// of this store alone, gives what is of it, and is refused only as it may be. One word, `IsStep`,
+/// says all of this in the contract of each call. A call that is answered `OutOfMemory` is no step
+/// and changes nothing, and neither does the release of a guard that the store doesn't know. A step
+/// takes memory for its place in the history, so a call may also find none where the sequential
+/// store's would; `OutOfMemory` then comes in the place of any answer.
 #[derive(Drop)]
 pub struct SyncState<T, const NUMBER: u64, M: Count, L: Count, C: Count, R: Count> {
     store: UnsyncStorage<T>,
@@ -50,17 +57,14 @@ impl<T, const NUMBER: u64, M: Count, L: Count, C: Count, R: Count> Model
     for SyncState<T, NUMBER, M, L, C, R> {
     ghost use Rattle.std.specs.Coded.{codes};
     ghost use Rattle.std.specs.FinMap as map;
-    ghost use Rattle.generational_sync.specs.Shared.{SharedState, IsKept};
+    ghost use Rattle.generational_sync.specs.Keeping.{IsKept, shared};
+    ghost use Rattle.generational_sync.specs.Shared.{SharedState};
 
     ghost Value = { SharedState T };
 
     ghost coded = { Prim.hlevel (codes, map.code) };
 
-    ghost view = { λ s. record {
-      state = s.store.state;
-      base = s.log.base;
-      history = s.log.steps;
-    } };
+    ghost view = { λ s. shared s.store.state s.log };
 
     ghost invariant = { λ s. IsKept NUMBER s.store.state s.log };
 }
@@ -85,17 +89,10 @@ impl<T: Drop, const NUMBER: u64, M: Count, L: Count, C: Count, R: Count> SyncSta
         changed: Blank,
         refused: Blank,
     ) -> Result<(Self, Vec<Tally<M, L, C, R>>), StoreError>
-        requires some { 0 < workers }
-        requires made { (made.name ≡ M.name) × (made.parts ≡ M.parts) × (made.parts ≡ workers)
-            × (M.workers ≡ workers) }
-        requires lent { (lent.name ≡ L.name) × (lent.parts ≡ L.parts) × (lent.parts ≡ workers)
-            × (L.workers ≡ workers) }
-        requires changed { (changed.name ≡ C.name) × (changed.parts ≡ C.parts) ×
-            (changed.parts ≡ workers)
-            × (C.workers ≡ workers) }
-        requires refused { (refused.name ≡ R.name) × (refused.parts ≡ R.parts) ×
-            (refused.parts ≡ workers)
-            × (R.workers ≡ workers) }
+        requires made { IsBlank workers made M.name M.parts M.workers }
+        requires lent { IsBlank workers lent L.name L.parts L.workers }
+        requires changed { IsBlank workers changed C.name C.parts C.workers }
+        requires refused { IsBlank workers refused R.name R.parts R.workers }
         ensures fresh { IfOk result (λ r. r.0
             ≡ record { state = fresh NUMBER 1 0; base = new_base NUMBER; history = [] }) }
         ensures tallies { IfOk result (λ r. r.1.items ≡ new_tallies workers) }
@@ -122,22 +119,27 @@ impl<T: Drop, const NUMBER: u64, M: Count, L: Count, C: Count, R: Count> SyncSta
         Ok((state, tallies))
     }
 
+    /// Does nothing: whatever was called before, the history replays from the base, which tells a sound
+    /// state of this store, to the state. A caller's proof cites it.
+    pub fn history_replays(&self)
+        ensures { Replays NUMBER self.now }
+    {
+        let _ = &self.log;
+    }
+
     /// Whether no borrow stands in the call's way. A read, or a making of a reference, meets no
     /// writer; a write, or another value, no borrow; an end, or a box that is pointed elsewhere, no
     /// borrow of a value that would end. Takes no memory.
     pub fn ready(&self, call: &StepCall) -> bool
-        ensures ready { result ≡ is_ready self.now.state call.now }
-        ensures replays { Replays NUMBER self.now }
+        ensures { result ≡ is_ready self.now.state call.now }
     {
         self.store.ready(call)
     }
 
-    /// The same of an owner's release, whose record is found at once: `ready` has to look for it
-    /// among all records. Takes no memory.
+    /// Whether no borrow stands in the way of an owner's release. The record is found at once, where
+    /// `ready` has to look for it among all records. Takes no memory.
     pub fn may_release(&self, owner: &Owner) -> bool
-        ensures ready { result ≡
-            is_ready self.now.state (call.ReleaseOwner (id_of_owner owner.now)) }
-        ensures replays { Replays NUMBER self.now }
+        ensures { result ≡ is_ready self.now.state (call.ReleaseOwner (id_of_owner owner.now)) }
     {
         self.store.may_release(owner)
     }
@@ -145,8 +147,7 @@ impl<T: Drop, const NUMBER: u64, M: Count, L: Count, C: Count, R: Count> SyncSta
     /// The value that a reader's guard opens, exactly where the state knows the guard. It isn't a
     /// step. Takes no memory.
     pub fn open(&self, guard: &GenerationalRef<T>) -> Option<&T>
-        ensures opened { option_copied result ≡ value_behind self.now.state guard.now }
-        ensures replays { Replays NUMBER self.now }
+        ensures { option_copied result ≡ value_behind self.now.state guard.now }
     {
         self.store.open(guard)
     }
@@ -160,11 +161,9 @@ impl<T: Drop, const NUMBER: u64, M: Count, L: Count, C: Count, R: Count> SyncSta
     /// nothing. It takes time and memory for each slot, borrow and owner's box that there is, and
     /// the rows of the old base are kept until the new ones are made.
     pub fn checkpoint(&mut self) -> Result<u64, StoreError>
-        ensures ok { OnOk result (IsCheckpoint self.old self.new) }
-        ensures trimmed { IfOk result (λ trimmed. trimmed ≡ all_trimmed self.new.base) }
+        ensures ok { IfOk result (IsCheckpoint self.old self.new) }
         ensures err { OnErr result (self.new ≡ self.old) }
         ensures refusal { IfErr result (λ e. MayRefuseCheckpoint self.old e) }
-        ensures replays { Replays NUMBER self.new }
     {
         match self.trim() {
             Ok((trimmed, _)) => Ok(trimmed),
@@ -172,13 +171,11 @@ impl<T: Drop, const NUMBER: u64, M: Count, L: Count, C: Count, R: Count> SyncSta
         }
     }
 
-    // The same, and what is kept no more is answered too, so that it can be let go later.
+    // Makes a checkpoint, and answers what is kept no more too, so that it can be let go later.
     pub(crate) fn trim(&mut self) -> Result<(u64, Outdated), StoreError>
-        ensures ok { OnOk result (IsCheckpoint self.old self.new) }
-        ensures trimmed { IfOk result (λ r. r.0 ≡ all_trimmed self.new.base) }
+        ensures ok { IfOk result (λ r. IsCheckpoint self.old self.new r.0) }
         ensures err { OnErr result (self.new ≡ self.old) }
         ensures refusal { IfErr result (λ e. MayRefuseCheckpoint self.old e) }
-        ensures replays { Replays NUMBER self.new }
     {
         histories_lead_to_sound_states();
         let Some(steps) = self.log.trimmed_steps() else {
@@ -204,7 +201,6 @@ impl<T: Drop, const NUMBER: u64, M: Count, L: Count, C: Count, R: Count> SyncSta
         requires { whole.old.parts ≡ M.workers }
         ensures base { IfOk result (λ r. r.0 ≡ self.old.base) }
         ensures steps { IfOk result (λ r. r.1.items ≡ self.old.history) }
-        ensures replays { Replays NUMBER self.old }
         ensures counts { IsCounted whole.old self.old.base self.old.history }
         ensures state { self.new ≡ self.old }
         ensures tally { whole.new ≡ whole.old }
@@ -215,4 +211,45 @@ impl<T: Drop, const NUMBER: u64, M: Count, L: Count, C: Count, R: Count> SyncSta
             Err(_) => Err(StoreError::OutOfMemory),
         }
     }
+}
+
+// Records the step of a call that the store has answered, if its reply is one that is recorded.
+#[inline(always)]
+fn settle<T: Drop, const NUMBER: u64, M: Count, L: Count, C: Count, R: Count>(
+    store: &UnsyncStorage<T>,
+    log: &mut Log<NUMBER, M, L, C, R>,
+    call: StepCall,
+    reply: Option<StepReply>,
+    tally: &mut Tally<M, L, C, R>,
+)
+    requires room { 1 < log.old.room }
+    requires answered { WasAnswered NUMBER log.old call reply store.now.state }
+    ensures { IsSettled NUMBER log.old tally.old call reply store.now.state log.new tally.new }
+{
+    let _ = store;
+    recorded_calls_are_lawful::<T>();
+    histories_lead_to_sound_states();
+    steps_keep_the_store::<T>();
+    free_calls_are_answered_so::<T>();
+    log.settle(call, reply, tally);
+}
+
+// Records the end of a borrow, for which there is room since the borrow began.
+#[inline(always)]
+fn settle_end<T: Drop, const NUMBER: u64, M: Count, L: Count, C: Count, R: Count>(
+    store: &UnsyncStorage<T>,
+    log: &mut Log<NUMBER, M, L, C, R>,
+    call: StepCall,
+    reply: Option<StepReply>,
+    tally: &mut Tally<M, L, C, R>,
+)
+    requires { HasEnded NUMBER log.old call reply store.now.state }
+    ensures { IsSettled NUMBER log.old tally.old call reply store.now.state log.new tally.new }
+{
+    let _ = store;
+    recorded_calls_are_lawful::<T>();
+    histories_lead_to_sound_states();
+    steps_keep_the_store::<T>();
+    free_calls_are_answered_so::<T>();
+    log.settle_end(call, reply, tally);
 }

@@ -7,7 +7,7 @@ ghost use Rattle.generational_core.specs.declared.steps.StepCall.TheVariants as 
 ghost use Rattle.generational_core.specs.StepCalls.{id_of_owner, is_ready};
 ghost use Rattle.shared_history.specs.Counts.{new_tallies};
 ghost use Rattle.shared_history.specs.Bases.{IsCounted};
-ghost use Rattle.generational_sync.specs.Shared.{IsHistory, MayRefuseTrimming};
+ghost use Rattle.generational_sync.specs.Shared.{IsBlank, IsHistory, MayRefuseTrimming};
 
 mod borrowing;
 mod ending;
@@ -41,8 +41,10 @@ struct Shared<T, const NUMBER: u64, M: Count, L: Count, C: Count, R: Count> {
 /// A store that threads share: one [`SyncState`] under one lock.
 ///
 /// `NUMBER` is the store's number, by which it tells its boxes from those of other stores. Each
-/// call that takes a tally raises that tally's count of its reply's kind by one; `OutOfMemory` and
-/// the release of a guard that the store doesn't know raise none. A call waits while a borrow
+/// call that takes a tally is a step of the store, whose states its contract doesn't show: it raises
+/// that tally's count of its reply's kind by one, goes by what is of the store, gives what is of it,
+/// and is refused only as it may be. `OutOfMemory` and the release of a guard that the store doesn't
+/// know raise no count. A call waits while a borrow
 /// stands in its way, and looks at everything anew after each wake. The calls that wait are woken
 /// after each end of a borrow, of a box or of an owner, after a box is pointed elsewhere, and after
 /// a reference is made. A thread that waits for a guard of its own waits for ever. That a call that
@@ -73,17 +75,10 @@ impl<T: Drop + Send, const NUMBER: u64, M: Count, L: Count, C: Count, R: Count> 
         changed: Blank,
         refused: Blank,
     ) -> Result<(Self, Vec<Tally<M, L, C, R>>), StoreError>
-        requires some { 0 < workers }
-        requires made { (made.name ≡ M.name) × (made.parts ≡ M.parts) × (made.parts ≡ workers)
-            × (M.workers ≡ workers) }
-        requires lent { (lent.name ≡ L.name) × (lent.parts ≡ L.parts) × (lent.parts ≡ workers)
-            × (L.workers ≡ workers) }
-        requires changed { (changed.name ≡ C.name) × (changed.parts ≡ C.parts) ×
-            (changed.parts ≡ workers)
-            × (C.workers ≡ workers) }
-        requires refused { (refused.name ≡ R.name) × (refused.parts ≡ R.parts) ×
-            (refused.parts ≡ workers)
-            × (R.workers ≡ workers) }
+        requires made { IsBlank workers made M.name M.parts M.workers }
+        requires lent { IsBlank workers lent L.name L.parts L.workers }
+        requires changed { IsBlank workers changed C.name C.parts C.workers }
+        requires refused { IsBlank workers refused R.name R.parts R.workers }
         ensures tallies { IfOk result (λ r. r.1.items ≡ new_tallies workers) }
         ensures err { IfErr result (λ e. e ≡ OutOfMemory) }
     {
@@ -189,7 +184,9 @@ impl<T: Drop + Send, const NUMBER: u64, M: Count, L: Count, C: Count, R: Count> 
     {
         histories_lead_to_sound_states();
         let held = self.shared.held.lock(rt);
-        let value = held.state.open(guard)?;
+        let state = &held.state;
+        state.history_replays();
+        let value = state.open(guard)?;
         Some(f(value))
     }
 
@@ -235,7 +232,10 @@ impl<T: Drop + Send, const NUMBER: u64, M: Count, L: Count, C: Count, R: Count> 
         ensures tally { whole.new ≡ whole.old }
         ensures refusal { IfErr result (λ e. e ≡ OutOfMemory) }
     {
-        self.shared.held.lock(rt).state.audit(whole)
+        let mut held = self.shared.held.lock(rt);
+        let state = &mut held.state;
+        state.history_replays();
+        state.audit(whole)
     }
 }
 

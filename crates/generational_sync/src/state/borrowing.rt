@@ -1,27 +1,19 @@
 //! Calls that begin and end borrows, and that set a value.
 
-ghost use Rattle.std.specs.Prelude.{◌≡◌, true, IfOk, IfErr, IsTrue, OnOk};
-ghost use Rattle.std.specs.Result.{is_ok};
+ghost use Rattle.std.specs.Prelude.{◌≡◌, true, IfErr};
 ghost use Rattle.generational_core.specs.declared.boxes.GenerationalPointer.{GenerationalPointer};
 ghost use Rattle.generational_core.specs.declared.steps.StepCall.TheVariants as call;
 ghost use Rattle.generational_core.specs.Answers.{back_answer, pointer_of, read_answer};
 ghost use Rattle.generational_core.specs.Answers.{write_answer};
-ghost use Rattle.generational_core.specs.Machine.{knows_reader, knows_writer};
 ghost use Rattle.generational_core.specs.Machine.Action.{Read, ReleaseReader, ReleaseWriter};
 ghost use Rattle.generational_core.specs.Machine.Action.{SetValue, Write};
 ghost use Rattle.generational_core.specs.Machine.Answer.{Flag};
 ghost use Rattle.generational_core.specs.StepCalls.{is_ready};
 ghost use Rattle.generational_core.specs.Steps.{Meets};
-ghost use Rattle.generational_sync.specs.Answering.{MayAnswer};
-ghost use Rattle.generational_sync.specs.Shared.{Does, Raises, Records};
+ghost use Rattle.generational_sync.specs.Shared.{IsStep};
 ghost use Rattle.shared_history.specs.Replies.{set_answer};
 
-use super::SyncState;
-use crate::laws::{
-    free_calls_are_answered_so, histories_lead_to_sound_states, recorded_calls_are_lawful,
-    steps_have_records,
-};
-use generational_box::laws::boxes_and_guards_are_new;
+use super::{SyncState, settle, settle_end};
 use generational_box::{
     AnyStorage, BorrowMutError, BorrowMutResult, BorrowResult, GenerationalBox,
     GenerationalPointer, GenerationalRef, GenerationalRefMut, Location, Refused, StepCall, Storage,
@@ -53,30 +45,21 @@ impl<T: Drop, const NUMBER: u64, M: Count, L: Count, C: Count, R: Count> SyncSta
         tally: &mut Tally<M, L, C, R>,
     ) -> BorrowResult<GenerationalRef<T>>
         requires { is_ready self.old.state (call.Read (pointer_of asked) location) ≡ true }
-        ensures step { Does self.old (Read (pointer_of asked) location) (read_answer result)
-            self.new }
-        ensures guard { IfOk result (λ guard. guard.store ≡ NUMBER) }
-        ensures answer { MayAnswer {T = T} NUMBER (Read (pointer_of asked) location)
-            (read_answer result) }
-        ensures recorded { Records self.old tally.old (call.Read (pointer_of asked) location)
-            (Read (pointer_of asked) location) (read_answer result) self.new }
-        ensures tallied { Raises {T = T} tally.old (read_answer result) tally.new }
+        ensures step { IsStep NUMBER self.old tally.old (Read (pointer_of asked) location)
+            (read_answer result) self.new tally.new }
     {
-        recorded_calls_are_lawful::<T>();
-        histories_lead_to_sound_states();
-        steps_have_records::<T>();
-        free_calls_are_answered_so::<T>();
-        boxes_and_guards_are_new::<T>();
         if self.log.reserve(2).is_err() {
             return Err(Refused::Store(StoreError::OutOfMemory));
         }
         let pointer = asked.pointer();
-        let read = begin_read(&mut self.store, pointer, location);
-        self.log.settle(StepCall::Read(pointer, location), read_reply(&read), tally);
+        let call = StepCall::Read(pointer, location);
+        let read = self.store.try_read(pointer, location);
+        let reply = read_reply(&read);
+        settle(&self.store, &mut self.log, call, reply, tally);
         read
     }
 
-    /// The same as `try_read`, under the name by which the sequential store's read has a condition.
+    /// Calls `try_read`. The sequential store's `read` has a condition in place of the refusals.
     pub fn read(
         &mut self,
         asked: GenerationalBox<T>,
@@ -84,14 +67,8 @@ impl<T: Drop, const NUMBER: u64, M: Count, L: Count, C: Count, R: Count> SyncSta
         tally: &mut Tally<M, L, C, R>,
     ) -> BorrowResult<GenerationalRef<T>>
         requires { is_ready self.old.state (call.Read (pointer_of asked) location) ≡ true }
-        ensures step { Does self.old (Read (pointer_of asked) location) (read_answer result)
-            self.new }
-        ensures guard { IfOk result (λ guard. guard.store ≡ NUMBER) }
-        ensures answer { MayAnswer {T = T} NUMBER (Read (pointer_of asked) location)
-            (read_answer result) }
-        ensures recorded { Records self.old tally.old (call.Read (pointer_of asked) location)
-            (Read (pointer_of asked) location) (read_answer result) self.new }
-        ensures tallied { Raises {T = T} tally.old (read_answer result) tally.new }
+        ensures step { IsStep NUMBER self.old tally.old (Read (pointer_of asked) location)
+            (read_answer result) self.new tally.new }
     {
         self.try_read(asked, location, tally)
     }
@@ -110,34 +87,21 @@ impl<T: Drop, const NUMBER: u64, M: Count, L: Count, C: Count, R: Count> SyncSta
         tally: &mut Tally<M, L, C, R>,
     ) -> BorrowMutResult<GenerationalRefMut<T>>
         requires { is_ready self.old.state (call.Write (pointer_of asked) location) ≡ true }
-        ensures step { Does self.old (Write (pointer_of asked) location) (write_answer result)
-            self.new }
-        ensures guard { IfOk result (λ writer. writer.guard.store ≡ NUMBER) }
-        ensures answer { MayAnswer NUMBER (Write (pointer_of asked) location)
-            (write_answer result) }
-        ensures recorded { Records self.old tally.old (call.Write (pointer_of asked) location)
-            (Write (pointer_of asked) location) (write_answer result) self.new }
-        ensures tallied { Raises tally.old (write_answer result) tally.new }
+        ensures step { IsStep NUMBER self.old tally.old (Write (pointer_of asked) location)
+            (write_answer result) self.new tally.new }
     {
-        recorded_calls_are_lawful::<T>();
-        histories_lead_to_sound_states();
-        steps_have_records::<T>();
-        free_calls_are_answered_so::<T>();
         if self.log.reserve(2).is_err() {
             return Err(Refused::Store(StoreError::OutOfMemory));
         }
         let pointer = asked.pointer();
+        let call = StepCall::Write(pointer, location);
         let written = self.store.try_write(pointer, location);
-        self.log.settle(
-            StepCall::Write(pointer, location),
-            write_reply(&written),
-            tally,
-        );
+        let reply = write_reply(&written);
+        settle(&self.store, &mut self.log, call, reply, tally);
         written
     }
 
-    /// The same as `try_write`, under the name by which the sequential store's write has a
-    /// condition.
+    /// Calls `try_write`. The sequential store's `write` has a condition in place of the refusals.
     pub fn write(
         &mut self,
         asked: GenerationalBox<T>,
@@ -145,14 +109,8 @@ impl<T: Drop, const NUMBER: u64, M: Count, L: Count, C: Count, R: Count> SyncSta
         tally: &mut Tally<M, L, C, R>,
     ) -> BorrowMutResult<GenerationalRefMut<T>>
         requires { is_ready self.old.state (call.Write (pointer_of asked) location) ≡ true }
-        ensures step { Does self.old (Write (pointer_of asked) location) (write_answer result)
-            self.new }
-        ensures guard { IfOk result (λ writer. writer.guard.store ≡ NUMBER) }
-        ensures answer { MayAnswer NUMBER (Write (pointer_of asked) location)
-            (write_answer result) }
-        ensures recorded { Records self.old tally.old (call.Write (pointer_of asked) location)
-            (Write (pointer_of asked) location) (write_answer result) self.new }
-        ensures tallied { Raises tally.old (write_answer result) tally.new }
+        ensures step { IsStep NUMBER self.old tally.old (Write (pointer_of asked) location)
+            (write_answer result) self.new tally.new }
     {
         self.try_write(asked, location, tally)
     }
@@ -161,19 +119,13 @@ impl<T: Drop, const NUMBER: u64, M: Count, L: Count, C: Count, R: Count> SyncSta
     /// spent and nothing changes. Never refused, and takes no memory: the step's room was reserved
     /// when the guard was given.
     pub fn release_read(&mut self, guard: GenerationalRef<T>, tally: &mut Tally<M, L, C, R>) -> bool
-        ensures step { Meets self.old.state (ReleaseReader guard) (Flag result) self.new.state }
-        ensures known { result ≡ knows_reader self.old.state guard }
-        ensures own { IsTrue result → guard.store ≡ NUMBER }
-        ensures recorded { Records self.old tally.old (call.ReleaseRead guard.ticket)
-            (ReleaseReader guard) (Flag result) self.new }
-        ensures tallied { Raises {T = T} tally.old (Flag result) tally.new }
+        ensures step { IsStep NUMBER self.old tally.old (ReleaseReader guard) (Flag result) self.new
+            tally.new }
     {
-        recorded_calls_are_lawful::<T>();
-        histories_lead_to_sound_states();
-        steps_have_records::<T>();
         let call = StepCall::ReleaseRead(guard.ticket());
         let known = self.store.release_read(guard);
-        self.log.settle_end(call, flag_reply::<T>(known), tally);
+        let reply = flag_reply::<T>(known);
+        settle_end(&self.store, &mut self.log, call, reply, tally);
         known
     }
 
@@ -185,21 +137,13 @@ impl<T: Drop, const NUMBER: u64, M: Count, L: Count, C: Count, R: Count> SyncSta
         guard: GenerationalRefMut<T>,
         tally: &mut Tally<M, L, C, R>,
     ) -> Result<(), T>
-        ensures step { Meets self.old.state (ReleaseWriter guard.guard guard.value)
-            (back_answer result) self.new.state }
-        ensures known { is_ok result ≡ knows_writer self.old.state guard.guard }
-        ensures own { OnOk result (guard.guard.store ≡ NUMBER) }
-        ensures back { IfErr result (λ value. value ≡ guard.value) }
-        ensures recorded { Records self.old tally.old (call.ReleaseWrite guard.guard.ticket)
-            (ReleaseWriter guard.guard guard.value) (back_answer result) self.new }
-        ensures tallied { Raises tally.old (back_answer result) tally.new }
+        ensures step { IsStep NUMBER self.old tally.old (ReleaseWriter guard.guard guard.value)
+            (back_answer result) self.new tally.new }
     {
-        recorded_calls_are_lawful::<T>();
-        histories_lead_to_sound_states();
-        steps_have_records::<T>();
         let call = StepCall::ReleaseWrite(guard.ticket());
         let released = self.store.release_write(guard);
-        self.log.settle_end(call, back_reply(&released), tally);
+        let reply = back_reply(&released);
+        settle_end(&self.store, &mut self.log, call, reply, tally);
         released
     }
 
@@ -218,39 +162,20 @@ impl<T: Drop, const NUMBER: u64, M: Count, L: Count, C: Count, R: Count> SyncSta
         tally: &mut Tally<M, L, C, R>,
     ) -> Result<(), (T, Refused<BorrowMutError>)>
         requires { is_ready self.old.state (call.Set (pointer_of asked)) ≡ true }
-        ensures step { (old : T) × Does self.old (SetValue (pointer_of asked) value)
-            (set_answer old result) self.new }
+        ensures step { (old : T) × IsStep NUMBER self.old tally.old
+            (SetValue (pointer_of asked) value) (set_answer old result) self.new tally.new }
         ensures back { IfErr result (λ e. e.0 ≡ value) }
-        ensures answer { MayAnswer NUMBER (SetValue (pointer_of asked) value)
-            (set_answer value result) }
-        ensures recorded { Records self.old tally.old (call.Set (pointer_of asked))
-            (SetValue (pointer_of asked) value) (set_answer value result) self.new }
-        ensures tallied { Raises tally.old (set_answer value result) tally.new }
     {
-        recorded_calls_are_lawful::<T>();
-        histories_lead_to_sound_states();
-        steps_have_records::<T>();
-        free_calls_are_answered_so::<T>();
         if self.log.reserve(2).is_err() {
             return Err((value, Refused::Store(StoreError::OutOfMemory)));
         }
         let pointer = asked.pointer();
+        let call = StepCall::Set(pointer);
         let set = set_value(&mut self.store, pointer, value);
-        self.log
-            .settle(StepCall::Set(pointer), set_reply(&set), tally);
+        let reply = set_reply(&set);
+        settle(&self.store, &mut self.log, call, reply, tally);
         set
     }
-}
-
-// Begins a read in the store, before it is recorded.
-fn begin_read<T: Drop>(
-    store: &mut UnsyncStorage<T>,
-    asked: GenerationalPointer,
-    location: Location,
-) -> BorrowResult<GenerationalRef<T>>
-    ensures { Meets store.old.state (Read asked location) (read_answer result) store.new.state }
-{
-    store.try_read(asked, location)
 }
 
 // Sets the value that the box reaches, where no borrow stands at it.

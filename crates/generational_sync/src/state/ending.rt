@@ -1,20 +1,13 @@
 //! Calls that end boxes and owners, and that let a reference lead elsewhere.
 
 ghost use Rattle.std.specs.Prelude.{◌≡◌, true, IfErr};
-ghost use Rattle.generational_errors.specs.declared.error.Refused.TheVariants as refused;
-ghost use Rattle.generational_errors.specs.declared.error.StoreError.TheVariants.{OutOfMemory};
 ghost use Rattle.generational_core.specs.declared.steps.StepCall.TheVariants as call;
 ghost use Rattle.generational_core.specs.Answers.{end_answer, pointer_of, release_answer};
 ghost use Rattle.generational_core.specs.Machine.Action.{End, Point, ReleaseOwner};
 ghost use Rattle.generational_core.specs.StepCalls.{id_of_owner, is_ready};
-ghost use Rattle.generational_sync.specs.Answering.{MayAnswer};
-ghost use Rattle.generational_sync.specs.Shared.{Does, Raises, Records};
+ghost use Rattle.generational_sync.specs.Shared.{IsStep};
 
-use super::SyncState;
-use crate::laws::{
-    free_calls_are_answered_so, histories_lead_to_sound_states, recorded_calls_are_lawful,
-    steps_have_records,
-};
+use super::{SyncState, settle};
 use generational_box::{
     AnyStorage, BorrowMutError, BorrowMutResult, GenerationalBox, Owner, Refused, StepCall,
     Storage, StoreError,
@@ -41,26 +34,17 @@ impl<T: Drop, const NUMBER: u64, M: Count, L: Count, C: Count, R: Count> SyncSta
         tally: &mut Tally<M, L, C, R>,
     ) -> BorrowMutResult<()>
         requires { is_ready self.old.state (call.ManuallyDrop (pointer_of asked)) ≡ true }
-        ensures step { Does self.old (End (pointer_of asked)) (end_answer result) self.new }
-        ensures refusal { IfErr result (λ e. e ≡ refused.Store OutOfMemory) }
-        ensures recorded { Records self.old tally.old (call.ManuallyDrop (pointer_of asked))
-            (End (pointer_of asked)) (end_answer result) self.new }
-        ensures tallied { Raises {T = T} tally.old (end_answer result) tally.new }
+        ensures step { IsStep NUMBER self.old tally.old (End (pointer_of asked)) (end_answer result)
+            self.new tally.new }
     {
-        recorded_calls_are_lawful::<T>();
-        histories_lead_to_sound_states();
-        steps_have_records::<T>();
-        free_calls_are_answered_so::<T>();
         if self.log.reserve(2).is_err() {
             return Err(Refused::Store(StoreError::OutOfMemory));
         }
         let pointer = asked.pointer();
+        let call = StepCall::ManuallyDrop(pointer);
         let ended = self.store.recycle(pointer);
-        self.log.settle(
-            StepCall::ManuallyDrop(pointer),
-            end_reply::<T>(&ended),
-            tally,
-        );
+        let reply = end_reply::<T>(&ended);
+        settle(&self.store, &mut self.log, call, reply, tally);
         ended
     }
 
@@ -83,30 +67,18 @@ impl<T: Drop, const NUMBER: u64, M: Count, L: Count, C: Count, R: Count> SyncSta
     ) -> BorrowMutResult<()>
         requires { is_ready self.old.state (call.PointTo (pointer_of asked) (pointer_of other))
             ≡ true }
-        ensures step { Does self.old (Point (pointer_of asked) (pointer_of other))
-            (end_answer result) self.new }
-        ensures answer { MayAnswer {T = T} NUMBER (Point (pointer_of asked) (pointer_of other))
-            (end_answer result) }
-        ensures recorded { Records self.old tally.old
-            (call.PointTo (pointer_of asked) (pointer_of other))
-            (Point (pointer_of asked) (pointer_of other)) (end_answer result) self.new }
-        ensures tallied { Raises {T = T} tally.old (end_answer result) tally.new }
+        ensures step { IsStep NUMBER self.old tally.old
+            (Point (pointer_of asked) (pointer_of other)) (end_answer result) self.new tally.new }
     {
-        recorded_calls_are_lawful::<T>();
-        histories_lead_to_sound_states();
-        steps_have_records::<T>();
-        free_calls_are_answered_so::<T>();
         if self.log.reserve(2).is_err() {
             return Err(Refused::Store(StoreError::OutOfMemory));
         }
         let pointer = asked.pointer();
         let target = other.pointer();
+        let call = StepCall::PointTo(pointer, target);
         let pointed = self.store.change_reference(pointer, target);
-        self.log.settle(
-            StepCall::PointTo(pointer, target),
-            end_reply::<T>(&pointed),
-            tally,
-        );
+        let reply = end_reply::<T>(&pointed);
+        settle(&self.store, &mut self.log, call, reply, tally);
         pointed
     }
 
@@ -122,23 +94,17 @@ impl<T: Drop, const NUMBER: u64, M: Count, L: Count, C: Count, R: Count> SyncSta
         tally: &mut Tally<M, L, C, R>,
     ) -> Result<(), (Owner, Refused<BorrowMutError>)>
         requires { is_ready self.old.state (call.ReleaseOwner (id_of_owner owner)) ≡ true }
-        ensures step { Does self.old (ReleaseOwner owner) (release_answer result) self.new }
+        ensures step { IsStep NUMBER self.old tally.old (ReleaseOwner owner) (release_answer result)
+            self.new tally.new }
         ensures back { IfErr result (λ e. e.0 ≡ owner) }
-        ensures answer { MayAnswer {T = T} NUMBER (ReleaseOwner owner) (release_answer result) }
-        ensures recorded { Records self.old tally.old (call.ReleaseOwner (id_of_owner owner))
-            (ReleaseOwner owner) (release_answer result) self.new }
-        ensures tallied { Raises {T = T} tally.old (release_answer result) tally.new }
     {
-        recorded_calls_are_lawful::<T>();
-        histories_lead_to_sound_states();
-        steps_have_records::<T>();
-        free_calls_are_answered_so::<T>();
         if self.log.reserve(2).is_err() {
             return Err((owner, Refused::Store(StoreError::OutOfMemory)));
         }
         let call = StepCall::ReleaseOwner(owner.id());
         let released = self.store.release_owner(owner);
-        self.log.settle(call, release_reply::<T>(&released), tally);
+        let reply = release_reply::<T>(&released);
+        settle(&self.store, &mut self.log, call, reply, tally);
         released
     }
 }

@@ -1,23 +1,15 @@
 //! Calls that make boxes and owners.
 
-ghost use Rattle.std.specs.Prelude.{◌≡◌, true, None, Some, IfOk, IfErr, option_copied, is_some};
-ghost use Rattle.generational_errors.specs.declared.error.StoreError.TheVariants.{OutOfMemory};
+ghost use Rattle.std.specs.Prelude.{◌≡◌, true, None, Some, IfOk, IfErr, option_copied};
 ghost use Rattle.generational_core.specs.declared.steps.StepCall.TheVariants as call;
-ghost use Rattle.generational_core.specs.Answers.{box_answer, make_answer, owner_answer, pointer_of};
-ghost use Rattle.generational_core.specs.Answers.{reference_answer, reference_box_answer};
+ghost use Rattle.generational_core.specs.Answers.{box_answer, owner_answer, pointer_of};
+ghost use Rattle.generational_core.specs.Answers.{reference_box_answer};
 ghost use Rattle.generational_core.specs.Machine.Action.{CloneOwner, Make, MakeShared, NewOwner};
 ghost use Rattle.generational_core.specs.Machine.Action.{Refer};
 ghost use Rattle.generational_core.specs.StepCalls.{id_of_owner, is_ready, recorded_as, target_of};
-ghost use Rattle.generational_core.specs.Steps.{Meets};
-ghost use Rattle.generational_sync.specs.Answering.{MayAnswer};
-ghost use Rattle.generational_sync.specs.Shared.{Does, IsBoxOf, Raises, Records};
+ghost use Rattle.generational_sync.specs.Shared.{IsStep};
 
-use super::SyncState;
-use crate::laws::{
-    free_calls_are_answered_so, histories_lead_to_sound_states, recorded_calls_are_lawful,
-    steps_have_records,
-};
-use generational_box::laws::boxes_and_guards_are_new;
+use super::{SyncState, settle};
 use generational_box::{
     AnyStorage, BorrowResult, GenerationalBox, GenerationalBoxId, GenerationalPointer, Location,
     Owner, Refusal, Refused, StepCall, Storage, StoreError, UnsyncStorage,
@@ -45,12 +37,9 @@ impl<T: Drop, const NUMBER: u64, M: Count, L: Count, C: Count, R: Count> SyncSta
         location: Location,
         tally: &mut Tally<M, L, C, R>,
     ) -> Result<GenerationalBox<T>, Refusal<T>>
-        ensures step { Does self.old (Make None value location) (box_answer result) self.new }
-        ensures refusal { IfErr result (λ r. (r.value ≡ value) × (r.cause ≡ OutOfMemory)) }
-        ensures made { IfOk result (λ b. IsBoxOf NUMBER location (pointer_of b)) }
-        ensures recorded { Records self.old tally.old (call.Leak location)
-            (Make None value location) (box_answer result) self.new }
-        ensures tallied { Raises tally.old (box_answer result) tally.new }
+        ensures step { IsStep NUMBER self.old tally.old (Make None value location)
+            (box_answer result) self.new tally.new }
+        ensures back { IfErr result (λ r. r.value ≡ value) }
     {
         self.make(None, StepCall::Leak(location), value, location, tally)
     }
@@ -70,15 +59,9 @@ impl<T: Drop, const NUMBER: u64, M: Count, L: Count, C: Count, R: Count> SyncSta
         location: Location,
         tally: &mut Tally<M, L, C, R>,
     ) -> Result<GenerationalBox<T>, Refusal<T>>
-        ensures step { Does self.old (Make (Some owner.now) value location) (box_answer result)
-            self.new }
+        ensures step { IsStep NUMBER self.old tally.old (Make (Some owner.now) value location)
+            (box_answer result) self.new tally.new }
         ensures back { IfErr result (λ r. r.value ≡ value) }
-        ensures answer { MayAnswer NUMBER (Make (Some owner.now) value location)
-            (box_answer result) }
-        ensures made { IfOk result (λ b. IsBoxOf NUMBER location (pointer_of b)) }
-        ensures recorded { Records self.old tally.old (call.Insert (id_of_owner owner.now) location)
-            (Make (Some owner.now) value location) (box_answer result) self.new }
-        ensures tallied { Raises tally.old (box_answer result) tally.new }
     {
         let call = StepCall::Insert(owner.id(), location);
         self.make(Some(owner), call, value, location, tally)
@@ -94,27 +77,17 @@ impl<T: Drop, const NUMBER: u64, M: Count, L: Count, C: Count, R: Count> SyncSta
         tally: &mut Tally<M, L, C, R>,
     ) -> Result<GenerationalBox<T>, Refusal<T>>
         requires { recorded_as (Make (option_copied owner) value location) ≡ Some call }
-        ensures step { Does self.old (Make (option_copied owner.entry) value location)
-            (box_answer result) self.new }
+        ensures step { IsStep NUMBER self.old tally.old
+            (Make (option_copied owner.entry) value location) (box_answer result) self.new tally.new }
         ensures back { IfErr result (λ r. r.value ≡ value) }
-        ensures answer { MayAnswer NUMBER (Make (option_copied owner.entry) value location)
-            (box_answer result) }
-        ensures made { IfOk result (λ b. IsBoxOf NUMBER location (pointer_of b)) }
-        ensures recorded { Records self.old tally.old call
-            (Make (option_copied owner.entry) value location) (box_answer result) self.new }
-        ensures tallied { Raises tally.old (box_answer result) tally.new }
     {
-        recorded_calls_are_lawful::<T>();
-        histories_lead_to_sound_states();
-        steps_have_records::<T>();
-        free_calls_are_answered_so::<T>();
-        boxes_and_guards_are_new::<T>();
         if self.log.reserve(2).is_err() {
             let cause = StoreError::OutOfMemory;
             return Err(Refusal { value, cause });
         }
         let made = self.store.new(value, location, owner);
-        self.log.settle(call, make_reply(&made), tally);
+        let reply = make_reply(&made);
+        settle(&self.store, &mut self.log, call, reply, tally);
         match made {
             Ok(pointer) => Ok(box_at(pointer)),
             Err(refusal) => Err(refusal),
@@ -134,12 +107,9 @@ impl<T: Drop, const NUMBER: u64, M: Count, L: Count, C: Count, R: Count> SyncSta
         location: Location,
         tally: &mut Tally<M, L, C, R>,
     ) -> Result<GenerationalBox<T>, Refusal<T>>
-        ensures step { Does self.old (MakeShared None value location) (box_answer result) self.new }
-        ensures refusal { IfErr result (λ r. (r.value ≡ value) × (r.cause ≡ OutOfMemory)) }
-        ensures made { IfOk result (λ b. IsBoxOf NUMBER location (pointer_of b)) }
-        ensures recorded { Records self.old tally.old (call.LeakRc location)
-            (MakeShared None value location) (box_answer result) self.new }
-        ensures tallied { Raises tally.old (box_answer result) tally.new }
+        ensures step { IsStep NUMBER self.old tally.old (MakeShared None value location)
+            (box_answer result) self.new tally.new }
+        ensures back { IfErr result (λ r. r.value ≡ value) }
     {
         self.make_shared(None, StepCall::LeakRc(location), value, location, tally)
     }
@@ -161,16 +131,9 @@ impl<T: Drop, const NUMBER: u64, M: Count, L: Count, C: Count, R: Count> SyncSta
         location: Location,
         tally: &mut Tally<M, L, C, R>,
     ) -> Result<GenerationalBox<T>, Refusal<T>>
-        ensures step { Does self.old (MakeShared (Some owner.now) value location)
-            (box_answer result) self.new }
+        ensures step { IsStep NUMBER self.old tally.old (MakeShared (Some owner.now) value location)
+            (box_answer result) self.new tally.new }
         ensures back { IfErr result (λ r. r.value ≡ value) }
-        ensures answer { MayAnswer NUMBER (MakeShared (Some owner.now) value location)
-            (box_answer result) }
-        ensures made { IfOk result (λ b. IsBoxOf NUMBER location (pointer_of b)) }
-        ensures recorded { Records self.old tally.old
-            (call.InsertRc (id_of_owner owner.now) location)
-            (MakeShared (Some owner.now) value location) (box_answer result) self.new }
-        ensures tallied { Raises tally.old (box_answer result) tally.new }
     {
         let call = StepCall::InsertRc(owner.id(), location);
         self.make_shared(Some(owner), call, value, location, tally)
@@ -187,28 +150,19 @@ impl<T: Drop, const NUMBER: u64, M: Count, L: Count, C: Count, R: Count> SyncSta
         tally: &mut Tally<M, L, C, R>,
     ) -> Result<GenerationalBox<T>, Refusal<T>>
         requires { recorded_as (MakeShared (option_copied owner) value location) ≡ Some call }
-        ensures step { Does self.old (MakeShared (option_copied owner.entry) value location)
-            (box_answer result) self.new }
+        ensures step { IsStep NUMBER self.old tally.old
+            (MakeShared (option_copied owner.entry) value location) (box_answer result) self.new
+            tally.new }
         ensures back { IfErr result (λ r. r.value ≡ value) }
-        ensures answer { MayAnswer NUMBER (MakeShared (option_copied owner.entry) value location)
-            (box_answer result) }
-        ensures made { IfOk result (λ b. IsBoxOf NUMBER location (pointer_of b)) }
-        ensures recorded { Records self.old tally.old call
-            (MakeShared (option_copied owner.entry) value location) (box_answer result) self.new }
-        ensures tallied { Raises tally.old (box_answer result) tally.new }
     {
-        recorded_calls_are_lawful::<T>();
-        histories_lead_to_sound_states();
-        steps_have_records::<T>();
-        free_calls_are_answered_so::<T>();
-        boxes_and_guards_are_new::<T>();
         if self.log.reserve(2).is_err() {
             let cause = StoreError::OutOfMemory;
             return Err(Refusal { value, cause });
         }
         let made = self.store.new_rc(value, location, owner);
         let shared = shared_cell(&self.store, &made);
-        self.log.settle(call, shared_reply(&made, shared), tally);
+        let reply = shared_reply(&made, shared);
+        settle(&self.store, &mut self.log, call, reply, tally);
         match made {
             Ok(pointer) => Ok(box_at(pointer)),
             Err(refusal) => Err(refusal),
@@ -229,14 +183,8 @@ impl<T: Drop, const NUMBER: u64, M: Count, L: Count, C: Count, R: Count> SyncSta
         tally: &mut Tally<M, L, C, R>,
     ) -> BorrowResult<GenerationalBox<T>>
         requires { is_ready self.old.state (call.LeakReference (pointer_of asked)) ≡ true }
-        ensures step { Does self.old (Refer None (pointer_of asked)) (reference_box_answer result)
-            self.new }
-        ensures answer { MayAnswer {T = T} NUMBER (Refer None (pointer_of asked))
-            (reference_box_answer result) }
-        ensures made { IfOk result (λ b. (pointer_of b).id.store ≡ NUMBER) }
-        ensures recorded { Records self.old tally.old (call.LeakReference (pointer_of asked))
-            (Refer None (pointer_of asked)) (reference_box_answer result) self.new }
-        ensures tallied { Raises {T = T} tally.old (reference_box_answer result) tally.new }
+        ensures step { IsStep NUMBER self.old tally.old (Refer None (pointer_of asked))
+            (reference_box_answer result) self.new tally.new }
     {
         let asked = asked.pointer();
         self.refer(None, StepCall::LeakReference(asked), asked, tally)
@@ -260,15 +208,8 @@ impl<T: Drop, const NUMBER: u64, M: Count, L: Count, C: Count, R: Count> SyncSta
     ) -> BorrowResult<GenerationalBox<T>>
         requires { is_ready self.old.state
             (call.InsertReference (id_of_owner owner.now) (pointer_of asked)) ≡ true }
-        ensures step { Does self.old (Refer (Some owner.now) (pointer_of asked))
-            (reference_box_answer result) self.new }
-        ensures answer { MayAnswer {T = T} NUMBER (Refer (Some owner.now) (pointer_of asked))
-            (reference_box_answer result) }
-        ensures made { IfOk result (λ b. (pointer_of b).id.store ≡ NUMBER) }
-        ensures recorded { Records self.old tally.old
-            (call.InsertReference (id_of_owner owner.now) (pointer_of asked))
-            (Refer (Some owner.now) (pointer_of asked)) (reference_box_answer result) self.new }
-        ensures tallied { Raises {T = T} tally.old (reference_box_answer result) tally.new }
+        ensures step { IsStep NUMBER self.old tally.old (Refer (Some owner.now) (pointer_of asked))
+            (reference_box_answer result) self.new tally.new }
     {
         let asked = asked.pointer();
         let call = StepCall::InsertReference(owner.id(), asked);
@@ -286,25 +227,15 @@ impl<T: Drop, const NUMBER: u64, M: Count, L: Count, C: Count, R: Count> SyncSta
     ) -> BorrowResult<GenerationalBox<T>>
         requires call { recorded_as {T = T} (Refer (option_copied owner) asked) ≡ Some call }
         requires ready { is_ready self.old.state call ≡ true }
-        ensures step { Does self.old (Refer (option_copied owner.entry) asked)
-            (reference_box_answer result) self.new }
-        ensures answer { MayAnswer {T = T} NUMBER (Refer (option_copied owner.entry) asked)
-            (reference_box_answer result) }
-        ensures made { IfOk result (λ b. (pointer_of b).id.store ≡ NUMBER) }
-        ensures recorded { Records self.old tally.old call
-            (Refer (option_copied owner.entry) asked) (reference_box_answer result) self.new }
-        ensures tallied { Raises {T = T} tally.old (reference_box_answer result) tally.new }
+        ensures step { IsStep NUMBER self.old tally.old (Refer (option_copied owner.entry) asked)
+            (reference_box_answer result) self.new tally.new }
     {
-        recorded_calls_are_lawful::<T>();
-        histories_lead_to_sound_states();
-        steps_have_records::<T>();
-        free_calls_are_answered_so::<T>();
-        boxes_and_guards_are_new::<T>();
         if self.log.reserve(2).is_err() {
             return Err(Refused::Store(StoreError::OutOfMemory));
         }
         let made = self.store.new_reference(asked, owner);
-        self.log.settle(call, reference_reply::<T>(&made), tally);
+        let reply = reference_reply::<T>(&made);
+        settle(&self.store, &mut self.log, call, reply, tally);
         match made {
             Ok(pointer) => Ok(box_at(pointer)),
             Err(refused) => Err(refused),
@@ -317,23 +248,15 @@ impl<T: Drop, const NUMBER: u64, M: Count, L: Count, C: Count, R: Count> SyncSta
     /// which comes first where the history finds no room. A refused call leaves the store as it was.
     /// Memory is taken for the record and for the step.
     pub fn owner(&mut self, tally: &mut Tally<M, L, C, R>) -> Result<Owner, StoreError>
-        ensures step { Does self.old NewOwner (owner_answer result) self.new }
-        ensures answer { MayAnswer {T = T} NUMBER NewOwner (owner_answer result) }
-        ensures owner { IfOk result (λ owner. owner.store ≡ NUMBER) }
-        ensures recorded { Records self.old tally.old call.Owner NewOwner (owner_answer result)
-            self.new }
-        ensures tallied { Raises {T = T} tally.old (owner_answer result) tally.new }
+        ensures step { IsStep NUMBER self.old tally.old NewOwner (owner_answer result) self.new
+            tally.new }
     {
-        recorded_calls_are_lawful::<T>();
-        histories_lead_to_sound_states();
-        steps_have_records::<T>();
-        free_calls_are_answered_so::<T>();
         if self.log.reserve(2).is_err() {
             return Err(StoreError::OutOfMemory);
         }
         let owner = self.store.owner();
-        self.log
-            .settle(StepCall::Owner, owner_reply::<T>(&owner), tally);
+        let reply = owner_reply::<T>(&owner);
+        settle(&self.store, &mut self.log, StepCall::Owner, reply, tally);
         owner
     }
 
@@ -348,23 +271,16 @@ impl<T: Drop, const NUMBER: u64, M: Count, L: Count, C: Count, R: Count> SyncSta
         owner: &Owner,
         tally: &mut Tally<M, L, C, R>,
     ) -> Result<Owner, StoreError>
-        ensures step { Does self.old (CloneOwner owner.now) (owner_answer result) self.new }
-        ensures answer { MayAnswer {T = T} NUMBER (CloneOwner owner.now) (owner_answer result) }
-        ensures owner { IfOk result (λ clone. clone ≡ owner.now) }
-        ensures recorded { Records self.old tally.old (call.CloneOwner (id_of_owner owner.now))
-            (CloneOwner owner.now) (owner_answer result) self.new }
-        ensures tallied { Raises {T = T} tally.old (owner_answer result) tally.new }
+        ensures step { IsStep NUMBER self.old tally.old (CloneOwner owner.now) (owner_answer result)
+            self.new tally.new }
     {
-        recorded_calls_are_lawful::<T>();
-        histories_lead_to_sound_states();
-        steps_have_records::<T>();
-        free_calls_are_answered_so::<T>();
         if self.log.reserve(2).is_err() {
             return Err(StoreError::OutOfMemory);
         }
         let call = StepCall::CloneOwner(owner.id());
         let clone = self.store.clone_owner(owner);
-        self.log.settle(call, owner_reply::<T>(&clone), tally);
+        let reply = owner_reply::<T>(&clone);
+        settle(&self.store, &mut self.log, call, reply, tally);
         clone
     }
 }

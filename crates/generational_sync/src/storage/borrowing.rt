@@ -1,12 +1,12 @@
 //! Calls that begin and end borrows, and that set a value.
 
-ghost use Rattle.std.specs.Prelude.{◌≡◌, IfOk, IfErr, IsTrue, OnOk};
+ghost use Rattle.std.specs.Prelude.{◌≡◌, IfErr};
 ghost use Rattle.generational_core.specs.Answers.{back_answer, pointer_of, read_answer};
 ghost use Rattle.generational_core.specs.Answers.{write_answer};
-ghost use Rattle.generational_core.specs.Machine.Action.{Read, SetValue, Write};
+ghost use Rattle.generational_core.specs.Machine.Action.{Read, ReleaseReader, ReleaseWriter};
+ghost use Rattle.generational_core.specs.Machine.Action.{SetValue, Write};
 ghost use Rattle.generational_core.specs.Machine.Answer.{Flag};
-ghost use Rattle.generational_sync.specs.Answering.{MayAnswer};
-ghost use Rattle.generational_sync.specs.Shared.{Raises};
+ghost use Rattle.generational_sync.specs.Shared.{IsUnseenStep};
 ghost use Rattle.shared_history.specs.Replies.{set_answer};
 
 use super::SyncStorage;
@@ -40,17 +40,15 @@ impl<T: Drop + Send, const NUMBER: u64, M: Count, L: Count, C: Count, R: Count> 
         location: Location,
         tally: &mut Tally<M, L, C, R>,
     ) -> BorrowResult<GenerationalRef<T>>
-        ensures guard { IfOk result (λ guard. guard.store ≡ NUMBER) }
-        ensures answer { MayAnswer {T = T} NUMBER (Read (pointer_of asked) location)
-            (read_answer result) }
-        ensures tallied { Raises {T = T} tally.old (read_answer result) tally.new }
+        ensures step { IsUnseenStep {T = T} NUMBER tally.old (Read (pointer_of asked) location)
+            (read_answer result) tally.new }
     {
         let call = StepCall::Read(asked.pointer(), location);
         let mut held = self.lock_when(rt, call);
         held.state.try_read(asked, location, tally)
     }
 
-    /// The same as `try_read`, under the name by which the sequential store's read has a condition.
+    /// Calls `try_read`. The sequential store's `read` has a condition in place of the refusals.
     pub fn read(
         &self,
         rt: &impl Wait,
@@ -58,10 +56,8 @@ impl<T: Drop + Send, const NUMBER: u64, M: Count, L: Count, C: Count, R: Count> 
         location: Location,
         tally: &mut Tally<M, L, C, R>,
     ) -> BorrowResult<GenerationalRef<T>>
-        ensures guard { IfOk result (λ guard. guard.store ≡ NUMBER) }
-        ensures answer { MayAnswer {T = T} NUMBER (Read (pointer_of asked) location)
-            (read_answer result) }
-        ensures tallied { Raises {T = T} tally.old (read_answer result) tally.new }
+        ensures step { IsUnseenStep {T = T} NUMBER tally.old (Read (pointer_of asked) location)
+            (read_answer result) tally.new }
     {
         self.try_read(rt, asked, location, tally)
     }
@@ -80,18 +76,15 @@ impl<T: Drop + Send, const NUMBER: u64, M: Count, L: Count, C: Count, R: Count> 
         location: Location,
         tally: &mut Tally<M, L, C, R>,
     ) -> BorrowMutResult<GenerationalRefMut<T>>
-        ensures guard { IfOk result (λ writer. writer.guard.store ≡ NUMBER) }
-        ensures answer { MayAnswer NUMBER (Write (pointer_of asked) location)
-            (write_answer result) }
-        ensures tallied { Raises tally.old (write_answer result) tally.new }
+        ensures step { IsUnseenStep NUMBER tally.old (Write (pointer_of asked) location)
+            (write_answer result) tally.new }
     {
         let call = StepCall::Write(asked.pointer(), location);
         let mut held = self.lock_when(rt, call);
         held.state.try_write(asked, location, tally)
     }
 
-    /// The same as `try_write`, under the name by which the sequential store's write has a
-    /// condition.
+    /// Calls `try_write`. The sequential store's `write` has a condition in place of the refusals.
     pub fn write(
         &self,
         rt: &impl Wait,
@@ -99,10 +92,8 @@ impl<T: Drop + Send, const NUMBER: u64, M: Count, L: Count, C: Count, R: Count> 
         location: Location,
         tally: &mut Tally<M, L, C, R>,
     ) -> BorrowMutResult<GenerationalRefMut<T>>
-        ensures guard { IfOk result (λ writer. writer.guard.store ≡ NUMBER) }
-        ensures answer { MayAnswer NUMBER (Write (pointer_of asked) location)
-            (write_answer result) }
-        ensures tallied { Raises tally.old (write_answer result) tally.new }
+        ensures step { IsUnseenStep NUMBER tally.old (Write (pointer_of asked) location)
+            (write_answer result) tally.new }
     {
         self.try_write(rt, asked, location, tally)
     }
@@ -116,8 +107,8 @@ impl<T: Drop + Send, const NUMBER: u64, M: Count, L: Count, C: Count, R: Count> 
         guard: GenerationalRef<T>,
         tally: &mut Tally<M, L, C, R>,
     ) -> bool
-        ensures own { IsTrue result → guard.store ≡ NUMBER }
-        ensures tallied { Raises {T = T} tally.old (Flag result) tally.new }
+        ensures step { IsUnseenStep {T = T} NUMBER tally.old (ReleaseReader guard) (Flag result)
+            tally.new }
     {
         let mut held = self.shared.held.lock(rt);
         let known = held.state.release_read(guard, tally);
@@ -134,9 +125,8 @@ impl<T: Drop + Send, const NUMBER: u64, M: Count, L: Count, C: Count, R: Count> 
         guard: GenerationalRefMut<T>,
         tally: &mut Tally<M, L, C, R>,
     ) -> Result<(), T>
-        ensures back { IfErr result (λ value. value ≡ guard.value) }
-        ensures own { OnOk result (guard.guard.store ≡ NUMBER) }
-        ensures tallied { Raises tally.old (back_answer result) tally.new }
+        ensures step { IsUnseenStep NUMBER tally.old (ReleaseWriter guard.guard guard.value)
+            (back_answer result) tally.new }
     {
         let mut held = self.shared.held.lock(rt);
         let released = held.state.release_write(guard, tally);
@@ -159,10 +149,9 @@ impl<T: Drop + Send, const NUMBER: u64, M: Count, L: Count, C: Count, R: Count> 
         value: T,
         tally: &mut Tally<M, L, C, R>,
     ) -> Result<(), (T, Refused<BorrowMutError>)>
+        ensures step { (old : T) × IsUnseenStep NUMBER tally.old (SetValue (pointer_of asked) value)
+            (set_answer old result) tally.new }
         ensures back { IfErr result (λ e. e.0 ≡ value) }
-        ensures answer { MayAnswer NUMBER (SetValue (pointer_of asked) value)
-            (set_answer value result) }
-        ensures tallied { Raises tally.old (set_answer value result) tally.new }
     {
         let call = StepCall::Set(asked.pointer());
         let mut held = self.lock_when(rt, call);

@@ -1,12 +1,9 @@
 //! Calls that end boxes and owners, and that let a reference lead elsewhere.
 
 ghost use Rattle.std.specs.Prelude.{◌≡◌, IfErr};
-ghost use Rattle.generational_errors.specs.declared.error.Refused.TheVariants as refused;
-ghost use Rattle.generational_errors.specs.declared.error.StoreError.TheVariants.{OutOfMemory};
 ghost use Rattle.generational_core.specs.Answers.{end_answer, pointer_of, release_answer};
-ghost use Rattle.generational_core.specs.Machine.Action.{Point, ReleaseOwner};
-ghost use Rattle.generational_sync.specs.Answering.{MayAnswer};
-ghost use Rattle.generational_sync.specs.Shared.{Raises};
+ghost use Rattle.generational_core.specs.Machine.Action.{End, Point, ReleaseOwner};
+ghost use Rattle.generational_sync.specs.Shared.{IsUnseenStep};
 
 use super::SyncStorage;
 use generational_box::{
@@ -35,8 +32,8 @@ impl<T: Drop + Send, const NUMBER: u64, M: Count, L: Count, C: Count, R: Count> 
         asked: GenerationalBox<T>,
         tally: &mut Tally<M, L, C, R>,
     ) -> BorrowMutResult<()>
-        ensures refusal { IfErr result (λ e. e ≡ refused.Store OutOfMemory) }
-        ensures tallied { Raises {T = T} tally.old (end_answer result) tally.new }
+        ensures step { IsUnseenStep {T = T} NUMBER tally.old (End (pointer_of asked))
+            (end_answer result) tally.new }
     {
         let call = StepCall::ManuallyDrop(asked.pointer());
         let mut held = self.lock_when(rt, call);
@@ -63,9 +60,8 @@ impl<T: Drop + Send, const NUMBER: u64, M: Count, L: Count, C: Count, R: Count> 
         other: GenerationalBox<T>,
         tally: &mut Tally<M, L, C, R>,
     ) -> BorrowMutResult<()>
-        ensures answer { MayAnswer {T = T} NUMBER (Point (pointer_of asked) (pointer_of other))
-            (end_answer result) }
-        ensures tallied { Raises {T = T} tally.old (end_answer result) tally.new }
+        ensures step { IsUnseenStep {T = T} NUMBER tally.old
+            (Point (pointer_of asked) (pointer_of other)) (end_answer result) tally.new }
     {
         let call = StepCall::PointTo(asked.pointer(), other.pointer());
         let mut held = self.lock_when(rt, call);
@@ -88,9 +84,9 @@ impl<T: Drop + Send, const NUMBER: u64, M: Count, L: Count, C: Count, R: Count> 
         owner: Owner,
         tally: &mut Tally<M, L, C, R>,
     ) -> Result<(), (Owner, Refused<BorrowMutError>)>
+        ensures step { IsUnseenStep {T = T} NUMBER tally.old (ReleaseOwner owner)
+            (release_answer result) tally.new }
         ensures back { IfErr result (λ e. e.0 ≡ owner) }
-        ensures answer { MayAnswer {T = T} NUMBER (ReleaseOwner owner) (release_answer result) }
-        ensures tallied { Raises {T = T} tally.old (release_answer result) tally.new }
     {
         let mut held = self.lock_to_release(rt, &owner);
         let released = held.state.release_owner(owner, tally);

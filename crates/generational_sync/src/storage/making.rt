@@ -1,13 +1,11 @@
 //! Calls that make boxes and owners.
 
-ghost use Rattle.std.specs.Prelude.{◌≡◌, None, Some, IfOk, IfErr};
-ghost use Rattle.generational_errors.specs.declared.error.StoreError.TheVariants.{OutOfMemory};
+ghost use Rattle.std.specs.Prelude.{◌≡◌, None, Some, IfErr};
 ghost use Rattle.generational_core.specs.Answers.{box_answer, owner_answer, pointer_of};
 ghost use Rattle.generational_core.specs.Answers.{reference_box_answer};
 ghost use Rattle.generational_core.specs.Machine.Action.{CloneOwner, Make, MakeShared, NewOwner};
 ghost use Rattle.generational_core.specs.Machine.Action.{Refer};
-ghost use Rattle.generational_sync.specs.Answering.{MayAnswer};
-ghost use Rattle.generational_sync.specs.Shared.{IsBoxOf, Raises};
+ghost use Rattle.generational_sync.specs.Shared.{IsUnseenStep};
 
 use super::SyncStorage;
 use generational_box::{
@@ -36,9 +34,9 @@ impl<T: Drop + Send, const NUMBER: u64, M: Count, L: Count, C: Count, R: Count> 
         location: Location,
         tally: &mut Tally<M, L, C, R>,
     ) -> Result<GenerationalBox<T>, Refusal<T>>
-        ensures refusal { IfErr result (λ r. (r.value ≡ value) × (r.cause ≡ OutOfMemory)) }
-        ensures made { IfOk result (λ b. IsBoxOf NUMBER location (pointer_of b)) }
-        ensures tallied { Raises tally.old (box_answer result) tally.new }
+        ensures step { IsUnseenStep NUMBER tally.old (Make None value location) (box_answer result)
+            tally.new }
+        ensures back { IfErr result (λ r. r.value ≡ value) }
     {
         self.shared.held.lock(rt).state.leak(value, location, tally)
     }
@@ -57,9 +55,9 @@ impl<T: Drop + Send, const NUMBER: u64, M: Count, L: Count, C: Count, R: Count> 
         location: Location,
         tally: &mut Tally<M, L, C, R>,
     ) -> Result<GenerationalBox<T>, Refusal<T>>
-        ensures refusal { IfErr result (λ r. (r.value ≡ value) × (r.cause ≡ OutOfMemory)) }
-        ensures made { IfOk result (λ b. IsBoxOf NUMBER location (pointer_of b)) }
-        ensures tallied { Raises tally.old (box_answer result) tally.new }
+        ensures step { IsUnseenStep NUMBER tally.old (MakeShared None value location)
+            (box_answer result) tally.new }
+        ensures back { IfErr result (λ r. r.value ≡ value) }
     {
         self.shared
             .held
@@ -82,10 +80,8 @@ impl<T: Drop + Send, const NUMBER: u64, M: Count, L: Count, C: Count, R: Count> 
         asked: GenerationalBox<T>,
         tally: &mut Tally<M, L, C, R>,
     ) -> BorrowResult<GenerationalBox<T>>
-        ensures answer { MayAnswer {T = T} NUMBER (Refer None (pointer_of asked))
-            (reference_box_answer result) }
-        ensures made { IfOk result (λ b. (pointer_of b).id.store ≡ NUMBER) }
-        ensures tallied { Raises {T = T} tally.old (reference_box_answer result) tally.new }
+        ensures step { IsUnseenStep {T = T} NUMBER tally.old (Refer None (pointer_of asked))
+            (reference_box_answer result) tally.new }
     {
         let call = StepCall::LeakReference(asked.pointer());
         let mut held = self.lock_when(rt, call);
@@ -101,9 +97,8 @@ impl<T: Drop + Send, const NUMBER: u64, M: Count, L: Count, C: Count, R: Count> 
     /// which comes first where the history finds no room. A refused call leaves the store as it was.
     /// Memory is taken for the record and for the step.
     pub fn owner(&self, rt: &impl Wait, tally: &mut Tally<M, L, C, R>) -> Result<Owner, StoreError>
-        ensures answer { MayAnswer {T = T} NUMBER NewOwner (owner_answer result) }
-        ensures owner { IfOk result (λ owner. owner.store ≡ NUMBER) }
-        ensures tallied { Raises {T = T} tally.old (owner_answer result) tally.new }
+        ensures step { IsUnseenStep {T = T} NUMBER tally.old NewOwner (owner_answer result)
+            tally.new }
     {
         self.shared.held.lock(rt).state.owner(tally)
     }
@@ -120,9 +115,8 @@ impl<T: Drop + Send, const NUMBER: u64, M: Count, L: Count, C: Count, R: Count> 
         owner: &Owner,
         tally: &mut Tally<M, L, C, R>,
     ) -> Result<Owner, StoreError>
-        ensures answer { MayAnswer {T = T} NUMBER (CloneOwner owner.now) (owner_answer result) }
-        ensures owner { IfOk result (λ clone. clone ≡ owner.now) }
-        ensures tallied { Raises {T = T} tally.old (owner_answer result) tally.new }
+        ensures step { IsUnseenStep {T = T} NUMBER tally.old (CloneOwner owner.now)
+            (owner_answer result) tally.new }
     {
         self.shared.held.lock(rt).state.clone_owner(owner, tally)
     }
@@ -143,11 +137,9 @@ impl<T: Drop + Send, const NUMBER: u64, M: Count, L: Count, C: Count, R: Count> 
         location: Location,
         tally: &mut Tally<M, L, C, R>,
     ) -> Result<GenerationalBox<T>, Refusal<T>>
+        ensures step { IsUnseenStep NUMBER tally.old (Make (Some owner.now) value location)
+            (box_answer result) tally.new }
         ensures back { IfErr result (λ r. r.value ≡ value) }
-        ensures answer { MayAnswer NUMBER (Make (Some owner.now) value location)
-            (box_answer result) }
-        ensures made { IfOk result (λ b. IsBoxOf NUMBER location (pointer_of b)) }
-        ensures tallied { Raises tally.old (box_answer result) tally.new }
     {
         self.shared
             .held
@@ -173,11 +165,9 @@ impl<T: Drop + Send, const NUMBER: u64, M: Count, L: Count, C: Count, R: Count> 
         location: Location,
         tally: &mut Tally<M, L, C, R>,
     ) -> Result<GenerationalBox<T>, Refusal<T>>
+        ensures step { IsUnseenStep NUMBER tally.old (MakeShared (Some owner.now) value location)
+            (box_answer result) tally.new }
         ensures back { IfErr result (λ r. r.value ≡ value) }
-        ensures answer { MayAnswer NUMBER (MakeShared (Some owner.now) value location)
-            (box_answer result) }
-        ensures made { IfOk result (λ b. IsBoxOf NUMBER location (pointer_of b)) }
-        ensures tallied { Raises tally.old (box_answer result) tally.new }
     {
         self.shared
             .held
@@ -204,10 +194,8 @@ impl<T: Drop + Send, const NUMBER: u64, M: Count, L: Count, C: Count, R: Count> 
         asked: GenerationalBox<T>,
         tally: &mut Tally<M, L, C, R>,
     ) -> BorrowResult<GenerationalBox<T>>
-        ensures answer { MayAnswer {T = T} NUMBER (Refer (Some owner.now) (pointer_of asked))
-            (reference_box_answer result) }
-        ensures made { IfOk result (λ b. (pointer_of b).id.store ≡ NUMBER) }
-        ensures tallied { Raises {T = T} tally.old (reference_box_answer result) tally.new }
+        ensures step { IsUnseenStep {T = T} NUMBER tally.old
+            (Refer (Some owner.now) (pointer_of asked)) (reference_box_answer result) tally.new }
     {
         let call = StepCall::InsertReference(owner.id(), asked.pointer());
         let mut held = self.lock_when(rt, call);

@@ -1,10 +1,9 @@
-use Rattle.std.proofs.Common.{rules, ap, subst, sym}
+use Rattle.std.proofs.Common.{rules, ap, refl, sym, ◌∙◌}
 use Rattle.std.specs.Prelude.{option_copied}
 use Rattle.generational_core.specs.Answers.{box_answer, make_answer}
 use Rattle.generational_core.specs.Machine.Action.{Make}
-use Rattle.generational_sync.specs.Answering.{MayAnswer}
-use Rattle.generational_sync.specs.Shared.{SharedState}
-use Rattle.generational_sync.proofs.Keeping.{known_as, make_ready, answered_as, settled}
+use Rattle.generational_core.specs.Machine.Answer.{Made}
+use Rattle.generational_sync.proofs.Keeping.{answered, make_ready, room_shared, seen}
 use Rattle.generational_sync.proofs.state.SyncState.make.Goals as goal
 use Rattle.generational_sync.proofs.state.SyncState.make.Goals.{in-Ok, in-Err}
 
@@ -13,37 +12,24 @@ settle-requires g c = (
   search rules,
   (
     search rules,
-    known_as g.row.NUMBER c.self.inside.store.state c.new-made.new.self.state c.self.inside.log c.self.invariant
-        c.steps_have_records.ensures c.histories_lead_to_sound_states.ensures.number
-        c.args.self.now.state (Make (option_copied c.args.owner) c.args.value c.args.location) c.args.call
-        (make_answer c.new-made.result) c.make_reply.result
-        (ap (λ (s : SharedState _). s.state) c.self.view_is) c.requires
-        (make_ready c.args.self.now.state (option_copied c.args.owner) c.args.value c.args.location c.args.call c.requires) c.new-made.ensures.step
-        (c.make_reply.ensures.reply c.new-made.new.self.state (option_copied c.args.owner) c.args.value c.args.location),
+    answered c.self.inside.store.state (Make (option_copied c.args.owner) c.args.value c.args.location)
+        (make_answer c.new-made.result) c.self.invariant
+        c.reserve.ensures.base c.reserve.ensures.steps c.reserve.ensures.standing c.requires
+        (make_ready c.self.inside.store.state (option_copied c.args.owner) c.args.value c.args.location
+        c.args.call c.requires) c.new-made.ensures.step
+        (c.make_reply-reply.ensures.reply c.new-made.new.self.state (option_copied c.args.owner) c.args.value
+        c.args.location),
   ),
 )
 
-pub invariant_of-self-2 : goal.invariant_of-self-2
-invariant_of-self-2 g c =
-    settled c.recorded_calls_are_lawful.ensures.step c.histories_lead_to_sound_states.ensures.sound
-    g.row.NUMBER c.self.inside.store.state c.new-made.new.self.state c.self.inside.log c.reserve.new.self
-    c.settle.new.self c.args.tally.now.worker c.self.invariant c.reserve.ensures.base c.reserve.ensures.steps c.settle.ensures.base
-    (Make (option_copied c.args.owner) c.args.value c.args.location) c.args.call (make_answer c.new-made.result) c.make_reply.result c.requires c.new-made.ensures.step
-    (c.make_reply.ensures.reply c.new-made.new.self.state (option_copied c.args.owner) c.args.value c.args.location)
-    c.make_reply.ensures.lent c.make_reply.ensures.left c.reserve.ensures.standing c.settle.ensures.steps
-    c.settle.ensures.standing
-
-pub returns-clause-answer : goal.returns-clause-answer
-returns-clause-answer g c =
-    let may = answered_as g.row.NUMBER c.self.inside.store.state c.new-made.new.self.state c.self.inside.log
-    c.self.invariant c.free_calls_are_answered_so.ensures
-    c.histories_lead_to_sound_states.ensures.number c.args.self.now.state
-    (Make (option_copied c.args.owner) c.args.value c.args.location) c.args.call
-    (make_answer c.new-made.result) (ap (λ (s : SharedState _). s.state) c.self.view_is) c.requires
-    (make_ready c.args.self.now.state (option_copied c.args.owner) c.args.value c.args.location c.args.call c.requires) c.new-made.ensures.step in
-    elim c.match-made.branch [
-      | in-Ok w ↦ subst (λ r. MayAnswer g.row.NUMBER (Make (option_copied c.args.owner) c.args.value c.args.location) (box_answer r)) (sym w.result-is)
-          (subst (λ r. MayAnswer g.row.NUMBER (Make (option_copied c.args.owner) c.args.value c.args.location) (make_answer r)) w.in-Ok.is may)
-      | in-Err w ↦ subst (λ r. MayAnswer g.row.NUMBER (Make (option_copied c.args.owner) c.args.value c.args.location) (box_answer r)) (sym w.result-is)
-          (subst (λ r. MayAnswer g.row.NUMBER (Make (option_copied c.args.owner) c.args.value c.args.location) (make_answer r)) w.in-Err.is may)
-    ]
+pub returns-clause-step : goal.returns-clause-step
+unfolding settle-requires
+returns-clause-step g c =
+    seen (room_shared c.self.inside.store.state c.self.inside.log c.reserve.new.self
+    c.reserve.ensures.base c.reserve.ensures.steps c.self.view_is) refl
+    (c.settle.ensures.step (settle-requires g c.before.before).1.1)
+    (elim c.match-made.branch [
+      | in-Ok w ↦ ap make_answer w.in-Ok.is
+          ∙ (ap Made (sym w.box_at.ensures) ∙ ap box_answer (sym w.result-is))
+      | in-Err w ↦ ap make_answer w.in-Err.is ∙ ap box_answer (sym w.result-is)
+    ])

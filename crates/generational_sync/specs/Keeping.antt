@@ -1,0 +1,60 @@
+-- What is kept under the lock, and how a call is made there.
+use Rattle.std.specs.Prelude.{◌≡◌, ℕ, ◌≤◌, true, Option, Some}
+use Rattle.generational_core.specs.declared.steps.StepCall.{StepCall}
+use Rattle.generational_core.specs.State.{IsSound, State}
+use Rattle.generational_core.specs.Machine.{Action, Answer}
+use Rattle.generational_core.specs.Steps.{Meets}
+use Rattle.generational_core.specs.StepCalls.{is_ready, recorded_as}
+use Rattle.generational_sessions.specs.History.{plain}
+use Rattle.step_records.specs.declared.step.StepReply.{StepReply}
+use Rattle.shared_history.specs.Bases.{plain_of}
+use Rattle.shared_history.specs.Counts.{Counts}
+use Rattle.shared_history.specs.Replies.{reply_of}
+use Rattle.shared_history.specs.History.{replay_from}
+use Rattle.shared_history.specs.Logs.{LogState}
+use Rattle.shared_history.specs.Standing.{borrows, ends_borrow}
+use Rattle.generational_sync.specs.Shared.{IsStep, SharedState}
+
+-- What holds whenever the lock is free.
+pub record IsKept {T : Type 0} (number : ℕ) (S : State T) (log : LogState) : Type 0 where
+  -- the base tells a sound state of this store, from which the history replays to the state without
+  -- its values
+  pub own : log.base.number ≡ number
+  pub sound : IsSound (plain_of log.base)
+  pub replays : replay_from (plain_of log.base) log.steps ≡ Some (plain S)
+  -- there is room for the release of each borrow that stands
+  pub room : borrows S ≤ log.standing
+
+-- a store's state with its log, as contracts see them
+abbrev pub shared : {T : Type 0} → State T → LogState → SharedState T
+shared S log = record { state = S; base = log.base; history = log.steps }
+
+-- A call that the store has answered, in a state from which the log hasn't gone on yet.
+pub record IsAnswered {T : Type 0} (number : ℕ) (S : State T) (log : LogState) (action : Action T)
+    (call : StepCall) (answer : Answer T) (reply : Option StepReply) (R : State T) : Type 0 where
+  pub kept : IsKept number S log
+  pub asked : recorded_as action ≡ Some call
+  pub ready : is_ready S call ≡ true
+  pub met : Meets S action answer R
+  pub replied : reply ≡ reply_of R action answer
+
+-- some call was answered so; and it was one that ends a borrow
+pub record WasAnswered {T : Type 0} (number : ℕ) (log : LogState) (call : StepCall)
+    (reply : Option StepReply) (R : State T) : Type 0 where
+  pub before : State T
+  pub action : Action T
+  pub answer : Answer T
+  pub answered : IsAnswered number before log action call answer reply R
+
+pub record HasEnded {T : Type 0} (number : ℕ) (log : LogState) (call : StepCall)
+    (reply : Option StepReply) (R : State T) : Type 0 where
+  pub some : WasAnswered number log call reply R
+  pub ends : ends_borrow some.action ≡ true
+
+-- What becomes of it once its reply is recorded: whatever call it was, made in whatever state, it is a
+-- step from there.
+pub record IsSettled {T : Type 0} (number : ℕ) (log : LogState) (counts : Counts) (call : StepCall)
+    (reply : Option StepReply) (R : State T) (after : LogState) (raised : Counts) : Type 0 where
+  pub kept : IsKept number R after
+  pub step : (it : WasAnswered number log call reply R)
+      → IsStep number (shared it.before log) counts it.action it.answer (shared R after) raised
