@@ -8,4 +8,5 @@ pub mod Moving
 pub mod Paths
 pub mod Stores
 pub mod Trees
+pub mod Walking
 pub mod Writes

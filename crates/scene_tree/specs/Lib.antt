@@ -3,3 +3,4 @@ pub mod Keeping
 pub mod Nodes
 pub mod Texts
 pub mod Trees
+pub mod Walking

@@ -1,7 +1,7 @@
 -- What a caller sees of a tree.
 use Rattle.std.specs.FinMap as map
 use Rattle.std.specs.List.{flat_map}
-use Rattle.std.specs.Prelude.{◌≡◌, ◌<◌, ◌≤◌, ◌↔◌, ◌∷◌, ℕ, suc, zero, true, Bool, List, Option, None, Some}
+use Rattle.std.specs.Prelude.{◌≡◌, ◌<◌, ◌≤◌, ◌↔◌, [], ◌∷◌, ℕ, suc, zero, true, Bool, List, Option, None, Some}
 use Rattle.std.specs.Prelude.{is_some, if◌then◌else◌}
 use Rattle.generational_core.specs.Boxes.{name_of}
 use Rattle.generational_core.specs.Seeing.{value_in}
@@ -50,6 +50,11 @@ module _ {T : Type 0} where
   abbrev pub IsRootedIn : TreeState T → ℕ → Node T → Type 0
   IsRootedIn t zero n = parent_of t n ≡ None
   IsRootedIn t (suc steps) n = (up : Node T) × (parent_of t n ≡ Some up) × IsRootedIn t steps up
+
+  -- a list has a node's parent, the parent of that, and so on up to a root
+  abbrev pub AreAncestors : TreeState T → Node T → List (Node T) → Type 0
+  AreAncestors t n [] = parent_of t n ≡ None
+  AreAncestors t n (up ∷ ups) = (parent_of t n ≡ Some up) × AreAncestors t up ups
 
   -- a node is so many steps below another, and is that node or below it
   abbrev pub IsStepsBelow : TreeState T → Node T → ℕ → Node T → Type 0

@@ -9,6 +9,8 @@
 mod links;
 mod node;
 mod tree;
+mod walk;
 
 pub use crate::node::{Node, Stale, TreeError};
 pub use crate::tree::SceneTree;
+pub use crate::walk::Ancestors;

@@ -13,13 +13,14 @@ ghost use Rattle.scene_tree.specs.Keeping.{HasLost, IsLiveIn};
 ghost use Rattle.scene_tree.specs.Nodes.{made_at, times, without, IsOther};
 ghost use Rattle.scene_tree.specs.Trees.{TreeState, value_of, is_live, family_of, parent_of};
 ghost use Rattle.scene_tree.specs.Trees.{children_of, WasMade, IsBelow, IsLeft, CanMove};
-ghost use Rattle.scene_tree.specs.Trees.{IsSubtree, IsTree, count_of};
+ghost use Rattle.scene_tree.specs.Trees.{AreAncestors, IsSubtree, IsTree, count_of};
 
 use crate::links::{
     Links, attach, children_at, clear_all, detach, gather, is_under, open_slot, parent_at,
     reserve_child, reserve_node, reserve_one,
 };
 use crate::node::{Node, Stale, TreeError};
+use crate::walk::Ancestors;
 use generational_core::{GenerationalBox, Location, Refusal, Storage, StoreError};
 use std::alloc::Global;
 use std::marker::Model;
@@ -219,6 +220,25 @@ impl<T, S: Storage<T>> SceneTree<T, S> {
             });
         }
         Ok(parent_at(&self.links, node.slot()))
+    }
+
+    /// The nodes above a node: its parent, the parent of that, and so on up to its root. The tree is lent
+    /// meanwhile.
+    ///
+    /// Refused where the node is gone, or is another tree's. Takes no memory, and is O(1), as each of its
+    /// steps.
+    pub fn ancestors(&self, node: Node<T>) -> Result<Ancestors<'_, T>, Stale>
+        ensures ancestors { IfOk result (λ above. AreAncestors self.now node above) }
+        ensures stale { IsErr result ↔ value_of self.now node ≡ None }
+        ensures told { IfErr result (λ stale. stale.made_at ≡ made_at node) }
+    {
+        let links = &self.links;
+        if !self.is_alive(node) {
+            return Err(Stale {
+                made_at: node.made_at(),
+            });
+        }
+        Ok(Ancestors::new(links, parent_at(links, node.slot())))
     }
 
     /// A node's children, in order.

@@ -1,0 +1,25 @@
+use Rattle.std.proofs.Common.{arith, sym, subst, true, ◌≡◌, ◌∙◌}
+use Rattle.std.proofs.lemmas.List.{length-map}
+use Rattle.scene_tree.specs.Families.{families, family_in}
+use Rattle.scene_tree.specs.Trees.{TreeState, is_live}
+use Rattle.scene_tree.specs.Walking.{IsWithin}
+use Rattle.scene_tree.proofs.Keeping.{live_slot}
+use Rattle.scene_tree.proofs.Walking.{ancestors_of, next_within}
+use Rattle.scene_tree.proofs.tree.SceneTree.ancestors.Goals as goal
+
+pub new-requires : goal.new-requires
+new-requires g c = record {
+  forest = c.self.invariant.forest;
+  within = subst (IsWithin (families c.self.inside.links.items)) (sym c.parent_at.ensures)
+      (next_within (families c.self.inside.links.items) c.self.invariant.forest c.slot.result);
+}
+
+pub returns-clause-ancestors : goal.returns-clause-ancestors
+returns-clause-ancestors g c =
+    let live = subst (λ (t : TreeState _). is_live t c.args.node ≡ true) (sym c.self.view_is)
+    (sym c.is_alive.ensures ∙ c.if-not-is_alive.false) in
+    let lt = live_slot c.self.inside.links.items (g.met.S.AnyStorage.sound _) c.self.invariant
+    c.args.node live in
+    let long = length-map c.self.inside.links.items family_in in
+    rw (← c.self.view_is, c.new.ensures, c.parent_at.ensures, c.slot.ensures)
+    (ancestors_of (g.met.S.AnyStorage.sound _) c.self.invariant c.args.node live (omega (arith, lt, long)))

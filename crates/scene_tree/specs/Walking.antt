@@ -1,0 +1,17 @@
+-- What a walk from parent to parent yields.
+use Rattle.std.specs.Prelude.{ℕ, suc, zero, ◌<◌, length, List, [], ◌∷◌, Option, None, Some}
+use Rattle.scene_tree.specs.declared.node.Node.{Node}
+use Rattle.scene_tree.specs.Families.{Family, parent_at}
+use Rattle.scene_tree.specs.Nodes.{slot_in}
+
+module _ {T : Type 0} where
+  -- the nodes that are met from one on, from parent to parent, in so many steps at most
+  abbrev pub way_up : List (Family T) → ℕ → Option (Node T) → List (Node T)
+  way_up fs zero next = []
+  way_up fs (suc steps) None = []
+  way_up fs (suc steps) (Some n) = n ∷ way_up fs steps (parent_at fs (slot_in n))
+
+  -- a node, if there is one, has a slot of the families
+  abbrev pub IsWithin : List (Family T) → Option (Node T) → Type 0
+  IsWithin fs None = Unit {0}
+  IsWithin fs (Some n) = slot_in n < length fs
