@@ -10,7 +10,8 @@ pub use proofs.Common.{suc, sym, true, zero, ℕ, [], ⊎_elim, ◌++◌, ◌+�
 pub use proofs.Common.{◌≤◌, ◌⊎◌}
 pub use proofs.Math.ListN.{get_or, get_or-append, get_or-eq_default}
 pub use proofs.lemmas.{Bool.Decides.nat_tests, Option.slice_get_within, Result.on_ok_weaker}
-pub use proofs.lemmas.Bool.{and_parts, cases_Bool, cases_eq, eq-eqb, eqb-true, false≢true, ne_eqb, true≢false}
+pub use proofs.lemmas.Bool.{and_parts, cases_Bool, cases_eq, false_from_ne_true, eq-eqb, eqb-true}
+pub use proofs.lemmas.Bool.{false≢true, ne_eqb, true≢false}
 pub use proofs.lemmas.List.{get_or-set_other, get_or-set_same, length-set}
 pub use proofs.lemmas.Option.{IfSome_then, none-some, slice_get_cases, slice_get_past}
 pub use proofs.lemmas.Option.{slice_get_read}
@@ -32,12 +33,14 @@ pub use Rattle.generational_core.specs.declared.{borrow.Borrow.Borrow, rows.Base
 pub use Rattle.generational_core.specs.declared.boxes.GenerationalBoxId.{GenerationalBoxId}
 pub use specs.{Entry.with_reader, Entry.with_value, Entry.without_reader_in}
 pub use specs.Entries.{AreIndexed, AreRoomy, entries_of, entry_of, entry_with, EntryList, full_data}
-pub use specs.Entries.{has_index, HasListIndex, is_lent_data, IsListable, IsListed, lent_data, listed_beside}
+pub use specs.Entries.{has_index, HasListIndex, is_lent_data, IsListable, IsListed, lent_data}
+pub use specs.Entries.{listed_beside}
 pub use specs.Entries.{HasListIndexIn, index_in, index_of, is_unborrowed_data, IsUnborrowed}
 pub use specs.Entries.{kept_data, kind_of, lead_of, lent_kept, target_of, unread_data, unread_in}
 pub use specs.Entry.{cell_at, cell_in, cell_of, change_entry, change_entry_if, content_in, Entry}
 pub use specs.Entry.{FoundBorrowed, FoundReaders, has_no_borrow, is_lent, is_unborrowed_value, Kept}
-pub use specs.Entry.{IsAlone, IsReadable, kind_in, lend_to, readers_of, referring, target_in, value_for, with_content}
+pub use specs.Entry.{IsAlone, IsReadable, kind_in, lend_to, readers_of, referring, target_in}
+pub use specs.Entry.{value_for, with_content}
 pub use specs.Entry.Kept.{Empty, Live, Refers}
 pub use specs.Latest.{AreNoted, borrows_of, cleared, HasWriter, HasWriterAt, is_noted, is_noted_at}
 pub use specs.Latest.{is_reader, is_writer, IsNoted, may_note, noted_at}

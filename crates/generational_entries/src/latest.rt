@@ -1,7 +1,8 @@
 //! The borrow that began last, if it is noted apart from the lists.
 
 ghost use Rattle.std.specs.Prelude.{◌≡◌, ◌&&◌, if◌then◌else◌, nat_eq};
-ghost use Rattle.generational_entries.specs.Latest.{cleared, is_noted, is_noted_at, is_reader, is_writer};
+ghost use Rattle.generational_entries.specs.Latest.{cleared, is_noted, is_noted_at, is_reader};
+ghost use Rattle.generational_entries.specs.Latest.{is_writer};
 ghost use Rattle.generational_entries.specs.declared.latest.Noted.TheVariants as noted;
 
 use generational_containers::names::CellName;

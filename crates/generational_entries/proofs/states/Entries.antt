@@ -7,16 +7,16 @@ use Common.{IsUsed, IsWritten, Kept, Kind, LastBorrow, Lent, List, Live, Locatio
 use Common.{Option, Refers, Refused, Releases, Some, StorageEntry, StorageEntryData, Table, []}
 use Common.{and_parts, ap, arith, borrows_of, cases_Bool, cases_eq, cell_in, cell_of}
 use Common.{change_entry, cleared, cond, content_in, content_of, content_rows, entries_from}
-use Common.{entries_of, entry_of, entry_with, eq-eqb, eqb-true, false, get_or, has_no_borrow}
-use Common.{has_reader, has_writer, index_in, index_of, inl, inr, is_lent_data, is_none, is_noted}
-use Common.{is_noted_at, is_reader, is_some, is_unborrowed_data, is_unborrowed_value, is_writer}
-use Common.{kept_data, kind_in, kind_of, lead_of, leads_to, length, length-set, lent_kept}
-use Common.{list_any, list_at, location_of, may_note, nat_eq, nat_tests, ne_eqb, no_index}
-use Common.{read_refusal, referring, refl, set-own, set_written, slice_get, slice_get_cases}
-use Common.{slice_get_past, slice_get_read, slice_get_within, slice_set, subst, suc, sym}
-use Common.{target_in, target_of, true, true≢false, unread_in, value_for, value_of}
-use Common.{without_reader_in, write_refusal, zero, ℕ, ⊎_elim, ◌&&◌, ◌++◌, ◌+◌, ◌<◌, ◌∙◌, ◌∷◌}
-use Common.{◌≡◌, ◌≢◌, ◌≤◌}
+use Common.{entries_of, entry_of, entry_with, eq-eqb, eqb-true, false, false_from_ne_true}
+use Common.{false≢true, get_or, has_no_borrow, has_reader, has_writer, index_in, index_of, inl}
+use Common.{inr, is_lent_data, is_none, is_noted, is_noted_at, is_reader, is_some}
+use Common.{is_unborrowed_data, is_unborrowed_value, is_writer, kept_data, kind_in, kind_of}
+use Common.{lead_of, leads_to, length, length-set, lent_kept, list_any, list_at, location_of}
+use Common.{may_note, nat_eq, nat_tests, ne_eqb, no_index, read_refusal, referring, refl, set-own}
+use Common.{set_written, slice_get, slice_get_cases, slice_get_past, slice_get_read}
+use Common.{slice_get_within, slice_set, subst, suc, sym, target_in, target_of, true, true≢false}
+use Common.{unread_in, value_for, value_of, without_reader_in, write_refusal, zero, ℕ, ⊎_elim}
+use Common.{◌&&◌, ◌++◌, ◌+◌, ◌<◌, ◌∙◌, ◌∷◌, ◌≡◌, ◌≢◌, ◌≤◌}
 use Rattle.generational_entries.proofs.lists.TableChanges.{none_some}
 use Rattle.generational_entries.proofs.states.Indexes.{indexed}
 use Rattle.generational_entries.specs.declared.entry.StorageEntryData.TheVariants as slot
@@ -134,15 +134,6 @@ module _ {T : Type 0} (d : StorageEntryData T) where
   abbrev pub NotLent : Type 0
   NotLent = (kd : Kind) (x : ℕ) → d ≡ slot.Lent kd x → ⊥
 
-  refers_index : (bs : List Borrow) (l : Location)
-      → is_some (target_in (cell_of (kept_data bs l d))) ≡ true → index_of d ≡ no_index
-  refers_index bs l h = grind arith
-
-  refers_kept : (bs bs' : List Borrow) (l m : Location) (n : Name)
-      → is_some (target_in (cell_of (kept_data bs l d))) ≡ true
-      → Refers n m ≡ referring n (kept_data bs' m d)
-  refers_kept bs bs' l m n h = grind arith
-
   -- a cell has the location where it was made
   pub created_there : (bs : List Borrow) (l : Location)
       → IfSome (location_of (cell_of (kept_data bs l d))) (λ x. l ≡ x)
@@ -248,8 +239,8 @@ entry_kept g n k = record { generation = g; kept = k; references = n }
 
 -- ---- a store's slots, as their methods find them
 
--- the vectors of the slots and of their details, the table and the noted borrow, with what contracts
--- see
+-- the vectors of the slots and of their details, the table and the noted borrow, with what
+-- contracts see
 pub record IsKept {T : Type 0} (r : LastBorrow) (t : Table) (es : List (StorageEntry T))
     (ds : List EntryDetails) (now : EntryList T) : Type 0 where
   pub base : IsListable r t es
@@ -417,13 +408,10 @@ noted_over {T} {r} {before} {after} {es} {es'} {i} {e} w away was same written =
 -- no borrow is noted beyond the last slot
 pub away_end : {T : Type 0} {r : LastBorrow} {lists : List (List Borrow)}
     {es : List (StorageEntry T)} → AreNoted r lists es → is_noted_at r (length es) ≡ false
-away_end {T} {r} {lists} {es} n = elim (cases_Bool (is_noted_at r (length es))) [
-  | inl on ↦
-      let at = noted_slot r (length es) on in
-      let e = noted_there r lists (length es) (slice_get es r.slot) n.noted at on in
-      absurd (omega (arith, slice_get_within es r.slot e.0 e.1, at))
-  | inr off ↦ off
-]
+away_end {T} {r} {lists} {es} n = false_from_ne_true _ (λ on.
+    let at = noted_slot r (length es) on in
+    let e = noted_there r lists (length es) (slice_get es r.slot) n.noted at on in
+    omega (arith, slice_get_within es r.slot e.0 e.1, at))
 
 -- a cell whose borrows have an index, or that has none, needs no noted writer
 pub written_index : {T : Type 0} (r : LastBorrow) (k : ℕ) (d : StorageEntryData T)
@@ -510,10 +498,7 @@ module _ {T : Type 0} {r : LastBorrow} {t : Table} {es : List (StorageEntry T)} 
       indexed_list = rw (ne_eqb (index_of e.content) no_index some) refl
 
   pub indexed_value : index_of e.content ≢ no_index → is_some (kind_of e.content) ≡ true
-  indexed_value some = value e.content some
-    where
-      value : (d : StorageEntryData T) → index_of d ≢ no_index → is_some (kind_of d) ≡ true
-      value d some = grind (arith, some)
+  indexed_value some = grind (arith, some)
 
   -- what holds where it is noted
   pub noted_here : is_noted_at r i ≡ true
@@ -522,60 +507,39 @@ module _ {T : Type 0} {r : LastBorrow} {t : Table} {es : List (StorageEntry T)} 
       let some : is_noted r.noted ≡ true = grind arith in
       rw (noted_slot r i on, a.there) at (a.base.noted.noted some)
 
-  -- a value at which no reader is listed and that isn't lent has the noted borrow alone, and so have
-  -- cells that are no value
+  -- a value without listed readers that isn't lent has no index, nor has a cell that is no value
   pub free_index : NotRead e.content → NotLent e.content → index_of e.content ≡ no_index
   free_index none gone = grind (arith, none, gone)
 
   -- where a borrow is noted there stand borrows
   pub noted_some : is_noted_at r i ≡ true → borrows_of r t.lists i (index_of e.content) ≢ []
-  noted_some on = some e.content refl
-    where
-      some : (d : StorageEntryData T) → e.content ≡ d
-          → borrows_of r t.lists i (index_of e.content) ≢ []
-      some slot.Empty is = rw (is, on) (none_some r.borrow [])
-      some (slot.Data kd v) is = rw (is, on) (none_some r.borrow [])
-      some (slot.Read kd x v) is = read_some is
-      some (slot.Lent kd x) is = lent_some is
-      some (slot.Reference s g) is = rw (is, on) (none_some r.borrow [])
+  noted_some on = ⊎_elim
+      (λ none. rw (eq-eqb (index_of e.content) no_index none, on) (none_some r.borrow []))
+      indexed_some
+      (cases_eq (index_of e.content) no_index)
 
   -- it is a value's
   pub noted_value : is_noted_at r i ≡ true → is_some (kind_of e.content) ≡ true
-  noted_value on = let may = (noted_here on).1 in value e.content may
-    where
-      value : (d : StorageEntryData T) → may_note r t.lists d ≡ true
-          → is_some (kind_of d) ≡ true
-      value d may = grind arith
+  noted_value on = let may = (noted_here on).1 in grind arith
 
   -- and where no value is, none is noted
   pub valueless : kind_of e.content ≡ None → is_noted_at r i ≡ false
-  valueless none = elim (cases_Bool (is_noted_at r i)) [
-    | inl on ↦ absurd (none_is (kind_of e.content) none (noted_value on))
-    | inr off ↦ off
-  ]
-    where
-      none_is : (k : Option Kind) → k ≡ None → is_some k ≡ true → ⊥
-      none_is k none some = grind arith
+  valueless none =
+      false_from_ne_true _ (λ on. false≢true (sym (ap is_some none) ∙ noted_value on))
 
   -- a noted reader beside others is listed
   pub noted_listed : is_noted_at r i ≡ true → NotData e.content → NotLent e.content
       → index_of e.content ≢ no_index
   noted_listed on none gone =
-      listed_place e.content none gone (noted_value on) (λ kd x v is. has_place is)
-    where
-      listed_place : (d : StorageEntryData T) → NotData d → NotLent d → is_some (kind_of d) ≡ true
-          → ((kd : Kind) (x : ℕ) (v : T) → d ≡ slot.Read kd x v → x ≢ no_index)
-          → index_of d ≢ no_index
-      listed_place d none gone value place at = grind (arith, none, gone, place)
+      let value = noted_value on in
+      let place : (kd : Kind) (x : ℕ) (v : T) → e.content ≡ slot.Read kd x v → x ≢ no_index =
+      λ kd x v is. has_place is in
+      λ at. grind (arith, none, gone, place)
 
   -- a noted writer's value is lent
   pub noted_lent : is_noted_at r i ≡ true → is_writer r.noted ≡ true
       → (kd : Kind) × (x : ℕ) × (e.content ≡ slot.Lent kd x)
-  noted_lent on writes = lent_there e.content (noted_here on).1
-    where
-      lent_there : (d : StorageEntryData T) → may_note r t.lists d ≡ true
-          → (kd : Kind) × (x : ℕ) × (d ≡ slot.Lent kd x)
-      lent_there d may = grind arith
+  noted_lent on writes = let may = (noted_here on).1 in grind arith
 
   -- where no borrow is noted, a writer is listed
   pub lent_listed : {kd : Kind} {x : ℕ} → e.content ≡ slot.Lent kd x → is_noted r.noted ≡ false
@@ -586,11 +550,7 @@ module _ {T : Type 0} {r : LastBorrow} {t : Table} {es : List (StorageEntry T)} 
   -- a value without listed readers that isn't lent, where it is
   pub noted_data : is_noted_at r i ≡ true → NotRead e.content → NotLent e.content
       → (kd : Kind) × (v : T) × (e.content ≡ slot.Data kd v)
-  noted_data on none gone = value e.content none gone (noted_value on)
-    where
-      value : (d : StorageEntryData T) → NotRead d → NotLent d → is_some (kind_of d) ≡ true
-          → (kd : Kind) × (v : T) × (d ≡ slot.Data kd v)
-      value d none gone some = grind (arith, none, gone)
+  noted_data on none gone = let value = noted_value on in grind (arith, none, gone)
 
   pub noted_one : {kd : Kind} {v : T} → e.content ≡ slot.Data kd v → is_noted_at r i ≡ true
       → borrows_of r t.lists i (index_of e.content) ≡ r.borrow ∷ []
@@ -611,17 +571,11 @@ module _ {T : Type 0} {r : LastBorrow} {t : Table} {es : List (StorageEntry T)} 
   -- other tickets don't, where no readers are listed
   pub noted_else : (n : ℕ) → (is_reader r.noted && nat_eq r.slot i && nat_eq r.borrow.ticket n)
       ≡ false → NotRead e.content → (l : Location)
-      → value_for n (content_in (kept_data (borrows_of r t.lists i (index_of e.content)) l e.content))
-      ≡ None
+      → value_for n
+      (content_in (kept_data (borrows_of r t.lists i (index_of e.content)) l e.content)) ≡ None
   noted_else n off none l =
-      closed e.content (borrows_of r t.lists i (index_of e.content)) none (λ kd v is. away kd v is)
+      grind (arith, none, away)
     where
-      closed : (d : StorageEntryData T) (bs : List Borrow) → NotRead d
-          → ((kd : Kind) (v : T) → d ≡ slot.Data kd v
-          → list_any (λ b. nat_eq b.ticket n) bs ≡ false)
-          → value_for n (content_in (kept_data bs l d)) ≡ None
-      closed d bs none away = grind (arith, none, away)
-
       elsewhere : is_noted_at r i ≡ true → is_reader r.noted ≡ true
           → nat_eq r.borrow.ticket n ≡ false
       elsewhere on reads = grind (arith, off)
@@ -649,16 +603,7 @@ module _ {T : Type 0} {r : LastBorrow} {t : Table} {es : List (StorageEntry T)} 
           → ((kd : Kind) (v : T) → d ≡ slot.Data kd v → bs ≡ r.borrow ∷ [])
           → ((kd : Kind) (x : ℕ) (v : T) → d ≡ slot.Read kd x v → bs ≡ list_at t.lists x)
           → value_of (content_in (kept_data bs l d)) ≡ value_for n (content_in (kept_data bs l d))
-      opens slot.Empty bs may own read = refl
-      opens (slot.Data kd v) bs may own read =
-          rw (own kd v refl, eq-eqb r.borrow.ticket n same) refl
-      opens (slot.Read kd x v) bs may own read =
-          let has = subst (λ n. list_any (λ b. nat_eq b.ticket n) (list_at t.lists x) ≡ true) same
-          (and_parts _ _ may).1 in
-          rw (read kd x v refl, has) refl
-      opens (slot.Lent kd x) [] may own read = refl
-      opens (slot.Lent kd x) (b ∷ bs) may own read = refl
-      opens (slot.Reference s g) bs may own read = refl
+      opens d bs may own read = grind (arith, nat_tests, own, read, same)
 
   -- the other slots' borrows stay where the table changes for this slot alone, and the note isn't
   -- at another
@@ -710,7 +655,8 @@ module _ {T : Type 0} {r : LastBorrow} {t : Table} {es : List (StorageEntry T)} 
   forgotten lists e' same written = elim (cases_Bool (is_noted_at r i)) [
     | inl on ↦ rw on (near_noted (cleared r) lists e' (near_own r i (noted_slot r i on))
         (λ k other. refl) (λ z. absurd cc) (written (cleared r)))
-    | inr off ↦ rw off (noted_over (set_written es i e' e a.there) off a.base.noted same (written r))
+    | inr off ↦
+        rw off (noted_over (set_written es i e' e a.there) off a.base.noted same (written r))
   ]
 
   pub same_forgotten : (lists : List (List Borrow)) → SameLists t.lists lists es i
@@ -847,59 +793,42 @@ module _ {T : Type 0} {r : LastBorrow} {t : Table} {es : List (StorageEntry T)}
   -- a cell without borrows is a value without listed readers, and no borrow is noted there
   pub alone : IfSome (slice_get now.slots i) (λ e. has_no_borrow (content_in e.kept) ≡ true)
       → (kd : Kind) × (v : T) × (e.content ≡ slot.Data kd v)
-  alone h = free_value e.content location.0.created_at
-      (borrows_of r t.lists i (index_of e.content))
-      (λ kd x v is. read_some a.at is)
-      (hears (λ e. has_no_borrow (content_in e.kept) ≡ true) h)
-    where
-      free_value : (d : StorageEntryData T) (l : Location) (bs : List Borrow)
-          → ((kd : Kind) (x : ℕ) (v : T) → d ≡ slot.Read kd x v → bs ≢ [])
-          → has_no_borrow (content_in (kept_data bs l d)) ≡ true
-          → (kd : Kind) × (v : T) × (d ≡ slot.Data kd v)
-      free_value d l bs read free = grind (arith, read)
+  alone h =
+      let free = hears (λ e. has_no_borrow (content_in e.kept) ≡ true) h in
+      let read : (kd : Kind) (x : ℕ) (v : T) → e.content ≡ slot.Read kd x v
+      → borrows_of r t.lists i (index_of e.content) ≢ [] = λ kd x v is. read_some a.at is in
+      grind (arith, read)
 
   pub alone_away : IfSome (slice_get now.slots i) (λ e. has_no_borrow (content_in e.kept) ≡ true)
       → is_noted_at r i ≡ false
-  alone_away h = elim (cases_Bool (is_noted_at r i)) [
-    | inl on ↦ absurd (noted_free on)
-    | inr off ↦ off
-  ]
-    where
-      noted_free : is_noted_at r i ≡ true → ⊥
-      noted_free on =
-          let own = alone h in
-          let some : borrows_of r t.lists i (index_of e.content) ≢ [] =
-          rw (own.2, on) (none_some r.borrow []) in
-          cc (
-            not_free e.content _ location.0.created_at some,
-            hears (λ e. has_no_borrow (content_in e.kept) ≡ true) h,
-          )
+  alone_away h = false_from_ne_true _ (λ on.
+      let own = alone h in
+      let some : borrows_of r t.lists i (index_of e.content) ≢ [] =
+      rw (own.2, on) (none_some r.borrow []) in
+      cc (
+        not_free e.content _ location.0.created_at some,
+        hears (λ e. has_no_borrow (content_in e.kept) ≡ true) h,
+      ))
 
   -- a reference has no borrows
   pub refers_none : IfSome (slice_get now.slots i)
       (λ e. is_some (target_in (cell_of e.kept)) ≡ true)
       → index_of e.content ≡ no_index
   refers_none h =
-      refers_index e.content _ location.0.created_at
-      (hears (λ e. is_some (target_in (cell_of e.kept)) ≡ true) h)
+      let own = hears (λ e. is_some (target_in (cell_of e.kept)) ≡ true) h in grind arith
 
   pub referred : (target g : ℕ) (l : Location) (bs : List Borrow)
       → IfSome (slice_get now.slots i) (λ e. is_some (target_in (cell_of e.kept)) ≡ true)
       → Refers (record { slot = target; generation = g }) l
       ≡ referring (record { slot = target; generation = g }) (kept_data bs l e.content)
   referred target g l bs h =
-      refers_kept e.content _ bs location.0.created_at l
-      (record { slot = target; generation = g })
-      (hears (λ e. is_some (target_in (cell_of e.kept)) ≡ true) h)
+      let own = hears (λ e. is_some (target_in (cell_of e.kept)) ≡ true) h in grind arith
 
   pub refers_away : IfSome (slice_get now.slots i)
       (λ e. is_some (target_in (cell_of e.kept)) ≡ true) → is_noted_at r i ≡ false
-  refers_away h = valueless a.at (no_value_there e.content _ location.0.created_at
-      (hears (λ e. is_some (target_in (cell_of e.kept)) ≡ true) h))
-    where
-      no_value_there : (d : StorageEntryData T) (bs : List Borrow) (l : Location)
-          → is_some (target_in (cell_of (kept_data bs l d))) ≡ true → kind_of d ≡ None
-      no_value_there d bs l h = grind arith
+  refers_away h =
+      let own = hears (λ e. is_some (target_in (cell_of e.kept)) ≡ true) h in
+      valueless a.at (grind arith)
 
   pub empty_slot : IfSome (slice_get now.slots i) (λ seen. seen.kept ≡ Empty)
       → e.content ≡ slot.Empty

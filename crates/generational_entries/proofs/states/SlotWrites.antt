@@ -4,12 +4,12 @@ use Common.{AreBelow, AreIndexed, AreNoted, Borrow, EntryDetails, EntryList, Has
 use Common.{HasWriter, Here, IfSome, IsAlone, IsClosed, IsListed, IsReadable, IsUsed, Kind}
 use Common.{LastBorrow, List, Live, Location, Releases, StorageEntry, StorageEntryData, Table, []}
 use Common.{ap, arith, bit, borrows_of, cases_eq, change_entry, cleared, common_steps, content_in}
-use Common.{entries_of, entry_with, eq-eqb, false, false≢true, fewer_within, get_or-set_same}
-use Common.{has_index, how_many, index_in, index_of, inl, inr, is_noted, is_noted_at, is_some}
-use Common.{kept_data, length, length-set, list_any, list_at, listed_beside, nat_cmp, nat_eq}
-use Common.{nat_tests, ne_eqb, no_index, readers_of, refl, set-own, set_written, slice_get}
-use Common.{slice_set, subst, sym, true, unread_data, value_of, with_reader, ℕ, ⊎_elim, ◌++◌, ◌+◌}
-use Common.{◌<◌, ◌∙◌, ◌∷◌, ◌≡◌, ◌≢◌, ◌≤◌, ◌⊎◌}
+use Common.{entries_of, entry_with, eq-eqb, false, fewer_within, get_or-set_same, has_index}
+use Common.{how_many, index_in, index_of, inl, inr, is_noted, is_noted_at, is_some, kept_data}
+use Common.{length, length-set, list_any, list_at, listed_beside, nat_cmp, nat_eq, nat_tests}
+use Common.{ne_eqb, no_index, readers_of, refl, set-own, set_written, slice_get, slice_set, subst}
+use Common.{sym, true, unread_data, value_of, with_reader, ℕ, ⊎_elim, ◌++◌, ◌+◌, ◌<◌, ◌∙◌, ◌∷◌}
+use Common.{◌≡◌, ◌≢◌, ◌≤◌, ◌⊎◌}
 use Rattle.generational_entries.proofs.lists.TableChanges.{Changes, Opens, closed, closed_count}
 use Rattle.generational_entries.proofs.lists.TableChanges.{list_changed, none_some, not_empty}
 use Rattle.generational_entries.proofs.lists.TableChanges.{opened, opened_count, opened_few}
@@ -253,7 +253,8 @@ module _ {T : Type 0} {r : LastBorrow} {t : Table} {es : List (StorageEntry T)} 
       let some : y ≢ no_index = λ z. omega (arith, z, below) in
       record {
         slots = λ ds made. unchanged (seen ds made) (cleared r) t'.lists e'
-            (same_near a (cleared r) t'.lists own_near none_near (open_lists a none o)) (rw (none, on) refl)
+            (same_near a (cleared r) t'.lists own_near none_near (open_lists a none o))
+            (rw (none, on) refl)
             (rw (at, ne_eqb y no_index some) (opened_list o)) same;
         indexed = open_indexed a none o e' at;
         noted = near_noted a (cleared r) t'.lists e' own_near none_near (λ z. absurd cc)
@@ -287,12 +288,7 @@ readable_cases : {T : Type 0} (d : StorageEntryData T) (bs : List Borrow) (l : L
     → is_some (value_of (content_in (kept_data bs l d))) ≡ true
     → ((kd : Kind) × (v : T) × (d ≡ slot.Data kd v))
     ⊎ ((kd : Kind) × (x : ℕ) × (v : T) × (d ≡ slot.Read kd x v))
-readable_cases slot.Empty bs l has = absurd (false≢true has)
-readable_cases (slot.Data kd v) bs l has = inl (kd, v, refl)
-readable_cases (slot.Read kd x v) bs l has = inr (kd, x, v, refl)
-readable_cases (slot.Lent kd x) [] l has = absurd (false≢true has)
-readable_cases (slot.Lent kd x) (b ∷ bs) l has = absurd (false≢true has)
-readable_cases (slot.Reference s g) bs l has = absurd (false≢true has)
+readable_cases d bs l has = grind arith
 
 any_last : (n : ℕ) (bs : List Borrow) (b : Borrow) → b.ticket ≡ n
     → list_any (λ r. nat_eq r.ticket n) (bs ++ b ∷ []) ≡ true

@@ -3,8 +3,8 @@ use Rattle.generational_entries.proofs.{arith, begun, begun_alone, details_at, e
 use Rattle.generational_entries.proofs.{indexed_some, indexed_value, kept, listed, listed_below}
 use Rattle.generational_entries.proofs.{many, read_slot, readable_within, says, still_listed}
 use Rattle.generational_entries.proofs.{stopped, used_here}
-use Rattle.generational_entries.proofs.entries.Entries.begin_read.Goals.{else-not-is_unborrowed, then-not-is_unborrowed+in_ok-list_beside}
 use Rattle.generational_entries.proofs.entries.Entries.begin_read.Goals as goal
+use goal.{else-not-is_unborrowed, then-not-is_unborrowed+in_ok-list_beside}
 
 pub list_noted-requires : goal.list_noted-requires
 list_noted-requires g c = (kept c.self.view_is c.self.invariant).base
@@ -39,13 +39,14 @@ returns-in_err-list_beside-clause-beside g c =
     c.requires.there in
     let a = read_slot s within c.index.ensures in
     let some = c.in_err-list_beside.ensures.beside in
-    err_then c.from_residual.result (says a _ (λ d. stopped c.index.result.now.content _ d.created_at
-    (indexed_some a.at some) (indexed_value a.at some)))
+    err_then c.from_residual.result (says a _ (λ d. stopped c.index.result.now.content _
+    d.created_at (indexed_some a.at some) (indexed_value a.at some)))
 
 pub invariant_of-self-2 : goal.invariant_of-self-2
 invariant_of-self-2 g c =
     let s = listed (kept c.self.view_is c.self.invariant) c.list_noted.ensures.listed in
-    let v = still_listed c.self.invariant c.list_noted.ensures.listed c.list_noted.ensures.capacity in
+    let v = still_listed c.self.invariant c.list_noted.ensures.listed
+    c.list_noted.ensures.capacity in
     let within = readable_within c.args.self.now.slots c.args.name.slot c.args.name.generation
     c.requires.there in
     rw c.note.ensures (elim c.if-not-is_unborrowed.branch [

@@ -30,14 +30,16 @@ invariant_of-self g c =
     let s = listed (kept c.self.view_is c.self.invariant) c.list_noted.ensures.listed in
     let within = alone_within c.args.self.now.slots c.args.name.slot c.args.name.generation
     c.requires.free in
-    let v = still_listed c.self.invariant c.list_noted.ensures.listed c.list_noted.ensures.capacity in
+    let v = still_listed c.self.invariant c.list_noted.ensures.listed
+    c.list_noted.ensures.capacity in
     let a = read_slot s within c.index_mut.ensures.value in
     let own = alone a (alone_free a c.args.name.generation c.requires.free) in
     let slot = c.args.name.slot in
+    let near = near_none c.list_noted.new.last slot c.list_noted.ensures.nobody in
+    let near_note = near_own c.note.new.self slot (rw c.note.ensures refl) in
     still a v _ (free_indexed a.at (rw own.2) _
     (rw (c.lend-value.ensures.lent, own.2) tt) (rw (c.lend-value.ensures.lent, own.2)))
-    (near_noted a.at c.note.new.self _ _ (near_none c.list_noted.new.last slot c.list_noted.ensures.nobody)
-    (near_own c.note.new.self slot (rw c.note.ensures refl))
+    (near_noted a.at c.note.new.self _ _ near near_note
     (λ z. rw c.note.ensures (
       alone_generation a c.args.name.generation c.requires.free,
       rw (c.lend-value.ensures.lent, own.2) refl,
@@ -54,7 +56,8 @@ returns-clause-value g c =
     let own = alone a (alone_free a c.args.name.generation c.requires.free) in
     let away : is_noted_at c.list_noted.new.last c.args.name.slot ≡ false =
     rw c.list_noted.ensures.nobody refl in
-    let same : Some own.1 ≡ Some c.lend-value.result = sym (ap unread_in own.2) ∙ c.lend-value.ensures.value in
+    let same : Some own.1 ≡ Some c.lend-value.result =
+    sym (ap unread_in own.2) ∙ c.lend-value.ensures.value in
     let value : c.lend-value.result ≡ own.1 = cc in
     says_with a (unborrowed a.at (rw own.2) away) _ (λ d. rw (own.2, value))
 
@@ -66,10 +69,11 @@ returns-clause-after g c =
     let a = read_slot s within c.index_mut.ensures.value in
     let own = alone a (alone_free a c.args.name.generation c.requires.free) in
     let slot = c.args.name.slot in
+    let near = near_none c.list_noted.new.last slot c.list_noted.ensures.nobody in
+    let near_note = near_own c.note.new.self slot (rw c.note.ensures refl) in
     let away : is_noted_at c.list_noted.new.last c.args.name.slot ≡ false =
     rw c.list_noted.ensures.nobody refl in
     changed a c.note.new.self _ _ _ {bs' = c.args.writer ∷ []}
-    (same_near a.at c.note.new.self _ (near_none c.list_noted.new.last slot c.list_noted.ensures.nobody) (near_own c.note.new.self slot (rw c.note.ensures refl))
-    (λ k other. refl)) (unborrowed a.at (rw own.2) away)
+    (same_near a.at c.note.new.self _ near near_note (λ k other. refl)) (unborrowed a.at (rw own.2) away)
     (rw (c.lend-value.ensures.lent, own.2, c.note.ensures, eq-eqb slot slot refl) refl)
     (λ d. rw (c.lend-value.ensures.lent, own.2))

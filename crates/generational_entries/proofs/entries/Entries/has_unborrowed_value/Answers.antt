@@ -8,7 +8,8 @@ pub returns-then-is_at : goal.returns-then-is_at
 returns-then-is_at g c =
     let on = sym c.is_at.ensures ∙ c.if-is_at.true in
     let n = noted_at_slot (kept c.self.view_is c.self.invariant) c.args.name.slot on in
-    rw (slot_seen n.1) (sym (unfree n.0 (location n.1).0 _ (noted_some n.1.at on) c.args.name.generation))
+    rw (slot_seen n.1)
+    (sym (unfree n.0 (location n.1).0 _ (noted_some n.1.at on) c.args.name.generation))
 
 pub returns-in-Some : goal.returns-in-Some
 returns-in-Some g c =

@@ -10,7 +10,8 @@ returns-in-Data g c =
     let a = found c.self.view_is c.self.invariant c.requires c.index.ensures in
     let is = reads_at c.self.inside.last c.args.slot c.args.ticket
     (sym c.is_reader_at.ensures ∙ c.if-is_reader_at.true) in
-    says_with a (noted_one a.at c.in-Data.is is.0) _ (λ d. rw (c.in-Data.is, eq-eqb c.self.inside.last.borrow.ticket c.args.ticket is.2))
+    says_with a (noted_one a.at c.in-Data.is is.0) _
+    (λ d. rw (c.in-Data.is, eq-eqb c.self.inside.last.borrow.ticket c.args.ticket is.2))
 
 pub returns-in_default : goal.returns-in_default
 returns-in_default g c =
@@ -22,7 +23,8 @@ returns-in_default g c =
 
 pub contains-requires : goal.contains-requires
 contains-requires g c =
-    (used_at (found c.self.view_is c.self.invariant c.requires c.index.ensures).at c.in-Read.is).within
+    let a = found c.self.view_is c.self.invariant c.requires c.index.ensures in
+    (used_at a.at c.in-Read.is).within
 
 pub returns-then-contains : goal.returns-then-contains
 returns-then-contains g c =
@@ -40,4 +42,5 @@ pub returns-in_default-content : goal.returns-in_default-content
 returns-in_default-content g c =
     let a = found c.self.view_is c.self.invariant c.requires c.index.ensures in
     let no = sym c.is_reader_at.ensures ∙ c.if-is_reader_at.false in
-    says a _ (λ d. sym (noted_else a.at c.args.ticket no c.in_default-content.not-Read d.created_at))
+    says a _
+    (λ d. sym (noted_else a.at c.args.ticket no c.in_default-content.not-Read d.created_at))

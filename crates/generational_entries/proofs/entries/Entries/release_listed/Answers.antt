@@ -19,7 +19,8 @@ release-known-requires g c =
 pub invariant_of-self : goal.invariant_of-self
 invariant_of-self g c =
     let s = listed (kept c.self.view_is c.self.invariant) c.list_noted.ensures.listed in
-    let v = still_listed c.self.invariant c.list_noted.ensures.listed c.list_noted.ensures.capacity in
+    let v = still_listed c.self.invariant c.list_noted.ensures.listed
+    c.list_noted.ensures.capacity in
     let a = read_slot s c.requires c.index_mut.ensures.value in
     let r = c.list_noted.new.last in
     let near = near_none r c.args.slot c.list_noted.ensures.nobody in

@@ -35,7 +35,8 @@ returns-then-first-ticket-clause-known g c =
 pub invariant_of-self-in-Lent : goal.invariant_of-self-in-Lent
 invariant_of-self-in-Lent g c =
     let s = listed (kept c.self.view_is c.self.invariant) c.list_noted.ensures.listed in
-    let v = still_listed c.self.invariant c.list_noted.ensures.listed c.list_noted.ensures.capacity in
+    let v = still_listed c.self.invariant c.list_noted.ensures.listed
+    c.list_noted.ensures.capacity in
     let a = read_slot s c.requires c.index_mut.ensures.value in
     let some = lent_listed a.at c.in-Lent.is c.list_noted.ensures.nobody in
     let r = c.list_noted.new.last in

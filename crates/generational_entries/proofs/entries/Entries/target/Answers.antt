@@ -8,7 +8,8 @@ returns-in-Some g c =
     let found = rw c.deref.ensures.value at c.in-Some.ensures.lookup in
     let a = here (kept c.self.view_is c.self.invariant) (slice_get_read
     c.self.inside.entries.items _ c.args.name.slot c.in-Some.entry.now refl found.3.0 found.1) in
-    rw (slot_seen a) (c.target.ensures ∙ target_seen c.in-Some.entry.now (location a).0 _ (lent a.at) c.args.name.generation)
+    rw (slot_seen a) (c.target.ensures
+    ∙ target_seen c.in-Some.entry.now (location a).0 _ (lent a.at) c.args.name.generation)
 
 pub returns-in-None : goal.returns-in-None
 returns-in-None g c =
