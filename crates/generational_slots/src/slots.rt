@@ -3,7 +3,7 @@
 ghost use Rattle.std.specs.Prelude.{◌≡◌, ◌+◌, ◌-◌, ◌<◌, ◌≤◌, ◌∷◌, ◌++◌, [], true, Some, None};
 ghost use Rattle.std.specs.Prelude.{Err, IfSome, IfOk, IfErr, IsSome, OnOk, OnErr, IsTrue, ◌↔◌};
 ghost use Rattle.std.specs.Prelude.{is_none, is_ok, option_copied, option_map, length, not};
-ghost use Rattle.std.specs.Prelude.{is_some};
+ghost use Rattle.std.specs.Prelude.{false, is_some};
 ghost use Rattle.std.specs.Prelude.{map as list_map};
 ghost use Rattle.std.specs.List.{IsDistinct, list_all};
 ghost use Rattle.std.specs.FinMap as map;
@@ -657,38 +657,60 @@ impl<T: Drop, P: SlotPool> Slots<T, P> {
             self.remove(name, None, true);
             return Ok(());
         }
-        self.end_other(name)
+        if self.end_slow(name) {
+            return Ok(());
+        }
+        self.end_refused(name)
     }
 
-    // Hands on what `end_slow` answers, so that its place is made only here.
-    #[inline(always)]
-    fn end_other(&mut self, name: CellName) -> BorrowMutResult<()>
+    // Ends a name of any cell, unless a borrow stands in the way. The answer is whether it ended: so
+    // no place is made for a refusal.
+    #[cold]
+    #[inline(never)]
+    fn end_slow(&mut self, name: CellName) -> bool
         requires { IsLinked self.old.state.cells }
-        ensures { HasEnded self.old.state self.new.state (name_of_cell name ∷ []) result }
+        ensures known { result
+            ≡ is_none (hindrance_to self.old.state (name_of_cell name ∷ [])) }
+        ensures ended { result ≡ true
+            → self.new.state ≡ close self.old.state (name_of_cell name ∷ []) }
+        ensures stays { result ≡ false → self.new.state ≡ self.old.state }
     {
-        match self.end_slow(name) {
+        let target = self.entries.target(name);
+        let doomed = self.doomed(name, target);
+        if let Some(value) = doomed {
+            if !self.entries.is_unborrowed(value.slot) {
+                return false;
+            }
+        }
+        self.take_away(name, target, doomed);
+        true
+    }
+
+    // Hands on what hinders the end of a name. Apart from `end`, so that the place of the refusal is
+    // made only here.
+    #[inline(always)]
+    fn end_refused(&self, name: CellName) -> BorrowMutResult<()>
+        requires { IsLinked self.now.state.cells }
+        ensures { FoundBorrowed (hindrance_to self.now.state (name_of_cell name ∷ [])) result }
+    {
+        match self.find_hindrance(name) {
             Ok(()) => Ok(()),
             Err(refused) => Err(refused),
         }
     }
 
-    // Ends a name of any cell, unless a borrow stands in the way.
+    // What hinders the end of a name.
     #[cold]
     #[inline(never)]
-    fn end_slow(&mut self, name: CellName) -> BorrowMutResult<()>
-        requires { IsLinked self.old.state.cells }
-        ensures { HasEnded self.old.state self.new.state (name_of_cell name ∷ []) result }
+    fn find_hindrance(&self, name: CellName) -> BorrowMutResult<()>
+        requires { IsLinked self.now.state.cells }
+        ensures { FoundBorrowed (hindrance_to self.now.state (name_of_cell name ∷ [])) result }
     {
         let target = self.entries.target(name);
-        let doomed = self.doomed(name, target);
-        if let Some(value) = doomed {
-            match self.entries.borrow_mut_error(value.slot) {
-                Ok(()) => {}
-                Err(refused) => return Err(refused),
-            }
+        match self.doomed(name, target) {
+            Some(value) => self.entries.borrow_mut_error(value.slot),
+            None => Ok(()),
         }
-        self.take_away(name, target, doomed);
-        Ok(())
     }
 
     // Ends a name, whatever stands in the way.

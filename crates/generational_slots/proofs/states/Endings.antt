@@ -1,9 +1,9 @@
 -- The end of one name, by the value that goes with it.
 use Rattle.generational_slots.proofs.Common
-use Common.{ap, Bool, borrowed_end, by_name, Cell, cells_after, close, close_one, cond, Content}
-use Common.{content_at, content_of, doomed_by, false, first_hindrance, get-remove_apart}
-use Common.{has_no_borrow, hindrance_to, is_named, is_none, is_some, is_unborrowed_value, IsLinked}
-use Common.{List, Location, Name, NameMap, None, one_hindered, Option, Ref, refl, refusal_of, Some}
+use Common.{ap, Bool, borrowed_end, BorrowMutError, by_name, Cell, cells_after, close, close_one, cond, Content}
+use Common.{content_at, content_of, doomed_by, Err, false, first_hindrance, FoundBorrowed, get-remove_apart}
+use Common.{has_no_borrow, HasEnded, hindrance_to, is_named, is_none, is_some, is_unborrowed_value, IsLinked}
+use Common.{List, Location, Name, NameMap, None, Ok, one_hindered, Option, Ref, refl, refusal_of, Refused, Result, Some}
 use Common.{State, target_in, true, unrefused, Value, write_refusal, [], ◌∙◌, ◌∷◌, ◌≡◌, ◌≢◌}
 use Rattle.std.specs.FinMap as map
 
@@ -23,6 +23,14 @@ module _ {T : Type 0} where
       → hindrance_to S names ≡ first_hindrance S.cells (cells_after S.cells names) names
   unfolding hindrance_to
   hindrance_is S names = refl
+
+  -- where something hinders the end of names, and nothing has changed, that is what is answered
+  pub refused_end : (S : State T) (names : List Name) (R : State T)
+      (r : Result (Unit {0}) (Refused BorrowMutError)) → R ≡ S
+      → is_none (hindrance_to S names) ≡ false → FoundBorrowed (hindrance_to S names) r
+      → HasEnded S R names r
+  refused_end S names R (Ok u) same hindered found = absurd (let no = rw found at hindered in cc)
+  refused_end S names R (Err e) same hindered found = (found, same)
 
   -- the state without the cell of a value that goes
   abbrev pub without : State T → Option Name → State T
