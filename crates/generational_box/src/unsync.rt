@@ -124,7 +124,7 @@ impl<T, P: SlotPool> Store<T, P> {
         )
     }
 
-    /// The same with other first numbers, to see what happens at their ends. Takes no memory.
+    /// An empty store with other first numbers, to see what happens at their ends. Takes no memory.
     ///
     /// ```rust
     /// let numbers = Numbers {
@@ -464,12 +464,12 @@ impl<T: Drop, P: SlotPool> Storage<T> for Store<T, P> {
         pointer: GenerationalPointer,
         location: Location,
     ) -> BorrowResult<GenerationalRef<T>> {
-        self.slots.settle();
+        self.slots.list_noted();
         let Some(name) = self.own(pointer.id) else {
             return Err(Refused::Borrow(dropped(pointer.created_at)));
         };
         match self.slots.readable(name, pointer.created_at) {
-            Ok((name, is_alone)) => self.begin_read(pointer, name, location, is_alone),
+            Ok((name, is_unborrowed)) => self.begin_read(pointer, name, location, is_unborrowed),
             Err(error) => Err(Refused::Borrow(error)),
         }
     }
@@ -480,7 +480,7 @@ impl<T: Drop, P: SlotPool> Storage<T> for Store<T, P> {
         pointer: GenerationalPointer,
         location: Location,
     ) -> BorrowMutResult<GenerationalRefMut<T>> {
-        self.settle();
+        self.list_noted();
         let Some(name) = self.own(pointer.id) else {
             return Err(dropped_mut(pointer.created_at));
         };
@@ -664,11 +664,11 @@ impl<T: Drop, P: SlotPool> Store<T, P> {
         pointer: GenerationalPointer,
         name: CellName,
         location: Location,
-        is_alone: bool,
+        is_unborrowed: bool,
     ) -> BorrowResult<GenerationalRef<T>>
         requires to { reach self.old.state pointer ≡ Some (name_of_cell name) }
         requires free { read_refusal (content_at self.old.state (name_of_cell name)) ≡ None }
-        requires alone { is_alone ≡ true
+        requires alone { is_unborrowed ≡ true
             → write_refusal (content_at self.old.state (name_of_cell name)) ≡ None }
         ensures { Meets self.old.state (Read pointer location) (read_answer result) self.new.state }
     {
@@ -677,7 +677,7 @@ impl<T: Drop, P: SlotPool> Store<T, P> {
             return Err(Refused::Store(StoreError::NumbersExhausted));
         }
         let borrow = Borrow { ticket, location };
-        match self.slots.begin_read(name, borrow, is_alone) {
+        match self.slots.begin_read(name, borrow, is_unborrowed) {
             Ok(()) => {
                 self.next = ticket + 1;
                 Ok(reader_at(id_in(self.number, name), ticket))
@@ -686,18 +686,18 @@ impl<T: Drop, P: SlotPool> Store<T, P> {
         }
     }
 
-    // The borrow that stands apart, if there is one, goes to a list. Nothing that contracts see
-    // changes. The number is written back after it: LLVM takes it that whoever has a part of the
-    // store may write all of it, and so it would ask for the number again.
+    // The noted borrow, if there is one, goes to a list. Nothing that contracts see changes. The
+    // number is written back after it: LLVM takes it that whoever has a part of the store may write
+    // all of it, and so it would ask for the number again.
     #[inline(always)]
-    fn settle(&mut self)
+    fn list_noted(&mut self)
         ensures { self.new.state ≡ self.old.state }
     {
-        if self.slots.is_settled() {
+        if !self.slots.has_noted() {
             return;
         }
         let number = self.number;
-        self.slots.settle();
+        self.slots.list_noted();
         self.number = number;
     }
 

@@ -64,7 +64,7 @@ pub use Rattle.generational_errors.specs.declared.error.BorrowMutError.{BorrowMu
 pub use Rattle.generational_errors.specs.declared.error.StoreError.TheVariants.{OutOfMemory}
 pub use Rattle.generational_slots.specs.SlotRows.{all_slot_rows, entry_rows, rows_from}
 pub use SlotsState.{AreReferred, borrowed_at, Finds, HasEnded, read_refusal_of, content_reached, Count, count_less, count_more}
-pub use SlotsState.{count_of, doomed_by, given_from, given_in, has_more, HasBegun, if_borrowed}
+pub use SlotsState.{count_of, would_end, given_from, given_in, has_other_count, HasBegun, if_borrowed}
 pub use SlotsState.{is_reusable, is_spent, IsReferred, IsSlotTable, IsTurned, live_from, names_up}
 pub use SlotsState.{reached, refers, refers_among, refusal_of, refusal_to_write_at, Retirements}
 pub use SlotsState.{shared_target, SlotsState, SlotTable, state_of, with_cell, with_records}

@@ -4,7 +4,7 @@ unfoldable pub use Common.*
 unfoldable pub use states.Changes.*
 unfoldable pub use states.Counting.*
 unfoldable pub use states.Endings.*
-unfoldable pub use states.Hindrance.*
+unfoldable pub use states.BlockingBorrow.*
 unfoldable pub use states.Lists.*
 unfoldable pub use states.Makings.*
 unfoldable pub use states.Pointing.*

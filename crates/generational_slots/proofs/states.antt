@@ -1,7 +1,7 @@
 pub mod Changes
 pub mod Counting
 pub mod Endings
-pub mod Hindrance
+pub mod BlockingBorrow
 pub mod Lists
 pub mod Makings
 pub mod Pointing

@@ -247,18 +247,18 @@ module _ {T : Type 0} where
   shared_target slots (Some m) = if is_shared (cell_at slots m) then Some m else None
 
   -- whether a name's slot counts another number of references
-  abbrev pub has_more_in : ℕ → Option (Entry T) → Bool
-  has_more_in last None = false
-  has_more_in last (Some e) = not (nat_eq e.references last)
+  abbrev pub has_other_count_in : ℕ → Option (Entry T) → Bool
+  has_other_count_in last None = false
+  has_other_count_in last (Some e) = not (nat_eq e.references last)
 
-  abbrev pub has_more : List (Entry T) → ℕ → Name → Bool
-  has_more slots last m = has_more_in last (slice_get slots m.slot)
+  abbrev pub has_other_count : List (Entry T) → ℕ → Name → Bool
+  has_other_count slots last m = has_other_count_in last (slice_get slots m.slot)
 
   -- The value that goes where a name ends: its own, or its target, unless that is named still.
-  abbrev pub doomed_by : (Name → Bool) → Option (Cell T) → Name → Option Name
-  doomed_by named (Some (Value c l)) n = Some n
-  doomed_by named (Some (Ref m l)) n = if named m then None else Some m
-  doomed_by named _ n = None
+  abbrev pub would_end : (Name → Bool) → Option (Cell T) → Name → Option Name
+  would_end named (Some (Value c l)) n = Some n
+  would_end named (Some (Ref m l)) n = if named m then None else Some m
+  would_end named _ n = None
 
   -- how many of some names are of references to a cell
   abbrev pub refers_among : List (Entry T) → List Name → Name → ℕ

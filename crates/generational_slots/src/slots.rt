@@ -37,14 +37,16 @@ ghost use Rattle.generational_entries.specs.Entry.{target_in, value_for};
 ghost use Rattle.generational_slots.specs.SlotsState.{change_content, content_reached, reached};
 ghost use Rattle.generational_slots.specs.SlotsState.{refusal_to_read_at, refusal_to_refer_at};
 ghost use Rattle.generational_slots.specs.SlotsState.{refusal_to_write_at};
-ghost use Rattle.generational_slots.specs.SlotsState.{doomed_by, Finds, HasEnded, IsMade, IsReadable, IsWritable};
+ghost use Rattle.generational_slots.specs.SlotsState.{would_end, Finds, HasEnded, IsMade, IsReadable, IsWritable};
 ghost use Rattle.generational_slots.specs.SlotsState.{IsTurned};
 ghost use Rattle.generational_slots.specs.SlotRows.{all_slot_rows, ReadSlots};
 ghost use Rattle.generational_slots.specs.SlotsState.{with_records};
 
+use crate::blocking_borrow::{
+    are_unborrowed_values, find_blocking_borrow, find_blocking_value, would_end,
+};
 use crate::counts::{Counts, SlotCounts};
 use crate::found::{Found, look};
-use crate::hindrance::{are_unborrowed_values, doomed, find_hindered, find_hindrance};
 use crate::references::{forget, is_boxed, refer};
 use crate::refusals::{dropped, dropped_mut};
 use crate::rows::push_slots;
@@ -367,16 +369,15 @@ impl<T: Drop, P: SlotPool> Slots<T, P> {
         None
     }
 
-    /// Whether no borrow stands apart.
+    /// Whether a borrow is noted apart from the lists.
     #[inline(always)]
-    pub fn is_settled(&self) -> bool {
-        self.entries.is_settled()
+    pub fn has_noted(&self) -> bool {
+        !self.entries.is_settled()
     }
 
-    /// The borrow that stands apart, if there is one, goes to a list. Nothing that contracts see
-    /// changes.
+    /// The noted borrow, if there is one, goes to a list. Nothing that contracts see changes.
     #[inline(always)]
-    pub fn settle(&mut self)
+    pub fn list_noted(&mut self)
         ensures { self.new ≡ self.old }
     {
         self.entries.list_noted();
@@ -389,11 +390,11 @@ impl<T: Drop, P: SlotPool> Slots<T, P> {
         &mut self,
         name: CellName,
         borrow: Borrow,
-        is_alone: bool,
+        is_unborrowed: bool,
     ) -> Result<(), AllocError>
         requires there { IsSome (content_at self.old.state (name_of_cell name)) }
         requires free { read_refusal (content_at self.old.state (name_of_cell name)) ≡ None }
-        requires alone { is_alone ≡ true
+        requires alone { is_unborrowed ≡ true
             → write_refusal (content_at self.old.state (name_of_cell name)) ≡ None }
         requires ascends { AreBelow borrow.ticket
             (readers_of (content_at self.old.state (name_of_cell name))) }
@@ -403,7 +404,7 @@ impl<T: Drop, P: SlotPool> Slots<T, P> {
         ensures beside { OnErr result (is_some
             (write_refusal (content_at self.old.state (name_of_cell name))) ≡ true) }
     {
-        self.entries.begin_read(name, borrow, is_alone)
+        self.entries.begin_read(name, borrow, is_unborrowed)
     }
 
     /// Takes a reader away. The answer is whether it stood.
@@ -472,7 +473,7 @@ impl<T: Drop, P: SlotPool> Slots<T, P> {
     // Makes room for one cell more at least. Want of memory is the only refusal. No slot changes.
     #[cold]
     #[inline(never)]
-    fn make_room(&mut self) -> Result<(), StoreError>
+    fn grow(&mut self) -> Result<(), StoreError>
         ensures state { self.new.state ≡ self.old.state }
         ensures ok { OnOk result (self.old.spare < self.new.spare) }
         ensures cause { IfErr result (λ error. error ≡ OutOfMemory) }
@@ -494,7 +495,7 @@ impl<T: Drop, P: SlotPool> Slots<T, P> {
         if self.spare() > 0 {
             return Ok(());
         }
-        self.make_room()
+        self.grow()
     }
 
     /// Makes room for two cells more, where there isn't.
@@ -506,10 +507,10 @@ impl<T: Drop, P: SlotPool> Slots<T, P> {
     {
         let spare = self.spare();
         if spare == 0 {
-            self.make_room()?;
+            self.grow()?;
         }
         if spare < 2 {
-            self.make_room()?;
+            self.grow()?;
         }
         Ok(())
     }
@@ -567,7 +568,7 @@ impl<T: Drop, P: SlotPool> Slots<T, P> {
         Ok(name)
     }
 
-    // The same in a new slot, where none is free and there is room for one.
+    // Makes a cell in a new slot, where none is free and there is room for one.
     #[inline(always)]
     fn extend(&mut self, content: StorageEntryData<T>, created_at: Location) -> CellName
         requires none { free self.old.state ≡ 0 }
@@ -593,17 +594,17 @@ impl<T: Drop, P: SlotPool> Slots<T, P> {
     // reference names counts it no more. The caller may know that the cell is a value without
     // borrows.
     #[inline(always)]
-    fn remove(&mut self, name: CellName, target: Option<CellName>, is_alone: bool)
+    fn remove(&mut self, name: CellName, target: Option<CellName>, is_unborrowed: bool)
         requires there { IsSome (map.get self.old.state.cells (name_of_cell name)) }
         requires target { option_map name_of_cell target
             ≡ target_in (map.get self.old.state.cells (name_of_cell name)) }
-        requires alone { is_alone ≡ true
+        requires alone { is_unborrowed ≡ true
             → has_no_borrow (content_at self.old.state (name_of_cell name)) ≡ true }
         ensures { self.new.state ≡ record self.old.state
             { cells = map.remove self.old.state.cells (name_of_cell name) } }
     {
         forget(&mut self.entries, target);
-        self.entries.end(name.slot, is_alone);
+        self.entries.end(name.slot, is_unborrowed);
         if name.generation < u64::MAX {
             self.pool.put(name.slot);
         } else {
@@ -614,15 +615,15 @@ impl<T: Drop, P: SlotPool> Slots<T, P> {
     // The value that goes where a name ends: its own, or the one that it refers to as the last. The
     // caller knows what it refers to.
     #[inline(always)]
-    fn doomed(&self, name: CellName, target: Option<CellName>) -> Option<CellName>
+    fn would_end(&self, name: CellName, target: Option<CellName>) -> Option<CellName>
         requires linked { IsLinked self.now.state.cells }
         requires target { option_map name_of_cell target
             ≡ target_in (map.get self.now.state.cells (name_of_cell name)) }
-        ensures { option_map name_of_cell result ≡ doomed_by
+        ensures { option_map name_of_cell result ≡ would_end
             (is_named (map.remove self.now.state.cells (name_of_cell name)))
             (map.get self.now.state.cells (name_of_cell name)) (name_of_cell name) }
     {
-        doomed(&self.entries, name, target)
+        would_end(&self.entries, name, target)
     }
 
     /// Whether no borrow stands in the way of a name's end.
@@ -641,8 +642,8 @@ impl<T: Drop, P: SlotPool> Slots<T, P> {
             ≡ target_in (map.get self.now.state.cells (name_of_cell name)) }
         ensures { result ≡ is_none (hindrance_to self.now.state (name_of_cell name ∷ [])) }
     {
-        match self.doomed(name, target) {
-            Some(doomed) => self.entries.is_unborrowed(doomed.slot),
+        match self.would_end(name, target) {
+            Some(ending) => self.entries.is_unborrowed(ending.slot),
             None => true,
         }
     }
@@ -676,38 +677,38 @@ impl<T: Drop, P: SlotPool> Slots<T, P> {
         ensures stays { result ≡ false → self.new.state ≡ self.old.state }
     {
         let target = self.entries.target(name);
-        let doomed = self.doomed(name, target);
-        if let Some(value) = doomed {
+        let ending = self.would_end(name, target);
+        if let Some(value) = ending {
             if !self.entries.is_unborrowed(value.slot) {
                 return false;
             }
         }
-        self.take_away(name, target, doomed);
+        self.take_away(name, target, ending);
         true
     }
 
-    // Hands on what hinders the end of a name. Apart from `end`, so that the place of the refusal is
-    // made only here.
+    // Hands on the borrows that block the end of a name. Apart from `end`, so that the refusal's place
+    // is made only here.
     #[inline(always)]
     fn end_refused(&self, name: CellName) -> BorrowMutResult<()>
         requires { IsLinked self.now.state.cells }
         ensures { FoundBorrowed (hindrance_to self.now.state (name_of_cell name ∷ [])) result }
     {
-        match self.find_hindrance(name) {
+        match self.find_blocking_borrow(name) {
             Ok(()) => Ok(()),
             Err(refused) => Err(refused),
         }
     }
 
-    // What hinders the end of a name.
+    // The borrows that block the end of a name.
     #[cold]
     #[inline(never)]
-    fn find_hindrance(&self, name: CellName) -> BorrowMutResult<()>
+    fn find_blocking_borrow(&self, name: CellName) -> BorrowMutResult<()>
         requires { IsLinked self.now.state.cells }
         ensures { FoundBorrowed (hindrance_to self.now.state (name_of_cell name ∷ [])) result }
     {
         let target = self.entries.target(name);
-        match self.doomed(name, target) {
+        match self.would_end(name, target) {
             Some(value) => self.entries.borrow_mut_error(value.slot),
             None => Ok(()),
         }
@@ -720,23 +721,23 @@ impl<T: Drop, P: SlotPool> Slots<T, P> {
         ensures { self.new.state ≡ close self.old.state (name_of_cell name ∷ []) }
     {
         let target = self.entries.target(name);
-        let doomed = self.doomed(name, target);
-        self.take_away(name, target, doomed);
+        let ending = self.would_end(name, target);
+        self.take_away(name, target, ending);
     }
 
     // Takes the cell of a name away with the value that goes then. Where that is shared, its slot is
     // free before the reference's. The caller knows what the cell refers to, and which value goes.
     #[inline(always)]
-    fn take_away(&mut self, name: CellName, target: Option<CellName>, doomed: Option<CellName>)
+    fn take_away(&mut self, name: CellName, target: Option<CellName>, ending: Option<CellName>)
         requires linked { IsLinked self.old.state.cells }
         requires target { option_map name_of_cell target
             ≡ target_in (map.get self.old.state.cells (name_of_cell name)) }
-        requires doomed { option_map name_of_cell doomed ≡ doomed_by
+        requires ending { option_map name_of_cell ending ≡ would_end
             (is_named (map.remove self.old.state.cells (name_of_cell name)))
             (map.get self.old.state.cells (name_of_cell name)) (name_of_cell name) }
         ensures { self.new.state ≡ close self.old.state (name_of_cell name ∷ []) }
     {
-        if let Some(value) = doomed {
+        if let Some(value) = ending {
             self.remove(value, None, false);
         }
         if target.is_some() {
@@ -775,7 +776,7 @@ impl<T: Drop, P: SlotPool> Slots<T, P> {
         self.turn(name, old, new)
     }
 
-    // The same, where the reference names the old value, and the new one is shared.
+    // Lets a reference that names the old value name the new one, which is shared.
     fn turn(&mut self, name: CellName, old: CellName, new: CellName) -> BorrowMutResult<()>
         requires linked { IsLinked self.old.state.cells }
         requires refers { target_in (map.get self.old.state.cells (name_of_cell name))
@@ -788,16 +789,16 @@ impl<T: Drop, P: SlotPool> Slots<T, P> {
         if old == new {
             return Ok(());
         }
-        let Some(doomed) = self.doomed(name, Some(old)) else {
+        let Some(ending) = self.would_end(name, Some(old)) else {
             self.redirect(name, old, new);
             return Ok(());
         };
-        match self.entries.borrow_mut_error(doomed.slot) {
+        match self.entries.borrow_mut_error(ending.slot) {
             Ok(()) => {}
             Err(refused) => return Err(refused),
         }
         self.redirect(name, old, new);
-        self.remove(doomed, None, false);
+        self.remove(ending, None, false);
         Ok(())
     }
 
@@ -824,7 +825,8 @@ impl<T: Drop, P: SlotPool> Slots<T, P> {
         requires apart { IsDistinct is_name (list_map name_of_cell names.now) }
         ensures { result ≡ is_none (hindrance_to self.now.state (list_map name_of_cell names.now)) }
     {
-        are_unborrowed_values(&self.entries, names) || find_hindered(&self.entries, names).is_none()
+        are_unborrowed_values(&self.entries, names)
+            || find_blocking_value(&self.entries, names).is_none()
     }
 
     /// Ends the names of a list, from the first to the last, or none of them, where a borrow stands
@@ -863,7 +865,7 @@ impl<T: Drop, P: SlotPool> Slots<T, P> {
         requires apart { IsDistinct is_name (list_map name_of_cell names.now) }
         ensures { HasEnded self.old.state self.new.state (list_map name_of_cell names.now) result }
     {
-        match find_hindrance(&self.entries, names) {
+        match find_blocking_borrow(&self.entries, names) {
             Ok(()) => {}
             Err(refused) => return Err(refused),
         }

@@ -153,7 +153,7 @@ module _ {T : Type 0} where
     unfolding refusal_to_read
     read_gone none = inl (no_names, tt, rw (← none))
 
-    -- the same
+    -- and is asked for a write
     pub write_gone : None ≡ reach S b → Meets S (Write b l) (BorrowRefused (Dropped b.created_at)) S
     unfolding refusal_to_write
     write_gone none = inl (no_names, tt, rw (← none))

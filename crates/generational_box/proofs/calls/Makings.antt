@@ -45,7 +45,7 @@ module _ {T : Type 0} where
       → needs_memory V (Made b) (Make o v l) ≡ true
   value_lacks V b v l o why = grind (arith, nat_tests)
 
-  -- the same of a reference
+  -- and a reference
   reference_lacks : (V : State T) (b inner : GenerationalPointer)
       (o : Option OwnerName) → IsSome o ⊎ (free V ≡ 0)
       → needs_memory V (Made b) (Refer o inner) ≡ true

@@ -19,7 +19,7 @@ module _ {T : Type 0} (S : State T) where
       S.owners refl
       ∙ ap (λ n. record (plain S) { start = n }) (sym first)
 
--- the same of the state that contracts see, and of the rows that were made
+-- so are they of the state that contracts see, as they were made
 pub made_read_back : {T : Type 0} (S : State T) {R : State T} (rows : List BaseRow) → S ≡ R
     → rows ≡ rows_of S → ReadSlots S.number S → ReadBack R rows
 made_read_back S rows view made slots =

@@ -416,7 +416,7 @@ pub invariant_changed : {T : Type 0} {free : set.FinSet nat_cmp} {rooms start : 
 invariant_changed r f h inv slots rooms = rw (slots, rooms, changed_length f h)
     (slotted_changed inv.0 f h, inv.1, referred_changed f h inv.2, inv.3)
 
--- ---- the same of the state that contracts see
+-- ---- the state that contracts see
 
 pub state_is : {T : Type 0} {S : State T} {spare : ℕ} {now : SlotsState T}
     → record { state = S; spare = spare } ≡ now → S ≡ now.state
@@ -458,7 +458,7 @@ module _ {T : Type 0} {now : SlotsState T} {start peak spare : ℕ} {slots : Lis
       let f = held slots n (rw (← view) at h) in
       record { held = f; seen = rw (← view, cell_is f) (content_live f.kind f.content f.created) }
 
-  -- the same, where the slots tell of a content
+  -- a slot holds a content of which the slots tell
   pub held_told : (n : Name) → true ≡ is_some (content_of (cell_at slots n))
       → IsSeen slots now.state n
   held_told n h = held_in n (rw (cell_seen slots view n) at (sym h))
@@ -474,7 +474,7 @@ pub either : {A E : Type 0} (r : Result A E) {P Q X : Type 0} → OnOk r P → O
 either (Ok a) ok err f h = f ok
 either (Err e) ok err f h = h err
 
--- the same where a refusal hands a value back
+-- what holds of both ways, where a refusal hands a value back
 pub returned : {T U : Type 0} (v : T) (r : Result U T) {P Q X : Type 0} → OnOk r P
     → IfErr r (λ back. (back ≡ v) × Q) → (P → X) → (Q → X) → X
 returned v (Ok a) ok err f h = f ok

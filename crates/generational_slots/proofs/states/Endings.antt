@@ -1,7 +1,7 @@
 -- The end of one name, by the value that goes with it.
 use Rattle.generational_slots.proofs.Common
 use Common.{ap, Bool, borrowed_end, BorrowMutError, by_name, Cell, cells_after, close, close_one, cond, Content}
-use Common.{content_at, content_of, doomed_by, Err, false, first_hindrance, FoundBorrowed, get-remove_apart}
+use Common.{content_at, content_of, would_end, Err, false, first_hindrance, FoundBorrowed, get-remove_apart}
 use Common.{has_no_borrow, HasEnded, hindrance_to, is_named, is_none, is_some, is_unborrowed_value, IsLinked}
 use Common.{List, Location, Name, NameMap, None, Ok, one_hindered, Option, Ref, refl, refusal_of, Refused, Result, Some}
 use Common.{State, target_in, true, unrefused, Value, write_refusal, [], ◌∙◌, ◌∷◌, ◌≡◌, ◌≢◌}
@@ -9,14 +9,14 @@ use Rattle.std.specs.FinMap as map
 
 module _ {T : Type 0} where
   -- what hinders the end of a name is what hinders that of the value that goes
-  pub borrowed_doomed : (cells : NameMap (Cell T)) (named : Name → Bool) (n : Name)
+  pub borrowed_ending : (cells : NameMap (Cell T)) (named : Name → Bool) (n : Name)
       (cell : Option (Cell T)) → map.get cells n ≡ cell
-      → borrowed_end cells named cell ≡ refusal_of cells (doomed_by named cell n)
-  borrowed_doomed cells named n (Some (Value c l)) at = rw at refl
-  borrowed_doomed cells named n (Some (Ref m l)) at = elim (named m) as (λ b. cond b None
+      → borrowed_end cells named cell ≡ refusal_of cells (would_end named cell n)
+  borrowed_ending cells named n (Some (Value c l)) at = rw at refl
+  borrowed_ending cells named n (Some (Ref m l)) at = elim (named m) as (λ b. cond b None
       (write_refusal (content_of (map.get cells m))) ≡ refusal_of cells (cond b None (Some m)))
       [ true ↦ refl | false ↦ refl ]
-  borrowed_doomed cells named n _ at = refl
+  borrowed_ending cells named n _ at = refl
 
   -- what hinders the end of a list is told by the cells
   pub hindrance_is : (S : State T) (names : List Name)
@@ -38,11 +38,11 @@ module _ {T : Type 0} where
   without S (Some m) = record S { cells = map.remove S.cells m }
 
   module _ (S : State T) (n : Name) (linked : IsLinked S.cells) (d : Option Name)
-      (doomed : d ≡ doomed_by (is_named (map.remove S.cells n)) (map.get S.cells n) n) where
+      (ending : d ≡ would_end (is_named (map.remove S.cells n)) (map.get S.cells n) n) where
     -- a borrow of that value hinders the end, and no other
-    pub doomed_hinders : hindrance_to S (n ∷ []) ≡ refusal_of S.cells d
-    doomed_hinders = rw doomed (one_hindered S n linked _ refl
-        ∙ borrowed_doomed S.cells (is_named (map.remove S.cells n)) n _ refl)
+    pub ending_hinders : hindrance_to S (n ∷ []) ≡ refusal_of S.cells d
+    ending_hinders = rw ending (one_hindered S n linked _ refl
+        ∙ borrowed_ending S.cells (is_named (map.remove S.cells n)) n _ refl)
 
     module _ (names : is_some (target_in (map.get S.cells n)) ≡ true) where
       target : (m : Name) × (l : Location) × (map.get S.cells n ≡ Some (Ref m l))
@@ -54,7 +54,7 @@ module _ {T : Type 0} where
           at _ is h = cc
 
       goes : d ≡ cond (is_named (map.remove S.cells n) target.0) None (Some target.0)
-      goes = rw target.2 at doomed
+      goes = rw target.2 at ending
 
       -- a reference stays as it is when the value has gone
       pub reference_left : map.get (without S d).cells n ≡ map.get S.cells n
@@ -85,10 +85,10 @@ module _ {T : Type 0} where
     -- a value ends by itself, and what is neither a value nor a reference changes nothing
     pub value_closes : is_some (target_in (map.get S.cells n)) ≡ false
         → without S d ≡ close S (n ∷ [])
-    value_closes = at (map.get S.cells n) refl doomed
+    value_closes = at (map.get S.cells n) refl ending
       where
         at : (c : Option (Cell T)) → map.get S.cells n ≡ c
-            → d ≡ doomed_by (is_named (map.remove S.cells n)) c n
+            → d ≡ would_end (is_named (map.remove S.cells n)) c n
             → is_some (target_in c) ≡ false → without S d ≡ close S (n ∷ [])
         at (Some (Ref m l)) is own h = cc
         at c is own h = rw (own, close_one S.cells n linked c is) refl

@@ -6,8 +6,8 @@ use Common.{hindrance_to, is_name, is_named, is_unborrowed_value, IsDistinct, Is
 use Common.{IsDistinct-tail, IsLinked, List, list_all, Name, name_here, name_of_cell, NameMap, None, refl}
 use Common.{SlotsState, State, state_of, subst, sym, take_away, true, ℕ, [], ◌∙◌, ◌∷◌, ◌≡◌}
 use Rattle.generational_slots.proofs.states.{Changes.cell_seen, Endings.free_closes}
-use Rattle.generational_slots.proofs.states.{Endings.hindrance_is, Hindrance.as_listed}
-use Rattle.generational_slots.proofs.states.{Hindrance.none_hindered, Changes.state_is}
+use Rattle.generational_slots.proofs.states.{Endings.hindrance_is, BlockingBorrow.as_listed}
+use Rattle.generational_slots.proofs.states.{BlockingBorrow.none_hindered, Changes.state_is}
 use Rattle.std.proofs.Common.{map as list_map}
 use Rattle.std.specs.FinMap as map
 

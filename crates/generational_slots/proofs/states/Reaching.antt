@@ -1,6 +1,6 @@
 -- What the box of a name reaches, as the slots tell it and as the state sees it.
 use Rattle.generational_slots.proofs.Common
-use Common.{arith, Bool, Cell, cell_at, CellName, cond, Content, content_at, content_of, doomed_by, Entry}
+use Common.{arith, Bool, Cell, cell_at, CellName, cond, Content, content_at, content_of, would_end, Entry}
 use Common.{false, Here, is_named, is_none, is_shared, is_some, is_unborrowed_value, IsLinked}
 use Common.{BorrowRefusal, leads_to, List, Location, Name, None, not, Option}
 use Common.{name_of_cell, NameMap, option_map, reached, read_refusal, read_refusal_of, Ref, refl, refusal_at, SlotsState, Some, State}
@@ -72,9 +72,9 @@ module _ {T : Type 0} where
         at _ is to = cc
 
     -- and what goes with a name
-    doomed_there : Some m ≡ doomed_by (is_named (map.remove S.cells n)) (map.get S.cells n) n
+    ending_there : Some m ≡ would_end (is_named (map.remove S.cells n)) (map.get S.cells n) n
         → is_some (content_at S m) ≡ true
-    doomed_there to = at (map.get S.cells n) refl to
+    ending_there to = at (map.get S.cells n) refl to
       where
         by : (q : Name) (l : Location) → map.get S.cells n ≡ Some (Ref q l) → (b : Bool)
             → Some m ≡ cond b None (Some q) → is_some (content_at S m) ≡ true
@@ -82,7 +82,7 @@ module _ {T : Type 0} where
         by q l is false to = let same : q ≡ m = cc in named_there l (rw same at is)
 
         at : (o : Option (Cell T)) → map.get S.cells n ≡ o
-            → Some m ≡ doomed_by (is_named (map.remove S.cells n)) o n
+            → Some m ≡ would_end (is_named (map.remove S.cells n)) o n
             → is_some (content_at S m) ≡ true
         at (Some (Value c l)) is to = let same : m ≡ n = cc in rw (same, is) refl
         at (Some (Ref q l)) is to = by q l is (is_named (map.remove S.cells n) q) to
@@ -111,10 +111,10 @@ module _ {T : Type 0} where
         record { place = held_in view m there; leads = sym leads }
 
     -- and what goes with a name
-    pub doomed_in : IsLinked now.state.cells → (n m : Name) → Some m
-        ≡ doomed_by (is_named (map.remove now.state.cells n)) (map.get now.state.cells n) n
+    pub ending_in : IsLinked now.state.cells → (n m : Name) → Some m
+        ≡ would_end (is_named (map.remove now.state.cells n)) (map.get now.state.cells n) n
         → IsSeen slots now.state m
-    doomed_in linked n m to = held_in view m (doomed_there now.state linked n m to)
+    ending_in linked n m to = held_in view m (ending_there now.state linked n m to)
 
   -- a value without borrows that isn't shared is reached by its own box
   pub unborrowed_reached : (S : State T) (n : Name)

@@ -1,11 +1,11 @@
 -- Which calls no borrow hinders, as the machine answers them.
 use Rattle.generational_slots.proofs.Common
 use Common.{Action, ap, arith, Bool, BorrowRefusal, Cell, cond, Content, content_of, Done}
-use Common.{doomed_by, false, GenerationalPointer, hindrance_at, hindrance_to, is_hindered, is_name}
+use Common.{would_end, false, GenerationalPointer, hindrance_at, hindrance_to, is_hindered, is_name}
 use Common.{is_named, is_none, is_shared, is_some, IsLinked, Location, may_set, Name, name_of, None}
 use Common.{not, Option, point, Ref, refl, Shared, Some, State, sym, target_in, tells_of_borrow}
 use Common.{true, turn, unless, write_refusal, [], ◌∙◌, ◌∷◌, ◌≡◌}
-use Rattle.generational_slots.proofs.states.Endings.{doomed_hinders}
+use Rattle.generational_slots.proofs.states.Endings.{ending_hinders}
 use Rattle.generational_slots.proofs.states.Turns.{hinders, IsReference, left}
 use Rattle.std.specs.FinMap as map
 
@@ -33,8 +33,8 @@ module _ {T : Type 0} where
       → is_none (hindrance_to S (n ∷ [])) ≡ not (is_hindered a (turn S n old new l).0)
   turn_free S n old new l a linked there other =
       let r : IsReference S n old = record { created = l; there = there } in
-      let d = doomed_by (is_named (map.remove S.cells n)) (map.get S.cells n) n in
-      let same = doomed_hinders S n linked d refl
+      let d = would_end (is_named (map.remove S.cells n)) (map.get S.cells n) n in
+      let same = ending_hinders S n linked d refl
       ∙ sym (hinders r new linked other d refl) in
       let cells = left r new linked in
       rw other (ap is_none same ∙ free_unless S a (hindrance_at S.cells cells old) _

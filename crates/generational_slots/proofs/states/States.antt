@@ -268,7 +268,7 @@ module _ {T : Type 0} {p : SlotTable T} (s : IsSlotTable p) where
       above : (s g : ℕ) → (leb s (g + 1) && leb (g + 1) g) ≡ false
       above s g = grind (arith, nat_tests)
 
-  -- ---- the same of the state that contracts see
+  -- ---- the state that contracts see
 
   module _ {S : State T} (view : here ≡ S) where
     pub slots_seen : length p.slots ≡ slots S

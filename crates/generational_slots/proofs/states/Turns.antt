@@ -1,12 +1,12 @@
 -- What becomes of a reference's old target where it names another, as the machine says it.
 use Rattle.generational_slots.proofs.Common
 use Rattle.generational_slots.proofs.{Common.◌∙◌, Common.◌≡◌, Common.◌≢◌, states.Endings.without}
-use Common.{Bool, BorrowMutError, BorrowRefusal, by_name, Cell, cond, doomed_by, Err, false}
+use Common.{Bool, BorrowMutError, BorrowRefusal, by_name, Cell, cond, would_end, Err, false}
 use Common.{FoundBorrowed, get-insert_apart, hindrance_at, is_name, is_named, is_shared, is_some}
 use Common.{IsLinked, IsTurned, Location, Name, NameMap, None, Ok, Option, OutOfMemory, Ref, refl}
 use Common.{refusal_of, Refused, Shared, Some, State, subst, sweep, sym, target_in, true, turn}
 use Common.{turn_hindered, turn_sweep}
-use Rattle.generational_slots.proofs.states.{Endings.borrowed_doomed, References.reference_to}
+use Rattle.generational_slots.proofs.states.{Endings.borrowed_ending, References.reference_to}
 use Rattle.std.specs.FinMap as map
 use Rattle.generational_errors.specs.declared.error.Refused.TheVariants as refused
 
@@ -43,21 +43,21 @@ module _ {T : Type 0} where
     turns_same same = rw same (refl, refl)
 
     module _ (other : is_name old new ≡ false) (d : Option Name)
-        (doomed : d ≡ doomed_by (is_named (map.remove S.cells n)) (map.get S.cells n) n) where
-      target_doomed : d ≡ cond (is_named (map.remove S.cells n) old) None (Some old)
-      target_doomed = rw there at doomed
+        (ending : d ≡ would_end (is_named (map.remove S.cells n)) (map.get S.cells n) n) where
+      target_ending : d ≡ cond (is_named (map.remove S.cells n) old) None (Some old)
+      target_ending = rw there at ending
 
       -- the old target hinders it where it would go
       pub hinders : hindrance_at S.cells left old ≡ refusal_of S.cells d
       hinders =
-          rw target_doomed (turn_hindered S.cells n old new l linked there other
-          ∙ borrowed_doomed S.cells (is_named (map.remove S.cells n)) n (Some (Ref old l)) there)
+          rw target_ending (turn_hindered S.cells n old new l linked there other
+          ∙ borrowed_ending S.cells (is_named (map.remove S.cells n)) n (Some (Ref old l)) there)
 
       -- it's there still when the reference has turned, and names nothing
-      pub doomed_left : (x : Name) → d ≡ Some x
+      pub ending_left : (x : Name) → d ≡ Some x
           → (is_some (map.get (map.insert S.cells n (Ref new l)) x) ≡ true)
           × (None ≡ target_in (map.get (map.insert S.cells n (Ref new l)) x))
-      doomed_left x is = at (is_named (map.remove S.cells n) old) (sym is ∙ target_doomed)
+      ending_left x is = at (is_named (map.remove S.cells n) old) (sym is ∙ target_ending)
         where
           apart : old ≢ n
           apart z = let no = rw (z, there) at (linked.targets n old l there) in cc
@@ -89,7 +89,7 @@ module _ {T : Type 0} where
           rw (other, hinders ∙ free) (
             refl,
             after ∙ rw (
-              target_doomed,
+              target_ending,
               turn_sweep S.cells n old new l linked there other,
             ) (at (is_named (map.remove S.cells n) old)),
           )

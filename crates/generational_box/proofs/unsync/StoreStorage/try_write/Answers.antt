@@ -9,14 +9,14 @@ returns-in_default g c =
     let view = state_is c.self.view_is in
     rw c.dropped_mut.ensures (subst
     (λ S. Meets S (Write c.args.pointer c.args.location)
-    (BorrowRefused (Dropped c.args.pointer.created_at)) c.settle.new.self.state)
-    c.settle.ensures (write_gone c.args.pointer c.args.location
+    (BorrowRefused (Dropped c.args.pointer.created_at)) c.list_noted.new.self.state)
+    c.list_noted.ensures (write_gone c.args.pointer c.args.location
     (reach_strange view c.args.pointer
     (is_strange c.self.inside.slots.state view c.args.pointer.id c.in_default.ensures))))
 
 pub writable-requires : goal.writable-requires
 writable-requires g c =
-    are_linked c.self.inside.slots.state (state_is c.self.view_is) c.settle.new.self.sound
+    are_linked c.self.inside.slots.state (state_is c.self.view_is) c.list_noted.new.self.sound
 
 pub begin_write-requires-clause-to : goal.begin_write-requires-clause-to
 begin_write-requires-clause-to g c =
@@ -31,7 +31,7 @@ returns-in-Err g c =
     let X = c.self.inside.slots.state in
     let own = is_own X view c.args.pointer.id c.in-Some.ensures in
     subst (λ S. Meets S (Write c.args.pointer c.args.location) (end_refused c.in-Err.refused)
-    c.settle.new.self.state)
-    c.settle.ensures (write_hindered c.args.pointer c.args.location c.in-Err.refused
+    c.list_noted.new.self.state)
+    c.list_noted.ensures (write_hindered c.args.pointer c.args.location c.in-Err.refused
     (subst (λ t. FoundBorrowed t (Err c.in-Err.refused))
     (sym (write_own X view c.args.pointer own.name own.store)) c.in-Err.ensures))

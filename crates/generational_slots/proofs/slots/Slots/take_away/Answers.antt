@@ -9,14 +9,14 @@ pub remove-requires-then-is_some : goal.remove-requires-then-is_some
 remove-requires-then-is_some g c =
     let S = c.args.self.now.state in
     let n = name_of_cell c.args.name in
-    let gone : c.match-doomed.self.state ≡ without S (option_map name_of_cell c.args.doomed) =
-    elim c.match-doomed.branch [
+    let gone : c.match-ending.self.state ≡ without S (option_map name_of_cell c.args.ending) =
+    elim c.match-ending.branch [
       | in-Some w ↦ rw (w.self-is, w.in-Some.is) w.remove.ensures
       | in_default w ↦ rw (w.self-is, w.in_default.is) refl
     ] in
     let names = has_target name_of_cell c.args.target c.requires.target
     (sym c.is_some.ensures ∙ c.if-is_some.true) in
-    let left = reference_left S n c.requires.linked _ c.requires.doomed names in
+    let left = reference_left S n c.requires.linked _ c.requires.ending names in
     rw (gone, left) (record {
       there = some_if (λ o. is_some (target_in o)) _ refl names;
       target = c.requires.target;
@@ -27,13 +27,13 @@ pub returns-then-is_some : goal.returns-then-is_some
 returns-then-is_some g c =
     let S = c.args.self.now.state in
     let n = name_of_cell c.args.name in
-    let gone : c.match-doomed.self.state ≡ without S (option_map name_of_cell c.args.doomed) =
-    elim c.match-doomed.branch [
+    let gone : c.match-ending.self.state ≡ without S (option_map name_of_cell c.args.ending) =
+    elim c.match-ending.branch [
       | in-Some w ↦ rw (w.self-is, w.in-Some.is) w.remove.ensures
       | in_default w ↦ rw (w.self-is, w.in_default.is) refl
     ] in
     (rw gone at c.remove-then-is_some.ensures)
-    ∙ reference_closes S n c.requires.linked _ c.requires.doomed
+    ∙ reference_closes S n c.requires.linked _ c.requires.ending
     (has_target name_of_cell c.args.target c.requires.target
     (sym c.is_some.ensures ∙ c.if-is_some.true))
 
@@ -41,11 +41,11 @@ pub returns-else-is_some : goal.returns-else-is_some
 returns-else-is_some g c =
     let S = c.args.self.now.state in
     let n = name_of_cell c.args.name in
-    let gone : c.match-doomed.self.state ≡ without S (option_map name_of_cell c.args.doomed) =
-    elim c.match-doomed.branch [
+    let gone : c.match-ending.self.state ≡ without S (option_map name_of_cell c.args.ending) =
+    elim c.match-ending.branch [
       | in-Some w ↦ rw (w.self-is, w.in-Some.is) w.remove.ensures
       | in_default w ↦ rw (w.self-is, w.in_default.is) refl
     ] in
-    gone ∙ value_closes S n c.requires.linked _ c.requires.doomed
+    gone ∙ value_closes S n c.requires.linked _ c.requires.ending
     (has_target name_of_cell c.args.target c.requires.target
     (sym c.is_some.ensures ∙ c.if-is_some.false))

@@ -1,6 +1,6 @@
 use Rattle.generational_slots.proofs.{found_within, name_of_cell, reached_borrow, reached_free}
 use Rattle.generational_slots.proofs.{reached_live, refl, sym, ◌∙◌}
-use Rattle.generational_slots.proofs.hindrance.borrowed_value.Goals as goal
+use Rattle.generational_slots.proofs.blocking_borrow.borrowed_value.Goals as goal
 
 pub returns-then-has_unborrowed_value : goal.returns-then-has_unborrowed_value
 returns-then-has_unborrowed_value g c =

@@ -4,7 +4,7 @@ use Rattle.generational_slots.proofs.{name_of_cell, Option, refers_among, refers
 use Rattle.generational_slots.proofs.{Some, sum_by-cons, sym, true, [], ◌+◌, ◌∙◌, ◌∷◌, ◌≡◌}
 use Rattle.std.proofs.Common.{map as list_map}
 use Rattle.generational_entries.specs.declared.entry.Kind.TheVariants as kind
-use Rattle.generational_slots.proofs.hindrance.lives_on.Goals as goal
+use Rattle.generational_slots.proofs.blocking_borrow.lives_on.Goals as goal
 
 -- what is of this kind is a shared cell
 kind_shared : {T : Type 0} (cell : Option (Cell T)) → Some kind.Shared ≡ kind_in cell

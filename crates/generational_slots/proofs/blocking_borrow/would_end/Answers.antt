@@ -1,7 +1,7 @@
 use Rattle.generational_slots.proofs.{found_target, found_within, name_of_cell, ne_eqb, refl, sym}
 use Rattle.generational_slots.proofs.{◌∙◌}
 use Rattle.generational_slots.proofs.states.References.{reference_to}
-use Rattle.generational_slots.proofs.hindrance.doomed.Goals as goal
+use Rattle.generational_slots.proofs.blocking_borrow.would_end.Goals as goal
 
 pub details-requires : goal.details-requires
 details-requires g c =

@@ -4,7 +4,7 @@ use proofs.{eqb-true, IfSome, is_named, is_shared, length, length-map, Name, nam
 use proofs.{Option, option_eq, passed_free, passed_spared, Some, stopped, sym, take_away, true}
 use proofs.{◌&&◌, ◌∙◌, ◌≡◌, ◌≤◌}
 use Rattle.std.proofs.Common.{map as list_map}
-use Rattle.generational_slots.proofs.hindrance.find_hindered.Goals as goal
+use Rattle.generational_slots.proofs.blocking_borrow.find_blocking_value.Goals as goal
 
 abbrev none : CellName
 none = record { slot = 0; generation = 0 }

@@ -1,4 +1,4 @@
-//! What stands in the way of an end.
+//! The borrows that block an end.
 
 ghost use Rattle.std.specs.Prelude.{◌≡◌, ◌&&◌, true, Some, IfSome, is_some, option_map};
 ghost use Rattle.std.specs.Prelude.{count_by, map as list_map};
@@ -11,7 +11,7 @@ ghost use Rattle.generational_core.specs.State.{is_named};
 ghost use Rattle.generational_entries.specs.Entry.{FoundBorrowed, cell_at, is_unborrowed_value};
 ghost use Rattle.generational_entries.specs.Entry.{target_in};
 ghost use Rattle.generational_containers.specs.CellNames.{name_of_cell};
-ghost use Rattle.generational_slots.specs.SlotsState.{AreReferred, cells_of, doomed_by, has_more};
+ghost use Rattle.generational_slots.specs.SlotsState.{AreReferred, cells_of, would_end, has_other_count};
 ghost use Rattle.generational_slots.specs.SlotsState.{borrowed_at, refusal_of};
 
 use generational_containers::names::CellName;
@@ -22,7 +22,7 @@ use generational_entries::entry::Kind;
 /// The value that goes where a name ends: its own, or the target's, if nothing else refers to that.
 /// The caller knows the target.
 #[inline(always)]
-pub fn doomed<T: Drop>(
+pub fn would_end<T: Drop>(
     entries: &Entries<T>,
     name: CellName,
     target: Option<CellName>,
@@ -30,7 +30,7 @@ pub fn doomed<T: Drop>(
     requires linked { IsLinked (cells_of entries.now.slots) }
     requires target { option_map name_of_cell target
         ≡ target_in (cell_at entries.now.slots (name_of_cell name)) }
-    ensures { option_map name_of_cell result ≡ doomed_by (has_more entries.now.slots 1)
+    ensures { option_map name_of_cell result ≡ would_end (has_other_count entries.now.slots 1)
         (cell_at entries.now.slots (name_of_cell name)) (name_of_cell name) }
 {
     if let Some(target) = target {
@@ -54,10 +54,13 @@ pub fn are_unborrowed_values<T: Drop>(entries: &Entries<T>, names: &[CellName]) 
     names.iter().all(|name| entries.has_unborrowed_value(*name))
 }
 
-/// What hinders the end of the names of a list, at the first of them that is hindered. Nothing takes
-/// memory but a refusal's list of locations.
+/// The borrows that block the end of the names of a list, at the first of them where some do.
+/// Nothing takes memory but a refusal's list of locations.
 #[inline(always)]
-pub fn find_hindrance<T: Drop>(entries: &Entries<T>, names: &[CellName]) -> BorrowMutResult<()>
+pub fn find_blocking_borrow<T: Drop>(
+    entries: &Entries<T>,
+    names: &[CellName],
+) -> BorrowMutResult<()>
     requires linked { IsLinked (cells_of entries.now.slots) }
     requires referred { AreReferred (λ m. 0) entries.now.slots }
     requires apart { IsDistinct is_name (list_map name_of_cell names.now) }
@@ -65,19 +68,19 @@ pub fn find_hindrance<T: Drop>(entries: &Entries<T>, names: &[CellName]) -> Borr
         (cells_after (cells_of entries.now.slots) (list_map name_of_cell names.now))
         (list_map name_of_cell names.now)) result }
 {
-    match find_hindered(entries, names) {
+    match find_blocking_value(entries, names) {
         Some(value) => entries.borrow_mut_error(value.slot),
         None => Ok(()),
     }
 }
 
-/// The borrowed value that hinders the end of the names of a list: the first that a name reaches
+/// The borrowed value that blocks the end of the names of a list: the first that a name reaches
 /// and that would go. Takes no memory. A borrowed value that lives on is asked about once where
 /// names one after another reach it; so the time goes with the list, and once more with the list
 /// where the names come to another such value.
 #[cold]
 #[inline(never)]
-pub fn find_hindered<T: Drop>(entries: &Entries<T>, names: &[CellName]) -> Option<CellName>
+pub fn find_blocking_value<T: Drop>(entries: &Entries<T>, names: &[CellName]) -> Option<CellName>
     requires linked { IsLinked (cells_of entries.now.slots) }
     requires referred { AreReferred (λ m. 0) entries.now.slots }
     requires apart { IsDistinct is_name (list_map name_of_cell names.now) }

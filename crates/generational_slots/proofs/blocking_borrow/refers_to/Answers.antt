@@ -1,6 +1,6 @@
 use Rattle.generational_slots.proofs.{eq_by_cmp_equiv, is_name, name_of_cell, name_test, name_total}
 use Rattle.generational_slots.proofs.{reference_to, sym, ◌∙◌}
-use Rattle.generational_slots.proofs.hindrance.refers_to.Goals as goal
+use Rattle.generational_slots.proofs.blocking_borrow.refers_to.Goals as goal
 
 pub returns-in-Some : goal.returns-in-Some
 unfolding is_name

@@ -3,14 +3,14 @@ use Rattle.generational_slots.proofs.Common
 use Rattle.generational_slots.proofs.states
 use Common.{and_parts, ap, AreReferred, arith, at_drop_more, Bool, borrowed_at, BorrowRefusal, Cell}
 use Common.{cell_at, cell_of, CellName, cells_after, cells_of, cond, cond_some, content_in}
-use Common.{content_of, doomed_by, drop, Entry, false, first_borrowed_end, first_hindered}
-use Common.{first_hindrance, get_or-map, has_more, HasTargets, how_many, if_borrowed, is_name}
+use Common.{content_of, would_end, drop, Entry, false, first_borrowed_end, first_hindered}
+use Common.{first_hindrance, get_or-map, has_other_count, HasTargets, how_many, if_borrowed, is_name}
 use Common.{is_named, is_none, is_shared, is_some, is_unborrowed_value, IsDistinct, IsLinked, Kept}
 use Common.{leads_to, length, length-map, List, list_all, Name, name_of_cell, NameMap, nat_eq}
 use Common.{nat_lt, nat_tests, None, not, Option, option_or, Ref, refers, refers_among, refl}
 use Common.{refusal_of, slice_index_or, Some, sym, take_away, target_in, true, Value, write_refusal}
 use Common.{ℕ, [], ◌&&◌, ◌+◌, ◌<◌, ◌∙◌, ◌∷◌, ◌≡◌}
-use states.{Changes.found, Changes.IsFound, Counting.one_forgotten, Endings.borrowed_doomed}
+use states.{Changes.found, Changes.IsFound, Counting.one_forgotten, Endings.borrowed_ending}
 use states.{References.count_of, References.found_target, References.has_shared}
 use states.{References.HasShared, References.named_after, References.named_without}
 use states.{States.get_cells}
@@ -23,13 +23,13 @@ abbrev pub first_refusal : {T : Type 0} → NameMap (Cell T) → (Name → Bool)
     → Option BorrowRefusal
 first_refusal cells named [] = None
 first_refusal cells named (n ∷ names) = option_or
-    (refusal_of cells (doomed_by named (map.get cells n) n)) (first_refusal cells named names)
+    (refusal_of cells (would_end named (map.get cells n) n)) (first_refusal cells named names)
 
 list_refusal : {T : Type 0} (cells : NameMap (Cell T)) (named : Name → Bool) (names : List Name)
     → first_borrowed_end cells named names ≡ first_refusal cells named names
 list_refusal cells named [] = refl
 list_refusal cells named (n ∷ names) = λ i. option_or
-    (borrowed_doomed cells named n (map.get cells n) refl i) (list_refusal cells named names i)
+    (borrowed_ending cells named n (map.get cells n) refl i) (list_refusal cells named names i)
 
 -- what hinders the end of names, as a list of refusals by what is named afterwards
 pub as_listed : {T : Type 0} (cells : NameMap (Cell T)) (names : List Name) → IsLinked cells
@@ -46,7 +46,7 @@ some_or (Some t) u is = refl
 
 module _ {T : Type 0} (slots : List (Entry T)) (named : Name → Bool) where
   abbrev own : Name → Option BorrowRefusal  -- what hinders the end of a name
-  own n = refusal_of (cells_of slots) (doomed_by named (cell_at slots n) n)
+  own n = refusal_of (cells_of slots) (would_end named (cell_at slots n) n)
 
   -- what is borrowed is what a name leads to, and refused; what isn't, hinders nothing
   borrowed_leads : (o : Option Name) (m : Name) → Some m ≡ if_borrowed (cells_of slots) o
@@ -67,7 +67,7 @@ module _ {T : Type 0} (slots : List (Entry T)) (named : Name → Bool) where
   free_own n = by (cell_at slots n)
     where
       by : (cell : Option (Cell T)) → None ≡ if_borrowed (cells_of slots) (leads_to cell n)
-          → refusal_of (cells_of slots) (doomed_by named cell n) ≡ None
+          → refusal_of (cells_of slots) (would_end named cell n) ≡ None
       by (Some (Value c l)) e = free_none n e
       by (Some (Ref m l)) e =
           elim (named m) as (λ b. refusal_of (cells_of slots) (cond b None (Some m)) ≡ None)
@@ -83,21 +83,21 @@ module _ {T : Type 0} (slots : List (Entry T)) (named : Name → Bool) where
       both = and_parts (is_shared (cell_at slots m)) (named m) lives
 
       by : (cell : Option (Cell T)) → cell_at slots n ≡ cell → Some m ≡ leads_to cell n
-          → refusal_of (cells_of slots) (doomed_by named cell n) ≡ None
+          → refusal_of (cells_of slots) (would_end named cell n) ≡ None
       by (Some (Value c l)) at e =
           let same : m ≡ n = cc in let no = rw (same, at) at both.0 in cc
       by (Some (Ref k l)) at e = let same : k ≡ m = cc in rw (same, both.1) refl
       by _ at e = refl
 
   -- one that reaches another is hindered by what stands there
-  doomed_own : HasTargets (cells_of slots) → (n m : Name)
+  ending_own : HasTargets (cells_of slots) → (n m : Name)
       → Some m ≡ leads_to (cell_at slots n) n
       → (is_shared (cell_at slots m) && named m) ≡ false
       → own n ≡ refusal_of (cells_of slots) (Some m)
-  doomed_own targets n m leads dies = by (cell_at slots n) refl leads
+  ending_own targets n m leads dies = by (cell_at slots n) refl leads
     where
       by : (cell : Option (Cell T)) → cell_at slots n ≡ cell → Some m ≡ leads_to cell n
-          → refusal_of (cells_of slots) (doomed_by named cell n)
+          → refusal_of (cells_of slots) (would_end named cell n)
           ≡ refusal_of (cells_of slots) (Some m)
       by (Some (Value c l)) at e = ap (refusal_of (cells_of slots)) (sym e)
       by (Some (Ref k l)) at e =
@@ -142,7 +142,7 @@ module _ {T : Type 0} (slots : List (Entry T)) (named : Name → Bool) where
         → all (drop i names) ≡ refusal_of (cells_of slots) (Some m)
     stopped targets m reached dies =
         let leads = borrowed_leads _ m reached in
-        rw (rest_of, doomed_own targets name m leads.0 dies) (some_or _ _ leads.1)
+        rw (rest_of, ending_own targets name m leads.0 dies) (some_or _ _ leads.1)
 
 -- one of some is the last where there is no more than it
 last_one : (all : ℕ) → 0 < all → not (nat_eq all 1) ≡ nat_lt 1 all
@@ -160,16 +160,16 @@ module _ {T : Type 0} where
       rw (same, ← get_cells slots m, t.cell, t.shared) (sym (named_after slots names apart m))
 
   -- the value that goes where one name ends
-  pub doomed_alone : (slots : List (Entry T)) → HasTargets (cells_of slots)
+  pub ending_alone : (slots : List (Entry T)) → HasTargets (cells_of slots)
       → AreReferred (λ m. 0) slots → (n : Name)
-      → doomed_by (has_more slots 1) (cell_at slots n) n
-      ≡ doomed_by (is_named (map.remove (cells_of slots) n)) (map.get (cells_of slots) n) n
-  doomed_alone slots targets referred n =
+      → would_end (has_other_count slots 1) (cell_at slots n) n
+      ≡ would_end (is_named (map.remove (cells_of slots) n)) (map.get (cells_of slots) n) n
+  ending_alone slots targets referred n =
       rw (get_cells slots n) (by (cell_at slots n) refl)
     where
       by : (cell : Option (Cell T)) → cell_at slots n ≡ cell
-          → doomed_by (has_more slots 1) cell n
-          ≡ doomed_by (is_named (map.remove (cells_of slots) n)) cell n
+          → would_end (has_other_count slots 1) cell n
+          ≡ would_end (is_named (map.remove (cells_of slots) n)) cell n
       by (Some (Ref m l)) at =
           let there = get_cells slots n ∙ at in
           let t = has_shared slots m (targets n m l there) in

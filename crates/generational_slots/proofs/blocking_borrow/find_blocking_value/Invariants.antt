@@ -1,7 +1,7 @@
 use Rattle.generational_slots.proofs.{all, cell_at, cells_of, drop, IfSome, is_named, is_shared}
 use Rattle.generational_slots.proofs.{name_of_cell, take_away, true, ◌&&◌, ◌≡◌}
 use Rattle.std.proofs.Common.{map as list_map}
-use Rattle.generational_slots.proofs.hindrance.find_hindered.Given as goal
+use Rattle.generational_slots.proofs.blocking_borrow.find_blocking_value.Given as goal
 
 -- what hinders the rest is what hinders all, and what was spared lives on
 abbrev pub invariant-loop-name : goal.invariant-loop-name
