@@ -322,19 +322,7 @@ module _ {T : Type 0} where
   plain_recorded (MakeShared (Some o) v l) = refl
   plain_recorded (Refer None b) = refl
   plain_recorded (Refer (Some o) b) = refl
-  plain_recorded NewOwner = refl
-  plain_recorded (CloneOwner o) = refl
-  plain_recorded (ReleaseOwner o) = refl
-  plain_recorded (LeakOwner o) = refl
-  plain_recorded (Read b l) = refl
-  plain_recorded (Write b l) = refl
-  plain_recorded (ReleaseReader g) = refl
-  plain_recorded (ReleaseWriter g v) = refl
-  plain_recorded (SetValue b v) = refl
-  plain_recorded (End b) = refl
-  plain_recorded (Point a b) = refl
-  plain_recorded (CanRead b) = refl
-  plain_recorded (CanWrite b) = refl
+  plain_recorded _ = refl
 
   pub plain_follows : IsTold → IsPlain T → (S R : State T) (a : Action T) (c : StepCall)
       (answer : Answer T) (r : StepReply) → IsSound (plain S) → recorded_as a ≡ Some c

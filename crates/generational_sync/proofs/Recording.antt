@@ -30,21 +30,7 @@ use Rattle.shared_history.specs.Replies.{made_reply, reply_of}
 
 dropped_short : (number : ℕ) (c : StepCall) (l : Location) → IsShort c → HasDropped number c l
 dropped_short number (call.PointTo a b) l short = absurd short
-dropped_short number (call.Leak k) l short = tt
-dropped_short number (call.LeakRc k) l short = tt
-dropped_short number (call.LeakReference b) l short = tt
-dropped_short number call.Owner l short = tt
-dropped_short number (call.CloneOwner o) l short = tt
-dropped_short number (call.Insert o k) l short = tt
-dropped_short number (call.InsertRc o k) l short = tt
-dropped_short number (call.InsertReference o b) l short = tt
-dropped_short number (call.Read b k) l short = tt
-dropped_short number (call.Write b k) l short = tt
-dropped_short number (call.Set b) l short = tt
-dropped_short number (call.ManuallyDrop b) l short = tt
-dropped_short number (call.ReleaseRead t) l short = tt
-dropped_short number (call.ReleaseWrite t) l short = tt
-dropped_short number (call.ReleaseOwner o) l short = tt
+dropped_short number _ l short = tt
 
 module _ {T : Type 0} (number : ℕ) (R : State T) where
   -- what is known of a call's reply, if it is recorded

@@ -6,10 +6,7 @@ use Rattle.std.proofs.lemmas.Bool.{and_parts, true≢false}
 use Rattle.generational_core.specs.declared.steps.StepCall.{StepCall}
 use Rattle.generational_core.specs.State.{State, IsSound}
 use Rattle.generational_core.specs.Machine.{Action, Answer, NewNames, Outcome, act}
-use Rattle.generational_core.specs.Machine.Action.{Make, MakeShared, Refer, NewOwner, CloneOwner}
-use Rattle.generational_core.specs.Machine.Action.{ReleaseOwner, LeakOwner, Read as ReadBox, Write}
-use Rattle.generational_core.specs.Machine.Action.{ReleaseReader, ReleaseWriter, SetValue, End}
-use Rattle.generational_core.specs.Machine.Action.{Point, CanRead, CanWrite}
+use Rattle.generational_core.specs.Machine.Action.{Make, MakeShared, Refer}
 use Rattle.generational_core.specs.declared.boxes.GenerationalBoxId.{GenerationalBoxId}
 use Rattle.generational_core.specs.declared.boxes.GenerationalPointer.{GenerationalPointer}
 use Rattle.generational_core.specs.Machine.Answer.{Made}
@@ -47,19 +44,7 @@ made_gives (MakeShared o v l) Q b = at (target_of Q b)
     at None = tt
     at (Some id) = refl
 made_gives (Refer o c) Q b = refl
-made_gives NewOwner Q b = tt
-made_gives (CloneOwner o) Q b = tt
-made_gives (ReleaseOwner o) Q b = tt
-made_gives (LeakOwner o) Q b = tt
-made_gives (ReadBox c l) Q b = tt
-made_gives (Write c l) Q b = tt
-made_gives (ReleaseReader g) Q b = tt
-made_gives (ReleaseWriter g v) Q b = tt
-made_gives (SetValue c v) Q b = tt
-made_gives (End c) Q b = tt
-made_gives (Point c d) Q b = tt
-made_gives (CanRead c) Q b = tt
-made_gives (CanWrite c) Q b = tt
+made_gives _ Q b = tt
 
 -- so a reply that gives none is another answer's
 recorded_box : (o : Option StepReply) (r : StepReply) → IfSome o (λ s. gives_box s ≡ true)
@@ -67,20 +52,10 @@ recorded_box : (o : Option StepReply) (r : StepReply) → IfSome o (λ s. gives_
 recorded_box None r box none h = true≢false (sym h)
 recorded_box (Some (reply.Made b)) (reply.Made c) box none h = true≢false none
 recorded_box (Some (reply.Made b)) (reply.MadeShared i c) box none h = true≢false none
+recorded_box (Some (reply.Made b)) _ box none h = true≢false (sym h)
 recorded_box (Some (reply.MadeShared i b)) (reply.Made c) box none h = true≢false none
 recorded_box (Some (reply.MadeShared i b)) (reply.MadeShared j c) box none h = true≢false none
-recorded_box (Some (reply.Made b)) (reply.Owner o) box none h = true≢false (sym h)
-recorded_box (Some (reply.Made b)) (reply.Reader t) box none h = true≢false (sym h)
-recorded_box (Some (reply.Made b)) (reply.Writer t) box none h = true≢false (sym h)
-recorded_box (Some (reply.Made b)) reply.Done box none h = true≢false (sym h)
-recorded_box (Some (reply.Made b)) (reply.Dropped l) box none h = true≢false (sym h)
-recorded_box (Some (reply.Made b)) (reply.Store e) box none h = true≢false (sym h)
-recorded_box (Some (reply.MadeShared i b)) (reply.Owner o) box none h = true≢false (sym h)
-recorded_box (Some (reply.MadeShared i b)) (reply.Reader t) box none h = true≢false (sym h)
-recorded_box (Some (reply.MadeShared i b)) (reply.Writer t) box none h = true≢false (sym h)
-recorded_box (Some (reply.MadeShared i b)) reply.Done box none h = true≢false (sym h)
-recorded_box (Some (reply.MadeShared i b)) (reply.Dropped l) box none h = true≢false (sym h)
-recorded_box (Some (reply.MadeShared i b)) (reply.Store e) box none h = true≢false (sym h)
+recorded_box (Some (reply.MadeShared i b)) _ box none h = true≢false (sym h)
 recorded_box (Some s) r box none h = absurd (true≢false (sym box))
 
 -- the names of a recorded reply are those that the call takes

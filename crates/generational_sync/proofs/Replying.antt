@@ -19,12 +19,9 @@ use Rattle.generational_core.specs.Cells.Cell.{Value, Shared, Ref}
 use Rattle.generational_core.specs.State.{State}
 use Rattle.generational_core.specs.StepCalls.{target_in, target_of}
 use Rattle.generational_core.specs.Machine.{Action, Answer}
-use Rattle.generational_core.specs.Machine.Action.{Make, MakeShared, Refer, NewOwner, CloneOwner}
-use Rattle.generational_core.specs.Machine.Action.{ReleaseOwner, LeakOwner, Read, Write}
-use Rattle.generational_core.specs.Machine.Action.{ReleaseReader, ReleaseWriter, SetValue, End}
-use Rattle.generational_core.specs.Machine.Action.{Point, CanRead, CanWrite}
-use Rattle.generational_core.specs.Machine.Answer.{Made, Owned, Reads, Writes, Done, Old, Flag}
-use Rattle.generational_core.specs.Machine.Answer.{Back, BorrowRefused, Refused}
+use Rattle.generational_core.specs.Machine.Action.{MakeShared}
+use Rattle.generational_core.specs.Machine.Answer.{Made, Done, Flag}
+use Rattle.generational_core.specs.Machine.Answer.{BorrowRefused, Refused}
 use Rattle.generational_sessions.specs.Carrying.{rename_cell}
 use Rattle.generational_sessions.specs.History.{bare, plain, plain_answer, plain_call}
 unfoldable use Rattle.generational_sessions.specs.History.{bare_cells}
@@ -92,34 +89,15 @@ plain_target R b = at (nat_eq b.id.store R.number)
 
 pub plain_reply : {T : Type 0} (R : State T) (a : Action T) (answer : Answer T)
     → reply_of (plain R) (plain_call a) (plain_answer answer) ≡ reply_of R a answer
-plain_reply R (Make o v l) (Made b) = refl
 plain_reply R (MakeShared o v l) (Made b) =
     ap (option_map (λ id. reply.MadeShared id b)) (plain_target R b)
-plain_reply R (Refer o c) (Made b) = refl
-plain_reply R NewOwner (Made b) = refl
-plain_reply R (CloneOwner o) (Made b) = refl
-plain_reply R (ReleaseOwner o) (Made b) = refl
-plain_reply R (LeakOwner o) (Made b) = refl
-plain_reply R (Read c l) (Made b) = refl
-plain_reply R (Write c l) (Made b) = refl
-plain_reply R (ReleaseReader g) (Made b) = refl
-plain_reply R (ReleaseWriter g v) (Made b) = refl
-plain_reply R (SetValue c v) (Made b) = refl
-plain_reply R (End c) (Made b) = refl
-plain_reply R (Point c d) (Made b) = refl
-plain_reply R (CanRead c) (Made b) = refl
-plain_reply R (CanWrite c) (Made b) = refl
-plain_reply R a (Owned o) = refl
-plain_reply R a (Reads g) = refl
-plain_reply R a (Writes g v) = refl
-plain_reply R a Done = refl
-plain_reply R a (Old v) = refl
+plain_reply R _ (Made b) = refl
 plain_reply R a (Flag true) = refl
 plain_reply R a (Flag false) = refl
-plain_reply R a (Back v) = refl
 plain_reply R a (BorrowRefused (Dropped l)) = refl
 plain_reply R a (BorrowRefused (BeingRead ls)) = refl
 plain_reply R a (BorrowRefused (BeingWritten l)) = refl
 plain_reply R a (Refused OutOfMemory) = refl
 plain_reply R a (Refused NumbersExhausted) = refl
 plain_reply R a (Refused UnknownOwner) = refl
+plain_reply R a _ = refl
