@@ -1,5 +1,5 @@
 -- Outlines: the places in the order in which a document is read.
-use Rattle.std.specs.Prelude.{◌≡◌, ℕ, zero, suc, List, [], ◌∷◌, ◌++◌, unwrap_or}
+use Rattle.std.specs.Prelude.{◌≡◌, ◌+◌, ℕ, zero, suc, List, [], ◌∷◌, ◌++◌, map, unwrap_or}
 use Rattle.std.specs.List.{Contains}
 use Rattle.generational_core.specs.State.{State}
 use Rattle.document_tree.specs.declared.part.Part.{Part}
@@ -17,6 +17,13 @@ module _ {T : Type 0} where
   outline_of D zero waiting = []
   outline_of D (suc limit) [] = []
   outline_of D (suc limit) (p ∷ waiting) = p ∷ outline_of D limit (children_in D p ++ waiting)
+
+  -- the same of places that wait each with a depth: its children wait one step deeper
+  unfoldable pub deep_outline_of : State (Part T) → ℕ → List (ℕ × Place) → List (ℕ × Place)
+  deep_outline_of D zero waiting = []
+  deep_outline_of D (suc limit) [] = []
+  deep_outline_of D (suc limit) (p ∷ waiting) =
+      p ∷ deep_outline_of D limit (map (λ q. (p.0 + 1, q)) (children_in D p.1) ++ waiting)
 
   -- a place is one that stands so many steps below another; at any number of steps
   abbrev pub IsBelowBy : State (Part T) → ℕ → Place → Place → Type 0

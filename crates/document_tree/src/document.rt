@@ -1,7 +1,7 @@
 //! Documents.
 
 ghost use Rattle.std.specs.Prelude.{◌≡◌, ◌≢◌, ◌↔◌, ◌⊎◌, [], None, Some, true, is_some, option_copied};
-ghost use Rattle.std.specs.Prelude.{Err, IfOk, OnOk, IfErr, OnErr, IsErr, IsTrue, IsFalse, ◌++◌, ◌∷◌, ◌<◌, reverse};
+ghost use Rattle.std.specs.Prelude.{Err, IfOk, OnOk, IfErr, OnErr, IsErr, IsTrue, IsFalse, ◌++◌, ◌∷◌, ◌<◌, map, reverse};
 ghost use Rattle.generational_core.specs.Slots.{free};
 ghost use Rattle.generational_core.specs.Conditions.{IsFresh};
 ghost use Rattle.generational_errors.specs.declared.error.StoreError.TheVariants.{OutOfMemory};
@@ -10,7 +10,7 @@ ghost use Rattle.document_tree.specs.Documents.{shown_by, shown_in, part_in, con
 ghost use Rattle.document_tree.specs.Documents.{with_content, with_child, WasMade, Leaves, Changes};
 ghost use Rattle.document_tree.specs.Documents.{added_in, first_gone, EndsPart, IsOnlyPlace};
 ghost use Rattle.document_tree.specs.declared.place.PlaceError.TheVariants as errors;
-ghost use Rattle.document_tree.specs.Outlines.{children_in, outline_of};
+ghost use Rattle.document_tree.specs.Outlines.{children_in, deep_outline_of, outline_of};
 ghost use Rattle.document_tree.specs.Places.{made_at, IsSame, IsOther};
 
 use crate::part::{Body, Part};
@@ -176,6 +176,28 @@ impl<T, S: Storage<Part<T>>> Document<T, S> {
         Ok(places)
     }
 
+    /// The places of `outline`, each with how many steps it stands below the first: 0 for the first, 1 for
+    /// its children. Refused, and bounded, as `outline` is. Takes memory and time as that does.
+    pub fn outline_with_depth(
+        &self,
+        place: Place,
+        limit: usize,
+    ) -> Result<Vec<(usize, Place)>, AllocError>
+        ensures { IfOk result (λ places.
+            places.items ≡ deep_outline_of self.now limit ((0, place) ∷ [])) }
+    {
+        let mut places = Vec::new(self.alloc);
+        let mut waiting = vec![in self.alloc; (0, place)]?;
+        while places.len() < limit {
+            let Some((depth, next)) = waiting.pop() else {
+                break;
+            };
+            places.push((depth, next))?;
+            self.put_children_at(&mut waiting, depth + 1, next)?;
+        }
+        Ok(places)
+    }
+
     /// Puts another content in the place of a part's, which is let go. It shows at each place that
     /// leads to the part, with the children that there were; every other place shows what it showed.
     ///
@@ -303,6 +325,22 @@ impl<T, S: Storage<Part<T>>> Document<T, S> {
     {
         match self.children(place) {
             Ok(children) => places.extend(children.iter().rev().copied()),
+            Err(_) => Ok(()),
+        }
+    }
+
+    // Puts the children of a place at the end of a list, each with a depth, the first one last.
+    fn put_children_at(
+        &self,
+        places: &mut Vec<(usize, Place)>,
+        depth: usize,
+        place: Place,
+    ) -> Result<(), AllocError>
+        ensures { OnOk result (places.new.items
+            ≡ places.old.items ++ map (λ q. (depth, q)) (reverse (children_in self.now place))) }
+    {
+        match self.children(place) {
+            Ok(children) => places.extend(children.iter().rev().map(|child| (depth, *child))),
             Err(_) => Ok(()),
         }
     }

@@ -11,6 +11,6 @@ mod part;
 mod place;
 
 pub use crate::document::Document;
-pub use crate::laws::outlines_stay_below;
+pub use crate::laws::{depths_are_steps, outlines_stay_below};
 pub use crate::part::Part;
 pub use crate::place::{Gone, Place, PlaceError};

@@ -1,13 +1,10 @@
-use Rattle.std.proofs.Common.{◌≡◌, ◌++◌, [], Ok, Err, ap, reverse, sym, ◌∙◌}
-use Rattle.std.specs.Prelude.{OnOk, Result, unwrap_or}
+use Rattle.std.proofs.Common.{◌≡◌, ◌++◌, [], ap, reverse, sym, ◌∙◌}
+use Rattle.std.specs.Prelude.{unwrap_or}
 use Rattle.std.proofs.lemmas.Iterator.Adapters.{YieldsList-from_rev_slice, items_from_extend}
 use Rattle.std.proofs.lemmas.Iterator.Consumers.{YieldsList-from_copied}
 use Rattle.document_tree.specs.Outlines.{children_in}
+use Rattle.document_tree.proofs.Outlining.{on_ok}
 use Rattle.document_tree.proofs.document.Document.put_children.Goals as goal
-
-on_ok : {X E P Q : Type 0} (r : Result X E) → OnOk r P → (P → Q) → OnOk r Q
-on_ok (Ok x) p goes = goes p
-on_ok (Err e) p goes = tt
 
 pub returns-in-Ok : goal.returns-in-Ok
 returns-in-Ok g c =

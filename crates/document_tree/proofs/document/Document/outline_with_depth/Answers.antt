@@ -1,0 +1,30 @@
+use Rattle.std.proofs.Common.{◌+◌, arith, reverse, rules}
+use Rattle.document_tree.specs.Outlines.{children_in}
+use Rattle.document_tree.proofs.Outlining.{all_read, come_after, deep_reading, limit_read, read_after}
+use Rattle.document_tree.proofs.Outlining.{shallow_after}
+use Rattle.document_tree.proofs.document.Document.outline_with_depth.Goals as goal
+use Rattle.document_tree.proofs.document.Document.outline_with_depth.Goals.{else-loop-waiting-test, then-loop-waiting-test+in_default}
+
+pub loop-waiting-preserved : goal.loop-waiting-preserved
+loop-waiting-preserved g c = record {
+  within = search (rules, arith);
+  shallow = shallow_after (c.in-Some.depth, c.in-Some.next) c.loop-waiting.places.items _ _ _ _
+      (reverse (children_in c.args.self.now c.in-Some.next)) c.in_ok-push.ensures.items
+      c.in-Some.ensures.items c.in_ok-put_children_at.ensures c.loop-waiting.invariant.shallow;
+  read = read_after (deep_reading c.args.self.now) c.args.limit (c.in-Some.depth, c.in-Some.next)
+      _ _ _ _ _ (omega arith) c.in-Some.ensures.items c.in_ok-push.ensures.items
+      (come_after (c.in-Some.depth + 1) (children_in c.args.self.now c.in-Some.next) _ _
+      c.in_ok-put_children_at.ensures)
+      c.loop-waiting.invariant.read;
+}
+
+pub returns : goal.returns
+returns g c =
+    let read = c.loop-waiting.invariant.read in
+    elim c.loop-waiting-test.branch [
+      | else-loop-waiting-test w ↦ limit_read (deep_reading c.args.self.now) c.args.limit
+          c.loop-waiting.places.items _ (omega arith) read
+      | then-loop-waiting-test+in_default w ↦ all_read (deep_reading c.args.self.now) c.args.limit
+          c.loop-waiting.places.items c.loop-waiting.waiting.items
+          (omega (arith, w.in_default.ensures.cases.0)) read
+    ]
