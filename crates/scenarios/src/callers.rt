@@ -1,10 +1,11 @@
 //! The proved callers of the crate `uses`, run: docs/CALLING.md shows them.
 
 use crate::expected::{assert_same, leak};
-use crate::fresh::{Scenario, play};
+use crate::fresh::{Life, Scenario, live, play};
+use crate::sessions::session_over;
 use generational_box::{
     BorrowMutError, BoxAt, Call, GenerationalBox, LastFirst, Location, OldestFirst, Reply, Session,
-    Storage, Store, UnsyncStorage, ValueDroppedError,
+    Storage, Store, ValueDroppedError,
 };
 use std::alloc::Global;
 use std::process::Abort;
@@ -154,6 +155,16 @@ fn assert_calls<S: Storage<u64>>(rt: &impl Abort, alloc: Global, session: &mut S
     assert_same(rt, &error_told_later(session), &Some(dropped));
 }
 
+struct CallsOfASession;
+
+impl Life<u64> for CallsOfASession {
+    fn live<R: Abort, S: Storage<u64> + Drop>(rt: &R, alloc: Global, store: S) {
+        let mut session = session_over(rt, alloc, store);
+        assert_calls(rt, alloc, &mut session);
+        let _store = session.finish();
+    }
+}
+
 struct Values;
 
 impl Scenario<u64> for Values {
@@ -214,8 +225,5 @@ fn kinds(rt: HostRuntime) {
 
 #[test]
 fn sessions(rt: HostRuntime) {
-    let store: UnsyncStorage<u64> = Store::new(rt.alloc(), 1);
-    let mut session = Session::new(rt.alloc(), store);
-    assert_calls(&rt, rt.alloc(), &mut session);
-    let _store = session.finish();
+    live::<u64, CallsOfASession>(&rt, rt.alloc());
 }

@@ -5,12 +5,14 @@ use crate::expected::{
     assert_same, begin, begin_write, end, insert, leak, made, made_later, new_owner, read, release,
     written,
 };
-use crate::fresh::{Scenario, TwoStoreScenario, play, play_in_two_stores};
-use crate::sessions::call;
+use crate::fresh::{
+    Life, Scenario, TwoStoreScenario, live, play, play_at_last_generation, play_in_two_stores,
+};
+use crate::sessions::{call, session_over};
 use crate::sharing::{insert_rc, insert_reference, leak_rc, leak_reference, point};
 use generational_box::{
-    BoxAt, Call, GenerationalBox, GenerationalRef, GenerationalRefMut, Numbers, Owner, Refusal,
-    Session, Storage, Store, UnsyncStorage,
+    BoxAt, Call, GenerationalBox, GenerationalRef, GenerationalRefMut, Owner, Refusal, Session,
+    Storage, Store, UnsyncStorage,
 };
 use signals::{Scope, Signal};
 use std::alloc::Global;
@@ -35,29 +37,26 @@ fn assert_count(rt: &impl Abort, value: &Counted, count: usize) {
     assert_same(rt, &Rc::strong_count(value), &count);
 }
 
-fn ends<S: Storage<Counted>>(rt: &impl Abort, alloc: Global, store: &mut S) {
-    let value = counted(rt, alloc);
-    let first = leak(rt, store, another(rt, &value), made());
-    let second = leak(rt, store, another(rt, &value), made());
-    assert_count(rt, &value, 3);
-    end(rt, store, first);
-    assert_count(rt, &value, 2);
-    end(rt, store, second);
-    assert_count(rt, &value, 1);
+struct Ends;
+
+impl Scenario<Counted> for Ends {
+    fn play<R: Abort, S: Storage<Counted>>(rt: &R, alloc: Global, store: &mut S) {
+        let value = counted(rt, alloc);
+        let first = leak(rt, store, another(rt, &value), made());
+        let second = leak(rt, store, another(rt, &value), made());
+        assert_count(rt, &value, 3);
+        end(rt, store, first);
+        assert_count(rt, &value, 2);
+        end(rt, store, second);
+        assert_count(rt, &value, 1);
+    }
 }
 
 // Also where the slot retires with its value.
 #[test]
 fn an_ended_value(rt: HostRuntime) {
-    let alloc = rt.alloc();
-    for generation in [1, u64::MAX] {
-        let numbers = Numbers {
-            generation,
-            ticket: 0,
-        };
-        let mut store: UnsyncStorage<Counted> = Store::new_at(alloc, 7, numbers);
-        ends(&rt, alloc, &mut store);
-    }
+    play::<Counted, Ends>(&rt, rt.alloc());
+    play_at_last_generation::<Counted, Ends>(&rt, rt.alloc());
 }
 
 /// Another owner value.
@@ -357,40 +356,41 @@ fn a_value_that_was_cloned(rt: HostRuntime) {
     play::<Counted, Clones>(&rt, rt.alloc());
 }
 
-/// Makes a box by nobody, one by an owner that is leaked, and a shared value with two references.
-fn fill<S: Storage<Counted>>(rt: &impl Abort, store: &mut S, value: &Counted) {
-    leak(rt, store, another(rt, value), made());
-    let owner = new_owner(rt, store);
-    insert(rt, store, &owner, another(rt, value), made());
+/// Makes a box by nobody, one by an owner that is leaked, and a shared value with two references, in a
+/// store that goes.
+fn fill<S: Storage<Counted> + Drop>(rt: &impl Abort, mut store: S, value: &Counted) {
+    leak(rt, &mut store, another(rt, value), made());
+    let owner = new_owner(rt, &mut store);
+    insert(rt, &mut store, &owner, another(rt, value), made());
     owner.leak();
-    let shared = leak_rc(rt, store, another(rt, value), made());
-    leak_reference(rt, store, shared);
+    let shared = leak_rc(rt, &mut store, another(rt, value), made());
+    leak_reference(rt, &mut store, shared);
     assert_count(rt, value, 4);
 }
 
-/// Begins a read and a write of two values more.
-fn borrow_two<S: Storage<Counted>>(
+/// Begins a read and a write of two values, in a store that goes.
+fn borrow_two<S: Storage<Counted> + Drop>(
     rt: &impl Abort,
-    store: &mut S,
+    mut store: S,
     value: &Counted,
 ) -> (GenerationalRef<Counted>, GenerationalRefMut<Counted>) {
-    let first = leak(rt, store, another(rt, value), made());
-    let second = leak(rt, store, another(rt, value), made());
-    let reader = begin(rt, store, first, read());
-    (reader, begin_write(rt, store, second, written()))
+    let first = leak(rt, &mut store, another(rt, value), made());
+    let second = leak(rt, &mut store, another(rt, value), made());
+    let reader = begin(rt, &mut store, first, read());
+    (reader, begin_write(rt, &mut store, second, written()))
 }
 
 /// Spends guards whose store is gone: the reader's value went with it, the writer's is the guard's.
-fn spend<S: Storage<Counted>>(
+fn spend<S: Storage<Counted> + Drop>(
     rt: &impl Abort,
-    store: &mut S,
+    mut store: S,
     (reader, writer): (GenerationalRef<Counted>, GenerationalRefMut<Counted>),
     value: &Counted,
 ) {
     assert_count(rt, value, 2);
-    assert!(rt; !reader.release(store));
+    assert!(rt; !reader.release(&mut store));
     assert_count(rt, value, 2);
-    assert!(rt; writer.release(store).is_err());
+    assert!(rt; writer.release(&mut store).is_err());
     assert_count(rt, value, 1);
 }
 
@@ -399,17 +399,13 @@ fn spend<S: Storage<Counted>>(
 #[test]
 fn values_of_a_store(rt: HostRuntime) {
     let value = counted(&rt, rt.alloc());
-    {
-        let mut store: UnsyncStorage<Counted> = Store::new(rt.alloc(), 7);
-        fill(&rt, &mut store, &value);
-    }
+    let store: UnsyncStorage<Counted> = Store::new(rt.alloc(), 7);
+    fill(&rt, store, &value);
     assert_count(&rt, &value, 1);
-    let guards = {
-        let mut store: UnsyncStorage<Counted> = Store::new(rt.alloc(), 7);
-        borrow_two(&rt, &mut store, &value)
-    };
-    let mut other: UnsyncStorage<Counted> = Store::new(rt.alloc(), 8);
-    spend(&rt, &mut other, guards, &value);
+    let store: UnsyncStorage<Counted> = Store::new(rt.alloc(), 7);
+    let guards = borrow_two(&rt, store, &value);
+    let other: UnsyncStorage<Counted> = Store::new(rt.alloc(), 8);
+    spend(&rt, other, guards, &value);
 }
 
 /// The calls of the next tests, by their places. Those that hand in no value let it go.
@@ -468,25 +464,25 @@ fn make<S: Storage<Counted>>(
     let _reply = call(rt, session, asked);
 }
 
-fn calls<S: Storage<Counted> + Drop>(
-    rt: &impl Abort,
-    alloc: Global,
-    mut session: Session<Counted, S>,
-) {
-    let value = counted(rt, alloc);
-    for (place, count) in COUNTS.iter().enumerate() {
-        make(rt, &mut session, call_at(place, another(rt, &value)));
-        assert_eq!(rt; Rc::strong_count(&value), *count, "at {place}");
+struct Calls;
+
+impl Life<Counted> for Calls {
+    fn live<R: Abort, S: Storage<Counted> + Drop>(rt: &R, alloc: Global, store: S) {
+        let mut session = session_over(rt, alloc, store);
+        let value = counted(rt, alloc);
+        for (place, count) in COUNTS.iter().enumerate() {
+            make(rt, &mut session, call_at(place, another(rt, &value)));
+            assert_same(rt, &(place, Rc::strong_count(&value)), &(place, *count));
+        }
+        finish(rt, session, &value);
     }
-    finish(rt, session, &value);
 }
 
 // A session lets go what it ends and what comes back in a reply, and keeps a writer's value up to
 // the store's end.
 #[test]
 fn values_of_a_session(rt: HostRuntime) {
-    let store: UnsyncStorage<Counted> = Store::new(rt.alloc(), 7);
-    calls(&rt, rt.alloc(), Session::new(rt.alloc(), store));
+    live::<Counted, Calls>(&rt, rt.alloc());
 }
 
 /// Runs the calls as one list, and lets the replies go.
@@ -505,19 +501,19 @@ fn run<S: Storage<Counted>>(
     assert!(rt; ran.is_ok());
 }
 
-fn list<S: Storage<Counted> + Drop>(
-    rt: &impl Abort,
-    alloc: Global,
-    mut session: Session<Counted, S>,
-) {
-    let value = counted(rt, alloc);
-    run(rt, alloc, &mut session, &value);
-    finish(rt, session, &value);
+struct ListOfCalls;
+
+impl Life<Counted> for ListOfCalls {
+    fn live<R: Abort, S: Storage<Counted> + Drop>(rt: &R, alloc: Global, store: S) {
+        let mut session = session_over(rt, alloc, store);
+        let value = counted(rt, alloc);
+        run(rt, alloc, &mut session, &value);
+        finish(rt, session, &value);
+    }
 }
 
 // So does one that runs a list.
 #[test]
 fn values_of_a_list_of_calls(rt: HostRuntime) {
-    let store: UnsyncStorage<Counted> = Store::new(rt.alloc(), 7);
-    list(&rt, rt.alloc(), Session::new(rt.alloc(), store));
+    live::<Counted, ListOfCalls>(&rt, rt.alloc());
 }

@@ -6,7 +6,7 @@ use generational_box::{
     Session, Storage, Store, StoreError, UnsyncStorage, ValueDroppedError,
 };
 use std::alloc::Global;
-use std::test::Fail;
+use std::process::Abort;
 
 /// What a box tells by itself.
 fn tell(one: GenerationalBox<u64>, other: GenerationalBox<u64>) -> bool {
@@ -101,7 +101,7 @@ fn hold<S: Storage<u64>>(store: &mut S, owner: Owner) -> Result<bool, StoreError
 }
 
 /// A list of calls. Each names what an earlier call gave by the place of that call.
-fn run(alloc: Global, store: UnsyncStorage<u64>) -> Option<u64> {
+fn run<S: Storage<u64> + Drop>(alloc: Global, store: S) -> Option<u64> {
     if !store.is_fresh() {
         return None;
     }
@@ -119,7 +119,7 @@ fn run(alloc: Global, store: UnsyncStorage<u64>) -> Option<u64> {
 }
 
 /// The same, a call at a time.
-fn call(alloc: Global, store: UnsyncStorage<u64>) -> Option<u64> {
+fn call<S: Storage<u64> + Drop>(alloc: Global, store: S) -> Option<u64> {
     if !store.is_fresh() {
         return None;
     }
@@ -150,22 +150,30 @@ fn leak<S: Storage<u64>>(store: &mut S) -> Option<bool> {
     Some(tell(value, second) && value.created_at() == first.created_at())
 }
 
+/// The examples of boxes and owners, in one store with a box.
+fn boxes_and_owners<S: Storage<u64> + Drop>(
+    rt: &impl Abort,
+    mut store: S,
+    kept: GenerationalBox<u64>,
+) {
+    assert_same(rt, &leak(&mut store), &Some(true));
+    let owner = store.owner().expect(rt, "an owner");
+    assert_same(rt, &lead(&mut store, &owner), &Some(2));
+    assert_same(rt, &hold(&mut store, owner), &Ok(true));
+    assert_same(rt, &find(&store, kept), &true);
+    assert_same(rt, &set(&mut store, kept), &Some(8));
+    assert_same(rt, &exchange(&mut store, kept, 9), &Ok(Some(8)));
+    assert_same(rt, &read_free(&mut store, kept), &Ok(Some(9)));
+}
+
 #[test]
-fn examples_of_calls(rt: HostRuntime) -> Result<(), Fail> {
+fn examples_of_calls(rt: HostRuntime) {
     let alloc = rt.alloc();
     let mut store = UnsyncStorage::new(alloc, 1);
-    assert_same(&rt, &leak(&mut store), &Some(true));
-    let owner = store.owner().expect(&rt, "an owner");
-    assert_same(&rt, &lead(&mut store, &owner), &Some(2));
-    assert_same(&rt, &hold(&mut store, owner), &Ok(true));
     let kept = make_within(&mut store).expect(&rt, "a box");
-    assert_same(&rt, &find(&store, kept), &true);
-    assert_same(&rt, &set(&mut store, kept), &Some(8));
-    assert_same(&rt, &exchange(&mut store, kept, 9), &Ok(Some(8)));
-    assert_same(&rt, &read_free(&mut store, kept), &Ok(Some(9)));
+    boxes_and_owners(&rt, store, kept);
     let gone = BorrowMutError::Dropped(ValueDroppedError::new(made()));
     assert_same(&rt, &met_at(&gone), &Some(made()));
     assert_same(&rt, &run(alloc, make_late(alloc)), &Some(7));
     assert_same(&rt, &call(alloc, make_late(alloc)), &Some(u64::MAX));
-    Ok(())
 }

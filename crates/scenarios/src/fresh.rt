@@ -1,6 +1,6 @@
 //! Scenarios that a store of their own is made for: that is done here once, for all of them.
 
-use generational_box::{Session, Storage, Store, UnsyncStorage};
+use generational_box::{Numbers, Session, Storage, Store, UnsyncStorage};
 use std::alloc::Global;
 use std::process::Abort;
 
@@ -12,6 +12,26 @@ pub(crate) trait Scenario<T> {
 /// Plays a scenario in an empty store.
 pub(crate) fn play<T: Drop, P: Scenario<T>>(rt: &impl Abort, alloc: Global) {
     let mut store: UnsyncStorage<T> = Store::new(alloc, 7);
+    P::play(rt, alloc, &mut store);
+}
+
+/// Plays a scenario in an empty store whose slots have the last generation.
+pub(crate) fn play_at_last_generation<T: Drop, P: Scenario<T>>(rt: &impl Abort, alloc: Global) {
+    let numbers = Numbers {
+        generation: u64::MAX,
+        ticket: 0,
+    };
+    let mut store: UnsyncStorage<T> = Store::new_at(alloc, 7, numbers);
+    P::play(rt, alloc, &mut store);
+}
+
+/// Plays a scenario in an empty store whose next ticket is this one.
+pub(crate) fn play_at_ticket<T: Drop, P: Scenario<T>>(rt: &impl Abort, alloc: Global, ticket: u64) {
+    let numbers = Numbers {
+        generation: 1,
+        ticket,
+    };
+    let mut store: UnsyncStorage<T> = Store::new_at(alloc, 7, numbers);
     P::play(rt, alloc, &mut store);
 }
 
@@ -32,6 +52,17 @@ pub(crate) fn play_in_twins<T: Drop, P: TwoStoreScenario<T>>(rt: &impl Abort, al
     let mut one: UnsyncStorage<T> = Store::new(alloc, 7);
     let mut twin: UnsyncStorage<T> = Store::new(alloc, 7);
     P::play(rt, alloc, &mut one, &mut twin);
+}
+
+/// What happens with a store that goes in the end.
+pub(crate) trait Life<T> {
+    fn live<R: Abort, S: Storage<T> + Drop>(rt: &R, alloc: Global, store: S);
+}
+
+/// Hands an empty store over.
+pub(crate) fn live<T: Drop, P: Life<T>>(rt: &impl Abort, alloc: Global) {
+    let store: UnsyncStorage<T> = Store::new(alloc, 7);
+    P::live(rt, alloc, store);
 }
 
 /// What happens in a session.

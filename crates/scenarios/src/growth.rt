@@ -6,11 +6,11 @@
 //! one at a time changes it whenever a page is full.
 
 use crate::expected::{insert, leak, made, new_owner};
-use crate::sessions::call;
+use crate::sessions::{call, session_over};
 use crate::sharing::{leak_rc, leak_reference};
 use crate::signal_calls::{end, scope, signal};
 use generational_box::{BoxAt, Call, Owner, Session, Storage, Store, UnsyncStorage};
-use signals::Scope;
+use std::alloc::Global;
 use std::fs;
 use std::process::Abort;
 use std::rt::Files;
@@ -68,29 +68,27 @@ fn make<S: Storage<u32>>(rt: &impl Abort, store: &mut S) {
 }
 
 /// Makes boxes by nobody, and looks how the memory grows.
-fn leaked<R: Files + AllocGlobal + Abort, S: Storage<u32>>(
+fn leaked<R: Files + AllocGlobal + Abort, S: Storage<u32> + Drop>(
     rt: &R,
-    store: &mut S,
-    gauge: &mut Gauge,
+    mut store: S,
 ) -> Result<(), Fail> {
-    leak(rt, store, 0, made());
+    let mut gauge = Gauge::new(rt)?;
+    leak(rt, &mut store, 0, made());
     gauge.look(rt)?;
     gauge.assert_grew(rt, 1_000);
     for _ in 0..1_000 {
-        make(rt, store);
+        make(rt, &mut store);
         gauge.look(rt)?;
     }
+    gauge.assert_grew(rt, 10_000);
     Ok(())
 }
 
 // A hundred thousand slots.
 #[test]
 fn slots(rt: HostRuntime) -> Result<(), Fail> {
-    let mut store: UnsyncStorage<u32> = Store::new(rt.alloc(), 7);
-    let mut gauge = Gauge::new(&rt)?;
-    leaked(&rt, &mut store, &mut gauge)?;
-    gauge.assert_grew(&rt, 10_000);
-    Ok(())
+    let store: UnsyncStorage<u32> = Store::new(rt.alloc(), 7);
+    leaked(&rt, store)
 }
 
 /// Makes a shared value and a hundred references to it.
@@ -102,26 +100,24 @@ fn share<S: Storage<u32>>(rt: &impl Abort, store: &mut S) {
 }
 
 /// Makes shared values and references, and looks how the memory grows.
-fn shared<R: Files + AllocGlobal + Abort, S: Storage<u32>>(
+fn shared<R: Files + AllocGlobal + Abort, S: Storage<u32> + Drop>(
     rt: &R,
-    store: &mut S,
-    gauge: &mut Gauge,
+    mut store: S,
 ) -> Result<(), Fail> {
+    let mut gauge = Gauge::new(rt)?;
     for _ in 0..1_000 {
-        share(rt, store);
+        share(rt, &mut store);
         gauge.look(rt)?;
     }
+    gauge.assert_grew(rt, 10_000);
     Ok(())
 }
 
 // A hundred thousand references and a thousand shared values.
 #[test]
 fn references(rt: HostRuntime) -> Result<(), Fail> {
-    let mut store: UnsyncStorage<u32> = Store::new(rt.alloc(), 7);
-    let mut gauge = Gauge::new(&rt)?;
-    shared(&rt, &mut store, &mut gauge)?;
-    gauge.assert_grew(&rt, 10_000);
-    Ok(())
+    let store: UnsyncStorage<u32> = Store::new(rt.alloc(), 7);
+    shared(&rt, store)
 }
 
 /// Makes a hundred boxes by an owner.
@@ -132,7 +128,7 @@ fn make_by<S: Storage<u32>>(rt: &impl Abort, store: &mut S, owner: &Owner) {
 }
 
 /// Makes boxes by an owner, and looks how the memory grows.
-fn owned<R: Files + AllocGlobal + Abort, S: Storage<u32>>(
+fn make_all_by<R: Files + AllocGlobal + Abort, S: Storage<u32>>(
     rt: &R,
     store: &mut S,
     owner: &Owner,
@@ -145,34 +141,42 @@ fn owned<R: Files + AllocGlobal + Abort, S: Storage<u32>>(
     Ok(())
 }
 
-// A hundred thousand boxes of one owner.
-#[test]
-fn an_owners_list(rt: HostRuntime) -> Result<(), Fail> {
-    let mut store: UnsyncStorage<u32> = Store::new(rt.alloc(), 7);
-    let mut gauge = Gauge::new(&rt)?;
-    let owner = new_owner(&rt, &mut store);
-    let looked = owned(&rt, &mut store, &owner, &mut gauge);
+/// Makes boxes by an owner that is leaked in the end.
+fn owned<R: Files + AllocGlobal + Abort, S: Storage<u32> + Drop>(
+    rt: &R,
+    mut store: S,
+) -> Result<(), Fail> {
+    let mut gauge = Gauge::new(rt)?;
+    let owner = new_owner(rt, &mut store);
+    let looked = make_all_by(rt, &mut store, &owner, &mut gauge);
     owner.leak();
     looked?;
-    gauge.assert_grew(&rt, 12_000);
+    gauge.assert_grew(rt, 12_000);
     Ok(())
 }
 
-/// Makes signals of a scope.
-fn signal_all<S: Storage<u64>>(rt: &impl Abort, store: &mut S, scope: &Scope) {
+// A hundred thousand boxes of one owner.
+#[test]
+fn an_owners_list(rt: HostRuntime) -> Result<(), Fail> {
+    let store: UnsyncStorage<u32> = Store::new(rt.alloc(), 7);
+    owned(&rt, store)
+}
+
+/// Makes signals of a scope, and ends it.
+fn signal_all<S: Storage<u64> + Drop>(rt: &impl Abort, mut store: S) {
+    let signals = scope(rt, &mut store);
     for value in 0..20_000 {
-        signal(rt, store, scope, value, made());
+        signal(rt, &mut store, &signals, value, made());
     }
+    end(rt, &mut store, signals);
 }
 
 // A scope of twenty thousand signals. It doesn't look how the memory grows: whoever counts what is
 // asked for finds that it isn't asked for often.
 #[test]
 fn a_scopes_signals(rt: HostRuntime) {
-    let mut store: UnsyncStorage<u64> = Store::new(rt.alloc(), 7);
-    let signals = scope(&rt, &mut store);
-    signal_all(&rt, &mut store, &signals);
-    end(&rt, &mut store, signals);
+    let store: UnsyncStorage<u64> = Store::new(rt.alloc(), 7);
+    signal_all(&rt, store);
 }
 
 /// Makes a hundred calls of a session that take no slot.
@@ -183,7 +187,7 @@ fn ask<S: Storage<u32>>(rt: &impl Abort, session: &mut Session<u32, S>) {
 }
 
 /// Makes calls, and looks how the memory grows.
-fn called<R: Files + AllocGlobal + Abort, S: Storage<u32>>(
+fn ask_all<R: Files + AllocGlobal + Abort, S: Storage<u32>>(
     rt: &R,
     session: &mut Session<u32, S>,
     gauge: &mut Gauge,
@@ -196,15 +200,24 @@ fn called<R: Files + AllocGlobal + Abort, S: Storage<u32>>(
     Ok(())
 }
 
+/// Makes calls of a session over a store, and ends it.
+fn called<R: Files + AllocGlobal + Abort, S: Storage<u32> + Drop>(
+    rt: &R,
+    alloc: Global,
+    store: S,
+) -> Result<(), Fail> {
+    let mut gauge = Gauge::new(rt)?;
+    let mut session = session_over(rt, alloc, store);
+    let looked = ask_all(rt, &mut session, &mut gauge);
+    let _store = session.finish();
+    looked?;
+    gauge.assert_grew(rt, 8_000);
+    Ok(())
+}
+
 // A hundred thousand places of a session.
 #[test]
 fn places(rt: HostRuntime) -> Result<(), Fail> {
-    let mut gauge = Gauge::new(&rt)?;
     let store: UnsyncStorage<u32> = Store::new(rt.alloc(), 7);
-    let mut session = Session::new(rt.alloc(), store);
-    let looked = called(&rt, &mut session, &mut gauge);
-    let _store = session.finish();
-    looked?;
-    gauge.assert_grew(&rt, 8_000);
-    Ok(())
+    called(&rt, rt.alloc(), store)
 }

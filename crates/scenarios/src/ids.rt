@@ -108,37 +108,55 @@ fn id_of_next<S: Storage<u32>>(rt: &impl Abort, store: &mut S, is_kept: bool) ->
     given.id()
 }
 
-/// How many different hashes so many ids have, of which each takes a slot of its own or none.
-fn hashes<S: Storage<u32>>(
-    rt: &impl Abort,
-    alloc: Global,
-    store: &mut S,
-    is_kept: bool,
-    count: usize,
-) -> usize {
+/// Asserts that a hundred ids have more than ninety hashes, of which each takes a slot of its own or
+/// none.
+fn assert_many<S: Storage<u32>>(rt: &impl Abort, alloc: Global, store: &mut S, is_kept: bool) {
     let mut hashes = BTreeSet::new(alloc);
-    for _ in 0..count {
+    for _ in 0..100 {
         let hash = hash_of(&id_of_next(rt, store, is_kept));
         hashes.insert(hash).expect(rt, "memory");
     }
-    hashes.len()
+    assert!(rt; hashes.len() > 90);
+}
+
+struct IdsOfSlots;
+
+impl Scenario<u32> for IdsOfSlots {
+    fn play<R: Abort, S: Storage<u32>>(rt: &R, alloc: Global, store: &mut S) {
+        assert_many(rt, alloc, store, true);
+    }
+}
+
+struct IdsOfGenerations;
+
+impl Scenario<u32> for IdsOfGenerations {
+    fn play<R: Abort, S: Storage<u32>>(rt: &R, alloc: Global, store: &mut S) {
+        assert_many(rt, alloc, store, false);
+    }
+}
+
+/// The hash of the first id of a store.
+fn first_hash<S: Storage<u32> + Drop>(rt: &impl Abort, mut store: S) -> u64 {
+    hash_of(&id_of_next(rt, &mut store, true))
+}
+
+/// The hash of the first id of the store of a number.
+fn first_hash_in(rt: &impl Abort, alloc: Global, number: u64) -> u64 {
+    let store: UnsyncStorage<u32> = Store::new(alloc, number);
+    first_hash(rt, store)
 }
 
 // Ids that differ in the slot alone, in the generation alone, or in the store alone.
 #[test]
 fn ids_have_many_hashes(rt: HostRuntime) {
-    let alloc = rt.alloc();
-    let mut store: UnsyncStorage<u32> = Store::new(alloc, 7);
-    assert!(rt; hashes(&rt, alloc, &mut store, true, 100) > 90);
-    let mut store: UnsyncStorage<u32> = Store::new(alloc, 7);
-    assert!(rt; hashes(&rt, alloc, &mut store, false, 100) > 90);
-    let mut stores = BTreeSet::new(alloc);
+    play::<u32, IdsOfSlots>(&rt, rt.alloc());
+    play::<u32, IdsOfGenerations>(&rt, rt.alloc());
+    let mut hashes = BTreeSet::new(rt.alloc());
     for number in 0..100 {
-        let mut store: UnsyncStorage<u32> = Store::new(alloc, number);
-        let hash = hash_of(&id_of_next(&rt, &mut store, true));
-        stores.insert(hash).expect(&rt, "memory");
+        let hash = first_hash_in(&rt, rt.alloc(), number);
+        hashes.insert(hash).expect(&rt, "memory");
     }
-    assert!(rt; stores.len() > 90);
+    assert!(rt; hashes.len() > 90);
 }
 
 /// Asserts that a store finds a box by its id, with the location where it was made.

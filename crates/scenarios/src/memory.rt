@@ -289,17 +289,26 @@ fn make_forty_cells<S: Storage<u32>>(rt: &impl Abort, store: &mut S) {
     }
 }
 
+/// Makes room in a store, and values there, twice.
+fn make_in_room<P: SlotPool + Drop>(rt: &impl Abort, mut store: Store<u32, P>) {
+    for _ in 0..2 {
+        reserve_or_again(rt, &mut store, 40);
+        make_forty_cells(rt, &mut store);
+    }
+}
+
 // What room was made for takes no memory: no making is tried a second time.
 #[test]
 fn makings_in_reserved_room(rt: HostRuntime) {
-    let mut last: Store<u32, LastFirst> = Store::new(rt.alloc(), 7);
-    let mut oldest: Store<u32, OldestFirst> = Store::new(rt.alloc(), 7);
-    for _ in 0..2 {
-        reserve_or_again(&rt, &mut last, 40);
-        make_forty_cells(&rt, &mut last);
-        reserve_or_again(&rt, &mut oldest, 40);
-        make_forty_cells(&rt, &mut oldest);
-    }
+    let last: Store<u32, LastFirst> = Store::new(rt.alloc(), 7);
+    make_in_room(&rt, last);
+    let oldest: Store<u32, OldestFirst> = Store::new(rt.alloc(), 7);
+    make_in_room(&rt, oldest);
+}
+
+/// Asserts that there is no room for so many cells.
+fn assert_no_room<P: SlotPool>(rt: &impl Abort, store: &mut Store<u32, P>, more: usize) {
+    assert_same(rt, &store.reserve(more), &Err(StoreError::OutOfMemory));
 }
 
 // More room than there can be is refused, and takes none.
@@ -307,13 +316,9 @@ fn makings_in_reserved_room(rt: HostRuntime) {
 fn room_beyond_all(rt: HostRuntime) {
     let mut store: Store<u32, LastFirst> = Store::new(rt.alloc(), 7);
     for more in [usize::MAX, usize::MAX - 1, 1 << 32] {
-        assert_same(&rt, &store.reserve(more), &Err(StoreError::OutOfMemory));
+        assert_no_room(&rt, &mut store, more);
     }
     reserve_or_again(&rt, &mut store, 1);
     leak(&rt, &mut store, 1, made());
-    assert_same(
-        &rt,
-        &store.reserve(usize::MAX),
-        &Err(StoreError::OutOfMemory),
-    );
+    assert_no_room(&rt, &mut store, usize::MAX);
 }

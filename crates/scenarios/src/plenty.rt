@@ -4,12 +4,10 @@ use crate::expected::{
     assert_reads, assert_same, assert_unread, dropped, end, insert, leak, made, made_later,
     new_owner, read, release, written,
 };
-use crate::fresh::{Scenario, SessionScenario, play, play_in_session};
+use crate::fresh::{Scenario, SessionScenario, play, play_at_last_generation, play_in_session};
 use crate::sessions::call;
 use crate::sharing::{insert_rc, insert_reference, leak_rc, leak_reference, point};
-use generational_box::{
-    AnyStorage, BoxAt, Call, Numbers, Reply, Session, Storage, Store, UnsyncStorage,
-};
+use generational_box::{AnyStorage, BoxAt, Call, Reply, Session, Storage};
 use std::alloc::{AllocError, Global};
 use std::process::Abort;
 
@@ -191,18 +189,20 @@ fn places_and_references(rt: HostRuntime) {
     play_in_session::<SharedValuesOfASession>(&rt, rt.alloc());
 }
 
+struct RetiredSlot;
+
+impl Scenario<u32> for RetiredSlot {
+    fn play<R: Abort, S: Storage<u32>>(rt: &R, alloc: Global, store: &mut S) {
+        let only = leak(rt, store, 1, made());
+        end(rt, store, only);
+        assert_same(rt, &store.retired(), &1);
+        BoxesOfAStore::play(rt, alloc, store);
+        SharedValuesOfAStore::play(rt, alloc, store);
+    }
+}
+
 // A slot that has retired hinders nothing.
 #[test]
 fn after_a_slot_has_retired(rt: HostRuntime) {
-    let alloc = rt.alloc();
-    let numbers = Numbers {
-        generation: u64::MAX,
-        ticket: 0,
-    };
-    let mut store: UnsyncStorage<u32> = Store::new_at(alloc, 7, numbers);
-    let only = leak(&rt, &mut store, 1, made());
-    end(&rt, &mut store, only);
-    assert_same(&rt, &store.retired(), &1);
-    BoxesOfAStore::play(&rt, alloc, &mut store);
-    SharedValuesOfAStore::play(&rt, alloc, &mut store);
+    play_at_last_generation::<u32, RetiredSlot>(&rt, rt.alloc());
 }

@@ -5,9 +5,10 @@ use crate::expected::{
     made, made_later, new_owner, read, release, written,
 };
 use crate::growth::Gauge;
+use crate::sessions::session_over;
 use crate::sharing::{insert_rc, leak_rc, leak_reference, point};
 use generational_box::{
-    BoxAt, Call, GenerationalBox, GenerationalRef, Session, Storage, Store, UnsyncStorage,
+    BoxAt, Call, GenerationalBox, GenerationalRef, Storage, Store, UnsyncStorage,
 };
 use std::alloc::Global;
 use std::process::Abort;
@@ -117,15 +118,24 @@ fn turn<S: Storage<String>>(rt: &impl Abort, alloc: Global, store: &mut S) {
 
 /// Rounds in one store.
 #[derive(Drop)]
-struct OneStore {
-    store: UnsyncStorage<String>,
+struct OneStore<S> {
+    store: S,
 }
 
-impl Round for OneStore {
+impl<S: Storage<String>> Round for OneStore<S> {
     fn play(&mut self, rt: &impl Abort, alloc: Global) {
         own(rt, alloc, &mut self.store);
         turn(rt, alloc, &mut self.store);
     }
+}
+
+/// Plays rounds in one store.
+fn assert_one_store_steady<R: Files + AllocGlobal + Abort, S: Storage<String> + Drop>(
+    rt: &R,
+    alloc: Global,
+    store: S,
+) -> Result<(), Fail> {
+    assert_steady(rt, alloc, &mut OneStore { store })
 }
 
 /// Leaves values, an owner's list and three readers in a store, of which another one spends the
@@ -142,6 +152,17 @@ fn leave<S: Storage<String>>(rt: &impl Abort, alloc: Global, store: &mut S, othe
     assert_released(rt, other, third, false);
 }
 
+/// Leaves values in a store that goes.
+fn own_and_leave<S: Storage<String> + Drop>(
+    rt: &impl Abort,
+    alloc: Global,
+    mut store: S,
+    other: &mut S,
+) {
+    own(rt, alloc, &mut store);
+    leave(rt, alloc, &mut store, other);
+}
+
 /// Each round in a store of its own.
 #[derive(Drop)]
 struct NewStores {
@@ -150,9 +171,8 @@ struct NewStores {
 
 impl Round for NewStores {
     fn play(&mut self, rt: &impl Abort, alloc: Global) {
-        let mut store: UnsyncStorage<String> = Store::new(alloc, 7);
-        own(rt, alloc, &mut store);
-        leave(rt, alloc, &mut store, &mut self.other);
+        let store: UnsyncStorage<String> = Store::new(alloc, 7);
+        own_and_leave(rt, alloc, store, &mut self.other);
     }
 }
 
@@ -185,7 +205,8 @@ fn calls(rt: &impl Abort, alloc: Global) -> Vec<Call<String>> {
 }
 
 /// Runs the list in a session, makes a call more, and ends it.
-fn run<S: Storage<String> + Drop>(rt: &impl Abort, alloc: Global, mut session: Session<String, S>) {
+fn run<S: Storage<String> + Drop>(rt: &impl Abort, alloc: Global, store: S) {
+    let mut session = session_over(rt, alloc, store);
     let ran = session.run(calls(rt, alloc)).is_ok();
     let called = session.call(call_at(12, text(rt, alloc))).is_ok();
     let _store = session.finish();
@@ -199,7 +220,7 @@ struct NewSessions;
 impl Round for NewSessions {
     fn play(&mut self, rt: &impl Abort, alloc: Global) {
         let store: UnsyncStorage<String> = Store::new(alloc, 7);
-        run(rt, alloc, Session::new(alloc, store));
+        run(rt, alloc, store);
     }
 }
 
@@ -207,8 +228,8 @@ impl Round for NewSessions {
 #[test]
 fn memory_is_given_back(rt: HostRuntime) -> Result<(), Fail> {
     let alloc = rt.alloc();
-    let store = Store::new(alloc, 7);
-    assert_steady(&rt, alloc, &mut OneStore { store })?;
+    let store: UnsyncStorage<String> = Store::new(alloc, 7);
+    assert_one_store_steady(&rt, alloc, store)?;
     let other = Store::new(alloc, 8);
     assert_steady(&rt, alloc, &mut NewStores { other })?;
     assert_steady(&rt, alloc, &mut NewSessions)

@@ -1,11 +1,20 @@
 //! What a session's end leaves in its store.
 
 use crate::expected::{assert_reads, assert_same, end, made, read};
-use generational_box::{
-    BoxAt, Call, GenerationalBox, Reply, Session, Storage, Store, UnsyncStorage,
-};
-use std::alloc::AllocError;
+use crate::fresh::{Life, live};
+use generational_box::{BoxAt, Call, GenerationalBox, Reply, Session, Storage};
+use std::alloc::{AllocError, Global};
 use std::process::Abort;
+
+/// A session over an empty store.
+pub(crate) fn session_over<T: Drop, S: Storage<T>>(
+    rt: &impl Abort,
+    alloc: Global,
+    store: S,
+) -> Session<T, S> {
+    assert!(rt; store.is_fresh());
+    Session::new(alloc, store)
+}
 
 /// Answers a call.
 pub(crate) fn call<T: Drop, S: Storage<T>>(
@@ -37,60 +46,73 @@ fn begin_at<S: Storage<u32>>(rt: &impl Abort, session: &mut Session<u32, S>, pla
     assert!(rt; matches!(&reply, Reply::Reader));
 }
 
-fn readers_of_two<S: Storage<u32>>(rt: &impl Abort, mut session: Session<u32, S>) -> S {
-    let one = box_of(rt, &mut session, Call::Leak(1, made()));
-    let other = box_of(rt, &mut session, Call::Leak(1, made()));
-    for place in [0, 1, 0] {
-        begin_at(rt, &mut session, place);
+/// Begins a new owner.
+fn begin_owner<S: Storage<u32>>(rt: &impl Abort, session: &mut Session<u32, S>) {
+    let reply = call(rt, session, Call::Owner);
+    assert!(rt; matches!(&reply, Reply::Owner));
+}
+
+struct ReadersOfTwo;
+
+impl Life<u32> for ReadersOfTwo {
+    fn live<R: Abort, S: Storage<u32> + Drop>(rt: &R, alloc: Global, store: S) {
+        let mut session = session_over(rt, alloc, store);
+        let one = box_of(rt, &mut session, Call::Leak(1, made()));
+        let other = box_of(rt, &mut session, Call::Leak(1, made()));
+        for place in [0, 1, 0] {
+            begin_at(rt, &mut session, place);
+        }
+        assert_same(rt, &session.store().number(), &7);
+        let mut store = session.finish();
+        end(rt, &mut store, one);
+        end(rt, &mut store, other);
     }
-    assert_same(rt, &session.store().number(), &7);
-    let mut store = session.finish();
-    end(rt, &mut store, one);
-    end(rt, &mut store, other);
-    store
 }
 
 // The end of a session releases the guards that it still holds, so its boxes can be ended.
 #[test]
 fn a_session_ends_with_no_reader_left(rt: HostRuntime) {
-    let store: UnsyncStorage<u32> = Store::new(rt.alloc(), 7);
-    let _store = readers_of_two(&rt, Session::new(rt.alloc(), store));
+    live::<u32, ReadersOfTwo>(&rt, rt.alloc());
 }
 
 /// A session that holds a reader of one box, and an owner of another.
-fn reader_and_owner<S: Storage<u32>>(rt: &impl Abort, mut session: Session<u32, S>) -> S {
-    let lent = box_of(rt, &mut session, Call::Leak(1, made()));
-    begin_at(rt, &mut session, 0);
-    let reply = call(rt, &mut session, Call::Owner);
-    assert!(rt; matches!(&reply, Reply::Owner));
-    let owned = box_of(rt, &mut session, Call::Insert(2, 2, made()));
-    assert_same(rt, &lent.can_write(session.store()), &false);
-    let store = session.finish();
-    assert_same(rt, &lent.can_write(&store), &true);
-    assert_same(rt, &owned.can_write(&store), &true);
-    store
+struct ReaderAndOwner;
+
+impl Life<u32> for ReaderAndOwner {
+    fn live<R: Abort, S: Storage<u32> + Drop>(rt: &R, alloc: Global, store: S) {
+        let mut session = session_over(rt, alloc, store);
+        let lent = box_of(rt, &mut session, Call::Leak(1, made()));
+        begin_at(rt, &mut session, 0);
+        begin_owner(rt, &mut session);
+        let owned = box_of(rt, &mut session, Call::Insert(2, 2, made()));
+        assert_same(rt, &lent.can_write(session.store()), &false);
+        let store = session.finish();
+        assert_same(rt, &lent.can_write(&store), &true);
+        assert_same(rt, &owned.can_write(&store), &true);
+    }
 }
 
 // Once a session has ended nothing stands in the way of a write, of what was read and of what an
 // owner made.
 #[test]
 fn a_session_ends_with_its_boxes_free_to_write(rt: HostRuntime) {
-    let store: UnsyncStorage<u32> = Store::new(rt.alloc(), 7);
-    let _store = reader_and_owner(&rt, Session::new(rt.alloc(), store));
+    live::<u32, ReaderAndOwner>(&rt, rt.alloc());
 }
 
-fn box_of_an_owner<S: Storage<u32>>(rt: &impl Abort, mut session: Session<u32, S>) -> S {
-    let reply = call(rt, &mut session, Call::Owner);
-    assert!(rt; matches!(&reply, Reply::Owner));
-    let kept = box_of(rt, &mut session, Call::Insert(0, 1, made()));
-    let mut store = session.finish();
-    assert_reads(rt, &mut store, kept, 1);
-    store
+struct BoxOfAnOwner;
+
+impl Life<u32> for BoxOfAnOwner {
+    fn live<R: Abort, S: Storage<u32> + Drop>(rt: &R, alloc: Global, store: S) {
+        let mut session = session_over(rt, alloc, store);
+        begin_owner(rt, &mut session);
+        let kept = box_of(rt, &mut session, Call::Insert(0, 1, made()));
+        let mut store = session.finish();
+        assert_reads(rt, &mut store, kept, 1);
+    }
 }
 
 // A session's end leaks the owners that it still holds: their boxes stay.
 #[test]
 fn a_session_ends_with_its_owners_leaked(rt: HostRuntime) {
-    let store: UnsyncStorage<u32> = Store::new(rt.alloc(), 7);
-    let _store = box_of_an_owner(&rt, Session::new(rt.alloc(), store));
+    live::<u32, BoxOfAnOwner>(&rt, rt.alloc());
 }

@@ -7,10 +7,12 @@ use crate::expected::{
     assert_kept, assert_opens, assert_released, assert_same, assert_unread, begin, begin_write,
     counts_of, dropped, end, made, made_later, read, written,
 };
-use crate::fresh::{Scenario, TwoStoreScenario, play, play_in_two_stores};
+use crate::fresh::{
+    Scenario, TwoStoreScenario, play, play_at_last_generation, play_at_ticket, play_in_two_stores,
+};
 use generational_box::{
-    AlreadyBorrowedMutError, AnyStorage, BorrowError, GenerationalBox, GenerationalRef, Numbers,
-    Owner, Refused, Storage, Store, StoreError, UnsyncStorage,
+    AlreadyBorrowedMutError, AnyStorage, BorrowError, GenerationalRef, Owner, Refused, Storage,
+    StoreError,
 };
 use std::alloc::Global;
 use std::process::Abort;
@@ -27,77 +29,69 @@ fn assert_counts<S: AnyStorage<u32>>(rt: &impl Abort, store: &S, counts: [usize;
 }
 
 /// Values at the last generation, one after the other.
-fn end_at_last_generation<S: Storage<u32>>(rt: &impl Abort, store: &mut S) {
-    let first = leak_or_again(rt, store, 1);
-    assert_same(rt, &first.raw_ptr(), &0);
-    end(rt, store, first);
-    assert_counts(rt, store, [1, 0, 1, 1]);
-    let second = leak_or_again(rt, store, 2);
-    assert_same(rt, &second.raw_ptr(), &1);
-    assert_counts(rt, store, [2, 0, 1, 1]);
-    assert_unread(rt, store, first, dropped(made()));
+struct LastGeneration;
+
+impl Scenario<u32> for LastGeneration {
+    fn play<R: Abort, S: Storage<u32>>(rt: &R, _: Global, store: &mut S) {
+        let first = leak_or_again(rt, store, 1);
+        assert_same(rt, &first.raw_ptr(), &0);
+        end(rt, store, first);
+        assert_counts(rt, store, [1, 0, 1, 1]);
+        let second = leak_or_again(rt, store, 2);
+        assert_same(rt, &second.raw_ptr(), &1);
+        assert_counts(rt, store, [2, 0, 1, 1]);
+        assert_unread(rt, store, first, dropped(made()));
+    }
 }
 
 // A slot whose generation was the last is retired, and another is made.
 #[test]
 fn at_the_last_generation(rt: HostRuntime) {
-    let numbers = Numbers {
-        generation: u64::MAX,
-        ticket: 0,
-    };
-    let mut store: UnsyncStorage<u32> = Store::new_at(rt.alloc(), 7, numbers);
-    end_at_last_generation(&rt, &mut store);
+    play_at_last_generation::<u32, LastGeneration>(&rt, rt.alloc());
 }
 
-/// Asserts that a store without tickets gives none, for a read or for an owner.
-fn assert_no_ticket<S: Storage<u32>>(rt: &impl Abort, store: &mut S) {
-    assert_same(rt, &store.tickets_left(), &0);
-    let only = leak_or_again(rt, store, 1);
-    assert_unread(
-        rt,
-        store,
-        only,
-        Refused::Store(StoreError::NumbersExhausted),
-    );
-    match store.owner() {
+/// Asserts that no ticket is left, so that no owner is given, nor a clone of one.
+fn assert_exhausted(rt: &impl Abort, answer: Result<Owner, StoreError>) {
+    match answer {
         Ok(given) => {
             given.leak();
             panic!(rt; "the owner was given");
         }
         Err(cause) => assert_same(rt, &cause, &StoreError::NumbersExhausted),
     }
-    assert!(rt; only.can_write(store));
 }
 
-/// Asserts that the last ticket goes to an owner, and that none is left for its clone.
-fn assert_last_ticket<S: AnyStorage<u32>>(rt: &impl Abort, store: &mut S) {
-    assert_same(rt, &store.tickets_left(), &1);
-    let owner = owner_or_again(rt, store);
-    match owner.clone(store) {
-        Ok(given) => {
-            given.leak();
-            panic!(rt; "the clone was given");
-        }
-        Err(cause) => assert_same(rt, &cause, &StoreError::NumbersExhausted),
+/// A store without tickets gives none, for a read or for an owner.
+struct NoTicket;
+
+impl Scenario<u32> for NoTicket {
+    fn play<R: Abort, S: Storage<u32>>(rt: &R, _: Global, store: &mut S) {
+        assert_same(rt, &store.tickets_left(), &0);
+        let only = leak_or_again(rt, store, 1);
+        let exhausted = Refused::Store(StoreError::NumbersExhausted);
+        assert_unread(rt, store, only, exhausted);
+        assert_exhausted(rt, store.owner());
+        assert!(rt; only.can_write(store));
     }
-    owner.leak();
+}
+
+/// The last ticket goes to an owner, and none is left for its clone.
+struct LastTicket;
+
+impl Scenario<u32> for LastTicket {
+    fn play<R: Abort, S: Storage<u32>>(rt: &R, _: Global, store: &mut S) {
+        assert_same(rt, &store.tickets_left(), &1);
+        let owner = owner_or_again(rt, store);
+        assert_exhausted(rt, owner.clone(store));
+        owner.leak();
+    }
 }
 
 // Where tickets are used up, that is told also where memory would lack.
 #[test]
 fn at_the_last_tickets(rt: HostRuntime) {
-    for (left, ticket) in [(0, u64::MAX), (1, u64::MAX - 1)] {
-        let numbers = Numbers {
-            generation: 1,
-            ticket,
-        };
-        let mut store: UnsyncStorage<u32> = Store::new_at(rt.alloc(), 7, numbers);
-        if left == 0 {
-            assert_no_ticket(&rt, &mut store);
-        } else {
-            assert_last_ticket(&rt, &mut store);
-        }
-    }
+    play_at_ticket::<u32, NoTicket>(&rt, rt.alloc(), u64::MAX);
+    play_at_ticket::<u32, LastTicket>(&rt, rt.alloc(), u64::MAX - 1);
 }
 
 /// Asserts that a store makes no box by an owner that it doesn't know, and hands the value back.

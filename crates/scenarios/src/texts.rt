@@ -4,11 +4,12 @@ use crate::expected::{
     assert_prints, assert_released, assert_same, assert_shows, begin, begin_write, insert, leak,
     made, made_later, new_owner, read, written,
 };
+use crate::fresh::{Scenario, play};
 use generational_box::{
     AlreadyBorrowedError, AlreadyBorrowedMutError, BorrowError, BorrowMutError, GenerationalBox,
     Location, Refused, Storage, Store, StoreError, UnsyncStorage, ValueDroppedError,
 };
-use std::alloc::Global;
+use std::alloc::{AllocError, Global};
 use std::fmt::{Debug, Display};
 use std::process::Abort;
 use std::test::Fail;
@@ -116,16 +117,27 @@ fn tenth<S: Storage<u32>>(rt: &impl Abort, store: &mut S) -> GenerationalBox<u32
     leak(rt, store, 10, made())
 }
 
+/// Asserts what a box prints, and its pointer. A clone has the same pointer.
+fn assert_box_shows(rt: &impl Abort, alloc: Global, shown: GenerationalBox<u32>, text: &str) {
+    assert_shows(rt, alloc, &shown, text);
+    assert_shows(rt, alloc, &shown.pointer(), text);
+    let clone = shown.clone().expect(rt, "a clone");
+    assert!(rt; shown.pointer() == clone.pointer());
+}
+
+struct TenthBox;
+
+impl Scenario<u32> for TenthBox {
+    fn play<R: Abort, S: Storage<u32>>(rt: &R, alloc: Global, store: &mut S) {
+        let last = tenth(rt, store);
+        assert_box_shows(rt, alloc, last, "10@1");
+    }
+}
+
 // A box and its pointer print the slot and the generation, in decimal.
 #[test]
-fn boxes(rt: HostRuntime) -> Result<(), Fail> {
-    let alloc = rt.alloc();
-    let mut store: UnsyncStorage<u32> = Store::new(alloc, 7);
-    let last = tenth(&rt, &mut store);
-    assert_shows(&rt, alloc, &last, "10@1");
-    assert_shows(&rt, alloc, &last.pointer(), "10@1");
-    assert!(rt; last.pointer() == last.clone()?.pointer());
-    Ok(())
+fn boxes(rt: HostRuntime) {
+    play::<u32, TenthBox>(&rt, rt.alloc());
 }
 
 /// Asserts that a value is printed so to a developer, over several lines.
@@ -204,48 +216,49 @@ fn assert_wide_for_developers(rt: &impl Abort, alloc: Global, shown: &impl Debug
     assert_spreads(rt, alloc, shown, text);
 }
 
-/// Asserts so of a store, its owner and the guards of a value.
-fn assert_names_wide<S: Storage<u32> + Debug>(
+/// Asserts so of a store of eleven values, its last box, its owner and the guards of a value.
+fn assert_names_wide<S: Storage<u32> + Debug + Drop>(
     rt: &impl Abort,
     alloc: Global,
-    store: &mut S,
+    mut store: S,
     text: &str,
 ) {
-    assert_wide_for_developers(rt, alloc, store, text);
-    let owner = new_owner(rt, store);
+    let last = tenth(rt, &mut store);
+    assert_wide_for_developers(rt, alloc, &last, "10@1");
+    assert_wide_for_developers(rt, alloc, &last.id(), "10@1");
+    assert_wide_for_developers(rt, alloc, &store, text);
+    let owner = new_owner(rt, &mut store);
     assert_wide_for_developers(rt, alloc, &owner, "owner 0 of store 7");
-    let only = insert(rt, store, &owner, 1, made());
-    let guard = begin(rt, store, only, read());
+    let only = insert(rt, &mut store, &owner, 1, made());
+    let guard = begin(rt, &mut store, only, read());
     assert_wide_for_developers(rt, alloc, &guard, "reader 1 of 11@1");
-    assert_released(rt, store, guard, true);
-    let guard = begin_write(rt, store, only, written());
+    assert_released(rt, &mut store, guard, true);
+    let guard = begin_write(rt, &mut store, only, written());
     assert_wide_for_developers(rt, alloc, &guard, "writer 2 of 11@1");
-    assert!(rt; guard.release(store).is_ok());
+    assert!(rt; guard.release(&mut store).is_ok());
     owner.leak();
+}
+
+/// Asserts so of errors and their parts.
+fn assert_errors_wide(rt: &impl Abort, alloc: Global) -> Result<(), AllocError> {
+    assert_wide(rt, alloc, &made(), "a.rs:3:5");
+    assert_wide(rt, alloc, &StoreError::OutOfMemory, "out of memory");
+    let gone = ValueDroppedError::new(made());
+    assert_wide(rt, alloc, &gone, DROPPED);
+    let refused = Refused::Borrow(BorrowError::Dropped(gone));
+    assert_wide(rt, alloc, &refused, DROPPED);
+    let written = AlreadyBorrowedMutError::new(Location::new("w.rs", 4, 6));
+    assert_wide(rt, alloc, &written, WRITTEN);
+    let read = AlreadyBorrowedError::new([made(), made_later()].to_vec(alloc)?);
+    assert_wide(rt, alloc, &read, READ);
+    Ok(())
 }
 
 // None of these texts is padded or cut, as none is in upstream.
 #[test]
 fn texts_with_a_width(rt: HostRuntime) -> Result<(), Fail> {
-    let alloc = rt.alloc();
-    assert_wide(&rt, alloc, &made(), "a.rs:3:5");
-    assert_wide(&rt, alloc, &StoreError::OutOfMemory, "out of memory");
-    let gone = ValueDroppedError::new(made());
-    assert_wide(&rt, alloc, &gone, DROPPED);
-    assert_wide(
-        &rt,
-        alloc,
-        &Refused::Borrow(BorrowError::Dropped(gone)),
-        DROPPED,
-    );
-    let written = AlreadyBorrowedMutError::new(Location::new("w.rs", 4, 6));
-    assert_wide(&rt, alloc, &written, WRITTEN);
-    let read = AlreadyBorrowedError::new([made(), made_later()].to_vec(alloc)?);
-    assert_wide(&rt, alloc, &read, READ);
-    let mut store: UnsyncStorage<u32> = Store::new(alloc, 7);
-    let last = tenth(&rt, &mut store);
-    assert_wide_for_developers(&rt, alloc, &last, "10@1");
-    assert_wide_for_developers(&rt, alloc, &last.id(), "10@1");
-    assert_names_wide(&rt, alloc, &mut store, "store 7: 11 slots, 0 free");
+    assert_errors_wide(&rt, rt.alloc())?;
+    let store: UnsyncStorage<u32> = Store::new(rt.alloc(), 7);
+    assert_names_wide(&rt, rt.alloc(), store, "store 7: 11 slots, 0 free");
     Ok(())
 }

@@ -5,10 +5,9 @@ use crate::expected::{
     made_later, new_owner, read, release,
 };
 use crate::fresh::{Scenario, play};
-use generational_box::{GenerationalRef, Storage, Store, UnsyncStorage};
+use generational_box::{GenerationalRef, Storage};
 use std::alloc::Global;
 use std::process::Abort;
-use std::test::Fail;
 
 #[derive(Clone, Copy, Debug, PartialEq)]
 enum Answer {
@@ -38,22 +37,39 @@ fn live<T: PartialEq + Drop, S: Storage<T>>(rt: &impl Abort, store: &mut S, valu
     end(rt, store, only);
 }
 
-#[test]
-fn an_enum_that_is_copied(rt: HostRuntime) {
-    let mut store: UnsyncStorage<Answer> = Store::new(rt.alloc(), 7);
-    for value in [Answer::Yes, Answer::Number(-3)] {
-        live(&rt, &mut store, value, &value);
+struct Answers;
+
+impl Scenario<Answer> for Answers {
+    fn play<R: Abort, S: Storage<Answer>>(rt: &R, _: Global, store: &mut S) {
+        for value in [Answer::Yes, Answer::Number(-3)] {
+            live(rt, store, value, &value);
+        }
     }
 }
 
 #[test]
-fn a_pair_with_a_text(rt: HostRuntime) -> Result<(), Fail> {
-    let alloc = rt.alloc();
-    let mut store: UnsyncStorage<(String, u8)> = Store::new(alloc, 7);
-    let pair = (String::from_str(alloc, "hello world")?, 200);
-    let same = (String::from_str(alloc, "hello world")?, 200);
-    live(&rt, &mut store, pair, &same);
-    Ok(())
+fn an_enum_that_is_copied(rt: HostRuntime) {
+    play::<Answer, Answers>(&rt, rt.alloc());
+}
+
+/// A text of its own.
+fn text(rt: &impl Abort, alloc: Global) -> String {
+    String::from_str(alloc, "hello world").expect(rt, "memory")
+}
+
+struct PairWithText;
+
+impl Scenario<(String, u8)> for PairWithText {
+    fn play<R: Abort, S: Storage<(String, u8)>>(rt: &R, alloc: Global, store: &mut S) {
+        let pair = (text(rt, alloc), 200);
+        let same = (text(rt, alloc), 200);
+        live(rt, store, pair, &same);
+    }
+}
+
+#[test]
+fn a_pair_with_a_text(rt: HostRuntime) {
+    play::<(String, u8), PairWithText>(&rt, rt.alloc());
 }
 
 struct NamesAlone;
@@ -82,28 +98,27 @@ enum Note {
     Number(u32),
 }
 
-fn notes_of_an_owner<S: Storage<Note>>(rt: &impl Abort, store: &mut S, text: Note, same: &Note) {
-    let owner = new_owner(rt, store);
-    let first = insert(rt, store, &owner, text, made());
-    let guard = begin(rt, store, first, read());
-    let second = insert(rt, store, &owner, Note::Number(1), made_later());
-    assert_value(rt, store, &guard, same);
-    assert_released(rt, store, guard, true);
+struct NotesOfAnOwner;
 
-    let guard = begin(rt, store, second, read());
-    assert_value(rt, store, &guard, &Note::Number(1));
-    assert_released(rt, store, guard, true);
-    release(rt, store, owner);
-    assert_unread(rt, store, first, dropped(made()));
+impl Scenario<Note> for NotesOfAnOwner {
+    fn play<R: Abort, S: Storage<Note>>(rt: &R, alloc: Global, store: &mut S) {
+        let owner = new_owner(rt, store);
+        let first = insert(rt, store, &owner, Note::Text(text(rt, alloc)), made());
+        let guard = begin(rt, store, first, read());
+        let second = insert(rt, store, &owner, Note::Number(1), made_later());
+        assert_value(rt, store, &guard, &Note::Text(text(rt, alloc)));
+        assert_released(rt, store, guard, true);
+
+        let guard = begin(rt, store, second, read());
+        assert_value(rt, store, &guard, &Note::Number(1));
+        assert_released(rt, store, guard, true);
+        release(rt, store, owner);
+        assert_unread(rt, store, first, dropped(made()));
+    }
 }
 
 // A value that is read stays where it is while its owner makes others.
 #[test]
-fn an_owner_of_texts_and_numbers(rt: HostRuntime) -> Result<(), Fail> {
-    let alloc = rt.alloc();
-    let mut store: UnsyncStorage<Note> = Store::new(alloc, 7);
-    let text = Note::Text(String::from_str(alloc, "hello world")?);
-    let same = Note::Text(String::from_str(alloc, "hello world")?);
-    notes_of_an_owner(&rt, &mut store, text, &same);
-    Ok(())
+fn an_owner_of_texts_and_numbers(rt: HostRuntime) {
+    play::<Note, NotesOfAnOwner>(&rt, rt.alloc());
 }
