@@ -1,9 +1,9 @@
 -- A node means at most one value, a node on a cycle means none, answers that are meant may be put for
--- questions, and a change elsewhere leaves what a node means.
-use Rattle.std.specs.Prelude.{◌≡◌, ℕ, List, [], ◌∷◌, ◌++◌}
-use Rattle.std.proofs.Common.{refl, sym, ap, subst}
-use Rattle.reactive.specs.Plans.{Plan, Give, Stop, Ask, Follows}
-use Rattle.reactive.specs.declared.asked.Asked.{Asked}
+-- questions, and a change elsewhere, or a new node, leaves what a node means.
+use Rattle.std.specs.Prelude.{◌≡◌, List, [], ◌∷◌, ◌++◌, ◌⊎◌}
+use Rattle.std.proofs.Common.{refl, sym, ap, subst, ⊎_elim}
+use Rattle.reactive.specs.declared.key.Key.{Key}
+use Rattle.reactive.specs.Plans.{Plan, Give, Stop, Ask, Asked, Follows}
 use Rattle.reactive.specs.Meaning.{Graph, Gives, gives, goes_on, Means, AllMean, Needs, IsMute, IsCyclic}
 use Rattle.reactive.specs.Meaning.{IsClosed}
 
@@ -17,23 +17,23 @@ module _ {T : Type 0} where
   is_stop Stop = Unit {0}
   is_stop p = ⊥
 
-  asked_key : ℕ → Plan T → ℕ
+  asked_key : Key → Plan T → Key
   asked_key d (Ask k next) = k
   asked_key d p = d
 
-  pub give-ask : (v : T) (k : ℕ) (next : T → Plan T) → Give v ≡ Ask k next → ⊥
+  pub give-ask : (v : T) (k : Key) (next : T → Plan T) → Give v ≡ Ask k next → ⊥
   unfolding is_ask
   give-ask v k next e = subst is_ask (sym e) tt
 
-  pub stop-ask : (k : ℕ) (next : T → Plan T) → Stop ≡ Ask k next → ⊥
+  pub stop-ask : (k : Key) (next : T → Plan T) → Stop ≡ Ask k next → ⊥
   unfolding is_ask
   stop-ask k next e = subst is_ask (sym e) tt
 
-  pub ask-key : (j k : ℕ) (m n : T → Plan T) → Ask j m ≡ Ask k n → j ≡ k
+  pub ask-key : (j k : Key) (m n : T → Plan T) → Ask j m ≡ Ask k n → j ≡ k
   unfolding asked_key
   ask-key j k m n e = ap (asked_key j) e
 
-  pub follows_more : (p : Plan T) (answers : List (Asked T)) (k : ℕ) (next : T → Plan T) (a : T)
+  pub follows_more : (p : Plan T) (answers : List (Asked T)) (k : Key) (next : T → Plan T) (a : T)
       → Follows p answers (Ask k next)
       → Follows p (answers ++ record { key = k; value = a } ∷ []) (next a)
   follows_more p [] k next a e =
@@ -46,7 +46,7 @@ module _ {T : Type 0} (G : Graph T) where
   same_at : {a b : T} (next : T → Plan T) (v : T) → a ≡ b → Gives G (next a) v → Gives G (next b) v
   same_at next v e h = subst (λ x. Gives G (next x) v) e h
 
-  pub all_more : (answers : List (Asked T)) (k : ℕ) (a : T) → AllMean G answers → Means G k a
+  pub all_more : (answers : List (Asked T)) (k : Key) (a : T) → AllMean G answers → Means G k a
       → AllMean G (answers ++ record { key = k; value = a } ∷ [])
   all_more [] k a all m = (m, tt)
   all_more (b ∷ rest) k a (h, all) m = (h, all_more rest k a all m)
@@ -57,7 +57,7 @@ module _ {T : Type 0} (G : Graph T) where
   same _ _ (goes_on k next a v d e) w (goes_on _ _ b _ f g) =
       same (next b) v (same_at next v (same (G k) a d b f) e) w g
 
-  pub means_one : (k : ℕ) (v w : T) → Means G k v → Means G k w → v ≡ w
+  pub means_one : (k : Key) (v w : T) → Means G k v → Means G k w → v ≡ w
   means_one k v w d e = same (G k) v d w e
 
   -- a plan gives what is left of it gives, after answers that are meant
@@ -71,7 +71,7 @@ module _ {T : Type 0} (G : Graph T) where
   walked Stop (a ∷ rest) q v f all h = absurd f
 
   -- what stands in a derivation of a plan that asks
-  inside : (k : ℕ) (next : T → Plan T) (v : T) → Gives G (Ask k next) v
+  inside : (k : Key) (next : T → Plan T) (v : T) → Gives G (Ask k next) v
       → (a : T) × Means G k a × Gives G (next a) v
   inside _ _ _ (goes_on k next a v d e) = (a, d, e)
 
@@ -87,10 +87,10 @@ module _ {T : Type 0} (G : Graph T) where
   left Stop (a ∷ rest) q v f all h = absurd f
 
   -- what is asked for means something where the plan gives a value
-  pub first : (k : ℕ) (next : T → Plan T) (v : T) → Gives G (Ask k next) v → (a : T) × Means G k a
+  pub first : (k : Key) (next : T → Plan T) (v : T) → Gives G (Ask k next) v → (a : T) × Means G k a
   first k next v h = let got = inside k next v h in (got.0, got.1)
 
-  pub needed : (j k : ℕ) (v : T) → Needs G j k → Means G j v → (a : T) × Means G k a
+  pub needed : (j k : Key) (v : T) → Needs G j k → Means G j v → (a : T) × Means G k a
   needed j k v (answers, next, all, f) d = first k next v (left (G j) answers (Ask k next) v f all d)
 
   stopped_at : (p : Plan T) (v : T) → Stop ≡ p → Gives G p v → ⊥
@@ -102,17 +102,17 @@ module _ {T : Type 0} (G : Graph T) where
   stopped v h = stopped_at Stop v refl h
 
   -- a node whose rule gave up means nothing; nor does one that needs a node which means nothing
-  pub gave_up : (j : ℕ) (answers : List (Asked T)) → AllMean G answers → Follows (G j) answers Stop
+  pub gave_up : (j : Key) (answers : List (Asked T)) → AllMean G answers → Follows (G j) answers Stop
       → IsMute G j
   gave_up j answers all f v d = stopped v (left (G j) answers Stop v f all d)
 
-  pub needs_mute : (j k : ℕ) → Needs G j k → IsMute G k → IsMute G j
+  pub needs_mute : (j k : Key) → Needs G j k → IsMute G k → IsMute G j
   needs_mute j k n mute v d = let got = needed j k v n d in mute got.0 got.1
 
   -- a node on a cycle means nothing
-  module _ (C : ℕ → Type 0) (cyclic : IsCyclic G C) where
+  module _ (C : Key → Type 0) (cyclic : IsCyclic G C) where
     around : (p : Plan T) (v : T) → Gives G p v
-        → (answers : List (Asked T)) (k : ℕ) (next : T → Plan T)
+        → (answers : List (Asked T)) (k : Key) (next : T → Plan T)
         → C k → AllMean G answers → Follows p answers (Ask k next) → ⊥
     around _ _ (gives v) [] k next c all f = give-ask v k next f
     around _ _ (gives v) (a ∷ rest) k next c all f = absurd f
@@ -123,15 +123,15 @@ module _ {T : Type 0} (G : Graph T) where
         let eq = same (G j) a d b.value (subst (λ x. Means G x b.value) (sym is) mean) in
         around (m a) v e rest k next c all (subst (λ x. Follows (m x) rest (Ask k next)) (sym eq) f)
 
-    pub cyclic_mute : (j : ℕ) → C j → IsMute G j
+    pub cyclic_mute : (j : Key) → C j → IsMute G j
     cyclic_mute j c v d =
         let on = cyclic j c in around (G j) v d on.2.0 on.0 on.2.1 on.1 on.2.2 on.2.3
 
 -- where two graphs agree on a set of nodes that has what they need, these mean the same in both
-module _ {T : Type 0} (G H : Graph T) (D : ℕ → Type 0)
-    (agree : (k : ℕ) → D k → G k ≡ H k) (closed : IsClosed G D) where
+module _ {T : Type 0} (G H : Graph T) (D : Key → Type 0)
+    (agree : (k : Key) → D k → G k ≡ H k) (closed : IsClosed G D) where
   carried : (p : Plan T) (v : T) → Gives G p v
-      → (j : ℕ) → D j → (answers : List (Asked T)) → AllMean G answers → Follows (G j) answers p
+      → (j : Key) → D j → (answers : List (Asked T)) → AllMean G answers → Follows (G j) answers p
       → Gives H p v
   carried _ _ (gives v) j c answers all f = gives v
   carried _ _ (goes_on k next a v d e) j c answers all f =
@@ -141,5 +141,23 @@ module _ {T : Type 0} (G H : Graph T) (D : ℕ → Type 0)
       (carried (next a) v e j c (answers ++ record { key = k; value = a } ∷ [])
       (all_more G answers k a all d) (follows_more (G j) answers k next a f))
 
-  pub stays : (k : ℕ) (v : T) → D k → Means G k v → Means H k v
+  pub stays : (k : Key) (v : T) → D k → Means G k v → Means H k v
   stays k v c d = subst (λ p. Gives H p v) (agree k c) (carried (G k) v d k c [] tt refl)
+
+-- where a plan is put for one that stopped, what meant something means it still
+module _ {T : Type 0} (G H : Graph T) (more : (k : Key) → (G k ≡ Stop) ⊎ (G k ≡ H k)) where
+  more_at : (k : Key) (v : T) → Means G k v → Gives H (G k) v → Means H k v
+  more_at k v d h = ⊎_elim (λ stops. absurd (stopped G v (subst (λ p. Gives G p v) stops d)))
+      (λ e. subst (λ p. Gives H p v) e h) (more k)
+
+  pub grown : (p : Plan T) (v : T) → Gives G p v → Gives H p v
+  grown _ _ (gives v) = gives v
+  grown _ _ (goes_on k next a v d e) =
+      goes_on k next a v (more_at k a d (grown (G k) a d)) (grown (next a) v e)
+
+  pub grown_node : (k : Key) (v : T) → Means G k v → Means H k v
+  grown_node k v d = more_at k v d (grown (G k) v d)
+
+  pub grown_all : (answers : List (Asked T)) → AllMean G answers → AllMean H answers
+  grown_all [] all = tt
+  grown_all (a ∷ rest) (d, all) = (grown_node a.key a.value d, grown_all rest all)

@@ -1,31 +1,57 @@
 -- What a look at a node finds out.
-use Rattle.std.specs.Prelude.{◌≡◌, ℕ, List, ◌∷◌, ◌++◌, Option, Some, IfSome}
+use Rattle.std.specs.Prelude.{◌≡◌, ℕ, List, Some, None, take, slice_get, map as list_map}
 use Rattle.std.specs.Vec.{vec_items}
-use Rattle.reactive.specs.Plans.{Give, Follows}
-use Rattle.reactive.specs.Meaning.{Graph, Means, AllMean, Needs, IsMute}
-use Rattle.reactive.specs.declared.asked.Asked.{Asked}
-use Rattle.reactive.specs.declared.node.Node.{Node}
+use Rattle.reactive.specs.declared.key.Key.{Key}
 use Rattle.reactive.specs.declared.look.Look.{Look}
 use Rattle.reactive.specs.declared.look.Look.TheVariants as look
+use Rattle.reactive.specs.declared.look.Step.{Step}
+use Rattle.reactive.specs.declared.look.Step.TheVariants as step
 use Rattle.reactive.specs.declared.look.Verdict.{Verdict}
 use Rattle.reactive.specs.declared.look.Verdict.TheVariants as verdict
+use Rattle.reactive.specs.declared.node.Node.{Node}
+use Rattle.reactive.specs.Plans.{Asked, Follows, Give}
+use Rattle.reactive.specs.Meaning.{Graph, Needs, IsMute}
+use Rattle.reactive.specs.Chains.{GoesOn}
+use Rattle.reactive.specs.Tables.{AreKnown, Shows, Table}
 
-module _ {T : Type 0} (G : Graph T) where
-  -- the answers before one of a node are what the nodes mean
-  abbrev pub MeansUpTo : List (Asked T) → ℕ → Type 0
-  MeansUpTo answers k = (before after : List (Asked T)) × (v : T)
-      × (answers ≡ before ++ record { key = k; value = v } ∷ after) × AllMean G before
+module _ {T R : Type 0} (nodes : Table T R) (now : ℕ) where
+  -- the question at a place is that for a node, and the answers before it are right
+  pub record IsAsked (answers : List (Asked T)) (k : Key) (place : ℕ) : Type 0 where
+    pub answer : Asked T
+    pub there : slice_get answers place ≡ Some answer
+    pub of : answer.key ≡ k
+    pub before : AreKnown nodes now (take place answers)
 
   abbrev pub Verified : List (Asked T) → Verdict → Type 0
-  Verified answers verdict.Same = AllMean G answers
+  Verified answers verdict.Same = AreKnown nodes now answers
   Verified answers verdict.Changed = Unit {0}
-  Verified answers (verdict.Unknown k) = MeansUpTo answers k
+  Verified answers (verdict.Unknown k place) = IsAsked answers k place
+  Verified answers (verdict.Gone k) = (nodes k ≡ None) × ((place : ℕ) × IsAsked answers k place)
 
-module _ {T R : Type 0} (G : Graph T) where
-  abbrev pub Looked : Option (Node T R) → ℕ → Look T → Type 0
-  Looked o k look.Right = (n : Node T R) × (o ≡ Some n) × IfSome n.value (Means G k)
-  Looked o k (look.New v answers) = (n : Node T R) × (o ≡ Some n) × Means G k v
-      × Follows (G k) (vec_items answers) (Give v)
-  Looked o k (look.Needs j) = Needs G k j
-  Looked o k look.Mute = IsMute G k
-  Looked o k look.Full = Unit {0}
+module _ {T R : Type 0} (G : Graph T) (now : ℕ) (nodes : Table T R) (k : Key) where
+  -- a memo's plan leads to a value by answers that are known to be right
+  pub record LeadsTo (n : Node T R) (v : T) (reads : List Key) : Type 0 where
+    pub rule : R
+    pub has : n.rule ≡ Some rule
+    pub answers : List (Asked T)
+    pub asked : list_map (λ a. a.key) answers ≡ reads
+    pub leads : Follows (G k) answers (Give v)
+    pub known : AreKnown nodes now answers
+
+  abbrev pub Looked : Look T → Type 0
+  Looked look.Known = (v : T) × Shows nodes now k v
+  Looked look.Right = (n : Node T R) × (nodes k ≡ Some n) × ((v : T) × (n.value ≡ Some v)
+      × LeadsTo n v (vec_items n.reads))
+  Looked (look.New v reads) = (n : Node T R) × (nodes k ≡ Some n) × LeadsTo n v (vec_items reads)
+  Looked (look.Needs j place) = Needs G k j × GoesOn G now nodes k place
+  Looked (look.Gone j) = IsMute G k
+  Looked look.NoValue = IsMute G k
+  Looked look.Full = Unit {0}
+
+  -- what a step at a node comes to
+  abbrev pub Stepped : Step → Type 0
+  Stepped step.Settled = (v : T) × Shows nodes now k v
+  Stepped (step.Needs j place) = Needs G k j × GoesOn G now nodes k place
+  Stepped (step.Gone j) = IsMute G k
+  Stepped step.NoValue = IsMute G k
+  Stepped step.Full = Unit {0}

@@ -1,23 +1,27 @@
 -- What a node means in a graph, whatever is kept of it.
-use Rattle.std.specs.Prelude.{ℕ, List, [], ◌∷◌}
-use Rattle.reactive.specs.Plans.{Plan, Give, Ask, Follows}
-use Rattle.reactive.specs.declared.asked.Asked.{Asked}
+use Rattle.std.specs.Prelude.{List, [], ◌∷◌}
+use Rattle.reactive.specs.declared.key.Key.{Key}
+use Rattle.reactive.specs.Plans.{Plan, Give, Ask, Asked, Follows}
 
 -- A graph has a plan for each node: a source's gives its value, a memo's is its rule's, and that of
 -- a node that has ended stops.
 abbrev pub Graph : Type 0 → Type 0
-Graph T = ℕ → Plan T
+Graph T = Key → Plan T
 
 -- A plan gives a value in a graph: at once, or by what the node that it asks for gives there.
 pub data Gives {T : Type 0} (G : Graph T) : Plan T → T → Type 0 where
   gives : (v : T) → Gives G (Give v) v
-  goes_on : (k : ℕ) (next : T → Plan T) (a v : T)
+  goes_on : (k : Key) (next : T → Plan T) (a v : T)
       → Gives G (G k) a → Gives G (next a) v → Gives G (Ask k next) v
 
 module _ {T : Type 0} (G : Graph T) where
   -- a node means what its plan gives
-  abbrev pub Means : ℕ → T → Type 0
+  abbrev pub Means : Key → T → Type 0
   Means k v = Gives G (G k) v
+
+  -- a node means nothing
+  abbrev pub IsMute : Key → Type 0
+  IsMute k = (v : T) → Means k v → ⊥
 
   -- each question was answered by what its node means
   abbrev pub AllMean : List (Asked T) → Type 0
@@ -25,18 +29,14 @@ module _ {T : Type 0} (G : Graph T) where
   AllMean (a ∷ rest) = Means a.key a.value × AllMean rest
 
   -- a node needs another: it asks for it, after questions whose answers are what those nodes mean
-  abbrev pub Needs : ℕ → ℕ → Type 0
+  abbrev pub Needs : Key → Key → Type 0
   Needs j k = (answers : List (Asked T)) × (next : T → Plan T)
       × AllMean answers × Follows (G j) answers (Ask k next)
 
-  -- a node means nothing
-  abbrev pub IsMute : ℕ → Type 0
-  IsMute k = (v : T) → Means k v → ⊥
-
   -- each of some nodes needs one of them: they are on a cycle, or lead to one
-  abbrev pub IsCyclic : (ℕ → Type 0) → Type 0
-  IsCyclic C = (j : ℕ) → C j → (k : ℕ) × C k × Needs j k
+  abbrev pub IsCyclic : (Key → Type 0) → Type 0
+  IsCyclic C = (j : Key) → C j → (k : Key) × C k × Needs j k
 
   -- what the nodes of a set need is in the set
-  abbrev pub IsClosed : (ℕ → Type 0) → Type 0
-  IsClosed D = (j k : ℕ) → D j → Needs j k → D k
+  abbrev pub IsClosed : (Key → Type 0) → Type 0
+  IsClosed D = (j k : Key) → D j → Needs j k → D k

@@ -1,22 +1,26 @@
-//! Sources and memos over a table of nodes: what a memo shows is what its rule gives on the sources as
-//! they are now.
+//! Sources and memos above the boxes: what a memo shows is what its rule gives on the sources as they
+//! are now, whatever was kept and in whatever order they were set.
+//!
+//! A [`Key`] is the box of a node. A [`Rule`] says what a memo computes of other nodes, through a
+//! [`Reads`]. A [`Reactive`] has a store of the nodes. Nothing is computed by a set: a memo is brought
+//! up to date where it is asked for, and its rule is run only if something that it read has another
+//! value.
 #![tactic(auto)]
 
-mod asked;
 mod fault;
-mod formula;
-mod graph;
+mod key;
 mod look;
 mod node;
+mod nodes;
+mod reactive;
 mod reader;
 mod rule;
-mod sealed;
+mod scope;
 
-pub use crate::asked::{Asked, Same};
 pub use crate::fault::Fault;
-pub use crate::formula::Formula;
-pub use crate::graph::Graph;
+pub use crate::key::Key;
 pub use crate::node::Node;
+pub use crate::reactive::Reactive;
 pub use crate::reader::Reader;
-pub use crate::rule::{Reads, Rule};
-pub use crate::sealed::Sealed;
+pub use crate::rule::{Reads, Rule, Value};
+pub use crate::scope::Scope;

@@ -1,0 +1,16 @@
+use Rattle.std.proofs.Common.{sym, ◌∙◌, subst}
+use Rattle.std.proofs.lemmas.Option.{same_Some}
+use Rattle.reactive.specs.Settling.{IsSettled}
+use Rattle.reactive.proofs.Stores.{put_twice}
+use Rattle.reactive.proofs.nodes.Nodes.keep.Goals as goal
+
+pub returns-clause-kept : goal.returns-clause-kept
+returns-clause-kept g c = λ old at.
+    let n = c.settled-settled.result in (
+      n,
+      subst (λ o. IsSettled o c.args.value c.args.reads c.args.self.now.revision n)
+          (same_Some c.in-Some.node old (sym c.in-Some.ensures.old ∙ at)) (subst (λ r. IsSettled c.in-Some.node c.args.value c.args.reads r n)
+          c.in-Some.ensures.revision c.settled-settled.ensures),
+      put_twice _ _ _ c.args.key c.in-Some.ensures.put.0 n c.replace.result c.in-Some.ensures.put.1
+          c.replace.ensures.put c.replace.ensures.none,
+    )

@@ -1,0 +1,11 @@
+use Rattle.std.proofs.Common.{take}
+use Rattle.generational_sessions.specs.PlainStores.{IsSimple}
+use Rattle.reactive.specs.Ending.{HasLost}
+use Rattle.reactive.specs.Tables.{nodes_in}
+use Rattle.reactive.proofs.nodes.Nodes.remove_all.Given as goal
+
+-- The nodes of the keys before this one have ended, and no other has.
+abbrev pub invariant-loop-key : goal.invariant-loop-key
+invariant-loop-key g l = IsSimple (g.S.AnyStorage.state l.self.store)
+    × HasLost (nodes_in (g.S.AnyStorage.state l.fn.self.store)) (take l.key-index l.keys)
+    (nodes_in (g.S.AnyStorage.state l.self.store))

@@ -1,0 +1,11 @@
+use Rattle.std.proofs.Common.{◌≡◌, List, take, map as list_map}
+use Rattle.reactive.specs.Plans.{Asked}
+use Rattle.reactive.specs.Tables.{AllStand, AreKnown, nodes_in}
+use Rattle.reactive.proofs.nodes.Nodes.verify.Given as goal
+
+-- The answers before the place are known to be right.
+abbrev pub invariant-loop-place : goal.invariant-loop-place
+invariant-loop-place g l = (answers : List (Asked _)) → list_map (λ a. a.key) answers ≡ l.reads
+    → AllStand (nodes_in (g.S.AnyStorage.state l.self.store)) l.since answers
+    → AreKnown (nodes_in (g.S.AnyStorage.state l.self.store)) l.self.revision (take l.from answers)
+    → AreKnown (nodes_in (g.S.AnyStorage.state l.self.store)) l.self.revision (take l.place answers)

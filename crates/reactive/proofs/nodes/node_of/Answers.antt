@@ -1,0 +1,12 @@
+use Rattle.std.proofs.Common.{refl, sym, ◌∙◌}
+use Rattle.generational_sessions.proofs.callers.Ids.{found_sees}
+use Rattle.reactive.specs.Tables.{pointer_in}
+use Rattle.reactive.proofs.Stores.{not_found}
+use Rattle.reactive.proofs.nodes.node_of.Goals as goal
+
+pub returns-in-Some : goal.returns-in-Some
+returns-in-Some g c =
+    c.peek.ensures ∙ sym (found_sees _ _ c.in-Some.pointer c.in-Some.ensures (pointer_in c.args.key) refl)
+
+pub returns-in-None : goal.returns-in-None
+returns-in-None g c = sym (not_found _ (pointer_in c.args.key) c.in-None.ensures)

@@ -1,0 +1,54 @@
+-- What the answer to a question for a node says of its meaning.
+use Rattle.std.specs.Prelude.{ℕ, List, Option, None, Some, Result, Ok, Err}
+use Rattle.reactive.specs.declared.fault.Fault.{Fault}
+use Rattle.reactive.specs.declared.fault.Fault.TheVariants as fault
+use Rattle.reactive.specs.declared.key.Key.{Key}
+use Rattle.reactive.specs.Meaning.{Graph, Means, IsMute}
+use Rattle.reactive.specs.declared.look.Frame.{Frame}
+use Rattle.reactive.specs.declared.look.Step.{Step}
+use Rattle.reactive.specs.Chains.{AllGoOn, Chain, GoesOn}
+use Rattle.reactive.specs.Looks.{Stepped}
+use Rattle.reactive.specs.Plans.{Plan}
+use Rattle.reactive.specs.Settling.{Leaves}
+use Rattle.reactive.specs.Tables.{IsSound, Shows, Table}
+
+module _ {T : Type 0} (G : Graph T) (k : Key) where
+  -- that a node has ended, is on a cycle, or gives no value says that the node that was asked for means
+  -- nothing; a refusal of the store says nothing of it
+  abbrev pub Blames : Fault → Type 0
+  Blames (fault.Gone j) = IsMute G k
+  Blames (fault.Cycle j) = IsMute G k
+  Blames (fault.NoValue j) = IsMute G k
+  Blames (fault.NoSource j) = ⊥
+  Blames (fault.Store e) = Unit {0}
+
+  -- a value is what the node means
+  abbrev pub Answers : Result T Fault → Type 0
+  Answers (Ok v) = Means G k v
+  Answers (Err f) = Blames f
+
+module _ {T R : Type 0} (G : Graph T) (now : ℕ) (nodes : Table T R) (k : Key) where
+  -- a node that was brought up to date is known
+  abbrev pub Refreshed : {U : Type 0} → Result U Fault → Type 0
+  Refreshed (Ok u) = (v : T) × Shows nodes now k v
+  Refreshed (Err f) = Blames G k f
+
+module _ {T R : Type 0} (plan : R → Plan T) (G : Graph T) (now : ℕ) where
+  -- from one table to another a look at a node was taken, and kept
+  pub record IsAdvanced (old : Table T R) (k : Key) (step : Step) (new : Table T R) : Type 0 where
+    pub sound : IsSound plan G now new
+    pub leaves : Leaves G now old new
+    pub stepped : Stepped G now new k step
+
+  -- on the way from one node, by these, to another: each needs the next, and looks at them go on
+  pub record IsOnTheWay (nodes : Table T R) (start : Key) (path : List Frame) (top : Frame) : Type 0 where
+    pub sound : IsSound plan G now nodes
+    pub chain : Chain G start path top.key
+    pub others : AllGoOn G now nodes path
+    pub last : GoesOn G now nodes top.key top.place
+
+  -- the way goes on, or has come to its end
+  abbrev pub Went : Table T R → Key → List Frame → Result (Option Frame) Fault → Type 0
+  Went nodes start path (Ok (Some top)) = IsOnTheWay nodes start path top
+  Went nodes start path (Ok None) = IsSound plan G now nodes × ((v : T) × Shows nodes now start v)
+  Went nodes start path (Err f) = IsSound plan G now nodes × Blames G start f

@@ -1,0 +1,213 @@
+//! Graphs of sources and memos.
+
+ghost use Rattle.std.specs.Prelude.{◌≡◌, ◌≢◌, ℕ, Some, None, IfOk, IfErr, IfSome, OnOk, OnErr, IsTrue, option_copied};
+ghost use Rattle.generational_core.specs.Conditions.{IsFresh};
+ghost use Rattle.reactive.specs.declared.fault.Fault.TheVariants as fault;
+ghost use Rattle.reactive.specs.declared.key.Key.{Key};
+ghost use Rattle.reactive.specs.declared.node.Node.{Node};
+ghost use Rattle.reactive.specs.Ending.{IsAmong};
+ghost use Rattle.reactive.specs.Graphs.{HasPlan, plans_in, shown_in};
+ghost use Rattle.reactive.specs.Meaning.{Means};
+ghost use Rattle.reactive.specs.Plans.{Give, Stop};
+ghost use Rattle.reactive.specs.Refreshing.{Answers, Blames};
+
+use crate::fault::Fault;
+use crate::key::Key;
+use crate::node::Node;
+use crate::nodes::{Nodes, known_value, node_of};
+use crate::rule::{Rule, Value};
+use generational_core::{Location, Storage, StoreError};
+use std::alloc::Global;
+use std::marker::{Model, PhantomData};
+
+/// Sources and memos over a store. Contracts see the machine's state, and with it the plan of each
+/// node: a source's gives its value, a memo's is its rule's, and that of a node that has ended stops.
+///
+/// A node *means* what its plan gives (`Meaning.antt`): at once, or by what the node that it asks for
+/// means. What is kept of a memo has no part in that.
+#[derive(Drop)]
+pub struct Reactive<T: Value + Drop, R: Rule<T>, S: Storage<Node<T, R>>> {
+    nodes: Nodes<T, R, S>,
+}
+
+impl<T: Value + Drop, R: Rule<T>, S: Storage<Node<T, R>>> Model for Reactive<T, R, S> {
+    ghost use Rattle.std.specs.Coded.{codes};
+    ghost use Rattle.std.specs.FinMap as map;
+    ghost use Rattle.reactive.specs.Graphs.{GraphState, IsKept};
+
+    ghost Value = { GraphState T R };
+
+    ghost coded = { Prim.hlevel (codes, map.code) };
+
+    ghost view = { λ g. record { state = S.state g.nodes.store; revision = g.nodes.revision } };
+
+    ghost invariant = { λ g. IsKept R.plan
+        (record { state = S.state g.nodes.store; revision = g.nodes.revision }) };
+}
+
+impl<T: Value + Drop, R: Rule<T>, S: Storage<Node<T, R>>> Reactive<T, R, S> {
+    /// A graph without nodes, over a fresh store (`is_fresh` is the test). Takes no memory.
+    pub fn new(alloc: Global, store: S) -> Self
+        requires { IsFresh (S.state store) }
+        ensures { (k : Key) → plans_in R.plan result k ≡ Stop }
+    {
+        Reactive {
+            nodes: Nodes {
+                alloc,
+                store,
+                revision: 1,
+                places: Vec::new(alloc),
+                marker: PhantomData,
+            },
+        }
+    }
+
+    /// A source of a value. Its key is none that was ever given, and each other node's plan stays.
+    ///
+    /// Refused by `OutOfMemory` alone: the graph stays as it was. O(1), but for finding room.
+    pub fn source(&mut self, value: T, here: Location) -> Result<Key, StoreError>
+        ensures plan { IfOk result (λ key. HasPlan R.plan self.old key (Give value) self.new) }
+        ensures new { IfOk result (λ key. plans_in R.plan self.old key ≡ Stop) }
+        ensures refused { OnErr result (self.new ≡ self.old) }
+    {
+        let node = Node {
+            rule: None,
+            value: Some(value),
+            reads: Vec::new(self.nodes.alloc),
+            changed: self.nodes.revision,
+            checked: 0,
+        };
+        match self.nodes.insert(node, here) {
+            Ok(key) => Ok(key),
+            Err(refusal) => Err(refusal.cause),
+        }
+    }
+
+    /// A memo of a rule, which is run when the memo is first asked for. Its key is none that was ever
+    /// given, and each other node's plan stays.
+    ///
+    /// Refused by `OutOfMemory` alone: the graph stays as it was. O(1), but for finding room.
+    pub fn memo(&mut self, rule: R, here: Location) -> Result<Key, StoreError>
+        ensures plan { IfOk result (λ key. HasPlan R.plan self.old key (R.plan rule) self.new) }
+        ensures new { IfOk result (λ key. plans_in R.plan self.old key ≡ Stop) }
+        ensures refused { OnErr result (self.new ≡ self.old) }
+    {
+        let node = Node {
+            rule: Some(rule),
+            value: None,
+            reads: Vec::new(self.nodes.alloc),
+            changed: self.nodes.revision,
+            checked: 0,
+        };
+        match self.nodes.insert(node, here) {
+            Ok(key) => Ok(key),
+            Err(refusal) => Err(refusal.cause),
+        }
+    }
+
+    /// Brings a node up to date: its value, if it means one, is known from then on until something is
+    /// set. No node's plan changes, so none means something else.
+    ///
+    /// Refused, and then the node means nothing, by `Gone`, where it or a node that it needs has ended;
+    /// by `Cycle`, where one of them needs itself; by `NoValue`, where a rule gives none. Refused too
+    /// where memory runs out, and after 2^64 steps by `NumbersExhausted`. A later call begins again.
+    ///
+    /// A rule is run only where something that it read has changed since its last run. Time is linear in
+    /// the questions of the nodes that are looked at, and takes memory for a path of them.
+    pub fn refresh(&mut self, key: Key) -> Result<(), Fault>
+        ensures shown { OnOk result ((v : T) × (shown_in self.new key ≡ Some v)
+            × Means (plans_in R.plan self.old) key v) }
+        ensures blames { IfErr result (Blames (plans_in R.plan self.old) key) }
+        ensures plans { (k : Key) → plans_in R.plan self.new k ≡ plans_in R.plan self.old k }
+    {
+        self.nodes.refresh(key)
+    }
+
+    /// The value of a node, if that is known without a step: what the node means. A source's is always.
+    /// The graph is lent meanwhile. Takes no memory, and is O(1).
+    pub fn peek(&self, key: Key) -> Option<&T>
+        ensures shown { option_copied result ≡ shown_in self.now key }
+        ensures means { IfSome result (λ v. Means (plans_in R.plan self.now) key v.now) }
+    {
+        known_value(&self.nodes.store, self.nodes.revision, key)
+    }
+
+    /// A copy of what a node means now, which is brought up to date for it. No node means something else
+    /// afterwards.
+    ///
+    /// Refused as `refresh`, and where memory runs out for the copy.
+    pub fn get(&mut self, key: Key) -> Result<T, Fault>
+        ensures answer { Answers (plans_in R.plan self.old) key result }
+        ensures plans { (k : Key) → plans_in R.plan self.new k ≡ plans_in R.plan self.old k }
+        ensures shown { IfOk result (λ v. shown_in self.new key ≡ Some v) }
+    {
+        match self.refresh(key) {
+            Ok(()) => {}
+            Err(fault) => return Err(fault),
+        }
+        match self.peek(key) {
+            Some(value) => match value.copy() {
+                Ok(copy) => Ok(copy),
+                Err(_) => Err(Fault::Store(StoreError::OutOfMemory)),
+            },
+            None => Err(Fault::Store(StoreError::OutOfMemory)),
+        }
+    }
+
+    /// Sets a source, where its value is another. Nothing is computed: several sets are a batch.
+    ///
+    /// Refused, in this order: `Gone`, where the node has ended, or is another graph's; `NoSource`, where
+    /// it has a rule; `NumbersExhausted`, after 2^64 sets. The graph stays as it was then. Takes no
+    /// memory, and is O(1).
+    pub fn set(&mut self, key: Key, value: T) -> Result<(), Fault>
+        ensures set { OnOk result (HasPlan R.plan self.old key (Give value) self.new) }
+        ensures refused { OnErr result (self.new ≡ self.old) }
+    {
+        match self.is_set(key, &value) {
+            Ok(true) => Ok(()),
+            Ok(false) => self.nodes.reset(key, None, Some(value)),
+            Err(fault) => Err(fault),
+        }
+    }
+
+    // Whether a source has a value.
+    fn is_set(&self, key: Key, value: &T) -> Result<bool, Fault>
+        ensures { IfOk result (λ is. IsTrue is → plans_in R.plan self.now key ≡ Give value.now) }
+    {
+        let Some(node) = node_of(&self.nodes.store, key) else {
+            return Err(Fault::Gone(key));
+        };
+        if node.rule.is_some() {
+            return Err(Fault::NoSource(key));
+        }
+        match &node.value {
+            Some(kept) => Ok(kept.same(value)),
+            None => Ok(false),
+        }
+    }
+
+    /// Gives a memo another rule, or makes a source a memo. Nothing is computed.
+    ///
+    /// Refused, in this order: `NumbersExhausted`, after 2^64 sets; `Gone`, where the node has ended, or
+    /// is another graph's. The graph stays as it was then. Takes no memory, and is O(1).
+    pub fn set_rule(&mut self, key: Key, rule: R) -> Result<(), Fault>
+        ensures set { OnOk result (HasPlan R.plan self.old key (R.plan rule) self.new) }
+        ensures refused { OnErr result (self.new ≡ self.old) }
+    {
+        self.nodes.reset(key, Some(rule), None)
+    }
+
+    /// Ends the nodes of these keys, where they haven't ended, and no other. What needs one of them means
+    /// nothing from then on, and is told which is gone.
+    ///
+    /// Refused by `NumbersExhausted` alone, after 2^64 sets: the graph stays as it was. Takes no memory,
+    /// and is O(n).
+    pub fn end_all(&mut self, keys: &[Key]) -> Result<(), Fault>
+        ensures ended { OnOk result ((k : Key) → IsAmong k keys.now → plans_in R.plan self.new k ≡ Stop) }
+        ensures others { (k : Key) → (IsAmong k keys.now → ⊥) →
+            plans_in R.plan self.new k ≡ plans_in R.plan self.old k }
+        ensures refused { OnErr result (self.new ≡ self.old) }
+    {
+        self.nodes.remove_all(keys)
+    }
+}

@@ -1,0 +1,117 @@
+//! Scopes of nodes.
+
+ghost use Rattle.std.specs.Prelude.{◌≡◌, [], ◌∷◌, ◌++◌, IfOk, IfErr, OnOk, OnErr};
+ghost use Rattle.reactive.specs.declared.key.Key.{Key};
+ghost use Rattle.reactive.specs.Ending.{IsAmong};
+ghost use Rattle.reactive.specs.Graphs.{HasPlan, plans_in};
+ghost use Rattle.reactive.specs.Plans.{Give, Stop};
+
+use crate::fault::Fault;
+use crate::key::Key;
+use crate::node::Node;
+use crate::reactive::Reactive;
+use crate::rule::{Rule, Value};
+use generational_core::{Location, Storage, StoreError};
+use std::alloc::Global;
+use std::marker::Model;
+
+/// Nodes that end together. Contracts see it as their keys, in the order in which they were made.
+///
+/// It has no `Drop`: `end` or `leak` must spend it.
+pub struct Scope {
+    keys: Vec<Key>,
+}
+
+impl Model for Scope {
+    ghost use Rattle.std.specs.Prelude.{List};
+    ghost use Rattle.reactive.specs.declared.key.Key.{Key};
+
+    ghost Value = { List Key };
+
+    ghost view = { λ s. s.keys.items };
+}
+
+impl Scope {
+    /// A scope without nodes. Takes no memory.
+    pub fn new(alloc: Global) -> Scope
+        ensures { result ≡ [] }
+    {
+        Scope {
+            keys: Vec::new(alloc),
+        }
+    }
+
+    /// A source of a value, as `Reactive::source`, which ends with the scope.
+    ///
+    /// Refused by `OutOfMemory` alone: the graph and the scope stay as they were.
+    pub fn source<T: Value + Drop, R: Rule<T>, S: Storage<Node<T, R>>>(
+        &mut self,
+        graph: &mut Reactive<T, R, S>,
+        value: T,
+        here: Location,
+    ) -> Result<Key, StoreError>
+        ensures plan { IfOk result (λ key. HasPlan R.plan graph.old key (Give value) graph.new) }
+        ensures new { IfOk result (λ key. plans_in R.plan graph.old key ≡ Stop) }
+        ensures listed { IfOk result (λ key. self.new ≡ self.old ++ key ∷ []) }
+        ensures refused { OnErr result (graph.new ≡ graph.old) }
+        ensures unlisted { OnErr result (self.new ≡ self.old) }
+    {
+        if self.keys.reserve(1).is_err() {
+            return Err(StoreError::OutOfMemory);
+        }
+        let key = graph.source(value, here)?;
+        self.keys.push_reserved(key);
+        Ok(key)
+    }
+
+    /// A memo of a rule, as `Reactive::memo`, which ends with the scope.
+    ///
+    /// Refused by `OutOfMemory` alone: the graph and the scope stay as they were.
+    pub fn memo<T: Value + Drop, R: Rule<T>, S: Storage<Node<T, R>>>(
+        &mut self,
+        graph: &mut Reactive<T, R, S>,
+        rule: R,
+        here: Location,
+    ) -> Result<Key, StoreError>
+        ensures plan { IfOk result (λ key. HasPlan R.plan graph.old key (R.plan rule) graph.new) }
+        ensures new { IfOk result (λ key. plans_in R.plan graph.old key ≡ Stop) }
+        ensures listed { IfOk result (λ key. self.new ≡ self.old ++ key ∷ []) }
+        ensures refused { OnErr result (graph.new ≡ graph.old) }
+        ensures unlisted { OnErr result (self.new ≡ self.old) }
+    {
+        if self.keys.reserve(1).is_err() {
+            return Err(StoreError::OutOfMemory);
+        }
+        let key = graph.memo(rule, here)?;
+        self.keys.push_reserved(key);
+        Ok(key)
+    }
+
+    /// Ends the scope: its nodes end, and no other.
+    ///
+    /// Refused by `NumbersExhausted` alone, after 2^64 sets: the scope comes back, and the graph stays as
+    /// it was. Takes no memory, and is O(n).
+    pub fn end<T: Value + Drop, R: Rule<T>, S: Storage<Node<T, R>>>(
+        self,
+        graph: &mut Reactive<T, R, S>,
+    ) -> Result<(), (Scope, Fault)>
+        ensures ended { OnOk result ((k : Key) → IsAmong k self → plans_in R.plan graph.new k ≡ Stop) }
+        ensures others { (k : Key) → (IsAmong k self → ⊥) →
+            plans_in R.plan graph.new k ≡ plans_in R.plan graph.old k }
+        ensures refused { OnErr result (graph.new ≡ graph.old) }
+        ensures back { IfErr result (λ refusal. refusal.0 ≡ self) }
+    {
+        match graph.end_all(&self.keys) {
+            Ok(()) => {
+                self.leak();
+                Ok(())
+            }
+            Err(fault) => Err((self, fault)),
+        }
+    }
+
+    /// Spends the scope, and leaves its nodes as they are.
+    pub fn leak(self) {
+        let Scope { keys: _ } = self;
+    }
+}
