@@ -1,10 +1,14 @@
 //! Entities, and their handles.
 
-ghost use Rattle.std.specs.Prelude.{◌≡◌, IsErr, IfErr};
+ghost use Rattle.std.specs.Prelude.{◌≡◌, ◌≤◌, ℕ, None, Some, IsErr, IfErr, OnOk, true, is_some};
+ghost use Rattle.entity_table.specs.declared.entity.Entity.{Entity};
+ghost use Rattle.entity_table.specs.Components.{component_in};
 ghost use Rattle.entity_table.specs.Entities.{spawned_at};
-ghost use Rattle.entity_table.specs.Tables.{WasSpawned};
+ghost use Rattle.entity_table.specs.Tables.{element_in, WasSpawned};
 
-use entity_table::{Entity, EntityTable, Stale};
+use entity_table::{
+    AttachError, ComponentTable, Entity, EntityTable, Stale, equal_entities_show_the_same,
+};
 use generational_box::{Location, Storage};
 
 /// Despawns an entity, spawns another, and looks at the first: the answer is that the first is gone,
@@ -22,4 +26,36 @@ pub fn told_after<S: Storage<u64>>(
     let _ = table.despawn(first);
     let _ = table.spawn(next, here);
     table.get(first).copied()
+}
+
+/// The greatest element of the live entities, or 0 where none is live.
+pub fn greatest<S: Storage<u64>>(table: &EntityTable<u64, S>) -> u64
+    ensures { (e : Entity ℕ) (v : ℕ) → element_in table.now e ≡ Some v → v ≤ result }
+{
+    equal_entities_show_the_same::<u64>();
+    let mut most = 0;
+    'rows: for (_, element) in table.iter() {
+        if *element > most {
+            most = *element;
+        }
+    }
+    most
+}
+
+/// Gives an entity a component by a handle whose entity may be gone: whichever entity has its slot by
+/// now keeps its own then.
+pub fn renamed<E: Storage<u64>, C: Storage<u64>>(
+    table: &EntityTable<u64, E>,
+    names: &mut ComponentTable<u64, u64, C>,
+    entity: Entity<u64>,
+    name: u64,
+    here: Location,
+) -> Result<(), AttachError>
+    ensures named { OnOk result (component_in names.new entity ≡ Some name) }
+    ensures others { element_in table.now entity ≡ None → (e : Entity ℕ) →
+        component_in names.new e ≡ component_in names.old e }
+{
+    names
+        .attach(table, entity, name, here)
+        .map_err(|refusal| refusal.cause)
 }

@@ -4,6 +4,7 @@
 
 pub mod documents;
 pub mod entities;
+pub mod errors;
 pub mod scopes;
 pub mod sessions;
 pub mod trees;

@@ -1,0 +1,26 @@
+-- What callers say of a walk, from what holds of its items.
+use Rattle.std.proofs.Common.{◌≡◌, ◌≤◌, ℕ, zero, suc, Option, None, Some, List, [], ◌∷◌, map}
+use Rattle.std.proofs.Common.{refl, sym, ap, subst, ◌∙◌}
+use Rattle.std.specs.Prelude.{slice_get, option_map}
+use Rattle.std.proofs.lemmas.Option.{none-some, same_Some, slice_get-map}
+
+-- a row's key stands beside a value
+pub stands_with : {E V : Type 0} (pairs : List (E × V)) (row : ℕ) (e : E)
+    → slice_get (map (λ p. p.0) pairs) row ≡ Some e → (v : V) × (slice_get pairs row ≡ Some (e, v))
+stands_with [] row e is = absurd (none-some e is)
+stands_with (p ∷ pairs) zero e is = (p.1, ap (λ k. Some (k, p.1)) (same_Some p.0 e is))
+stands_with (p ∷ pairs) (suc row) e is = stands_with pairs row e is
+
+-- a bound on the number of each item is one on each pair
+pub bounds_each : {P E : Type 0} (key : P → E) (number : P → ℕ) (most : ℕ) (items : List P)
+    (pairs : List (E × ℕ)) → map (λ p. (key p, number p)) items ≡ pairs
+    → ((k : ℕ) (p : P) → slice_get items k ≡ Some p → number p ≤ most)
+    → (row : ℕ) (e : E) (v : ℕ) → slice_get pairs row ≡ Some (e, v) → v ≤ most
+bounds_each {P} {E} key number most items pairs is low row e v at =
+    by (slice_get items row) (sym (slice_get-map (λ p. (key p, number p)) items row)
+    ∙ (ap (λ ys. slice_get ys row) is ∙ at)) (low row)
+  where
+    by : (o : Option P) → option_map {U = E × ℕ} (λ p. (key p, number p)) o ≡ Some (e, v)
+        → ((p : P) → o ≡ Some p → number p ≤ most) → v ≤ most
+    by None none h = absurd (none-some _ none)
+    by (Some p) same h = subst (λ n. n ≤ most) (ap (λ q. q.1) (same_Some _ _ same)) (h p refl)

@@ -1,0 +1,52 @@
+//! Callers that pass the errors of all libraries on as text.
+
+ghost use Rattle.std.specs.Prelude.{◌≡◌, Some, IfOk, IfErr};
+ghost use Rattle.anyhow.specs.Error.{HasMessage};
+ghost use Rattle.entity_table.specs.Entities.{spawned_at};
+ghost use Rattle.entity_table.specs.Tables.{element_in};
+ghost use Rattle.entity_table.specs.Texts.{stale_text};
+
+use anyhow::Result;
+use document_tree::{Document, Part, Place};
+use entity_table::{Entity, EntityTable};
+use generational_box::{Location, Storage};
+use scene_tree::{Node, SceneTree};
+use session_table::SessionTable;
+
+/// An entity's element, or the text of why there is none.
+pub fn element_or_text<S: Storage<u64>>(
+    table: &EntityTable<u64, S>,
+    entity: Entity<u64>,
+) -> Result<u64>
+    ensures seen { IfOk result (λ element. element_in table.now entity ≡ Some element) }
+    ensures told { IfErr result (λ error. HasMessage (Some (stale_text (spawned_at entity))) error) }
+{
+    Ok(*table.get(entity)?)
+}
+
+/// Logs an id in, keeps a value in its session, and looks at it: it is the same value.
+pub fn first_visit<S: Storage<u64>>(
+    table: &mut SessionTable<u64, S>,
+    id: u64,
+    now: u64,
+    value: u64,
+    here: Location,
+) -> Result<u64>
+    ensures { IfOk result (λ seen. seen ≡ value) }
+{
+    table.login(id, now)?;
+    let entry = table.put(id, value, here)?;
+    Ok(*table.get(entry)?)
+}
+
+/// Moves a node below another, and lists a place below another, as far as neither is refused.
+pub fn moved_and_listed<N: Storage<u64>, P: Storage<Part<u64>>>(
+    tree: &mut SceneTree<u64, N>,
+    nodes: (Node<u64>, Node<u64>),
+    document: &mut Document<u64, P>,
+    places: (Place, Place),
+) -> Result<()> {
+    tree.move_to(nodes.0, nodes.1)?;
+    document.append(places.0, places.1)?;
+    Ok(())
+}
