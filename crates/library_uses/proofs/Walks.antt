@@ -1,8 +1,10 @@
 -- What callers say of a walk, from what holds of its items.
-use Rattle.std.proofs.Common.{◌≡◌, ◌≤◌, ℕ, zero, suc, Option, None, Some, List, [], ◌∷◌, map}
+use Rattle.std.proofs.Common.{◌≡◌, ◌≤◌, ℕ, zero, suc, Option, None, Some, List, [], ◌∷◌, ◌++◌, length, map}
 use Rattle.std.proofs.Common.{refl, sym, ap, subst, ◌∙◌}
 use Rattle.std.specs.Prelude.{slice_get, option_map}
 use Rattle.std.proofs.lemmas.Option.{none-some, same_Some, slice_get-map}
+use Rattle.scene_tree.specs.declared.node.Node.{Node}
+use Rattle.scene_tree.specs.Trees.{AreAncestors, IsStepsBelow, TreeState, parent_of}
 
 -- a row's key stands beside a value
 pub stands_with : {E V : Type 0} (pairs : List (E × V)) (row : ℕ) (e : E)
@@ -24,3 +26,24 @@ bounds_each {P} {E} key number most items pairs is low row e v at =
         → ((p : P) → o ≡ Some p → number p ≤ most) → v ≤ most
     by None none h = absurd (none-some _ none)
     by (Some p) same h = subst (λ n. n ≤ most) (ap (λ q. q.1) (same_Some _ _ same)) (h p refl)
+
+-- the last of an element and those that follow it
+abbrev pub last_of : {X : Type 0} → X → List X → X
+last_of x [] = x
+last_of x (y ∷ ys) = last_of y ys
+
+pub last_more : {X : Type 0} (x y : X) (ys : List X) → last_of x (ys ++ y ∷ []) ≡ y
+last_more x y [] = refl
+last_more x y (z ∷ ys) = last_more z y ys
+
+module _ {T : Type 0} (t : TreeState T) where
+  -- the last of a node's ancestors is a root, and the node is below it
+  pub last_root : (n : Node T) (ups : List (Node T)) → AreAncestors t n ups
+      → parent_of t (last_of n ups) ≡ None
+  last_root n [] all = all
+  last_root n (up ∷ ups) all = last_root up ups all.1
+
+  pub last_above : (n : Node T) (ups : List (Node T)) → AreAncestors t n ups
+      → IsStepsBelow t (last_of n ups) (length ups) n
+  last_above n [] all = refl
+  last_above n (up ∷ ups) all = (up, all.0, last_above up ups all.1)

@@ -1,13 +1,13 @@
 //! Trees, and handles of their nodes.
 
-ghost use Rattle.std.specs.Prelude.{◌≡◌, ◌⊎◌, Err, IsErr};
+ghost use Rattle.std.specs.Prelude.{◌≡◌, ◌⊎◌, Err, IfOk, IsErr, None};
 ghost use Rattle.generational_errors.specs.declared.error.StoreError.TheVariants.{OutOfMemory};
 ghost use Rattle.scene_tree.specs.declared.node.TreeError.TheVariants as error;
 ghost use Rattle.scene_tree.specs.Nodes.{made_at};
-ghost use Rattle.scene_tree.specs.Trees.{WasMade};
+ghost use Rattle.scene_tree.specs.Trees.{IsBelow, WasMade, parent_of};
 
 use generational_box::{Location, Storage};
-use scene_tree::{Node, SceneTree, TreeError};
+use scene_tree::{Node, SceneTree, Stale, TreeError};
 
 /// Removes a node with all below it, adds another, and looks at the first: the answer is that the first
 /// is gone, and where that was made, whichever slot the second took. Only a removal that lacks memory
@@ -40,4 +40,19 @@ pub fn moved_round<S: Storage<u64>>(
 {
     tree.move_to(node, other)?;
     tree.move_to(other, node)
+}
+
+/// The root above a node: the last of its ancestors, or the node itself where it has none.
+pub fn root_of<S: Storage<u64>>(
+    tree: &SceneTree<u64, S>,
+    node: Node<u64>,
+) -> Result<Node<u64>, Stale>
+    ensures root { IfOk result (λ root. parent_of tree.now root ≡ None) }
+    ensures above { IfOk result (λ root. IsBelow tree.now root node) }
+{
+    let mut root = node;
+    'up: for above in tree.ancestors(node)? {
+        root = above;
+    }
+    Ok(root)
 }
