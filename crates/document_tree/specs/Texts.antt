@@ -6,7 +6,7 @@ use Rattle.document_tree.specs.declared.place.PlaceError.{PlaceError}
 use Rattle.document_tree.specs.declared.place.PlaceError.TheVariants as error
 
 abbrev pub gone_text : Location → List ℕ
-gone_text l = codes "the place is gone, whose part was added at " ++ location_text l
+gone_text l = codes "the place of the part added at " ++ (location_text l ++ codes " is gone")
 
 abbrev pub place_error_text : PlaceError → List ℕ
 place_error_text (error.Gone gone) = gone_text gone.made_at

@@ -96,7 +96,7 @@ impl fmt::Display for Gone {
 
     fn fmt<W: fmt::Write>(&self, f: &mut fmt::Formatter<W>) -> fmt::Result {
         let made_at = self.made_at;
-        write!(f, "the place is gone, whose part was added at {made_at}")
+        write!(f, "the place of the part added at {made_at} is gone")
     }
 }
 

@@ -6,7 +6,7 @@ use Rattle.entity_table.specs.declared.components.AttachError.{AttachError}
 use Rattle.entity_table.specs.declared.components.AttachError.TheVariants as attach
 
 abbrev pub stale_text : Location → List ℕ
-stale_text l = codes "the entity is gone, which was spawned at " ++ location_text l
+stale_text l = codes "the entity spawned at " ++ (location_text l ++ codes " is gone")
 
 abbrev pub attach_error_text : AttachError → List ℕ
 attach_error_text (attach.Stale stale) = stale_text stale.spawned_at

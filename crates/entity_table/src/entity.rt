@@ -110,7 +110,7 @@ impl fmt::Display for Stale {
 
     fn fmt<W: fmt::Write>(&self, f: &mut fmt::Formatter<W>) -> fmt::Result {
         let spawned_at = self.spawned_at;
-        write!(f, "the entity is gone, which was spawned at {spawned_at}")
+        write!(f, "the entity spawned at {spawned_at} is gone")
     }
 }
 

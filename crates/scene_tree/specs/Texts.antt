@@ -6,7 +6,7 @@ use Rattle.scene_tree.specs.declared.node.TreeError.{TreeError}
 use Rattle.scene_tree.specs.declared.node.TreeError.TheVariants as error
 
 abbrev pub stale_text : Location → List ℕ
-stale_text l = codes "the node is gone, which was made at " ++ location_text l
+stale_text l = codes "the node made at " ++ (location_text l ++ codes " is gone")
 
 abbrev pub tree_error_text : TreeError → List ℕ
 tree_error_text (error.Stale made_at) = stale_text made_at

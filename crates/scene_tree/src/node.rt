@@ -117,7 +117,7 @@ impl fmt::Display for Stale {
 
     fn fmt<W: fmt::Write>(&self, f: &mut fmt::Formatter<W>) -> fmt::Result {
         let made_at = self.made_at;
-        write!(f, "the node is gone, which was made at {made_at}")
+        write!(f, "the node made at {made_at} is gone")
     }
 }
 
@@ -143,9 +143,7 @@ impl fmt::Display for TreeError {
 
     fn fmt<W: fmt::Write>(&self, f: &mut fmt::Formatter<W>) -> fmt::Result {
         match self {
-            TreeError::Stale(made_at) => {
-                write!(f, "the node is gone, which was made at {made_at}")
-            }
+            TreeError::Stale(made_at) => { write!(f, "the node made at {made_at} is gone") }
             TreeError::Cycle => write!(f, "the node would be below itself"),
             TreeError::Store(cause) => write!(f, "{cause}"),
         }

@@ -8,7 +8,7 @@ use Rattle.session_table.specs.declared.session.LoginError.{LoginError}
 use Rattle.session_table.specs.declared.session.LoginError.TheVariants as login
 
 abbrev pub stale_text : Location → List ℕ
-stale_text l = codes "the session is gone of the value that was put at " ++ location_text l
+stale_text l = codes "the session of the value put at " ++ (location_text l ++ codes " is gone")
 
 abbrev pub put_error_text : PutError → List ℕ
 put_error_text put.NoSession = codes "the id has no session"
