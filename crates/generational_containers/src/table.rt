@@ -170,16 +170,6 @@ impl BorrowTable {
         self.lists[index as usize].push(self.alloc, borrow)
     }
 
-    /// Lets one borrow alone stand at an index.
-    pub fn set_only(&mut self, index: u32, borrow: Borrow)
-        requires { index < length self.old.lists }
-        ensures { self.new ≡ record self.old {
-          lists = slice_set self.old.lists index (borrow ∷ []);
-        } }
-    {
-        self.lists[index as usize] = Borrows::new(borrow);
-    }
-
     /// Takes the ticket's own borrow out of a list, and gives the index back with the last one. The
     /// answer is whether there was one, and the index where the others stand.
     #[inline(always)]

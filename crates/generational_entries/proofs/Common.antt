@@ -18,9 +18,8 @@ pub use proofs.lemmas.Option.{slice_get_read}
 pub use Rattle.std.specs.Prelude.{◌&&◌}
 pub use Rattle.std.specs.{Cmp.nat_cmp_total, List.list_any, Ordering.nat_cmp}
 pub use Rattle.generational_containers.{proofs.lists.Lists.set_written, specs.Lists.how_many}
-pub use lists.Lists.{bit, contains-insert_at, contains-remove_at, fewer_within, get_left, get_other}
-pub use lists.Lists.{get_own, IsWritten, passes, push_written, set-own, set_apart, set_left}
-pub use lists.Lists.{set_twice}
+pub use lists.Lists.{bit, contains-insert_at, contains-remove_at, fewer_within}
+pub use lists.Lists.{get_own, IsWritten, passes, push_written, set-own}
 pub use Rattle.generational_containers.specs.{Borrows.AreBelow, CellNames.name_of_cell}
 pub use Rattle.generational_containers.specs.Table.{IsClosed, IsUsed, IsVacant, list_at, no_index}
 pub use Rattle.generational_containers.specs.Table.{put_list, Releases, Table}

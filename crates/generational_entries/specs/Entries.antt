@@ -103,11 +103,12 @@ module _ {T : Type 0} where
   IsUnborrowed (slot.Reference s g) = Unit {0}
   IsUnborrowed _ = ⊥
 
-  -- what a slot has whose cell has these borrows; no value is lent to nobody
+  -- a value that is lent to the first of these borrows; lent to nobody there is none
   abbrev pub lent_kept : Kind → List Borrow → Location → Kept T
   lent_kept k [] l = Empty
   lent_kept k (w ∷ bs) l = Live k (Lent w) l
 
+  -- what a slot has whose cell has these borrows
   abbrev pub kept_data : List Borrow → Location → StorageEntryData T → Kept T
   kept_data bs l slot.Empty = Empty
   kept_data bs l (slot.Data k v) = Live k (Here v bs) l

@@ -21,15 +21,13 @@ ghost use Rattle.generational_containers.specs.Borrows.{AreBelow};
 ghost use Rattle.generational_containers.specs.CellNames.{name_of_cell};
 ghost use Rattle.generational_containers.specs.Table.{no_index, list_at, IsClosed, IsUsed};
 ghost use Rattle.generational_entries.specs.Entries.{index_of, kept_data, listed_beside};
-ghost use Rattle.generational_entries.specs.Entries.{IsListable};
-ghost use Rattle.generational_entries.specs.Entries.{IsListed, IsUnborrowed};
+ghost use Rattle.generational_entries.specs.Entries.{IsListable, IsListed, IsUnborrowed};
 ghost use Rattle.generational_entries.specs.Entry.{cell_at, cell_of, change_entry, content_in};
 ghost use Rattle.generational_entries.specs.Entry.{has_no_borrow, is_unborrowed_value, kind_in};
 ghost use Rattle.generational_entries.specs.Entry.{lend_to, readers_of, referring, target_in};
-ghost use Rattle.generational_entries.specs.Entry.{value_for};
-ghost use Rattle.generational_entries.specs.Entry.{with_reader, with_value, without_reader_in};
-ghost use Rattle.generational_entries.specs.Entry.{FoundBorrowed, FoundReaders, IsAlone};
-ghost use Rattle.generational_entries.specs.Entry.{IsReadable};
+ghost use Rattle.generational_entries.specs.Entry.{value_for, with_reader, with_value};
+ghost use Rattle.generational_entries.specs.Entry.{without_reader_in, FoundBorrowed, FoundReaders};
+ghost use Rattle.generational_entries.specs.Entry.{IsAlone, IsReadable};
 ghost use Rattle.generational_entries.specs.Entry.Kept.{Empty};
 ghost use Rattle.generational_entries.specs.Latest.{cleared, is_noted};
 ghost use Rattle.generational_entries.specs.declared.entry.StorageEntryData.TheVariants as content;
@@ -370,9 +368,9 @@ impl<T> Entries<T> {
 }
 
 impl<T: Drop> Entries<T> {
-    /// Makes room for one slot more at least, and for so many that few makings pay for it, as far as
-    /// memory reaches. The only refusal is want of memory, also where no index of 32 bits is left for
-    /// a slot's borrows; it leaves the room that was.
+    /// Makes room for one slot more at least, and for so many that few growths pay for it, as far as
+    /// memory reaches. Refused only if memory runs out, or where no index of 32 bits is left for a
+    /// slot's borrows; the room is then unchanged.
     #[cold]
     #[inline(never)]
     pub fn grow(&mut self) -> Result<(), StoreError>
@@ -388,8 +386,8 @@ impl<T: Drop> Entries<T> {
         self.grow_within(room)
     }
 
-    /// Makes room for this many slots in all, where there is less. The only refusal is want of memory,
-    /// also where no index of 32 bits is left for a slot's borrows; it leaves the room that was.
+    /// Makes room for this many slots in all, where there is less. Refused only if memory runs out,
+    /// or where no index of 32 bits is left for a slot's borrows; the room is then unchanged.
     pub fn reserve(&mut self, room: usize) -> Result<(), StoreError>
     where
         T: Drop,
@@ -473,8 +471,8 @@ impl<T: Drop> Entries<T> {
         list_noted(&mut self.entries, &mut self.borrows, &mut self.last);
     }
 
-    /// Adds a reader to a value that isn't lent. Only a reader beside another may lack memory, and
-    /// then nothing changes. The caller may know that the value has no borrow.
+    /// Adds a reader to a value that isn't lent. Refused only for a reader beside others, if memory
+    /// runs out; nothing changes then. `is_unborrowed` says that the caller knows of no borrow there.
     #[inline(always)]
     pub fn begin_read(
         &mut self,
@@ -625,8 +623,8 @@ impl<T: Drop> Entries<T> {
         }
     }
 
-    /// Ends the slot's cell, with the borrows that stand there. The caller may know that it is a
-    /// value without borrows.
+    /// Ends the slot's cell, with the borrows that stand there. `is_unborrowed` says that the caller
+    /// knows it as a value without borrows.
     #[inline(always)]
     pub fn end(&mut self, slot: usize, is_unborrowed: bool)
         requires within { slot < length self.old.slots }
@@ -772,7 +770,7 @@ fn list_last<T: Drop>(
     }
 }
 
-// Lists a reader of a value that others read. Want of memory changes nothing.
+// Lists a reader of a value that others read. If memory runs out, nothing changes.
 #[cold]
 #[inline(never)]
 fn list_beside<T>(
