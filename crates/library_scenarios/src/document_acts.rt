@@ -1,5 +1,6 @@
 //! What is done to a document, one act a line, with what must come of it.
 
+use crate::expected::assert_same;
 use document_tree::{Document, Part, Place};
 use generational_box::{Location, Storage};
 use std::alloc::Global;
@@ -36,6 +37,36 @@ pub(crate) fn added_at(line: u32) -> Location {
     Location::new("d.rs", line, 1)
 }
 
+/// A document over a new store.
+pub(crate) fn document_over<T, S: Storage<Part<T>>>(
+    rt: &impl Abort,
+    alloc: Global,
+    store: S,
+) -> Document<T, S> {
+    assert!(rt; store.is_fresh());
+    Document::new(alloc, store)
+}
+
+/// Adds a part.
+pub(crate) fn add<T: Drop, S: Storage<Part<T>>>(
+    rt: &impl Abort,
+    document: &mut Document<T, S>,
+    content: T,
+) -> Place {
+    let added = document.add(content, added_at(1));
+    added.map_err(|refusal| refusal.cause).expect(rt, "a place")
+}
+
+/// Sees the content of a place, or that it is gone.
+pub(crate) fn has_content<S: Storage<Part<u64>>>(
+    rt: &impl Abort,
+    document: &Document<u64, S>,
+    place: Place,
+    content: Option<u64>,
+) {
+    assert_same(rt, &document.get(place).copied().ok(), &content);
+}
+
 /// Does each line's act to a document, and sees what comes of it.
 pub(crate) fn play<S: Storage<Part<u64>>>(
     rt: &impl Abort,
@@ -45,7 +76,11 @@ pub(crate) fn play<S: Storage<Part<u64>>>(
 ) {
     let mut places = Vec::new(alloc);
     for line in lines {
-        assert_eq!(rt; carries_out(rt, document, &mut places, line.act), line.done);
+        assert_same(
+            rt,
+            &carries_out(rt, document, &mut places, line.act),
+            &line.done,
+        );
         shows(rt, document, &places, line.shows);
     }
 }
@@ -93,10 +128,10 @@ fn shows<S: Storage<Part<u64>>>(
     places: &[Place],
     shows: &[Shown],
 ) {
-    assert_eq!(rt; places.len(), shows.len());
+    assert_same(rt, &places.len(), &shows.len());
     for (place, shown) in places.iter().zip(shows) {
         let content = shown.map(|(content, _)| content);
-        assert_eq!(rt; document.get(*place).copied().ok(), content);
+        has_content(rt, document, *place, content);
         if let Some((_, numbers)) = shown {
             has_children(rt, document, places, *place, numbers);
         }
@@ -114,8 +149,13 @@ fn has_children<S: Storage<Part<u64>>>(
     let Ok(children) = document.children(place) else {
         panic!(rt; "a place is gone");
     };
-    assert_eq!(rt; children.len(), numbers.len());
-    for (child, number) in children.iter().zip(numbers) {
-        assert_eq!(rt; child.id(), place_at(rt, places, *number).id());
+    are_places(rt, places, children, numbers);
+}
+
+/// Sees which places stand in a list.
+fn are_places(rt: &impl Abort, places: &[Place], list: &[Place], numbers: &[usize]) {
+    assert_same(rt, &list.len(), &numbers.len());
+    for (place, number) in list.iter().zip(numbers) {
+        assert_same(rt, &place.id(), &place_at(rt, places, *number).id());
     }
 }

@@ -1,29 +1,26 @@
 //! Histories of documents, as lines.
 
-use crate::document_acts::{Act, Line, Shown, play};
-use document_tree::{Document, Part};
-use generational_box::{LastFirst, OldestFirst, Storage, Store};
+use crate::document_acts::{Act, Line, Shown, document_over, play};
+use crate::fresh::{Scene, play_both};
+use document_tree::Part;
+use generational_box::Storage;
 use std::alloc::Global;
 use std::process::Abort;
 
-/// Plays lines in a document over an empty store, once with each order of free slots.
-fn play_both(rt: &impl Abort, alloc: Global, lines: &[Line]) {
-    let last: Store<Part<u64>, LastFirst> = Store::new(alloc, 7);
-    play_over(rt, alloc, last, lines);
-    let oldest: Store<Part<u64>, OldestFirst> = Store::new(alloc, 7);
-    play_over(rt, alloc, oldest, lines);
+/// Lines that are played in a document over a new store.
+#[derive(Drop)]
+struct Lines<'a>(&'a [Line<'a>]);
+
+impl Scene<Part<u64>> for Lines<'_> {
+    fn play<R: Abort, S: Storage<Part<u64>> + Drop>(&self, rt: &R, alloc: Global, store: S) {
+        let mut document = document_over(rt, alloc, store);
+        play(rt, alloc, &mut document, self.0);
+    }
 }
 
-/// The same over a store that is handed in.
-fn play_over<S: Storage<Part<u64>> + Drop>(
-    rt: &impl Abort,
-    alloc: Global,
-    store: S,
-    lines: &[Line],
-) {
-    assert!(rt; store.is_fresh());
-    let mut document = Document::new(alloc, store);
-    play(rt, alloc, &mut document, lines);
+/// Plays lines, once with each order of free slots.
+fn play_lines(rt: &impl Abort, alloc: Global, lines: &[Line]) {
+    play_both::<Part<u64>, Lines>(rt, alloc, &Lines(lines));
 }
 
 /// A line whose act is carried out.
@@ -98,7 +95,7 @@ fn a_heading_is_exchanged_on_each_page(rt: HostRuntime) {
             &[None, Some((1, &[0])), Some((2, &[0])), None],
         ),
     ];
-    play_both(&rt, rt.alloc(), &lines);
+    play_lines(&rt, rt.alloc(), &lines);
 }
 
 #[test]
@@ -128,7 +125,7 @@ fn what_is_set_shows_at_each_place(rt: HostRuntime) {
         done(Act::Remove(1), &[None, None, Some((8, &[]))]),
         gone(Act::Set(1, 9), &[None, None, Some((8, &[]))]),
     ];
-    play_both(&rt, rt.alloc(), &lines);
+    play_lines(&rt, rt.alloc(), &lines);
 }
 
 #[test]
@@ -145,5 +142,5 @@ fn a_place_that_is_gone_reads_no_later_part(rt: HostRuntime) {
         done(Act::Exchange(1, 1), &[None, Some((2, &[1]))]),
         done(Act::Remove(1), &[None, None]),
     ];
-    play_both(&rt, rt.alloc(), &lines);
+    play_lines(&rt, rt.alloc(), &lines);
 }

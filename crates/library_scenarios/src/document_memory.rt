@@ -1,24 +1,16 @@
 //! Want of memory in documents. The test passes whichever one allocation is refused: what lacks memory
 //! changes nothing, and is tried a second time.
 
-use crate::document_acts::added_at;
+use crate::document_acts::{add, added_at, document_over, has_content};
+use crate::expected::assert_same;
+use crate::fresh::{Scene, play};
 use document_tree::{Document, Part, Place, PlaceError};
-use generational_box::{LastFirst, Storage, Store};
+use generational_box::Storage;
 use std::alloc::Global;
 use std::process::Abort;
 
 /// How many children are appended: more than the room that is found at once.
 const MANY: u64 = 9;
-
-/// A document over a store.
-pub(crate) fn document_over<S: Storage<Part<u64>>>(
-    rt: &impl Abort,
-    alloc: Global,
-    store: S,
-) -> Document<u64, S> {
-    assert!(rt; store.is_fresh());
-    Document::new(alloc, store)
-}
 
 /// Adds a part, which shows its content.
 pub(crate) fn add_or_again<S: Storage<Part<u64>>>(
@@ -26,15 +18,14 @@ pub(crate) fn add_or_again<S: Storage<Part<u64>>>(
     document: &mut Document<u64, S>,
     content: u64,
 ) -> Place {
-    let added = match document.add(content, added_at(1)) {
-        Ok(place) => Ok(place),
+    let place = match document.add(content, added_at(1)) {
+        Ok(place) => place,
         Err(refusal) => {
-            assert_eq!(rt; refusal.value, content);
-            document.add(content, added_at(1))
+            assert_same(rt, &refusal.value, &content);
+            add(rt, document, content)
         }
     };
-    let place = added.map_err(|refusal| refusal.cause).expect(rt, "a place");
-    assert_eq!(rt; document.get(place).copied().ok(), Some(content));
+    has_content(rt, document, place, Some(content));
     place
 }
 
@@ -47,7 +38,7 @@ pub(crate) fn repeat_or_again<S: Storage<Part<u64>>>(
     match document.repeat(place) {
         Ok(other) => other,
         Err(error) => {
-            assert_eq!(rt; error, PlaceError::OutOfMemory);
+            assert_same(rt, &error, &PlaceError::OutOfMemory);
             document.repeat(place).expect(rt, "a place")
         }
     }
@@ -62,11 +53,11 @@ pub(crate) fn append_or_again<S: Storage<Part<u64>>>(
 ) {
     let before = count(rt, document, parent);
     if let Err(error) = document.append(parent, child) {
-        assert_eq!(rt; error, PlaceError::OutOfMemory);
-        assert_eq!(rt; count(rt, document, parent), before);
+        assert_same(rt, &error, &PlaceError::OutOfMemory);
+        assert_same(rt, &count(rt, document, parent), &before);
         assert!(rt; document.append(parent, child).is_ok());
     }
-    assert_eq!(rt; count(rt, document, parent), before.wrapping_add(1));
+    assert_same(rt, &count(rt, document, parent), &before.wrapping_add(1));
 }
 
 /// How many children a place has.
@@ -82,19 +73,21 @@ fn count<S: Storage<Part<u64>>>(
 }
 
 /// A page with many places of one part.
-fn append_many<S: Storage<Part<u64>>>(rt: &impl Abort, document: &mut Document<u64, S>) {
-    let page = add_or_again(rt, document, 0);
-    let symbol = add_or_again(rt, document, 1);
-    for _ in 0..MANY {
-        let place = repeat_or_again(rt, document, symbol);
-        append_or_again(rt, document, page, place);
+struct AppendMany;
+
+impl Scene<Part<u64>> for AppendMany {
+    fn play<R: Abort, S: Storage<Part<u64>> + Drop>(&self, rt: &R, alloc: Global, store: S) {
+        let mut document = document_over(rt, alloc, store);
+        let page = add_or_again(rt, &mut document, 0);
+        let symbol = add_or_again(rt, &mut document, 1);
+        for _ in 0..MANY {
+            let place = repeat_or_again(rt, &mut document, symbol);
+            append_or_again(rt, &mut document, page, place);
+        }
     }
 }
 
 #[test]
 fn what_lacks_memory_changes_no_place(rt: HostRuntime) {
-    let alloc = rt.alloc();
-    let store: Store<Part<u64>, LastFirst> = Store::new(alloc, 1);
-    let mut document = document_over(&rt, alloc, store);
-    append_many(&rt, &mut document);
+    play::<Part<u64>, AppendMany>(&rt, rt.alloc(), &AppendMany);
 }

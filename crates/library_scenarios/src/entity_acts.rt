@@ -1,6 +1,7 @@
 //! What is done to a table of entities, one act a line, with what must come of it.
 
-use entity_table::{Entity, EntityTable, Stale};
+use crate::expected::assert_same;
+use entity_table::{ComponentTable, Entity, EntityTable, Stale};
 use generational_box::{Location, Storage};
 use std::alloc::Global;
 use std::process::Abort;
@@ -38,6 +39,48 @@ pub(crate) fn given_at() -> Location {
     Location::new("c.rs", 1, 1)
 }
 
+/// A table of entities over a new store.
+pub(crate) fn entities_over<S: Storage<u64>>(
+    rt: &impl Abort,
+    alloc: Global,
+    store: S,
+) -> EntityTable<u64, S> {
+    assert!(rt; store.is_fresh());
+    EntityTable::new(alloc, store)
+}
+
+/// A table of components over a new store.
+pub(crate) fn components_over<C, S: Storage<C>>(
+    rt: &impl Abort,
+    alloc: Global,
+    store: S,
+) -> ComponentTable<u64, C, S> {
+    assert!(rt; store.is_fresh());
+    ComponentTable::new(alloc, store)
+}
+
+/// Spawns an entity.
+pub(crate) fn spawn<S: Storage<u64>>(
+    rt: &impl Abort,
+    table: &mut EntityTable<u64, S>,
+    number: usize,
+) -> Entity<u64> {
+    table
+        .spawn(0, spawned_at(number))
+        .map_err(|refusal| refusal.cause)
+        .expect(rt, "an entity")
+}
+
+/// Gives an entity a component.
+pub(crate) fn give<C: Drop, S: Storage<C>>(
+    rt: &impl Abort,
+    table: &mut ComponentTable<u64, C, S>,
+    entity: Entity<u64>,
+    component: C,
+) {
+    assert!(rt; table.insert(entity, component, given_at()).is_ok());
+}
+
 /// Does each line's act to a table, and sees what comes of it.
 pub(crate) fn play<S: Storage<u64>>(
     rt: &impl Abort,
@@ -47,7 +90,11 @@ pub(crate) fn play<S: Storage<u64>>(
 ) {
     let mut entities = Vec::new(alloc);
     for line in lines {
-        assert_eq!(rt; carries_out(rt, table, &mut entities, line.act), line.done);
+        assert_same(
+            rt,
+            &carries_out(rt, table, &mut entities, line.act),
+            &line.done,
+        );
         stands(rt, table, &entities, line.rows);
         shows(rt, table, &entities, line.shows);
     }
@@ -76,7 +123,7 @@ fn carries_out<S: Storage<u64>>(
             let entity = entity_at(rt, entities, number);
             let answer = table.set(entity, element);
             let answer = answer.map_err(|(back, stale)| {
-                assert_eq!(rt; back, element);
+                assert_same(rt, &back, &element);
                 stale
             });
             told(rt, answer, number)
@@ -102,7 +149,7 @@ fn told(rt: &impl Abort, answer: Result<(), Stale>, number: usize) -> bool {
     match answer {
         Ok(()) => true,
         Err(stale) => {
-            assert_eq!(rt; stale.spawned_at, spawned_at(number));
+            assert_same(rt, &stale.spawned_at, &spawned_at(number));
             false
         }
     }
@@ -115,9 +162,9 @@ fn stands<S: Storage<u64>>(
     entities: &[Entity<u64>],
     rows: &[usize],
 ) {
-    assert_eq!(rt; table.len(), rows.len());
+    assert_same(rt, &table.len(), &rows.len());
     for (entity, number) in table.entities().iter().zip(rows) {
-        assert_eq!(rt; entity.id(), entity_at(rt, entities, *number).id());
+        assert_same(rt, &entity.id(), &entity_at(rt, entities, *number).id());
     }
 }
 
@@ -128,14 +175,24 @@ fn shows<S: Storage<u64>>(
     entities: &[Entity<u64>],
     shows: &[Option<u64>],
 ) {
-    assert_eq!(rt; entities.len(), shows.len());
+    assert_same(rt, &entities.len(), &shows.len());
     let mut number: usize = 0;
     for (entity, shown) in entities.iter().zip(shows) {
-        assert_eq!(rt; table.is_alive(*entity), shown.is_some());
         let stale = Stale {
             spawned_at: spawned_at(number),
         };
-        assert_eq!(rt; table.get(*entity).copied(), shown.ok_or(stale));
+        has_element(rt, table, *entity, shown.ok_or(stale));
         number = number.wrapping_add(1);
     }
+}
+
+/// Sees what an entity shows.
+fn has_element<S: Storage<u64>>(
+    rt: &impl Abort,
+    table: &EntityTable<u64, S>,
+    entity: Entity<u64>,
+    shown: Result<u64, Stale>,
+) {
+    assert_same(rt, &table.is_alive(entity), &shown.is_ok());
+    assert_same(rt, &table.get(entity).copied(), &shown);
 }

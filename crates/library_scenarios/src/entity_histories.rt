@@ -1,24 +1,25 @@
 //! Histories of tables of entities, as lines.
 
-use crate::entity_acts::{Act, Line, play};
-use entity_table::EntityTable;
-use generational_box::{LastFirst, OldestFirst, Storage, Store};
+use crate::entity_acts::{Act, Line, entities_over, play};
+use crate::fresh::{Scene, play_both};
+use generational_box::Storage;
 use std::alloc::Global;
 use std::process::Abort;
 
-/// Plays lines in a table over an empty store, once with each order of free slots.
-fn play_both(rt: &impl Abort, alloc: Global, lines: &[Line]) {
-    let last: Store<u64, LastFirst> = Store::new(alloc, 7);
-    play_over(rt, alloc, last, lines);
-    let oldest: Store<u64, OldestFirst> = Store::new(alloc, 7);
-    play_over(rt, alloc, oldest, lines);
+/// Lines that are played in a table over a new store.
+#[derive(Drop)]
+struct Lines<'a>(&'a [Line]);
+
+impl Scene<u64> for Lines<'_> {
+    fn play<R: Abort, S: Storage<u64> + Drop>(&self, rt: &R, alloc: Global, store: S) {
+        let mut table = entities_over(rt, alloc, store);
+        play(rt, alloc, &mut table, self.0);
+    }
 }
 
-/// The same over a store that is handed in.
-fn play_over<S: Storage<u64> + Drop>(rt: &impl Abort, alloc: Global, store: S, lines: &[Line]) {
-    assert!(rt; store.is_fresh());
-    let mut table = EntityTable::new(alloc, store);
-    play(rt, alloc, &mut table, lines);
+/// Plays lines, once with each order of free slots.
+fn play_lines(rt: &impl Abort, alloc: Global, lines: &[Line]) {
+    play_both::<u64, Lines>(rt, alloc, &Lines(lines));
 }
 
 /// A line whose act is carried out.
@@ -54,7 +55,7 @@ fn the_last_row_takes_an_empty_place(rt: HostRuntime) {
         done(Act::Despawn(1), &[2], &[None, None, Some(30)]),
         done(Act::Despawn(2), &[], &[None, None, None]),
     ];
-    play_both(&rt, rt.alloc(), &lines);
+    play_lines(&rt, rt.alloc(), &lines);
 }
 
 #[test]
@@ -68,7 +69,7 @@ fn a_stale_handle_reads_no_later_entity(rt: HostRuntime) {
         stale(Act::Despawn(0), &[1], &[None, Some(2)]),
         done(Act::Set(1, 3), &[1], &[None, Some(3)]),
     ];
-    play_both(&rt, rt.alloc(), &lines);
+    play_lines(&rt, rt.alloc(), &lines);
 }
 
 #[test]
@@ -92,5 +93,5 @@ fn a_test_leaves_what_passes(rt: HostRuntime) {
         ),
         done(Act::Clear, &[], &[None, None, None, None, None]),
     ];
-    play_both(&rt, rt.alloc(), &lines);
+    play_lines(&rt, rt.alloc(), &lines);
 }

@@ -1,9 +1,11 @@
 //! Want of memory. Each test passes whichever one allocation is refused: what lacks memory changes
 //! nothing, and is tried a second time.
 
-use crate::entity_acts::{given_at, spawned_at};
+use crate::entity_acts::{components_over, entities_over, given_at, spawned_at};
+use crate::expected::assert_same;
+use crate::fresh::{SceneOfTwo, play_two};
 use entity_table::{ComponentTable, Entity, EntityTable};
-use generational_box::{LastFirst, OldestFirst, Storage, Store};
+use generational_box::Storage;
 use std::alloc::Global;
 use std::process::Abort;
 
@@ -20,8 +22,8 @@ fn spawn_or_again<S: Storage<u64>>(
     let spawned = match table.spawn(element, spawned_at(0)) {
         Ok(entity) => Ok(entity),
         Err(refusal) => {
-            assert_eq!(rt; refusal.value, element);
-            assert_eq!(rt; table.len(), before);
+            assert_same(rt, &refusal.value, &element);
+            assert_same(rt, &table.len(), &before);
             table.spawn(element, spawned_at(0))
         }
     };
@@ -40,7 +42,7 @@ fn give_or_again<S: Storage<u64>>(
     component: u64,
 ) {
     if let Err(refusal) = table.insert(entity, component, given_at()) {
-        assert_eq!(rt; refusal.value, component);
+        assert_same(rt, &refusal.value, &component);
         assert!(rt; !table.contains(entity));
         assert!(rt; table.insert(entity, component, given_at()).is_ok());
     }
@@ -48,26 +50,26 @@ fn give_or_again<S: Storage<u64>>(
 }
 
 /// Spawns entities with components, in tables over two stores.
-fn spawn_many<S: Storage<u64> + Drop, C: Storage<u64> + Drop>(
-    rt: &impl Abort,
-    alloc: Global,
-    store: S,
-    parts: C,
-) {
-    assert!(rt; store.is_fresh());
-    let mut entities = EntityTable::new(alloc, store);
-    assert!(rt; parts.is_fresh());
-    let mut components = ComponentTable::new(alloc, parts);
-    for element in 0..MANY {
-        let entity = spawn_or_again(rt, &mut entities, element);
-        give_or_again(rt, &mut components, entity, element);
+struct SpawnMany;
+
+impl SceneOfTwo<u64, u64> for SpawnMany {
+    fn play<R: Abort, S: Storage<u64> + Drop, P: Storage<u64> + Drop>(
+        &self,
+        rt: &R,
+        alloc: Global,
+        store: S,
+        parts: P,
+    ) {
+        let mut entities = entities_over(rt, alloc, store);
+        let mut components = components_over(rt, alloc, parts);
+        for element in 0..MANY {
+            let entity = spawn_or_again(rt, &mut entities, element);
+            give_or_again(rt, &mut components, entity, element);
+        }
     }
 }
 
 #[test]
 fn what_lacks_memory_changes_nothing(rt: HostRuntime) {
-    let alloc = rt.alloc();
-    let store: Store<u64, LastFirst> = Store::new(alloc, 1);
-    let parts: Store<u64, OldestFirst> = Store::new(alloc, 2);
-    spawn_many(&rt, alloc, store, parts);
+    play_two::<u64, u64, SpawnMany>(&rt, rt.alloc(), &SpawnMany);
 }

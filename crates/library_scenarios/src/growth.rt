@@ -1,12 +1,16 @@
 //! How the libraries' lists grow. Each test adds many things: whoever counts what it asks of the
 //! allocator, and how long it takes, finds that lists grow by leaps, and end in one pass.
 
-use crate::document_memory::{add_or_again, append_or_again, document_over};
-use crate::entity_limits::{components_over, entities_over, give, spawn};
-use crate::session_limits::{log_in, put, sessions_over};
-use crate::tree_memory::{child_or_again, remove_or_again, root_or_again, tree_over};
+use crate::document_acts::document_over;
+use crate::document_memory::{add_or_again, append_or_again};
+use crate::entity_acts::{components_over, entities_over, give, spawn};
+use crate::fresh::{Scene, SceneOfTwo, play, play_two};
+use crate::session_acts::sessions_over;
+use crate::session_limits::{log_in, put};
+use crate::tree_acts::tree_over;
+use crate::tree_memory::{child_or_again, remove_or_again, root_or_again};
 use document_tree::Part;
-use generational_box::{Storage, Store, UnsyncStorage};
+use generational_box::Storage;
 use std::alloc::Global;
 use std::process::Abort;
 
@@ -17,88 +21,103 @@ const MANY: u64 = 20_000;
 const ENTRIES: u64 = 100_000;
 
 /// Spawns entities, each with a component.
-fn spawn_all<S: Storage<u64> + Drop, C: Storage<u64> + Drop>(
-    rt: &impl Abort,
-    alloc: Global,
-    store: S,
-    parts: C,
-) {
-    let mut entities = entities_over(rt, alloc, store);
-    let mut components = components_over(rt, alloc, parts);
-    for component in 0..MANY {
-        let entity = spawn(rt, &mut entities, 0);
-        give(rt, &mut components, entity, component);
+struct SpawnAll;
+
+impl SceneOfTwo<u64, u64> for SpawnAll {
+    fn play<R: Abort, S: Storage<u64> + Drop, P: Storage<u64> + Drop>(
+        &self,
+        rt: &R,
+        alloc: Global,
+        store: S,
+        parts: P,
+    ) {
+        let mut entities = entities_over(rt, alloc, store);
+        let mut components = components_over(rt, alloc, parts);
+        for component in 0..MANY {
+            let entity = spawn(rt, &mut entities, 0);
+            give(rt, &mut components, entity, component);
+        }
     }
 }
 
 #[test]
 fn entities(rt: HostRuntime) {
-    let store: UnsyncStorage<u64> = Store::new(rt.alloc(), 1);
-    let parts: UnsyncStorage<u64> = Store::new(rt.alloc(), 2);
-    spawn_all(&rt, rt.alloc(), store, parts);
+    play_two::<u64, u64, SpawnAll>(&rt, rt.alloc(), &SpawnAll);
 }
 
 /// Begins sessions. Each login looks at all of them.
-fn log_in_all<S: Storage<u64> + Drop>(rt: &impl Abort, alloc: Global, store: S) {
-    let mut table = sessions_over(rt, alloc, store);
-    for id in 0..MANY {
-        log_in(rt, &mut table, id);
+struct LogInAll;
+
+impl Scene<u64> for LogInAll {
+    fn play<R: Abort, S: Storage<u64> + Drop>(&self, rt: &R, alloc: Global, store: S) {
+        let mut table = sessions_over(rt, alloc, store);
+        for id in 0..MANY {
+            log_in(rt, &mut table, id);
+        }
+        let _left = table.finish();
     }
-    let _left = table.finish();
 }
 
 #[test]
 fn logins(rt: HostRuntime) {
-    let store: UnsyncStorage<u64> = Store::new(rt.alloc(), 1);
-    log_in_all(&rt, rt.alloc(), store);
+    play::<u64, LogInAll>(&rt, rt.alloc(), &LogInAll);
 }
 
 /// A session that keeps many values, and ends.
-fn keep_all<S: Storage<u64> + Drop>(rt: &impl Abort, alloc: Global, store: S) {
-    let mut table = sessions_over(rt, alloc, store);
-    log_in(rt, &mut table, 1);
-    for value in 0..ENTRIES {
-        put(rt, &mut table, 1, value);
+struct KeepAll;
+
+impl Scene<u64> for KeepAll {
+    fn play<R: Abort, S: Storage<u64> + Drop>(&self, rt: &R, alloc: Global, store: S) {
+        let mut table = sessions_over(rt, alloc, store);
+        log_in(rt, &mut table, 1);
+        for value in 0..ENTRIES {
+            put(rt, &mut table, 1, value);
+        }
+        assert!(rt; table.logout(1));
+        let _left = table.finish();
     }
-    assert!(rt; table.logout(1));
-    let _left = table.finish();
 }
 
 #[test]
 fn entries(rt: HostRuntime) {
-    let store: UnsyncStorage<u64> = Store::new(rt.alloc(), 1);
-    keep_all(&rt, rt.alloc(), store);
+    play::<u64, KeepAll>(&rt, rt.alloc(), &KeepAll);
 }
 
 /// A root with many children, which are removed with it.
-fn add_and_remove<S: Storage<u64> + Drop>(rt: &impl Abort, alloc: Global, store: S) {
-    let mut tree = tree_over(rt, alloc, store);
-    let root = root_or_again(rt, &mut tree);
-    for value in 0..MANY {
-        child_or_again(rt, &mut tree, root, value);
+struct AddAndRemove;
+
+impl Scene<u64> for AddAndRemove {
+    fn play<R: Abort, S: Storage<u64> + Drop>(&self, rt: &R, alloc: Global, store: S) {
+        let mut tree = tree_over(rt, alloc, store);
+        let root = root_or_again(rt, &mut tree);
+        for value in 0..MANY {
+            child_or_again(rt, &mut tree, root, value);
+        }
+        remove_or_again(rt, &mut tree, root);
     }
-    remove_or_again(rt, &mut tree, root);
 }
 
 #[test]
 fn children(rt: HostRuntime) {
-    let store: UnsyncStorage<u64> = Store::new(rt.alloc(), 1);
-    add_and_remove(&rt, rt.alloc(), store);
+    play::<u64, AddAndRemove>(&rt, rt.alloc(), &AddAndRemove);
 }
 
 /// A page with many parts below it, and its outline.
-fn append_all<S: Storage<Part<u64>> + Drop>(rt: &impl Abort, alloc: Global, store: S) {
-    let mut document = document_over(rt, alloc, store);
-    let page = add_or_again(rt, &mut document, 0);
-    for content in 0..MANY {
-        let part = add_or_again(rt, &mut document, content);
-        append_or_again(rt, &mut document, page, part);
+struct AppendAll;
+
+impl Scene<Part<u64>> for AppendAll {
+    fn play<R: Abort, S: Storage<Part<u64>> + Drop>(&self, rt: &R, alloc: Global, store: S) {
+        let mut document = document_over(rt, alloc, store);
+        let page = add_or_again(rt, &mut document, 0);
+        for content in 0..MANY {
+            let part = add_or_again(rt, &mut document, content);
+            append_or_again(rt, &mut document, page, part);
+        }
+        assert!(rt; document.outline(page, 30_000).is_ok());
     }
-    assert!(rt; document.outline(page, 30_000).is_ok());
 }
 
 #[test]
 fn parts(rt: HostRuntime) {
-    let store: UnsyncStorage<Part<u64>> = Store::new(rt.alloc(), 1);
-    append_all(&rt, rt.alloc(), store);
+    play::<Part<u64>, AppendAll>(&rt, rt.alloc(), &AppendAll);
 }

@@ -3,6 +3,8 @@
 #![tactic(auto)]
 
 #[cfg(test)]
+mod counted;
+#[cfg(test)]
 mod document_acts;
 #[cfg(test)]
 mod document_histories;
@@ -20,6 +22,8 @@ mod entity_limits;
 mod entity_memory;
 #[cfg(test)]
 mod expected;
+#[cfg(test)]
+mod fresh;
 #[cfg(test)]
 mod growth;
 #[cfg(test)]

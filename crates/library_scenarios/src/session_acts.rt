@@ -55,6 +55,16 @@ pub(crate) fn put_at(number: usize) -> Location {
     Location::new("p.rs", u32::try_from(number).unwrap_or(0), 1)
 }
 
+/// A table of sessions over a new store.
+pub(crate) fn sessions_over<T, S: Storage<T>>(
+    rt: &impl Abort,
+    alloc: Global,
+    store: S,
+) -> SessionTable<T, S> {
+    assert!(rt; store.is_fresh());
+    SessionTable::new(alloc, store)
+}
+
 /// Does each line's act to a table, and sees what comes of it.
 pub(crate) fn play<S: Storage<u64>>(
     rt: &impl Abort,

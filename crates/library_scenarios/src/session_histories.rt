@@ -1,26 +1,27 @@
 //! Histories of tables of sessions, as lines.
 
-use crate::session_acts::{Act, Line, Reply, play};
-use generational_box::{LastFirst, OldestFirst, Storage, Store};
-use session_table::SessionTable;
+use crate::fresh::{Scene, play_both};
+use crate::session_acts::{Act, Line, Reply, play, sessions_over};
+use generational_box::Storage;
 use std::alloc::Global;
 use std::process::Abort;
 
-/// Plays lines in a table over an empty store, once with each order of free slots.
-fn play_both(rt: &impl Abort, alloc: Global, lines: &[Line]) {
-    let last: Store<u64, LastFirst> = Store::new(alloc, 7);
-    play_over(rt, alloc, last, lines);
-    let oldest: Store<u64, OldestFirst> = Store::new(alloc, 7);
-    play_over(rt, alloc, oldest, lines);
+/// Lines that are played in a table over a new store. Nothing is left in the store.
+#[derive(Drop)]
+struct Lines<'a>(&'a [Line]);
+
+impl Scene<u64> for Lines<'_> {
+    fn play<R: Abort, S: Storage<u64> + Drop>(&self, rt: &R, alloc: Global, store: S) {
+        let mut table = sessions_over(rt, alloc, store);
+        play(rt, alloc, &mut table, self.0);
+        let left = table.finish();
+        assert!(rt; left.free() == left.slots());
+    }
 }
 
-/// The same over a store that is handed in, in which nothing is left.
-fn play_over<S: Storage<u64> + Drop>(rt: &impl Abort, alloc: Global, store: S, lines: &[Line]) {
-    assert!(rt; store.is_fresh());
-    let mut table = SessionTable::new(alloc, store);
-    play(rt, alloc, &mut table, lines);
-    let left = table.finish();
-    assert!(rt; left.free() == left.slots());
+/// Plays lines, once with each order of free slots.
+fn play_lines(rt: &impl Abort, alloc: Global, lines: &[Line]) {
+    play_both::<u64, Lines>(rt, alloc, &Lines(lines));
 }
 
 /// A line, with what must come of it.
@@ -83,7 +84,7 @@ fn a_logout_ends_its_own_values(rt: HostRuntime) {
         ),
         line(Act::Logout(2), Reply::Done, &[], &[None, None, None]),
     ];
-    play_both(&rt, rt.alloc(), &lines);
+    play_lines(&rt, rt.alloc(), &lines);
 }
 
 #[test]
@@ -98,7 +99,7 @@ fn a_stale_entry_reads_no_later_value(rt: HostRuntime) {
         line(Act::Put(3, 2), Reply::Done, &[(3, 4)], &[None, Some(2)]),
         line(Act::Set(0, 8), Reply::Stale, &[(3, 4)], &[None, Some(2)]),
     ];
-    play_both(&rt, rt.alloc(), &lines);
+    play_lines(&rt, rt.alloc(), &lines);
 }
 
 // A clock may go back: the time of the last call counts, whichever is later.
@@ -114,7 +115,7 @@ fn a_time_goes_back(rt: HostRuntime) {
         line(Act::Expire(12), Reply::Ended(1), &[(2, 12)], &[]),
         line(Act::Expire(13), Reply::Ended(1), &[], &[]),
     ];
-    play_both(&rt, rt.alloc(), &lines);
+    play_lines(&rt, rt.alloc(), &lines);
 }
 
 #[test]
@@ -173,5 +174,5 @@ fn old_sessions_expire(rt: HostRuntime) {
         ),
         line(Act::Expire(40), Reply::Ended(2), &[], &[None, None, None]),
     ];
-    play_both(&rt, rt.alloc(), &lines);
+    play_lines(&rt, rt.alloc(), &lines);
 }

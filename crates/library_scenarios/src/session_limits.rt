@@ -1,26 +1,14 @@
 //! Tables of sessions whose store has given all its tickets, values that are let go, and callers.
 
+use crate::counted::{Counted, another, assert_count, new_counted};
 use crate::expected::assert_same;
-use crate::session_acts::put_at;
-use generational_box::{Numbers, Storage, Store, StoreError, UnsyncStorage};
+use crate::fresh::{Scene, play, play_at_ticket};
+use crate::session_acts::{put_at, sessions_over};
+use generational_box::{Storage, StoreError};
 use library_uses::sessions::{one_visit, seen_beside, told_after_logout};
 use session_table::{Entry, LoginError, SessionTable, Stale};
 use std::alloc::Global;
 use std::process::Abort;
-use std::rc::Rc;
-
-/// A value that is counted by its clones.
-type Counted = Rc<u64>;
-
-/// A table of sessions over a store.
-pub(crate) fn sessions_over<T, S: Storage<T>>(
-    rt: &impl Abort,
-    alloc: Global,
-    store: S,
-) -> SessionTable<T, S> {
-    assert!(rt; store.is_fresh());
-    SessionTable::new(alloc, store)
-}
 
 /// Begins a session.
 pub(crate) fn log_in<T, S: Storage<T>>(rt: &impl Abort, table: &mut SessionTable<T, S>, id: u64) {
@@ -41,42 +29,25 @@ pub(crate) fn put<T: Drop, S: Storage<T>>(
 }
 
 /// A session whose value is looked at and set, and an id for which no login is left.
-fn tickets_are_used_up<S: Storage<u64>>(rt: &impl Abort, table: &mut SessionTable<u64, S>) {
-    log_in(rt, table, 1);
-    let entry = put(rt, table, 1, 5);
-    let short = StoreError::NumbersExhausted;
-    assert_same(rt, &table.login(2, 0), &Err(LoginError::Store(short)));
-    assert!(rt; table.set(entry, 6).is_ok());
-    assert_same(rt, &table.get(entry).copied().ok(), &Some(6));
-    assert!(rt; table.logout(1));
+struct TicketsAreUsedUp;
+
+impl Scene<u64> for TicketsAreUsedUp {
+    fn play<R: Abort, S: Storage<u64> + Drop>(&self, rt: &R, alloc: Global, store: S) {
+        let mut table = sessions_over(rt, alloc, store);
+        log_in(rt, &mut table, 1);
+        let entry = put(rt, &mut table, 1, 5);
+        let short = StoreError::NumbersExhausted;
+        assert_same(rt, &table.login(2, 0), &Err(LoginError::Store(short)));
+        assert!(rt; table.set(entry, 6).is_ok());
+        assert_same(rt, &table.get(entry).copied().ok(), &Some(6));
+        assert!(rt; table.logout(1));
+        let _left = table.finish();
+    }
 }
 
 #[test]
 fn logins_are_refused_where_no_ticket_is_left(rt: HostRuntime) {
-    let alloc = rt.alloc();
-    let numbers = Numbers {
-        generation: 1,
-        ticket: 0xffff_ffff_ffff_fffe,
-    };
-    let store: UnsyncStorage<u64> = Store::new_at(alloc, 1, numbers);
-    let mut table = sessions_over(&rt, alloc, store);
-    tickets_are_used_up(&rt, &mut table);
-    let _left = table.finish();
-}
-
-/// A value of which the test keeps a clone.
-fn counted(rt: &impl Abort, alloc: Global) -> Counted {
-    Rc::new(alloc, 5).map_err(|_| "memory").expect(rt, "memory")
-}
-
-/// Another clone of a value.
-fn another(rt: &impl Abort, value: &Counted) -> Counted {
-    value.clone().expect(rt, "a clone")
-}
-
-/// Asserts how many clones of a value there are.
-fn assert_count(rt: &impl Abort, value: &Counted, count: usize) {
-    assert_same(rt, &Rc::strong_count(value), &count);
+    play_at_ticket::<u64, TicketsAreUsedUp>(&rt, rt.alloc(), u64::MAX - 1, &TicketsAreUsedUp);
 }
 
 /// Sets a value, which lets the old one go.
@@ -109,17 +80,24 @@ fn values_go<S: Storage<Counted>>(
     assert_count(rt, first, 2);
 }
 
+/// The same of values of which the test keeps a clone each. The table's end leaves no other.
+struct ValuesEnd;
+
+impl Scene<Counted> for ValuesEnd {
+    fn play<R: Abort, S: Storage<Counted> + Drop>(&self, rt: &R, alloc: Global, store: S) {
+        let mut table = sessions_over(rt, alloc, store);
+        let first = new_counted(rt, alloc);
+        let second = new_counted(rt, alloc);
+        values_go(rt, &mut table, &first, &second);
+        let _left = table.finish();
+        assert_count(rt, &first, 1);
+        assert_count(rt, &second, 1);
+    }
+}
+
 #[test]
 fn values_are_let_go_with_their_sessions(rt: HostRuntime) {
-    let alloc = rt.alloc();
-    let store: UnsyncStorage<Counted> = Store::new(alloc, 1);
-    let mut table = sessions_over(&rt, alloc, store);
-    let first = counted(&rt, alloc);
-    let second = counted(&rt, alloc);
-    values_go(&rt, &mut table, &first, &second);
-    let _left = table.finish();
-    assert_count(&rt, &first, 1);
-    assert_count(&rt, &second, 1);
+    play::<Counted, ValuesEnd>(&rt, rt.alloc(), &ValuesEnd);
 }
 
 /// Visits of ids with sessions and without.
@@ -147,12 +125,19 @@ fn callers_are_told<S: Storage<u64>>(rt: &impl Abort, table: &mut SessionTable<u
     assert_same(rt, &seen_beside(table, 1, 2, second), &Ok(8));
 }
 
+/// Both, in one table.
+struct CallersAnswer;
+
+impl Scene<u64> for CallersAnswer {
+    fn play<R: Abort, S: Storage<u64> + Drop>(&self, rt: &R, alloc: Global, store: S) {
+        let mut table = sessions_over(rt, alloc, store);
+        visits_leave_no_session(rt, &mut table);
+        callers_are_told(rt, &mut table);
+        let _left = table.finish();
+    }
+}
+
 #[test]
 fn callers_of_sessions(rt: HostRuntime) {
-    let alloc = rt.alloc();
-    let store: UnsyncStorage<u64> = Store::new(alloc, 1);
-    let mut table = sessions_over(&rt, alloc, store);
-    visits_leave_no_session(&rt, &mut table);
-    callers_are_told(&rt, &mut table);
-    let _left = table.finish();
+    play::<u64, CallersAnswer>(&rt, rt.alloc(), &CallersAnswer);
 }

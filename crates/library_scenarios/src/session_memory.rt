@@ -2,8 +2,9 @@
 //! nothing, and is tried a second time.
 
 use crate::expected::assert_same;
-use crate::session_acts::put_at;
-use generational_box::{LastFirst, OldestFirst, Storage, Store, StoreError};
+use crate::fresh::{Scene, play_both};
+use crate::session_acts::{put_at, sessions_over};
+use generational_box::{Storage, StoreError};
 use session_table::{LoginError, PutError, SessionTable};
 use std::alloc::Global;
 use std::process::Abort;
@@ -47,25 +48,24 @@ fn put_or_again<S: Storage<u64>>(
 }
 
 /// Begins sessions that keep values, and ends half of them.
-fn begin_many<S: Storage<u64> + Drop>(rt: &impl Abort, alloc: Global, store: S) {
-    assert!(rt; store.is_fresh());
-    let mut table = SessionTable::new(alloc, store);
-    for id in 0..MANY {
-        log_in_or_again(rt, &mut table, id);
-        for value in 0..MANY {
-            put_or_again(rt, &mut table, id, value);
+struct BeginMany;
+
+impl Scene<u64> for BeginMany {
+    fn play<R: Abort, S: Storage<u64> + Drop>(&self, rt: &R, alloc: Global, store: S) {
+        let mut table = sessions_over(rt, alloc, store);
+        for id in 0..MANY {
+            log_in_or_again(rt, &mut table, id);
+            for value in 0..MANY {
+                put_or_again(rt, &mut table, id, value);
+            }
         }
+        assert_same(rt, &table.expire(MANY / 2), &5);
+        let left = table.finish();
+        assert!(rt; left.free() == left.slots());
     }
-    assert_same(rt, &table.expire(MANY / 2), &5);
-    let left = table.finish();
-    assert!(rt; left.free() == left.slots());
 }
 
 #[test]
 fn what_lacks_memory_changes_nothing(rt: HostRuntime) {
-    let alloc = rt.alloc();
-    let last: Store<u64, LastFirst> = Store::new(alloc, 1);
-    begin_many(&rt, alloc, last);
-    let oldest: Store<u64, OldestFirst> = Store::new(alloc, 2);
-    begin_many(&rt, alloc, oldest);
+    play_both::<u64, BeginMany>(&rt, rt.alloc(), &BeginMany);
 }

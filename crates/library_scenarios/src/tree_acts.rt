@@ -45,6 +45,16 @@ pub(crate) fn made_at(number: usize) -> Location {
     Location::new("t.rs", u32::try_from(number).unwrap_or(0), 1)
 }
 
+/// A tree over a new store.
+pub(crate) fn tree_over<T, S: Storage<T>>(
+    rt: &impl Abort,
+    alloc: Global,
+    store: S,
+) -> SceneTree<T, S> {
+    assert!(rt; store.is_fresh());
+    SceneTree::new(alloc, store)
+}
+
 /// Does each line's act to a tree, and sees what comes of it.
 pub(crate) fn play<S: Storage<u64>>(
     rt: &impl Abort,

@@ -1,24 +1,25 @@
 //! Histories of trees, as lines.
 
-use crate::tree_acts::{Act, Line, Reply, play};
-use generational_box::{LastFirst, OldestFirst, Storage, Store};
-use scene_tree::SceneTree;
+use crate::fresh::{Scene, play_both};
+use crate::tree_acts::{Act, Line, Reply, play, tree_over};
+use generational_box::Storage;
 use std::alloc::Global;
 use std::process::Abort;
 
-/// Plays lines in a tree over an empty store, once with each order of free slots.
-fn play_both(rt: &impl Abort, alloc: Global, lines: &[Line]) {
-    let last: Store<u64, LastFirst> = Store::new(alloc, 7);
-    play_over(rt, alloc, last, lines);
-    let oldest: Store<u64, OldestFirst> = Store::new(alloc, 7);
-    play_over(rt, alloc, oldest, lines);
+/// Lines that are played in a tree over a new store.
+#[derive(Drop)]
+struct Lines<'a>(&'a [Line]);
+
+impl Scene<u64> for Lines<'_> {
+    fn play<R: Abort, S: Storage<u64> + Drop>(&self, rt: &R, alloc: Global, store: S) {
+        let mut tree = tree_over(rt, alloc, store);
+        play(rt, alloc, &mut tree, self.0);
+    }
 }
 
-/// The same over a store that is handed in.
-fn play_over<S: Storage<u64> + Drop>(rt: &impl Abort, alloc: Global, store: S, lines: &[Line]) {
-    assert!(rt; store.is_fresh());
-    let mut tree = SceneTree::new(alloc, store);
-    play(rt, alloc, &mut tree, lines);
+/// Plays lines, once with each order of free slots.
+fn play_lines(rt: &impl Abort, alloc: Global, lines: &[Line]) {
+    play_both::<u64, Lines>(rt, alloc, &Lines(lines));
 }
 
 /// A line whose act is carried out, and removes nothing.
@@ -137,7 +138,7 @@ fn a_subtree_goes_level_by_level(rt: HostRuntime) {
         ),
         removed(0, &[0, 3, 4], &[None, None, None, None, None], &[]),
     ];
-    play_both(&rt, rt.alloc(), &lines);
+    play_lines(&rt, rt.alloc(), &lines);
 }
 
 #[test]
@@ -206,7 +207,7 @@ fn a_node_moves_with_all_below_it(rt: HostRuntime) {
             &[],
         ),
     ];
-    play_both(&rt, rt.alloc(), &lines);
+    play_lines(&rt, rt.alloc(), &lines);
 }
 
 // Five children, of which the one in the middle goes, then the first, then the last.
@@ -297,7 +298,7 @@ fn children_that_are_left_keep_their_order(rt: HostRuntime) {
             &[2, 4],
         ),
     ];
-    play_both(&rt, rt.alloc(), &lines);
+    play_lines(&rt, rt.alloc(), &lines);
 }
 
 #[test]
@@ -332,5 +333,5 @@ fn a_node_moves_behind_its_siblings(rt: HostRuntime) {
             &[1],
         ),
     ];
-    play_both(&rt, rt.alloc(), &lines);
+    play_lines(&rt, rt.alloc(), &lines);
 }

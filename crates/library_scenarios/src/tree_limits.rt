@@ -1,19 +1,14 @@
 //! Trees of values that are let go, trees whose store has given all its tickets, and callers of trees.
 
+use crate::counted::{Counted, another, assert_count, new_counted};
 use crate::expected::assert_same;
-use crate::tree_acts::made_at;
-use generational_box::{Numbers, Storage, Store, UnsyncStorage};
+use crate::fresh::{Scene, play, play_at_ticket};
+use crate::tree_acts::{made_at, tree_over};
+use generational_box::Storage;
 use library_uses::trees::{moved_round, told_after};
 use scene_tree::{Node, SceneTree, TreeError};
 use std::alloc::Global;
 use std::process::Abort;
-use std::rc::Rc;
-
-/// A tree over a store.
-fn tree_over<T, S: Storage<T>>(rt: &impl Abort, alloc: Global, store: S) -> SceneTree<T, S> {
-    assert!(rt; store.is_fresh());
-    SceneTree::new(alloc, store)
-}
 
 /// A root with a value.
 fn root<T: Drop, S: Storage<T>>(rt: &impl Abort, tree: &mut SceneTree<T, S>, value: T) -> Node<T> {
@@ -34,39 +29,49 @@ fn child<T: Drop, S: Storage<T>>(
         .expect(rt, "a child")
 }
 
-/// Another clone of a counted value.
-fn another(rt: &impl Abort, value: &Rc<u32>) -> Rc<u32> {
-    value.clone().expect(rt, "a clone")
+/// Removes a node with all below it.
+fn remove<S: Storage<Counted>>(
+    rt: &impl Abort,
+    tree: &mut SceneTree<Counted, S>,
+    node: Node<Counted>,
+) {
+    assert!(rt; tree.remove_subtree(node).is_ok());
+}
+
+/// Sets a node's value, which lets the old one go.
+fn set<S: Storage<Counted>>(
+    rt: &impl Abort,
+    tree: &mut SceneTree<Counted, S>,
+    node: Node<Counted>,
+    value: Counted,
+) {
+    assert!(rt; tree.set(node, value).is_ok());
 }
 
 /// Values of a root and its children, which a removal lets go.
-fn values_go<S: Storage<Rc<u32>>>(
-    rt: &impl Abort,
-    tree: &mut SceneTree<Rc<u32>, S>,
-    value: &Rc<u32>,
-) {
-    let top = root(rt, tree, another(rt, value));
-    let below = child(rt, tree, top, another(rt, value));
-    child(rt, tree, below, another(rt, value));
-    child(rt, tree, top, another(rt, value));
-    assert_same(rt, &Rc::strong_count(value), &5);
-    assert!(rt; tree.set(top, another(rt, value)).is_ok());
-    assert_same(rt, &Rc::strong_count(value), &5);
-    assert!(rt; tree.remove_subtree(below).is_ok());
-    assert_same(rt, &Rc::strong_count(value), &3);
-    assert!(rt; tree.remove_subtree(top).is_ok());
-    assert_same(rt, &Rc::strong_count(value), &1);
+struct ValuesGo;
+
+impl Scene<Counted> for ValuesGo {
+    fn play<R: Abort, S: Storage<Counted> + Drop>(&self, rt: &R, alloc: Global, store: S) {
+        let value = new_counted(rt, alloc);
+        let mut tree = tree_over(rt, alloc, store);
+        let top = root(rt, &mut tree, another(rt, &value));
+        let below = child(rt, &mut tree, top, another(rt, &value));
+        child(rt, &mut tree, below, another(rt, &value));
+        child(rt, &mut tree, top, another(rt, &value));
+        assert_count(rt, &value, 5);
+        set(rt, &mut tree, top, another(rt, &value));
+        assert_count(rt, &value, 5);
+        remove(rt, &mut tree, below);
+        assert_count(rt, &value, 3);
+        remove(rt, &mut tree, top);
+        assert_count(rt, &value, 1);
+    }
 }
 
 #[test]
 fn a_removal_lets_its_values_go(rt: HostRuntime) {
-    let alloc = rt.alloc();
-    let value = Rc::new(alloc, 5)
-        .map_err(|_| "memory")
-        .expect(&rt, "memory");
-    let store: UnsyncStorage<Rc<u32>> = Store::new(alloc, 1);
-    let mut tree = tree_over(&rt, alloc, store);
-    values_go(&rt, &mut tree, &value);
+    play::<Counted, ValuesGo>(&rt, rt.alloc(), &ValuesGo);
 }
 
 /// A node that goes, and one that comes.
@@ -83,38 +88,40 @@ fn stale_is_told<S: Storage<u64>>(rt: &impl Abort, tree: &mut SceneTree<u64, S>)
 fn no_cycle_is_made<S: Storage<u64>>(rt: &impl Abort, tree: &mut SceneTree<u64, S>) {
     let first = root(rt, tree, 1);
     let second = root(rt, tree, 2);
-    assert_same(
-        rt,
-        &moved_round(tree, first, second),
-        &Err(TreeError::Cycle),
-    );
+    let moved = moved_round(tree, first, second);
+    assert_same(rt, &moved, &Err(TreeError::Cycle));
+}
+
+/// Both, in one tree.
+struct CallersAreTold;
+
+impl Scene<u64> for CallersAreTold {
+    fn play<R: Abort, S: Storage<u64> + Drop>(&self, rt: &R, alloc: Global, store: S) {
+        let mut tree = tree_over(rt, alloc, store);
+        stale_is_told(rt, &mut tree);
+        no_cycle_is_made(rt, &mut tree);
+    }
 }
 
 #[test]
 fn callers_of_trees_are_told(rt: HostRuntime) {
-    let alloc = rt.alloc();
-    let store: UnsyncStorage<u64> = Store::new(alloc, 1);
-    let mut tree = tree_over(&rt, alloc, store);
-    stale_is_told(&rt, &mut tree);
-    no_cycle_is_made(&rt, &mut tree);
+    play::<u64, CallersAreTold>(&rt, rt.alloc(), &CallersAreTold);
 }
 
 /// A node that is looked at, set and removed, where no ticket is left.
-fn a_node_goes<S: Storage<u64>>(rt: &impl Abort, tree: &mut SceneTree<u64, S>) {
-    let node = root(rt, tree, 0);
-    assert!(rt; tree.set(node, 5).is_ok());
-    assert_same(rt, &tree.get(node).copied().ok(), &Some(5));
-    assert!(rt; tree.remove_subtree(node).is_ok());
+struct ANodeGoes;
+
+impl Scene<u64> for ANodeGoes {
+    fn play<R: Abort, S: Storage<u64> + Drop>(&self, rt: &R, alloc: Global, store: S) {
+        let mut tree = tree_over(rt, alloc, store);
+        let node = root(rt, &mut tree, 0);
+        assert!(rt; tree.set(node, 5).is_ok());
+        assert_same(rt, &tree.get(node).copied().ok(), &Some(5));
+        assert!(rt; tree.remove_subtree(node).is_ok());
+    }
 }
 
 #[test]
 fn no_call_of_a_tree_takes_a_ticket(rt: HostRuntime) {
-    let alloc = rt.alloc();
-    let numbers = Numbers {
-        generation: 1,
-        ticket: 0xffff_ffff_ffff_ffff,
-    };
-    let store: UnsyncStorage<u64> = Store::new_at(alloc, 1, numbers);
-    let mut tree = tree_over(&rt, alloc, store);
-    a_node_goes(&rt, &mut tree);
+    play_at_ticket::<u64, ANodeGoes>(&rt, rt.alloc(), u64::MAX, &ANodeGoes);
 }

@@ -2,8 +2,9 @@
 //! changes nothing, and is tried again.
 
 use crate::expected::assert_same;
-use crate::tree_acts::{are_nodes, made_at};
-use generational_box::{LastFirst, Storage, Store, StoreError};
+use crate::fresh::{Scene, play};
+use crate::tree_acts::{are_nodes, made_at, tree_over};
+use generational_box::{Storage, StoreError};
 use scene_tree::{Node, SceneTree, TreeError};
 use std::alloc::Global;
 use std::process::Abort;
@@ -89,38 +90,26 @@ pub(crate) fn remove_or_again<S: Storage<u64>>(
 }
 
 /// Makes children, moves them all below one of them, and removes that.
-fn grow_and_cut<S: Storage<u64>>(rt: &impl Abort, tree: &mut SceneTree<u64, S>) {
-    let root = root_or_again(rt, tree);
-    let first = child_or_again(rt, tree, root, 0);
-    for value in 1..MANY {
-        let child = child_or_again(rt, tree, root, value);
-        move_or_again(rt, tree, child, first);
-    }
-    are_nodes(
-        rt,
-        &[first],
-        tree.children(root).expect(rt, "a live node"),
-        &[0],
-    );
-    let list = remove_or_again(rt, tree, first);
-    assert_same(rt, &(list.len() as u64), &MANY);
-    assert_same(rt, &count_of(rt, tree, root), &0);
-}
+struct GrowAndCut;
 
-/// A tree over a store.
-pub(crate) fn tree_over<S: Storage<u64>>(
-    rt: &impl Abort,
-    alloc: Global,
-    store: S,
-) -> SceneTree<u64, S> {
-    assert!(rt; store.is_fresh());
-    SceneTree::new(alloc, store)
+impl Scene<u64> for GrowAndCut {
+    fn play<R: Abort, S: Storage<u64> + Drop>(&self, rt: &R, alloc: Global, store: S) {
+        let mut tree = tree_over(rt, alloc, store);
+        let root = root_or_again(rt, &mut tree);
+        let first = child_or_again(rt, &mut tree, root, 0);
+        for value in 1..MANY {
+            let child = child_or_again(rt, &mut tree, root, value);
+            move_or_again(rt, &mut tree, child, first);
+        }
+        let children = tree.children(root).expect(rt, "a live node");
+        are_nodes(rt, &[first], children, &[0]);
+        let list = remove_or_again(rt, &mut tree, first);
+        assert_same(rt, &(list.len() as u64), &MANY);
+        assert_same(rt, &count_of(rt, &tree, root), &0);
+    }
 }
 
 #[test]
 fn trees_that_lack_memory_stay(rt: HostRuntime) {
-    let alloc = rt.alloc();
-    let store: Store<u64, LastFirst> = Store::new(alloc, 1);
-    let mut tree = tree_over(&rt, alloc, store);
-    grow_and_cut(&rt, &mut tree);
+    play::<u64, GrowAndCut>(&rt, rt.alloc(), &GrowAndCut);
 }
