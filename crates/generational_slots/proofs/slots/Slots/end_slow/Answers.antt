@@ -1,7 +1,7 @@
 -- The end of a name, unless a borrow stands in the way.
-use Rattle.generational_slots.proofs.{ap, cell_seen, ending_hinders, ending_in, false, held_within}
-use Rattle.generational_slots.proofs.{hindrance_to, is_none, name_of_cell, refl, sym, true}
-use Rattle.generational_slots.proofs.{write_refusal, [], ◌∙◌, ◌∷◌, ◌≡◌}
+use Rattle.generational_slots.proofs.{cell_seen, ending_hinders, ending_in, held_within}
+use Rattle.generational_slots.proofs.{name_of_cell, refl, sym}
+use Rattle.generational_slots.proofs.{◌∙◌}
 use Rattle.generational_slots.proofs.slots.Slots.end_slow.Goals as goal
 use goal.{in-Some+else-not-is_unborrowed, in_default}
 
