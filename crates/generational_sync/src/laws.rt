@@ -46,8 +46,7 @@ pub fn recorded_calls_are_lawful<T>()
     ensures step { (S R : State T) (action : Action T) (call : StepCall) (answer : Answer T)
         (reply : StepReply) →
         IsSound (plain S) → recorded_as action ≡ Some call → Meets S action answer R →
-        reply_of R action answer ≡ Some reply →
-        plain_step (plain S) call reply ≡ Some (plain R) }
+        reply_of R action answer ≡ Some reply → plain_step (plain S) call reply ≡ Some (plain R) }
 {
     laws::fresh_states_are_plain::<T>();
     laws::plain_states_step::<T>();

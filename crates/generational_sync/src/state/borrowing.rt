@@ -53,7 +53,7 @@ impl<T: Drop, const NUMBER: u64, M: Count, L: Count, C: Count, R: Count> SyncSta
         }
         let pointer = asked.pointer();
         let call = StepCall::Read(pointer, location);
-        let read = self.store.try_read(pointer, location);
+        let read = begin_read(&mut self.store, pointer, location);
         let reply = read_reply(&read);
         settle(&self.store, &mut self.log, call, reply, tally);
         read
@@ -176,6 +176,17 @@ impl<T: Drop, const NUMBER: u64, M: Count, L: Count, C: Count, R: Count> SyncSta
         settle(&self.store, &mut self.log, call, reply, tally);
         set
     }
+}
+
+// Begins a read in the store, before it is recorded.
+fn begin_read<T: Drop>(
+    store: &mut UnsyncStorage<T>,
+    asked: GenerationalPointer,
+    location: Location,
+) -> BorrowResult<GenerationalRef<T>>
+    ensures { Meets store.old.state (Read asked location) (read_answer result) store.new.state }
+{
+    store.try_read(asked, location)
 }
 
 // Sets the value that the box reaches, where no borrow stands at it.

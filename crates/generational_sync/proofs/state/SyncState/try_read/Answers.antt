@@ -11,10 +11,10 @@ settle-requires g c = (
   (
     search rules,
     answered c.self.inside.store.state (Read c.pointer-pointer.result c.args.location)
-        (read_answer c.try_read-read.result) c.self.invariant
+        (read_answer c.begin_read-read.result) c.self.invariant
         c.reserve.ensures.base c.reserve.ensures.steps c.reserve.ensures.standing refl
-        (ready_as c.self.view_is (ap (λ b. call.Read b c.args.location) c.pointer-pointer.ensures) c.requires) c.try_read-read.ensures
-        (c.read_reply-reply.ensures.reply c.try_read-read.new.self.state (Read c.pointer-pointer.result c.args.location)),
+        (ready_as c.self.view_is (ap (λ b. call.Read b c.args.location) c.pointer-pointer.ensures) c.requires) c.begin_read-read.ensures
+        (c.read_reply-reply.ensures.reply c.begin_read-read.new.store.state (Read c.pointer-pointer.result c.args.location)),
   ),
 )
 
