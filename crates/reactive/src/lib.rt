@@ -9,6 +9,7 @@
 
 mod fault;
 mod key;
+pub mod laws;
 mod look;
 mod node;
 mod nodes;

@@ -34,6 +34,8 @@ pub struct Nodes<T, R, S: Storage<Node<T, R>>> {
     pub(crate) store: S,
     // how often a source was set, a rule was put, or nodes have ended
     pub(crate) revision: u64,
+    // how often a rule has come to a value
+    pub(crate) runs: u64,
     // of each slot the place at which its node stood on a path: a hint, to find cycles at once
     pub(crate) places: Vec<usize>,
     pub(crate) marker: PhantomData<(T, R)>,
@@ -134,6 +136,7 @@ impl<T: Value + Drop, R: Rule<T>, S: Storage<Node<T, R>>> Nodes<T, R, S> {
         };
         let settled = node.settled(value, reads, self.revision);
         let _ = self.replace(key, settled);
+        self.runs = self.runs.wrapping_add(1);
     }
 
     // Whether the answers to these questions stand since a revision, from a place on.

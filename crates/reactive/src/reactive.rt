@@ -56,10 +56,16 @@ impl<T: Value + Drop, R: Rule<T>, S: Storage<Node<T, R>>> Reactive<T, R, S> {
                 alloc,
                 store,
                 revision: 1,
+                runs: 0,
                 places: Vec::new(alloc),
                 marker: PhantomData,
             },
         }
+    }
+
+    /// How often a rule has come to a value, from which a test tells what was computed. Takes no memory.
+    pub fn runs(&self) -> u64 {
+        self.nodes.runs
     }
 
     /// A source of a value. Its key is none that was ever given, and each other node's plan stays.
