@@ -3,7 +3,7 @@
 
     .ci/checkpoints.py PROGRAM
 
-PROGRAM is `shared_workload`, as `rt ci` leaves it in its crate's out/. It takes 10 million steps of each list of
+PROGRAM is `bench_shared`, as `rt ci` leaves it in its crate's out/. It takes 10 million steps of each list of
 calls, with a checkpoint after every 100,000, and may have twice the memory that it has at most in the first 200,000.
 The audit at the end answers the steps since the last checkpoint, and no others. At the end a run without checkpoints
 is found out.

@@ -3,7 +3,7 @@
 
     .ci/long_scripts.py PROGRAM TESTS
 
-PROGRAM is `boxes`, and TESTS are those of `library_scenarios`, as `rt ci` leaves them in their crates' out/.
+PROGRAM is `boxes`, and TESTS are those of `test_libraries`, as `rt ci` leaves them in their crates' out/.
 Each script is made with its replies, all of which are compared. Each has so much processor time, which is
 more than three times what it takes, and far less than it would take if a call went over all that there is:
 the readers of a cell, the records of owners, the slots, what a session holds at its end. So have those of

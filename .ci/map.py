@@ -5,9 +5,9 @@
     .ci/map.py --try             does so, and shows that pages with a wrong line are refused
     .ci/map.py --files CRATE..   prints each file of these crates with its first line, and what it uses
 
-The page has a table of the crates, those of crates.txt, and a table of each crate's sources, but for
-tests, in the order in which they are read. Each source, definition and file
-of lemmas says in its first line what it is.
+The page has the crates of crates.txt in tables, one for each kind; a crate's name tells its kind. It
+has a table of each crate's sources, but for tests, in the order in which they are read. Each source,
+definition and file of lemmas says in its first line what it is.
 """
 import os
 import re
@@ -15,9 +15,18 @@ import sys
 
 ROOT = os.path.join(os.path.dirname(os.path.abspath(__file__)), "..")
 PAGE = os.path.join(ROOT, "docs", "map.md")
-CRATES, SOURCES = "## The crates", "## In which order to read"
+SOURCES = "## In which order to read"
+# The kinds of crates, each by the heading of its table and what its names are.
+KINDS = {
+    "### What users take": r"generational_\w+|signals|reactive|\w+_table|\w+_tree",
+    "### What stores are made of": r"(store|shared)_\w+",
+    "### Programs": r"boxes(_\w+)?|sheet",
+    "### Proved callers": r"example_\w+",
+    "### Tests": r"test_\w+",
+    "### What is measured": r"bench_\w+",
+}
 # Of crates of tests the order of the sources is nobody's matter.
-TESTS = "scenarios"
+TESTS = "test_"
 # Files that only name others, or answer the goals of one function.
 PLAIN = re.compile(r"(/|^)(Lib|Answers|Invariants)\.antt$")
 
@@ -78,7 +87,7 @@ def uses_of(crate, file):
 def section(page, title):
     if f"\n{title}\n" not in page:
         raise Failure(f"the page has no section {title}")
-    return page.split(f"\n{title}\n")[1].split("\n## ")[0]
+    return re.split(r"\n###? ", page.split(f"\n{title}\n")[1])[0]
 
 
 def rows(text):
@@ -96,11 +105,28 @@ def wanted(ok, what):
         raise Failure(what)
 
 
+def kind_of(crate):
+    """The heading under which a crate stands, as its name tells."""
+    found = [title for title, words in KINDS.items() if re.fullmatch(words, crate)]
+    wanted(len(found) == 1, f"the name of {crate} tells no kind of crate")
+    return found[0]
+
+
+def compare_kinds(page):
+    """The crates of the page, each of which stands under its kind."""
+    crates = []
+    for title in KINDS:
+        for crate in (names(it[0])[0] for it in rows(section(page, title))):
+            wanted(kind_of(crate) == title, f"{crate} stands under {title}")
+            crates.append(crate)
+    return crates
+
+
 def compare(page):
-    crates = [names(it[0])[0] for it in rows(section(page, CRATES))]
+    crates = compare_kinds(page)
     wanted(sorted(crates) == sorted(all_crates()), f"the crates are {all_crates()}, and on the page {crates}")
     order = {names(it[0])[0]: names(it[1]) for it in rows(section(page, SOURCES))}
-    for crate in [it for it in crates if not it.endswith(TESTS)]:
+    for crate in [it for it in crates if not it.startswith(TESTS)]:
         on_page, there = sorted(order.get(crate, [])), sorted(sources_of(crate))
         wanted(on_page == there, f"{crate} has the sources {there}, and on the page {on_page}")
 
@@ -126,9 +152,11 @@ def print_files(crate):
 
 
 def wrong_pages(page):
-    """Pages of which a line is wrong: a crate less, one twice, a source less, one twice, one that isn't there."""
-    yield re.sub(r"(\n\| `uses` \|[^\n]*)", r"\1\1", page, count=1)
-    yield re.sub(r"\n\| `line_number` \|[^\n]*", "", page, count=1)
+    """Pages of which a line is wrong: a crate less, one twice, one under another kind, a source less, one
+    twice, one that isn't there."""
+    yield re.sub(r"(\n\| `boxes` \|[^\n]*)(.*\n\| `example_callers` \|[^\n]*)", r"\2\1", page, count=1, flags=re.S)
+    yield re.sub(r"(\n\| `example_callers` \|[^\n]*)", r"\1\1", page, count=1)
+    yield re.sub(r"\n\| `boxes_parts` \|[^\n]*", "", page, count=1)
     yield page.replace("`borrow`, ", "", 1)
     yield page.replace("`borrow`, ", "`borrow`, `borrow`, ", 1)
     yield page.replace("`borrow`, ", "`borrow`, `lent`, ", 1)

@@ -18,8 +18,8 @@ import sys
 ROOT = pathlib.Path(__file__).resolve().parent.parent
 PAGES = [ROOT / "README.md", *sorted((ROOT / "docs").glob("*.md"))]
 WITH_CODE = ["README.md", "CALLING.md"]
-USES = ["uses", "library_uses"]
-TESTS = ["scenarios", "library_scenarios"]
+USES = ["example_callers", "example_libraries"]
+TESTS = ["test_boxes", "test_libraries"]
 SOURCES = [
     path for crate in USES + TESTS for path in sorted((ROOT / f"crates/{crate}/src").glob("*.rt"))
 ] + [path for crate in USES for path in sorted((ROOT / f"crates/{crate}/proofs").rglob("*.antt"))]

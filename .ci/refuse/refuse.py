@@ -3,7 +3,7 @@
 
     .ci/refuse/refuse.py PROGRAM TESTS..
 
-PROGRAM is `boxes`, and TESTS are those of `scenarios`, `chunk_scenarios` and other crates, as `rt ci` leaves them in
+PROGRAM is `boxes`, and TESTS are those of `test_boxes`, `test_shared` and other crates, as `rt ci` leaves them in
 the crates' out/.
 
 A row is a script with its replies, in rows/: lines of a mark, a command, a bar and the reply. The

@@ -6,9 +6,9 @@ use crate::fault::Fault;
 use crate::fuzz::{Pair, fuzz, fuzz_pair};
 use crate::lines::Lines;
 use crate::script::Script;
-use agreement::Verdict;
+use boxes_parts::Verdict;
+use boxes_parts::numbers::MOST_LINES;
 use generational_box::{Storage, UnsyncStorage};
-use line_number::MOST_LINES;
 use std::alloc::Global;
 use std::io::{BufWriter, Read, Write};
 

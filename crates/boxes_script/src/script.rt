@@ -3,12 +3,12 @@ ghost use Rattle.std.specs.Prelude.{◌<◌, ◌≤◌, OnOk, vec_len};
 ghost use Rattle.generational_core.specs.Conditions.{IsFresh};
 
 use crate::fault::Fault;
+use boxes_parts::numbers::line_number;
 use generational_box::{BoxAt, Call, Location, Reply, Session, Storage, StoreError};
-use line_number::line_number;
-use reservation::reserve_more;
 use std::alloc::{AllocError, Global};
 use std::io;
 use std::io::Write;
+use store_room::reserve_more;
 
 /// A command. Its numbers are those of lines.
 #[derive(Clone, Copy)]

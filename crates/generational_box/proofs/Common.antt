@@ -2,7 +2,7 @@
 use Rattle.generational_core.specs
 use Rattle.generational_core.proofs
 use Rattle.generational_errors.specs.declared
-use Rattle.generational_slots.specs.SlotsState
+use Rattle.store_slots.specs.SlotsState
 pub use Rattle.std.proofs.Common.{arith, Bool, cond, Err, false, IfErr, IfSome, inl, inr, is_none}
 pub use Rattle.std.proofs.Common.{is_ok, is_some, IsSome, IsTrue, List, nat_eq, None, not, Ok}
 pub use Rattle.std.proofs.Common.{OnErr, OnOk, Option, option_copied, refl, Result, Some, subst}
@@ -15,11 +15,11 @@ pub use Rattle.std.proofs.lemmas.Bool.{eq-eqb, eqb-true, false_from_ne_true, fal
 pub use Rattle.std.specs.{Cmp.IsEquivalence, Cmp.nat_cmp_total, Cmp.nat_eq_equiv, Option.option_or}
 pub use Rattle.std.specs.List.{AllByRecursion, list_any}
 pub use Rattle.std.specs.Ordering.{eq_by_cmp, nat_cmp}
-pub use Rattle.generational_containers.{proofs.lists.Queues.none_left, specs.Borrows.AreBelow}
-pub use Rattle.generational_containers.proofs.records.Places.{reserved_room}
-pub use Rattle.generational_containers.specs.{CellNames.name_of_cell, OwnerRecords.record_of}
-pub use Rattle.generational_containers.specs.OwnerRecords.{add_to_list_in, AreCounted, IsCounted}
-pub use Rattle.generational_containers.specs.OwnerRecords.{IsListed, IsRefusal, knows, permits}
+pub use Rattle.store_parts.{proofs.lists.Queues.none_left, specs.Borrows.AreBelow}
+pub use Rattle.store_parts.proofs.records.Places.{reserved_room}
+pub use Rattle.store_parts.specs.{CellNames.name_of_cell, OwnerRecords.record_of}
+pub use Rattle.store_parts.specs.OwnerRecords.{add_to_list_in, AreCounted, IsCounted}
+pub use Rattle.store_parts.specs.OwnerRecords.{IsListed, IsRefusal, knows, permits}
 pub use proofs.{machine.Linking.sound_linked, maps.Maps.name_total}
 pub use proofs.machine.{Bounding.fresh_bounded, Bounding.meets_kept, Closing.close_nothing}
 pub use proofs.machine.{Rows.all_owners_read, Rows.read_append, Soundness.fresh_sound}
@@ -52,16 +52,16 @@ pub use specs.Steps.{IsNew, last_ticket, limit_tickets, Meets, needs_memory, no_
 pub use specs.declared.{borrow.Borrow.Borrow, boxes.GenerationalPointer.GenerationalPointer}
 pub use specs.declared.{boxes.GenerationalBoxId.GenerationalBoxId, rows.BaseRow.BaseRow}
 pub use specs.declared.steps.StepCall.TheVariants.{ManuallyDrop}
-pub use Rattle.generational_entries.specs.Entries.{kept_data, target_of}
-pub use Rattle.generational_entries.specs.Entry.{cell_of, FoundBorrowed, has_no_borrow, less_read}
-pub use Rattle.generational_entries.specs.Entry.{one_read, readers_of}
-pub use Rattle.generational_entries.specs.declared.entry.StorageEntryData.{StorageEntryData}
+pub use Rattle.store_cells.specs.Entries.{kept_data, target_of}
+pub use Rattle.store_cells.specs.Entry.{cell_of, FoundBorrowed, has_no_borrow, less_read}
+pub use Rattle.store_cells.specs.Entry.{one_read, readers_of}
+pub use Rattle.store_cells.specs.declared.entry.StorageEntryData.{StorageEntryData}
 pub use Rattle.generational_errors.specs.Texts.{as_borrow_mut}
 pub use declared.error.{BorrowError.BorrowError, BorrowMutError.BorrowMutError, Location.Location}
 pub use declared.error.{Refused.Refused, StoreError.StoreError}
 pub use declared.error.StoreError.TheVariants.{NumbersExhausted, OutOfMemory, UnknownOwner}
-pub use Rattle.generational_slots.specs.{declared.found.Found.Found}
-pub use Rattle.generational_slots.specs.SlotRows.{all_slot_rows, ReadSlots}
+pub use Rattle.store_slots.specs.{declared.found.Found.Found}
+pub use Rattle.store_slots.specs.SlotRows.{all_slot_rows, ReadSlots}
 pub use SlotsState.{change_content, change_content_if, content_reached, Finds, HasEnded, IsMade}
 pub use SlotsState.{IsTurned}
 pub use SlotsState.{reached, refusal_to_read_at, refusal_to_refer_at, refusal_to_write_at, shared_reached}

@@ -1,2 +1,2 @@
 -- The words on pools that contracts of this crate use, passed on.
-pub use Rattle.generational_containers.specs.Pools.{members_of}
+pub use Rattle.store_parts.specs.Pools.{members_of}

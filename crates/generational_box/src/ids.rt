@@ -2,11 +2,11 @@
 
 ghost use Rattle.std.specs.Prelude.{◌≡◌};
 ghost use Rattle.generational_core.specs.Boxes.{box_of, id_of, name_in};
-ghost use Rattle.generational_containers.specs.CellNames.{name_of_cell};
+ghost use Rattle.store_parts.specs.CellNames.{name_of_cell};
 
-use generational_containers::names::CellName;
 use generational_core::parts::pointer_at;
 use generational_core::{GenerationalBoxId, GenerationalPointer, Location};
+use store_parts::names::CellName;
 
 // The name in an id.
 #[inline(always)]

@@ -17,7 +17,6 @@ mod ids;
 mod unsync;
 
 pub use crate::unsync::{Numbers, Store, UnsyncStorage};
-pub use generational_containers::pool::{LastFirst, OldestFirst, SlotPool};
 pub use generational_core::{
     AlreadyBorrowedError, AlreadyBorrowedMutError, AnyStorage, BaseRow, BorrowError,
     BorrowMutError, BorrowMutResult, BorrowResult, GenerationalBox, GenerationalBoxId,
@@ -25,3 +24,4 @@ pub use generational_core::{
     OwnerId, Ref, Refusal, Refused, StepCall, Storage, StoreError, ValueDroppedError,
 };
 pub use generational_sessions::{BoxAt, Call, Reply, Session, caller_laws, laws};
+pub use store_parts::pool::{LastFirst, OldestFirst, SlotPool};

@@ -7,15 +7,12 @@ ghost use Rattle.generational_core.specs.State.{IsSound};
 ghost use Rattle.generational_core.specs.Conditions.{IsBounded};
 ghost use Rattle.generational_core.specs.State.{HasTargets};
 ghost use Rattle.generational_core.specs.Sound.{IsSound-prop, IsBounded-prop};
-ghost use Rattle.generational_containers.specs.CellNames.{name_of_cell};
-ghost use Rattle.generational_entries.specs.Entry.{cell_of};
-ghost use Rattle.generational_entries.specs.Entries.{IsUnborrowed, kept_data, target_of};
-ghost use Rattle.generational_slots.specs.SlotsState.{Finds, IsMade, with_records};
+ghost use Rattle.store_parts.specs.CellNames.{name_of_cell};
+ghost use Rattle.store_cells.specs.Entry.{cell_of};
+ghost use Rattle.store_cells.specs.Entries.{IsUnborrowed, kept_data, target_of};
+ghost use Rattle.store_slots.specs.SlotsState.{Finds, IsMade, with_records};
 
 use crate::ids::{cell_name, id_in, pointer_in};
-use generational_containers::names::CellName;
-use generational_containers::owners::{OwnerRecord, OwnerRecords};
-use generational_containers::pool::{LastFirst, SlotPool};
 use generational_core::parts::{
     Borrow, id_read, into_reader, into_writer, owner_at, reader_at, writer_at,
 };
@@ -24,13 +21,16 @@ use generational_core::{
     GenerationalBoxId, GenerationalPointer, GenerationalRef, GenerationalRefMut, Location, Owner,
     Refusal, Refused, StepCall, Storage, StoreError,
 };
-use generational_entries::entry::{Kind, StorageEntryData};
-use generational_slots::found::Found;
-use generational_slots::refusals::{dropped, dropped_mut};
-use generational_slots::slots::Slots;
 use std::alloc::Global;
 use std::fmt;
 use std::marker::Model;
+use store_cells::entry::{Kind, StorageEntryData};
+use store_parts::names::CellName;
+use store_parts::owners::{OwnerRecord, OwnerRecords};
+use store_parts::pool::{LastFirst, SlotPool};
+use store_slots::found::Found;
+use store_slots::refusals::{dropped, dropped_mut};
+use store_slots::slots::Slots;
 
 /// A store of values of one type in recycled slots. Contracts see it as the state of the abstract
 /// machine, with the proofs that the state is sound and that its slots are bounded. `P` chooses
@@ -56,8 +56,8 @@ impl<T, P: SlotPool> Model for Store<T, P> {
     ghost use Rattle.std.specs.Coded.{codes};
     ghost use Rattle.std.specs.FinMap as map;
     ghost use Rattle.generational_core.specs.Sound.{SoundState, same_sound};
-    ghost use Rattle.generational_slots.specs.SlotsState.{with_records};
-    ghost use Rattle.generational_containers.specs.OwnerRecords.{AreCounted};
+    ghost use Rattle.store_slots.specs.SlotsState.{with_records};
+    ghost use Rattle.store_parts.specs.OwnerRecords.{AreCounted};
 
     ghost Value = { SoundState T };
 
@@ -553,7 +553,7 @@ impl<T: Drop, P: SlotPool> Store<T, P> {
     ghost use Rattle.generational_core.specs.StepCalls.{is_free, may_set, tells_of_borrow};
     ghost use Rattle.generational_core.specs.State.{content_at};
     ghost use Rattle.generational_core.specs.Steps.{Meets};
-    ghost use Rattle.generational_containers.specs.CellNames.{name_of_cell};
+    ghost use Rattle.store_parts.specs.CellNames.{name_of_cell};
 
     // The name in an id, exactly where the id is of this store.
     #[inline(always)]

@@ -6,9 +6,9 @@ ghost use Rattle.generational_core.specs.declared.boxes.GenerationalPointer.{Gen
 use crate::calls::{Call, Reply};
 use crate::places::{Thing, answer, let_go};
 use generational_core::Storage;
-use reservation::reserve_more;
 use std::alloc::Global;
 use std::marker::Model;
+use store_room::reserve_more;
 
 /// A store, and what its calls gave. Contracts see it as the machine's state and a table of what
 /// each place holds.

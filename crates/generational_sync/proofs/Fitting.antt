@@ -10,8 +10,8 @@ use Rattle.generational_core.specs.Slots.{Fits, slots_of, slots, free, is_free}
 use Rattle.generational_core.specs.Machine.{Action, NewNames}
 use Rattle.generational_core.specs.Machine.Action.{Make, MakeShared, Refer}
 use Rattle.generational_core.specs.Steps.{AreNew, IsNew}
-use Rattle.step_records.specs.declared.step.StepReply.{StepReply}
-use Rattle.step_records.specs.declared.step.StepReply.TheVariants as reply
+use Rattle.shared_records.specs.declared.step.StepReply.{StepReply}
+use Rattle.shared_records.specs.declared.step.StepReply.TheVariants as reply
 use Rattle.shared_history.specs.History.{Plain, GivesNew, are_new, fits, gives_new, is_new}
 
 -- what passes the test fits, and what fits passes it

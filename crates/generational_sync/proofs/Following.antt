@@ -31,8 +31,8 @@ use Rattle.generational_core.specs.Steps.{Meets, Takes, limit_tickets}
 use Rattle.generational_core.specs.Steps.{no_names}
 use Rattle.generational_core.specs.StepCalls.{is_ready, recorded_as, is_hindered}
 use Rattle.generational_sessions.specs.History.{plain, plain_call, plain_answer}
-use Rattle.step_records.specs.declared.step.StepReply.{StepReply}
-use Rattle.step_records.specs.declared.step.StepReply.TheVariants as reply
+use Rattle.shared_records.specs.declared.step.StepReply.{StepReply}
+use Rattle.shared_records.specs.declared.step.StepReply.TheVariants as reply
 use Rattle.shared_history.specs.Replies.{made_reply, reply_of}
 use Rattle.shared_history.specs.History.{Plain, plain_step, step_by, action_of, names_of_reply}
 use Rattle.shared_history.specs.History.{gives_new, guard_at}

@@ -29,11 +29,11 @@ use Rattle.generational_core.specs.Steps.{Meets, limit_tickets}
 use Rattle.generational_core.specs.Answers.{value_behind}
 use Rattle.generational_core.specs.StepCalls.{is_ready, recorded_as, target_of}
 use Rattle.generational_sessions.specs.History.{plain}
-use Rattle.step_records.specs.declared.step.Step.{Step}
-use Rattle.step_records.specs.declared.step.StepReply.{StepReply}
-use Rattle.step_records.specs.declared.step.StepReply.TheVariants as reply
-use Rattle.step_records.specs.Kinds.{kind_of}
-use Rattle.step_records.specs.Records.{HasRecord}
+use Rattle.shared_records.specs.declared.step.Step.{Step}
+use Rattle.shared_records.specs.declared.step.StepReply.{StepReply}
+use Rattle.shared_records.specs.declared.step.StepReply.TheVariants as reply
+use Rattle.shared_records.specs.Kinds.{kind_of}
+use Rattle.shared_records.specs.Records.{HasRecord}
 use Rattle.generational_sync.specs.Answering.{GivesBox, MayAnswer}
 use Rattle.shared_history.specs.Counts.{Counts}
 use Rattle.shared_history.specs.Replies.{kind_in, made_reply, raised_by, recorded, reply_of, tallied}

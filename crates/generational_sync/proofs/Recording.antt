@@ -22,9 +22,9 @@ use Rattle.generational_core.specs.Machine.Action.{Point, CanRead, CanWrite}
 use Rattle.generational_core.specs.Machine.Answer.{Made, Owned, Reads, Writes, Done, Old, Flag}
 use Rattle.generational_core.specs.Machine.Answer.{Back, BorrowRefused, Refused}
 use Rattle.generational_core.specs.StepCalls.{id_of_owner, recorded_as, target_in, target_of}
-use Rattle.step_records.specs.declared.step.StepReply.{StepReply}
-use Rattle.step_records.specs.declared.step.StepReply.TheVariants as reply
-use Rattle.step_records.specs.Records.{HasDropped, HasRecord, IsShort}
+use Rattle.shared_records.specs.declared.step.StepReply.{StepReply}
+use Rattle.shared_records.specs.declared.step.StepReply.TheVariants as reply
+use Rattle.shared_records.specs.Records.{HasDropped, HasRecord, IsShort}
 use Rattle.generational_sync.specs.Answering.{MayAnswer}
 use Rattle.shared_history.specs.Replies.{made_reply, reply_of}
 

@@ -14,9 +14,9 @@ use Rattle.generational_core.specs.Steps.{AreNew, Takes, Meets, limit_tickets}
 use Rattle.generational_core.specs.StepCalls.{is_ready, target_of}
 use Rattle.shared_history.specs.Replies.{is_recorded, made_reply, reply_of}
 use Rattle.generational_sessions.specs.History.{plain}
-use Rattle.step_records.specs.declared.step.Step.{Step}
-use Rattle.step_records.specs.declared.step.StepReply.{StepReply}
-use Rattle.step_records.specs.declared.step.StepReply.TheVariants as reply
+use Rattle.shared_records.specs.declared.step.Step.{Step}
+use Rattle.shared_records.specs.declared.step.StepReply.{StepReply}
+use Rattle.shared_records.specs.declared.step.StepReply.TheVariants as reply
 use Rattle.shared_history.specs.History.{Plain, plain_step, step_by, names_of_reply, action_of}
 use Rattle.shared_history.specs.History.{gives_new, is_lawful, replay_on}
 use Rattle.shared_history.specs.History.{replay_from, IsTaken, LeadsOver}

@@ -26,8 +26,8 @@ use Rattle.generational_sessions.specs.Carrying.{rename_cell}
 use Rattle.generational_sessions.specs.History.{bare, plain, plain_answer, plain_call}
 unfoldable use Rattle.generational_sessions.specs.History.{bare_cells}
 use Rattle.generational_sessions.proofs.carrying.Plain.{get_bare}
-use Rattle.step_records.specs.declared.step.StepReply.{StepReply}
-use Rattle.step_records.specs.declared.step.StepReply.TheVariants as reply
+use Rattle.shared_records.specs.declared.step.StepReply.{StepReply}
+use Rattle.shared_records.specs.declared.step.StepReply.TheVariants as reply
 use Rattle.shared_history.specs.Replies.{reply_of, same_box, same_reply, same_error, is_recorded}
 
 same_number : (n : ℕ) → nat_eq n n ≡ true

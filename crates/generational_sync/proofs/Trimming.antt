@@ -11,10 +11,10 @@ use Rattle.generational_sync.specs.Keeping.{shared}
 use Rattle.generational_sync.specs.Shared.{IsCheckpoint, SharedState}
 use Rattle.shared_history.specs.Logs.{LogState}
 use Rattle.shared_history.specs.declared.base.TrimmedSteps.{TrimmedSteps}
-use Rattle.step_records.specs.Kinds.{count, kind_of, same_kind}
-use Rattle.step_records.specs.declared.step.Kind.{Kind}
-use Rattle.step_records.specs.declared.step.Kind.TheVariants.{Made, Lent, Changed, Refused}
-use Rattle.step_records.specs.declared.step.Step.{Step}
+use Rattle.shared_records.specs.Kinds.{count, kind_of, same_kind}
+use Rattle.shared_records.specs.declared.step.Kind.{Kind}
+use Rattle.shared_records.specs.declared.step.Kind.TheVariants.{Made, Lent, Changed, Refused}
+use Rattle.shared_records.specs.declared.step.Step.{Step}
 
 row_keeps : (P : Plain) (r : BaseRow)
     → ((read_row P r).number ≡ P.number) × ((read_row P r).start ≡ P.start)

@@ -6,7 +6,7 @@ use Rattle.generational_core.specs.Machine.{Action, Answer}
 use Rattle.generational_core.specs.Steps.{Meets}
 use Rattle.generational_core.specs.StepCalls.{is_ready, recorded_as}
 use Rattle.generational_sessions.specs.History.{plain}
-use Rattle.step_records.specs.declared.step.StepReply.{StepReply}
+use Rattle.shared_records.specs.declared.step.StepReply.{StepReply}
 use Rattle.shared_history.specs.Bases.{plain_of}
 use Rattle.shared_history.specs.Counts.{Counts}
 use Rattle.shared_history.specs.Replies.{reply_of}

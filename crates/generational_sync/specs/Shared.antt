@@ -14,8 +14,8 @@ use Rattle.generational_core.specs.Machine.Answer.{Refused as refuses}
 use Rattle.generational_core.specs.Steps.{Meets}
 use Rattle.generational_core.specs.StepCalls.{recorded_as}
 use Rattle.generational_sessions.specs.History.{plain}
-use Rattle.step_records.specs.declared.step.Step.{Step}
-use Rattle.step_records.specs.declared.step.StepReply.{StepReply}
+use Rattle.shared_records.specs.declared.step.Step.{Step}
+use Rattle.shared_records.specs.declared.step.StepReply.{StepReply}
 use Rattle.shared_history.specs.Bases.{BaseState, Trims, all_trimmed, plain_of}
 use Rattle.shared_history.specs.Counts.{Counts}
 use Rattle.shared_history.specs.Replies.{kind_in, raised_by, recorded, reply_of}

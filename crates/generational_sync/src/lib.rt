@@ -19,4 +19,4 @@ mod storage;
 pub use crate::state::SyncState;
 pub use crate::storage::SyncStorage;
 pub use shared_history::{Base, Count, Tally};
-pub use step_records::{Kind, Step, StepReply};
+pub use shared_records::{Kind, Step, StepReply};

@@ -26,10 +26,10 @@ use generational_box::{
 };
 use shared_history::log::{Log, Outdated};
 use shared_history::{Base, Count, Tally, tallies};
+use shared_records::{Step, StepReply};
 use std::alloc::Global;
 use std::marker::Model;
 use std::sync::ledger::Blank;
-use step_records::{Step, StepReply};
 
 /// A store with the history of its steps. Contracts see it as the machine's state, a base and that
 /// list.

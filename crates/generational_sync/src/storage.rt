@@ -17,10 +17,10 @@ use crate::laws::histories_lead_to_sound_states;
 use crate::state::SyncState;
 use generational_box::{GenerationalRef, Owner, StepCall, StoreError};
 use shared_history::{Base, Count, Tally};
+use shared_records::Step;
 use std::alloc::Global;
 use std::sync::ledger::Blank;
 use std::sync::{Arc, Condvar, Mutex, MutexGuard, Wait};
-use step_records::Step;
 
 /// What lies under the lock.
 #[derive(Drop)]

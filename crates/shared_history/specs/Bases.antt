@@ -5,10 +5,10 @@ use Rattle.generational_core.specs.Plain.{Plain}
 use Rattle.generational_core.specs.Rows.{told_by}
 use Rattle.shared_history.specs.Counts.{Counts, counted}
 use Rattle.shared_history.specs.declared.base.TrimmedSteps.{TrimmedSteps}
-use Rattle.step_records.specs.Kinds.{count}
-use Rattle.step_records.specs.declared.step.Kind.{Kind}
-use Rattle.step_records.specs.declared.step.Kind.TheVariants.{Made, Lent, Changed, Refused}
-use Rattle.step_records.specs.declared.step.Step.{Step}
+use Rattle.shared_records.specs.Kinds.{count}
+use Rattle.shared_records.specs.declared.step.Kind.{Kind}
+use Rattle.shared_records.specs.declared.step.Kind.TheVariants.{Made, Lent, Changed, Refused}
+use Rattle.shared_records.specs.declared.step.Step.{Step}
 
 -- A base: a store's number, next ticket, peak and rows, and how many steps of each kind were
 -- trimmed.

@@ -1,7 +1,7 @@
 -- What a tally counts.
 use Rattle.std.specs.Prelude.{ℕ, zero, suc, ◌+◌, List, [], ◌∷◌, ◌++◌}
-use Rattle.step_records.specs.declared.step.Kind.{Kind}
-use Rattle.step_records.specs.declared.step.Kind.TheVariants.{Made, Lent, Changed, Refused}
+use Rattle.shared_records.specs.declared.step.Kind.{Kind}
+use Rattle.shared_records.specs.declared.step.Kind.TheVariants.{Made, Lent, Changed, Refused}
 
 -- A tally: its worker, how many of the store's tallies are merged in it, and how many steps of each
 -- kind were taken with them.

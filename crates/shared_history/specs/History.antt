@@ -21,9 +21,9 @@ use Rattle.generational_core.specs.Machine.Action.{ReleaseWriter, SetValue, End,
 use Rattle.generational_core.specs.Slots.{slots_of, slots, free, is_free, last_name}
 use Rattle.generational_core.specs.Steps.{AreNew, Meets, limit_tickets, no_names}
 use Rattle.generational_core.specs.StepCalls.{is_ready, owner_of}
-use Rattle.step_records.specs.declared.step.Step.{Step}
-use Rattle.step_records.specs.declared.step.StepReply.{StepReply}
-use Rattle.step_records.specs.declared.step.StepReply.TheVariants as reply
+use Rattle.shared_records.specs.declared.step.Step.{Step}
+use Rattle.shared_records.specs.declared.step.StepReply.{StepReply}
+use Rattle.shared_records.specs.declared.step.StepReply.TheVariants as reply
 use Rattle.shared_history.specs.Replies.{reply_of, is_recorded}
 
 -- where a history starts: a store of this number in which nothing was made

@@ -1,6 +1,6 @@
 -- A log, as contracts see it.
 use Rattle.std.specs.Prelude.{ℕ, List}
-use Rattle.step_records.specs.declared.step.Step.{Step}
+use Rattle.shared_records.specs.declared.step.Step.{Step}
 use Rattle.shared_history.specs.Bases.{BaseState}
 
 -- A history with its base, and with what is reserved in it: the borrows for whose release there is

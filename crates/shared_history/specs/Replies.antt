@@ -21,13 +21,13 @@ use Rattle.generational_core.specs.Machine.{Action, Answer}
 use Rattle.generational_core.specs.Machine.Action.{Make, MakeShared, Refer}
 use Rattle.generational_core.specs.Machine.Answer.{Made, Owned, Reads, Writes, Done, Old, Flag}
 use Rattle.generational_core.specs.Machine.Answer.{BorrowRefused, Refused}
-use Rattle.step_records.specs.declared.step.Step.{Step}
-use Rattle.step_records.specs.declared.step.StepReply.{StepReply}
-use Rattle.step_records.specs.declared.step.StepReply.TheVariants as reply
-use Rattle.step_records.specs.declared.step.Kind.{Kind}
-use Rattle.step_records.specs.declared.step.Kind.TheVariants as kind
+use Rattle.shared_records.specs.declared.step.Step.{Step}
+use Rattle.shared_records.specs.declared.step.StepReply.{StepReply}
+use Rattle.shared_records.specs.declared.step.StepReply.TheVariants as reply
+use Rattle.shared_records.specs.declared.step.Kind.{Kind}
+use Rattle.shared_records.specs.declared.step.Kind.TheVariants as kind
 use Rattle.shared_history.specs.Counts.{Counts, raised}
-use Rattle.step_records.specs.Kinds.{kind_of, step_of}
+use Rattle.shared_records.specs.Kinds.{kind_of, step_of}
 
 module _ {T : Type 0} where
   -- how a box that was made is recorded: a shared value's with the cell that it names

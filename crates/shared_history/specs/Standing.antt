@@ -7,8 +7,8 @@ use Rattle.generational_core.specs.State.{State, tickets_of}
 use Rattle.generational_core.specs.Machine.{Action, Answer}
 use Rattle.generational_core.specs.Machine.Answer.{Reads, Writes, BorrowRefused, Refused, Back, Flag}
 use Rattle.generational_core.specs.Machine.Action.{ReleaseReader, ReleaseWriter}
-use Rattle.step_records.specs.declared.step.StepReply.{StepReply}
-use Rattle.step_records.specs.declared.step.StepReply.TheVariants as reply
+use Rattle.shared_records.specs.declared.step.StepReply.{StepReply}
+use Rattle.shared_records.specs.declared.step.StepReply.TheVariants as reply
 
 -- how many borrows a recorded reply gives
 abbrev pub lent_by : StepReply → ℕ

@@ -4,9 +4,9 @@ ghost use Rattle.std.specs.Prelude.{◌≡◌, ◌+◌, ◌<◌, ◌^◌, [], If
 ghost use Rattle.shared_history.specs.Bases.{all_trimmed, new_base, trimmed_of};
 
 use generational_core::BaseRow;
+use shared_records::Kind;
 use std::alloc::{AllocError, Global};
 use std::marker::Model;
-use step_records::Kind;
 
 /// Where a kept history begins: the state of the store at its last checkpoint, without values, and
 /// how many steps of each kind were trimmed until then. A new store's base has no rows, and all its

@@ -4,21 +4,21 @@ ghost use Rattle.std.specs.Prelude.{◌≡◌, ◌+◌, ◌^◌, ◌<◌, ◌≤
 ghost use Rattle.std.specs.Prelude.{OnErr, OnSome, IfNone, length, option_to_list};
 ghost use Rattle.shared_history.specs.Bases.{IsCounted, Trims, all_trimmed, counts_of, new_base};
 ghost use Rattle.shared_history.specs.Counts.{raised};
-ghost use Rattle.step_records.specs.Kinds.{count, kind_of, step_of};
-ghost use Rattle.step_records.specs.declared.step.Kind.TheVariants.{Made, Lent, Changed, Refused};
-ghost use Rattle.step_records.specs.Records.{HasRecord};
+ghost use Rattle.shared_records.specs.Kinds.{count, kind_of, step_of};
+ghost use Rattle.shared_records.specs.declared.step.Kind.TheVariants.{Made, Lent, Changed, Refused};
+ghost use Rattle.shared_records.specs.Records.{HasRecord};
 ghost use Rattle.shared_history.specs.Replies.{recorded, tallied};
 ghost use Rattle.shared_history.specs.Standing.{lent_in};
 
 use crate::base::{Base, TrimmedSteps};
 use crate::tally::{Count, Tally};
-use chunks::Chunks;
 use generational_core::StepCall;
+use shared_chunks::Chunks;
+use shared_records::{Kind, Record, Step, StepReply};
 use std::alloc::{AllocError, Global};
 use std::marker::Model;
 use std::mem;
 use std::sync::ledger::Book;
-use step_records::{Kind, Record, Step, StepReply};
 
 /// A base and the steps from there in order, room for a release of each borrow that stands, and for
 /// each kind how many steps there are and a book. Contracts see the base, the steps and the room.
@@ -44,11 +44,11 @@ impl<const NUMBER: u64, M: Count, L: Count, C: Count, R: Count> Model for Log<NU
     ghost use Rattle.std.specs.Prelude.{◌≡◌, ◌+◌, ◌-◌, ◌≤◌, map};
     ghost use Rattle.std.specs.Coded.{codes};
     ghost use Rattle.std.specs.FinMap as finite;
-    ghost use Rattle.step_records.specs.Kinds.{count};
-    ghost use Rattle.step_records.specs.Records.{unpack};
+    ghost use Rattle.shared_records.specs.Kinds.{count};
+    ghost use Rattle.shared_records.specs.Records.{unpack};
     ghost use Rattle.shared_history.specs.Logs.{LogState};
-    ghost use Rattle.step_records.specs.declared.step.Kind.TheVariants.{Made, Lent, Changed};
-    ghost use Rattle.step_records.specs.declared.step.Kind.TheVariants.{Refused};
+    ghost use Rattle.shared_records.specs.declared.step.Kind.TheVariants.{Made, Lent, Changed};
+    ghost use Rattle.shared_records.specs.declared.step.Kind.TheVariants.{Refused};
 
     ghost Value = { LogState };
 

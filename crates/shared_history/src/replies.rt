@@ -14,13 +14,13 @@ ghost use Rattle.generational_core.specs.StepCalls.{target_of};
 ghost use Rattle.std.specs.Prelude.{IfOk, None, Option, is_some, option_map, true};
 ghost use Rattle.shared_history.specs.Standing.{given_by, leaves, lent_in};
 ghost use Rattle.shared_history.specs.Replies.{kind_in, reply_of, set_answer};
-ghost use Rattle.step_records.specs.Kinds.{kind_of};
+ghost use Rattle.shared_records.specs.Kinds.{kind_of};
 
 use generational_core::{
     BorrowError, BorrowMutError, BorrowMutResult, BorrowResult, GenerationalBoxId,
     GenerationalPointer, GenerationalRef, GenerationalRefMut, Owner, Refusal, Refused, StoreError,
 };
-use step_records::StepReply;
+use shared_records::StepReply;
 
 // How a refusal of the store is recorded.
 fn store_reply<T>(error: StoreError) -> Option<StepReply>

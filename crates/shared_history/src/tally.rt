@@ -3,14 +3,14 @@
 ghost use Rattle.std.specs.Prelude.{◌≡◌, ◌+◌, ◌↔◌, ◌<◌, ◌≤◌, IsTrue, MatchResult, IfOk, IfErr};
 ghost use Rattle.generational_errors.specs.declared.error.StoreError.TheVariants.{OutOfMemory};
 ghost use Rattle.shared_history.specs.Counts.{Counts, raised, merged, new_tallies};
-ghost use Rattle.step_records.specs.Kinds.{step_of};
-ghost use Rattle.step_records.specs.Records.{HasRecord, unpack};
+ghost use Rattle.shared_records.specs.Kinds.{step_of};
+ghost use Rattle.shared_records.specs.Records.{HasRecord, unpack};
 
 use generational_core::{StepCall, StoreError};
+use shared_records::{Record, StepReply, pack};
 use std::alloc::Global;
 use std::marker::{Brand, Model, PhantomData};
 use std::sync::ledger::{Ledger, Share};
-use step_records::{Record, StepReply, pack};
 
 /// A ledger of std's `sync::ledger`, with the number of workers that its parts are for.
 ///

@@ -16,7 +16,7 @@ use Common.{refusal_to_write, refusal_to_write_at, Refused, ReleaseReader, Relea
 use Common.{Some, SoundState, State, subst, sym, true}
 use Common.{unless, Value, value_in, value_reached, with_records, Write, write_at, write_refusal}
 use Common.{WriteGuard, Writes, ℕ, [], ◌+◌, ◌<◌, ◌||◌, ◌↔◌, ◌∙◌, ◌∷◌, ◌≡◌, ◌≢◌}
-use Rattle.generational_slots.proofs.states.Reaching.{shared_content}
+use Rattle.store_slots.proofs.states.Reaching.{shared_content}
 use Rattle.std.proofs.Common.{map as list_map}
 use Rattle.std.specs.FinMap as map
 use Rattle.generational_errors.specs.declared.error.Refused.TheVariants as refused

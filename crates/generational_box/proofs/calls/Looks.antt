@@ -6,9 +6,9 @@ use Common.{GenerationalPointer, is_none, is_some, IsSound, may_set, Name, name_
 use Common.{None, not, Option, Owners, reach, reached, refl, refusal_to_read, refusal_to_write}
 use Common.{Some, State, sym, tells_of_borrow, true, with_records, ℕ, ◌∙◌, ◌≡◌, ◌≢◌}
 use Rattle.generational_box.proofs.calls.Calls.{reach_here, reaches}
-use Rattle.generational_slots.proofs.states.Reaching.{lent_read, lent_write, unread}
-use Rattle.generational_slots.proofs.states.Readiness.{set_tells, write_tells}
-use Rattle.generational_slots.specs.declared.found.Found.TheVariants as found
+use Rattle.store_slots.proofs.states.Reaching.{lent_read, lent_write, unread}
+use Rattle.store_slots.proofs.states.Readiness.{set_tells, write_tells}
+use Rattle.store_slots.specs.declared.found.Found.TheVariants as found
 
 -- the name in an id of the store with this number
 abbrev pub own_of : ℕ → GenerationalBoxId → Option Name

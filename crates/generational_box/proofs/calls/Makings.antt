@@ -18,7 +18,7 @@ use Rattle.generational_box.proofs.records.Counts.{counted_listed}
 use Rattle.generational_core.specs.Machine.Answer.{Refused}
 use Rattle.std.specs.FinMap as map
 use Rattle.std.specs.FinSet as set
-use Rattle.generational_entries.specs.declared.entry.StorageEntryData.TheVariants as slot
+use Rattle.store_cells.specs.declared.entry.StorageEntryData.TheVariants as slot
 
 module _ {T : Type 0} where
   -- no owner's list has a name that was never given

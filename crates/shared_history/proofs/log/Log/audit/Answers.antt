@@ -1,9 +1,9 @@
 use Rattle.std.proofs.Common.{◌≡◌, ◌+◌, ap, arith}
-use Rattle.step_records.specs.Kinds.{count}
+use Rattle.shared_records.specs.Kinds.{count}
 use Rattle.shared_history.specs.Bases.{trimmed_of}
 use Rattle.shared_history.specs.Counts.{Counts, counted}
 use Rattle.shared_history.specs.Logs.{LogState}
-use Rattle.step_records.specs.declared.step.Kind.TheVariants.{Made, Lent, Changed, Refused}
+use Rattle.shared_records.specs.declared.step.Kind.TheVariants.{Made, Lent, Changed, Refused}
 use Rattle.shared_history.proofs.log.Log.audit.Goals as goal
 
 pub returns-clause-counts : goal.returns-clause-counts

@@ -2,11 +2,11 @@
 use Rattle.std.proofs.Common.{◌≡◌, ℕ, List, [], ap, arith, map, refl}
 use Rattle.shared_history.specs.Bases.{trimmed_of}
 use Rattle.shared_history.specs.Logs.{LogState}
-use Rattle.step_records.specs.Kinds.{count}
-use Rattle.step_records.specs.Records.{unpack}
-use Rattle.step_records.specs.declared.record.Record.{Record}
-use Rattle.step_records.specs.declared.step.Kind.{Kind}
-use Rattle.step_records.specs.declared.step.Kind.TheVariants.{Made, Lent, Changed, Refused}
+use Rattle.shared_records.specs.Kinds.{count}
+use Rattle.shared_records.specs.Records.{unpack}
+use Rattle.shared_records.specs.declared.record.Record.{Record}
+use Rattle.shared_records.specs.declared.step.Kind.{Kind}
+use Rattle.shared_records.specs.declared.step.Kind.TheVariants.{Made, Lent, Changed, Refused}
 use Rattle.shared_history.proofs.log.Log.rebase.Goals as goal
 
 nothing_counted : (kind : Kind) (number : ℕ) (items : List Record) → items ≡ []

@@ -1,6 +1,0 @@
-use Rattle.agreement.specs.Told.{AreSameBelow}
-use Rattle.agreement.proofs.verdict.compare.Given as goal
-
--- the replies so far are the same, and memory refused none of the calls
-abbrev pub invariant-loop-place : goal.invariant-loop-place
-invariant-loop-place l = AreSameBelow l.ones l.others l.place

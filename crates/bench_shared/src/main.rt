@@ -1,0 +1,228 @@
+//! `bench_shared STORE LIST WORKERS ROUNDS [BETWEEN]`: so many workers in threads make a list of
+//! calls so many times over one store, each over boxes of its own; where BETWEEN is told and isn't 0,
+//! with a checkpoint after each so many rounds. One line says how many calls that were, and how many
+//! steps an audit answered. How long it takes, in processor time, is for who runs it to measure
+//! (`.ci/bench_shared.py`).
+//!
+//! | STORE       | what answers the calls                                             |
+//! |-------------|--------------------------------------------------------------------|
+//! | `shared`    | `SyncStorage`, with its history, which is audited at the end       |
+//! | `unaudited` | the same, without the audit                                        |
+//! | `floor`     | the sequential store in a plain mutex, without a history           |
+//!
+//! | LIST     | the calls of a round                                                  |
+//! |----------|-----------------------------------------------------------------------|
+//! | `reads`  | a box is made, read twice, ended, and read once more: 9 calls         |
+//! | `writes` | an owner's boxes are made, written and pointed elsewhere, and end with the owner: 12 calls |
+//! | `keeps`  | a box is made, and stays: 1 call                                       |
+//!
+//! The status is 1 where a call wasn't carried out, as for want of memory, and 2 for other words.
+#![tactic(auto)]
+
+ghost use Rattle.std.specs.Prelude.{◌≡◌, ◌<◌, IfSome};
+
+mod calls;
+mod locked;
+mod plain;
+mod rounds;
+
+use crate::locked::Worker;
+use crate::plain::Plain;
+use crate::rounds::{List, run};
+use generational_box::UnsyncStorage;
+use generational_sync::{Count, SyncStorage, Tally};
+use std::alloc::Global;
+use std::marker::Brand;
+use std::process::ExitCode;
+use std::rt::Env;
+use std::sync::ledger::Blank;
+use std::sync::{Arc, Mutex, Wait};
+use std::thread::Threads;
+use std::{env, thread};
+
+/// What a run did.
+#[derive(Drop)]
+struct Done {
+    calls: u64,
+    steps: usize,
+}
+
+fn main(rt: HostRuntime) -> ExitCode {
+    let Some(words) = Words::read(&rt) else {
+        return ExitCode::from(2);
+    };
+    let parts = words.workers as u64;
+    let done = if words.store != Store::Floor {
+        shared::<Brand, Brand, Brand, Brand, HostRuntime>(
+            &rt,
+            rt.alloc(),
+            &words,
+            Blank::new(parts),
+            Blank::new(parts),
+            Blank::new(parts),
+            Blank::new(parts),
+        )
+    } else {
+        floor(&rt, rt.alloc(), &words)
+    };
+    let Some(done) = done else {
+        return ExitCode::from(1);
+    };
+    match println!(rt; "calls {} steps {}", done.calls, done.steps) {
+        Ok(_) => ExitCode::from(0),
+        Err(_) => ExitCode::from(1),
+    }
+}
+
+/// What answers the calls.
+#[derive(Clone, Copy, PartialEq, Eq)]
+enum Store {
+    Shared,
+    Unaudited,
+    Floor,
+}
+
+/// The program's words.
+#[derive(Drop)]
+struct Words {
+    store: Store,
+    list: List,
+    workers: usize,
+    rounds: u64,
+    between: u64,
+}
+
+impl Words {
+    // None for words that the program doesn't know.
+    fn read<R: Env + AllocGlobal>(rt: &R) -> Option<Words>
+        ensures { IfSome result (λ words. 0 < words.workers) }
+    {
+        let mut words = env::args(rt).ok()?.skip(1);
+        let store = match words.next()?.as_str() {
+            "shared" => Store::Shared,
+            "unaudited" => Store::Unaudited,
+            "floor" => Store::Floor,
+            _ => return None,
+        };
+        let list = match words.next()?.as_str() {
+            "reads" => List::Reads,
+            "writes" => List::Writes,
+            "keeps" => List::Keeps,
+            _ => return None,
+        };
+        let workers = words.next()?.parse::<usize>().ok()?;
+        let rounds = words.next()?.parse::<u64>().ok()?;
+        let between = match words.next() {
+            Some(word) => word.parse::<u64>().ok()?,
+            None => 0,
+        };
+        if workers == 0 || workers > 64 || words.next().is_some() {
+            return None;
+        }
+        Some(Words {
+            store,
+            list,
+            workers,
+            rounds,
+            between,
+        })
+    }
+}
+
+// The workers of one shared store.
+fn shared<
+    A: Count + Send + Sync,
+    B: Count + Send + Sync,
+    C: Count + Send + Sync,
+    D: Count + Send + Sync,
+    H: Threads + Wait + Sync,
+>(
+    rt: &H,
+    alloc: Global,
+    words: &Words,
+    made: Blank,
+    lent: Blank,
+    changed: Blank,
+    refused: Blank,
+) -> Option<Done>
+    requires some { 0 < words.now.workers }
+    requires made { (made.name ≡ A.name) × (made.parts ≡ A.parts) × (made.parts ≡ words.now.workers) ×
+        (A.workers ≡ words.now.workers) }
+    requires lent { (lent.name ≡ B.name) × (lent.parts ≡ B.parts) × (lent.parts ≡ words.now.workers) ×
+        (B.workers ≡ words.now.workers) }
+    requires changed { (changed.name ≡ C.name) × (changed.parts ≡ C.parts) ×
+        (changed.parts ≡ words.now.workers) × (C.workers ≡ words.now.workers) }
+    requires refused { (refused.name ≡ D.name) × (refused.parts ≡ D.parts) ×
+        (refused.parts ≡ words.now.workers) × (D.workers ≡ words.now.workers) }
+{
+    let (store, tallies) = SyncStorage::<u64, 7, A, B, C, D>::new(
+        alloc,
+        words.workers,
+        made,
+        lent,
+        changed,
+        refused,
+    ).ok()?;
+    let mut workers = Vec::new(alloc);
+    for tally in tallies {
+        let store = store.try_clone().ok()?;
+        workers.push(Worker { store, tally }).ok()?;
+    }
+    let (list, rounds, between) = (words.list, words.rounds, words.between);
+    let parts = thread::map_vec(
+        rt,
+        workers,
+        &|mut worker: Worker<A, B, C, D>| {
+            let calls = run(&mut worker, rt, list, rounds, between);
+            (worker.tally, calls)
+        },
+    )
+    .ok()?;
+    let (mut whole, calls) = gather(parts)?;
+    if !whole.is_whole() {
+        return None;
+    }
+    let steps = match words.store {
+        Store::Shared => {
+            let (_, steps) = store.audit(rt, &mut whole).ok()?;
+            steps.len()
+        }
+        _ => 0,
+    };
+    Some(Done { calls, steps })
+}
+
+// All tallies in one, and how many calls were made.
+fn gather<A: Count, B: Count, C: Count, D: Count>(
+    mut parts: Vec<(Tally<A, B, C, D>, Option<u64>)>,
+) -> Option<(Tally<A, B, C, D>, u64)> {
+    let (mut whole, calls) = parts.pop()?;
+    let mut calls = calls?;
+    for (tally, part) in parts {
+        calls = calls.wrapping_add(part?);
+        whole.merge(tally).ok()?;
+    }
+    Some((whole, calls))
+}
+
+// The workers of a sequential store in a mutex.
+fn floor<H: Threads + Wait + Sync>(rt: &H, alloc: Global, words: &Words) -> Option<Done> {
+    let store = Arc::new(alloc, Mutex::new(UnsyncStorage::<u64>::new(alloc, 7))).ok()?;
+    let mut workers = Vec::new(alloc);
+    for _ in 0..words.workers {
+        let store = Arc::try_clone(&store).ok()?;
+        workers.push(Plain { store }).ok()?;
+    }
+    let (list, rounds, between) = (words.list, words.rounds, words.between);
+    let parts = thread::map_vec(
+        rt,
+        workers,
+        &|mut worker: Plain| { run(&mut worker, rt, list, rounds, between) },
+    )
+    .ok()?;
+    let mut calls = 0u64;
+    for part in parts {
+        calls = calls.wrapping_add(part?);
+    }
+    Some(Done { calls, steps: 0 })
+}

@@ -1,0 +1,101 @@
+-- Two lists of replies at a place, and past their ends.
+use Rattle.std.proofs.Common.{◌≡◌, ◌≢◌, ℕ, ◌<◌, ◌≤◌, ◌+◌, List, length, None, Some}
+use Rattle.std.proofs.Common.{ap, sym, subst, ◌∙◌, arith, slice_get, option_map, inl, inr, min}
+use Rattle.std.proofs.Common.{get_or}
+use Rattle.std.specs.Prelude.{String, ◌⊎◌, map as list_map}
+use Rattle.std.proofs.lemmas.Bool.{cases_order}
+use Rattle.std.proofs.lemmas.Option.{slice_get-map, slice_get_past, slice_get_cases}
+use Rattle.std.proofs.lemmas.Option.{same_Some, none-some}
+use Rattle.generational_errors.specs.declared.error.StoreError.TheVariants.{OutOfMemory}
+use Rattle.generational_sessions.specs.declared.calls.Reply.{Reply}
+use Rattle.generational_sessions.specs.Numbered.{refusal_in}
+use Rattle.generational_sessions.specs.Places.{as_reply}
+use Rattle.boxes_parts.specs.Told.{told, LacksAt, AreSameAt, AreSameBelow}
+
+-- what a list turned by a function has at a place of the list, and past its end
+turned_at : {A B : Type 0} (f : A → B) (xs : List A) (i : ℕ) (x : A) → slice_get xs i ≡ Some x
+    → slice_get (list_map f xs) i ≡ Some (f x)
+turned_at f xs i x there = slice_get-map f xs i ∙ ap (option_map f) there
+
+turned_past : {A B : Type 0} (f : A → B) (xs : List A) (i : ℕ) → length xs ≤ i
+    → slice_get (list_map f xs) i ≡ None
+turned_past f xs i past = slice_get-map f xs i ∙ ap (option_map f) (slice_get_past xs i past)
+
+module _ {A B : Type 0} (f : A → B) (xs : List A) (i : ℕ)
+    (none : slice_get (list_map f xs) i ≡ None) where
+  found : ((x : A) × (i < length xs) × (slice_get xs i ≡ Some x) × (get_or xs i x ≡ x))
+      ⊎ ((length xs ≤ i) × (slice_get xs i ≡ None)) → length xs ≤ i
+  found (inl (x, within, there, read)) =
+      absurd (none-some _ (sym none ∙ turned_at f xs i x there))
+  found (inr (past, gone)) = past
+
+  turned_none : length xs ≤ i
+  turned_none = found (slice_get_cases xs i).1
+
+module _ {Z : Type 0} where
+  -- memory refused the call at a place exactly where its reply tells so, and never past the end
+  pub lacks_at : (zs : List (Reply (String Z))) (i : ℕ) (z : Reply (String Z))
+      → slice_get zs i ≡ Some z → LacksAt zs i → refusal_in (as_reply z) ≡ Some OutOfMemory
+  lacks_at zs i z there lacks =
+      same_Some _ _ (sym (turned_at (λ x. refusal_in (as_reply x)) zs i z there) ∙ lacks)
+
+  pub lacks_within : (zs : List (Reply (String Z))) (i : ℕ) → length zs ≤ i → LacksAt zs i → ⊥
+  lacks_within zs i past lacks = none-some _ (sym (turned_past _ zs i past) ∙ lacks)
+
+module _ {Z : Type 0} (xs ys : List (Reply (String Z))) where
+  pub same_at : (i : ℕ) (x y : Reply (String Z))
+      → slice_get xs i ≡ Some x → slice_get ys i ≡ Some y → told x ≡ told y
+      → refusal_in (as_reply x) ≢ Some OutOfMemory → refusal_in (as_reply y) ≢ Some OutOfMemory
+      → AreSameAt xs ys i
+  same_at i x y at_x at_y same x_has y_has = record {
+    same = turned_at told xs i x at_x ∙ (ap Some same ∙ sym (turned_at told ys i y at_y));
+    one = λ lacks. x_has (lacks_at xs i x at_x lacks);
+    other = λ lacks. y_has (lacks_at ys i y at_y lacks);
+  }
+
+  pub same_past : (i : ℕ) → length xs ≤ i → length ys ≤ i → AreSameAt xs ys i
+  same_past i past_x past_y = record {
+    same = turned_past told xs i past_x ∙ sym (turned_past told ys i past_y);
+    one = lacks_within xs i past_x;
+    other = lacks_within ys i past_y;
+  }
+
+  pub one_more : (n : ℕ) → AreSameBelow xs ys n → AreSameAt xs ys n → AreSameBelow xs ys (n + 1)
+  one_more n below here i within = by_order (cases_order i n) where
+    by_order : (i ≡ n) ⊎ ((i < n) ⊎ (n < i)) → AreSameAt xs ys i
+    by_order (inl e) = subst (AreSameAt xs ys) (sym e) here
+    by_order (inr (inl l)) = below i l
+    by_order (inr (inr l)) = absurd (omega (arith, l, within))
+
+  pub all_same : (n : ℕ) → AreSameBelow xs ys n → length xs ≤ n → length ys ≤ n
+      → (i : ℕ) → AreSameAt xs ys i
+  all_same n below xs_end ys_end i = by_order (cases_order i n) where
+    by_order : (i ≡ n) ⊎ ((i < n) ⊎ (n < i)) → AreSameAt xs ys i
+    by_order (inl e) = same_past i (omega (arith, e, xs_end)) (omega (arith, e, ys_end))
+    by_order (inr (inl l)) = below i l
+    by_order (inr (inr l)) = same_past i (omega (arith, l, xs_end)) (omega (arith, l, ys_end))
+
+  -- where the lists have different lengths, the shorter one ends at a place that the longer one has
+  pub ends_differ : (n : ℕ) → n ≡ min (length xs) (length ys) → length xs ≢ length ys
+      → slice_get (list_map told xs) n ≢ slice_get (list_map told ys) n
+  ends_differ n shorter lengths same = by_order (cases_order (length xs) (length ys)) where
+    by_order : (length xs ≡ length ys) ⊎ ((length xs < length ys) ⊎ (length ys < length xs)) → ⊥
+    by_order (inl e) = lengths e
+    by_order (inr (inl l)) =
+        let none = turned_none told ys n (sym same
+        ∙ turned_past told xs n (omega (arith, shorter, l))) in
+        omega (arith, shorter, l, none)
+    by_order (inr (inr l)) =
+        let none = turned_none told xs n (same
+        ∙ turned_past told ys n (omega (arith, shorter, l))) in
+        omega (arith, shorter, l, none)
+
+  -- and where memory refused a call there, the other list has ended
+  pub other_ends : (n : ℕ) → n ≡ min (length xs) (length ys) → length xs ≢ length ys
+      → LacksAt xs n → slice_get ys n ≡ None
+  other_ends n shorter lengths lacks = by_order (cases_order (length xs) (length ys)) where
+    by_order : (length xs ≡ length ys) ⊎ ((length xs < length ys) ⊎ (length ys < length xs))
+        → slice_get ys n ≡ None
+    by_order (inl e) = absurd (lengths e)
+    by_order (inr (inl l)) = absurd (lacks_within xs n (omega (arith, shorter, l)) lacks)
+    by_order (inr (inr l)) = slice_get_past ys n (omega (arith, shorter, l))

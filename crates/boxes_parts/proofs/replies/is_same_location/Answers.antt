@@ -1,0 +1,6 @@
+use Rattle.std.proofs.Common.{rules}
+use Rattle.boxes_parts.proofs.Alike.{locations_decide}
+use Rattle.boxes_parts.proofs.replies.is_same_location.Goals as goal
+
+pub returns : goal.returns
+returns c = let told = locations_decide c.args.one.now c.args.other.now in search rules

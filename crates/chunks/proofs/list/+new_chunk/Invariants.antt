@@ -1,4 +1,0 @@
-use Rattle.chunks.proofs.list.+new_chunk.Given as goal
-
-abbrev pub decreases-new_chunk : goal.decreases-new_chunk
-decreases-new_chunk g l = l.beside

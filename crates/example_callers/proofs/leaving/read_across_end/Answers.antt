@@ -1,0 +1,32 @@
+use Rattle.std.proofs.Common.{Ok, arith, ◌∙◌}
+use Rattle.std.proofs.lemmas.Grind.{common_steps}
+use Rattle.generational_core.proofs.machine.Guarding.{opens_value, reader_sees}
+use Rattle.generational_core.proofs.machine.Leaving.{same_value}
+use Rattle.generational_core.proofs.machine.Stepping.{reads_known}
+use Rattle.example_callers.proofs.leaving.read_across_end.Goals as goal
+
+pub unreachable-requires : goal.unreachable-requires
+unreachable-requires g c =
+    let sound = g.met.S.AnyStorage.sound in
+    let read = opens_value _ _ (Ok c.in_ok-guard.guard) c.in_ok-guard.ensures in
+    let same = reader_sees _ _ _ _ (sound _) c.manually_drop.ensures c.in_ok-guard.guard tt
+    (reads_known _ _ _ _ c.in_ok-guard.ensures).0 in
+    let seen = c.deref.ensures ∙ (same ∙ read.1) in
+    grind (arith, common_steps)
+
+pub returns-clause-seen : goal.returns-clause-seen
+returns-clause-seen g c =
+    let sound = g.met.S.AnyStorage.sound in
+    let read = opens_value _ _ (Ok c.in_ok-guard.guard) c.in_ok-guard.ensures in
+    let same = reader_sees _ _ _ _ (sound _) c.manually_drop.ensures c.in_ok-guard.guard tt
+    (reads_known _ _ _ _ c.in_ok-guard.ensures).0 in
+    let seen = c.deref.ensures ∙ (same ∙ read.1) in
+    let saw = read.2 in
+    grind (arith, common_steps)
+
+pub returns-clause-others : goal.returns-clause-others
+returns-clause-others g c b other =
+    let sound = g.met.S.AnyStorage.sound in
+    same_value _ _ _ _ (sound _) c.release.ensures b tt tt
+    ∙ (same_value _ _ _ _ (sound _) c.manually_drop.ensures b other tt
+    ∙ same_value _ _ _ _ (sound _) c.in_ok-guard.ensures b tt tt)

@@ -1,0 +1,101 @@
+use Rattle.std.proofs.Common.{◌≡◌, true, false, List, [], ◌∷◌, ◌||◌, Ok, Err, Some, refl, sym, ap}
+use Rattle.std.proofs.Common.{subst, ⊎_elim, arith, ◌∙◌}
+use Rattle.std.specs.Prelude.{Result}
+use Rattle.std.specs.FinMap as map
+use Rattle.std.proofs.lemmas.Bool.{true≢false, or_cases}
+use Rattle.std.proofs.lemmas.Option.{same_Some}
+use Rattle.generational_core.specs.Answers.{pointer_of, box_answer}
+use Rattle.generational_core.specs.Borrowing.{reach, leads_to, can_write, write_refusal}
+use Rattle.generational_core.specs.Boxes.{name_of}
+use Rattle.generational_core.specs.Leaving.{AreFree}
+use Rattle.generational_core.specs.Machine.{OwnerName, ownership}
+use Rattle.generational_core.specs.Machine.Action.{Make}
+use Rattle.generational_core.specs.Names.{Name}
+use Rattle.generational_core.specs.State.{State, Ownership, content_at}
+use Rattle.generational_core.specs.Steps.{Meets}
+use Rattle.generational_core.specs.declared.boxes.GenerationalBox.{GenerationalBox}
+use Rattle.generational_core.specs.declared.boxes.GenerationalPointer.{GenerationalPointer}
+use Rattle.generational_errors.specs.declared.error.Location.{Location}
+use Rattle.generational_errors.specs.declared.error.Refusal.{Refusal}
+use Rattle.generational_core.proofs.maps.Maps.{name_apart, name_same}
+use Rattle.generational_core.proofs.machine.Boxing.{ended_owned}
+use Rattle.generational_core.proofs.machine.Calling.{owned, lists, made_free, listed_last}
+use Rattle.generational_core.proofs.machine.Leaving.{leaves, release_leaves}
+use Rattle.generational_core.proofs.machine.Refusing.{refused_make}
+use Rattle.generational_core.proofs.machine.Resting.{rests, rests_free}
+use Rattle.generational_core.proofs.machine.Seeing.{reaches}
+use Rattle.generational_core.proofs.machine.Unborrowed.{frees_owned}
+use Rattle.generational_sessions.proofs.callers.Lefts.{left_still, left_twice}
+use Rattle.example_callers.proofs.owned.end_owned.Goals as goal
+
+-- a record of one owner value, with these boxes
+abbrev one_owner : List Name → Ownership
+one_owner names = record { names = names; count = 1 }
+
+module _ {T : Type 0} where
+  -- boxes of one name may be written alike, where they reach something
+  same_free : (S : State T) (a b : GenerationalPointer) (m : Name)
+      → can_write S a ≡ true → name_of a ≡ name_of b → reach S b ≡ Some m → can_write S b ≡ true
+  same_free S a b m free same to =
+      let at = rests S a free in
+      let one = sym (reaches S a at.0 at.1.reaches).leads
+      ∙ (ap (λ n. leads_to (map.get S.cells n) n) same ∙ (reaches S b m to).leads) in
+      rests_free S b m (record {
+        reaches = to;
+        free = ap (λ n. write_refusal (content_at S n)) (sym (same_Some _ _ one)) ∙ at.1.free;
+      })
+
+  -- after a making by a new owner, refused or not, nothing that the owner lists is borrowed
+  record Lists (S : State T) (o : OwnerName) : Type 0 where
+    names : List Name
+    held : ownership S o ≡ Some (one_owner names)
+    free : AreFree S names
+
+  after_making : {S R : State T} (o : OwnerName) (v : T) (l : Location)
+      (r : Result (GenerationalBox T) (Refusal T)) → ownership S o ≡ Some (one_owner [])
+      → Meets S (Make (Some o) v l) (box_answer r) R → Lists R o
+  after_making {R = R} o v l (Ok b) new m = record {
+    names = name_of (pointer_of b) ∷ [];
+    held = lists o v l (Ok b) m _ new;
+    free = λ c n there to gone. same_free R (pointer_of b) c n (made_free (Some o) v l (Ok b) m)
+        (⊎_elim (λ is. sym (name_same (name_of c) (name_of (pointer_of b)) is))
+        (λ none. absurd (true≢false (sym none))) (or_cases _ _ there)) to;
+  }
+  after_making o v l (Err e) new m = record {
+    names = [];
+    held = subst (λ X. ownership X o ≡ Some (one_owner [])) (sym (refused_make _ (Err e) m)) new;
+    free = λ c n there. absurd (true≢false (sym there));
+  }
+
+pub unreachable-requires : goal.unreachable-requires
+unreachable-requires g c =
+    let new = owned (Ok c.in_ok-owner.owner) c.in_ok-owner.ensures in
+    let all = after_making _ _ _ c.insert-made.result new c.insert-made.ensures.step in
+    true≢false (sym (frees_owned _ _ {U = Unit {0}} (Err (c.in-Err.owner, c.in-Err.field-0-1))
+    all.held all.free c.in-Err.ensures.step))
+
+pub returns-in-Ok-made-clause-ended : goal.returns-in-Ok-made-clause-ended
+returns-in-Ok-made-clause-ended g c =
+    let new = owned (Ok c.in_ok-owner.owner) c.in_ok-owner.ensures in
+    let held = lists _ _ _ (Ok c.in-Ok-made.made) c.in-Ok-made.ensures.step _ new in
+    ended_owned _ {V = OwnerName} (Ok c.in-Ok.field-0) (g.met.S.AnyStorage.sound _)
+    c.in-Ok.ensures.step _ _ held (omega arith) (listed_last [] _)
+
+pub returns-in-Err-made-clause-left : goal.returns-in-Err-made-clause-left
+returns-in-Err-made-clause-left g c b =
+    let sound = g.met.S.AnyStorage.sound in
+    let new = owned (Ok c.in_ok-owner.owner) c.in_ok-owner.ensures in
+    let still = refused_make _ (Err c.in-Err-made.field-0) c.in-Err-made.ensures.step in
+    let held = subst (λ X. ownership X c.in_ok-owner.owner ≡ Some (one_owner [])) (sym still) new in
+    left_twice (left_twice (leaves _ _ _ _ (sound _) c.in_ok-owner.ensures b tt tt)
+    (left_still b still)) (release_leaves _ _ _ _ (sound _) c.in-Ok.ensures.step _ held b refl)
+
+pub returns-in-Ok-made-clause-others : goal.returns-in-Ok-made-clause-others
+returns-in-Ok-made-clause-others g c b other =
+    let sound = g.met.S.AnyStorage.sound in
+    let new = owned (Ok c.in_ok-owner.owner) c.in_ok-owner.ensures in
+    let held = lists _ _ _ (Ok c.in-Ok-made.made) c.in-Ok-made.ensures.step _ new in
+    left_twice (left_twice (leaves _ _ _ _ (sound _) c.in_ok-owner.ensures b tt tt)
+    (leaves _ _ _ _ (sound _) c.in-Ok-made.ensures.step b tt other))
+    (release_leaves _ _ _ _ (sound _) c.in-Ok.ensures.step _ held b
+    (ap (λ x. x || false) (name_apart (name_of b) _ (λ e. other (sym e)))))

@@ -1,0 +1,40 @@
+use Rattle.std.proofs.Common.{Err, refl, sym, ap, ◌∙◌}
+use Rattle.std.proofs.lemmas.Bool.{true≢false}
+use Rattle.std.specs.Prelude.{is_some}
+use Rattle.generational_core.proofs.machine.Calling.{ends_free}
+use Rattle.generational_core.proofs.machine.Resting.{free_sees}
+use Rattle.generational_sessions.proofs.callers.Lacking.{ended_next}
+use Rattle.example_callers.proofs.Tables.{same_table}
+use Rattle.generational_sessions.proofs.callers.Rows.{each_at, empty_again, ended_row, shown_at}
+use Rattle.generational_sessions.specs.BoxRows.{IsFree, shown_in}
+use Rattle.example_callers.proofs.table.Table.remove.Goals as goal
+
+pub returns-in_default-clause-removed : goal.returns-in_default-clause-removed
+returns-in_default-clause-removed g c =
+    rw (← c.self.view_is) (same_table _ _
+    (sym (empty_again _ _ c.args.row (sym c.box_in.ensures ∙ c.in_default.is))) refl)
+
+pub invariant_of-self : goal.invariant_of-self
+invariant_of-self g c =
+    (ended_row (g.met.S.AnyStorage.sound _) _ c.self.invariant c.args.row c.in-Some.target
+    (sym c.box_in.ensures ∙ c.in-Some.is) c.in-Ok.ensures).0
+
+pub unreachable-requires : goal.unreachable-requires
+unreachable-requires g c =
+    let free = each_at (IsFree _) _ c.args.row c.in-Some.target c.self.invariant.free
+    (sym c.box_in.ensures ∙ c.in-Some.is) in
+    true≢false (sym (ends_free _ {U = Unit {0}} (Err c.in-Err.field-0) c.in-Err.ensures free))
+
+pub returns-clause-had : goal.returns-clause-had
+returns-clause-had g c =
+    let there = sym c.box_in.ensures ∙ c.in-Some.is in
+    let free = each_at (IsFree _) _ c.args.row c.in-Some.target c.self.invariant.free there in
+    let saw = free_sees _ _ (g.met.S.AnyStorage.sound _) free in
+    rw (← c.self.view_is)
+    (sym (ap is_some (shown_at _ _ c.args.row ∙ (ap (shown_in _) there ∙ saw.1))))
+
+pub returns-clause-removed : goal.returns-clause-removed
+returns-clause-removed g c =
+    rw (← c.self.view_is) (same_table _ _
+    (ended_row (g.met.S.AnyStorage.sound _) _ c.self.invariant c.args.row c.in-Some.target
+    (sym c.box_in.ensures ∙ c.in-Some.is) c.in-Ok.ensures).1 (ended_next _ _ c.in-Ok.ensures))

@@ -1,0 +1,6 @@
+use Rattle.std.proofs.Common.{Ok}
+use Rattle.generational_core.proofs.machine.Calling.{made}
+use Rattle.example_callers.proofs.wrapping.Group.count_from.Goals as goal
+
+pub returns-clause-seen : goal.returns-clause-seen
+returns-clause-seen g c = made _ _ _ (Ok c.in_ok-raw.raw) c.in_ok-raw.ensures.step

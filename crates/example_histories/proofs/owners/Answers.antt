@@ -1,0 +1,75 @@
+use Rattle.std.proofs.Common.{◌≡◌, ℕ, sym, ap, inl, inr, refl, ⊎_elim, arith, ◌∙◌, ◌||◌}
+use Rattle.std.proofs.lemmas.Bool.{true≢false}
+use Rattle.std.specs.Prelude.{[], ◌∷◌}
+use Rattle.std.specs.FinSet as set
+use Rattle.generational_core.specs.Names.{is_name}
+use Rattle.generational_core.specs.Cells.Cell.{Value, Shared, Ref}
+use Rattle.generational_core.specs.Cells.Content.{Here}
+use Rattle.generational_core.specs.Borrowing.{reach, refusal_to_read, refusal_to_write}
+use Rattle.generational_core.specs.Ending.{hindrance_to}
+use Rattle.generational_core.specs.Conditions.{fresh}
+use Rattle.generational_errors.specs.declared.error.Location.{Location}
+use Rattle.generational_core.proofs.maps.Maps.{contains-insert_name, name_here}
+use Rattle.example_histories.specs.Histories as row
+use Rattle.example_histories.specs.Rows.{Tells, ◌#◌}
+use Rattle.example_histories.proofs.Playing.{plays, plays_tell, none_given, more_given, cut, one_owner, reader}
+use Rattle.example_histories.proofs.owners.Goals as goal
+
+one_not_none : ◌≡◌ {A = ℕ} 1 0 → ⊥
+one_not_none e = omega arith
+
+-- a name that was given once isn't new
+twice : {T : Type 0} (u v w : T) (L M R W : Location)
+    → Tells (fresh 7 1 0) (row.one_name_twice u v w L M R W) → ⊥
+unfolding Tells
+twice {T} u v w L M R W h = true≢false (sym (contains-insert_name _ (0 # 1) (0 # 1)
+    ∙ ap (λ x. x || set.contains (fresh {T = T} 7 1 0).given (0 # 1)) (name_here (0 # 1)))
+    ∙ h.3.1.ungiven)
+
+-- A long row is cut where a state is written out: its cells, the names given, the owners, the next
+-- ticket and the peak.
+pub returns : goal.returns
+unfolding is_name reach refusal_to_read refusal_to_write hindrance_to
+returns g c =
+    let none = none_given c.slots_follow_from_names.ensures.none in
+    let more = more_given c.slots_follow_from_names.ensures.more in record {
+      reference_outlives = λ u v w L M R W. plays_tell _ _ _ (
+          cut 1 ((0 # 1, Shared (Here v []) L) ∷ (2 # 1, Ref (0 # 1) L) ∷ [])
+          (set.from_list (2 # 1 ∷ 1 # 1 ∷ 0 # 1 ∷ [])) ((1, one_owner (2 # 1 ∷ [])) ∷ []) 2 3 _ _ 6
+          (λ rest h. simp (plays, none, more) h) (simp (plays, none, more) tt));
+      lasting_borrow = λ u v w L M R W. plays_tell _ _ _ (
+          cut 1 ((0 # 1, Shared (Here v []) L) ∷ (1 # 1, Ref (0 # 1) L) ∷ (2 # 1, Ref (0 # 1) L) ∷ [])
+          (set.from_list (2 # 1 ∷ 1 # 1 ∷ 0 # 1 ∷ [])) ((0, one_owner (1 # 1 ∷ [])) ∷ []) 1 3 _ _ 3
+          (λ rest h. simp (plays, none, more) h) (simp (plays, none, more) tt));
+      release_under_a_reader = λ u v w L M R W. plays_tell _ _ _ (
+          cut 1 ((0 # 1, Value (Here v (reader 2 L ∷ [])) L)
+          ∷ (1 # 1, Value (Here w (reader 1 R ∷ [])) M) ∷ []) (set.from_list (1 # 1 ∷ 0 # 1 ∷ []))
+          ((0, one_owner (0 # 1 ∷ 1 # 1 ∷ [])) ∷ []) 3 2 _ _ 7
+          (λ rest h. simp (plays, none, more) h) (simp (plays, none, more) tt));
+      last_release = λ u v w L M R W. plays_tell _ _ _ (
+          cut 1 ((0 # 1, Value (Here v []) L) ∷ []) (set.from_list (0 # 1 ∷ []))
+          ((0, one_owner (0 # 1 ∷ [])) ∷ []) 2 1 _ _ 4 (λ rest h. simp (plays, none, more) h)
+          (simp (plays, none, more) tt));
+      leaked_clone = λ u v w L M R W. plays_tell _ _ _ (simp (plays, none, more) tt);
+      last_ticket = λ u v w L M R W. plays_tell _ _ _ (simp (plays, none, more) tt);
+      second_last_ticket = λ u v w L M R W. plays_tell _ _ _ (simp (plays, none, more) tt);
+      strange_boxes = λ u v w L M R W. plays_tell _ _ _ (simp (plays, none, more) tt);
+      strange_owners = λ u v w L M R W. plays_tell _ _ _ (simp (plays, none, more) tt);
+      last_reference = λ u v w L M R W. plays_tell _ _ _ (
+          cut 1 ((0 # 1, Shared (Here v (reader 0 R ∷ [])) L) ∷ (2 # 1, Ref (0 # 1) L) ∷ [])
+          (set.from_list (2 # 1 ∷ 1 # 1 ∷ 0 # 1 ∷ [])) [] 1 3 _ _ 5
+          (λ rest h. simp (plays, none, more) h) (simp (plays, none, more) tt));
+      free_slot = λ u v w L M R W. plays_tell _ _ _ (simp (plays, none, more) tt);
+      last_generation = λ u v w L M R W. plays_tell _ _ _ (simp (plays, none, more) tt);
+      next_generation_fits = λ u v w L M R W.
+          inr (simp (plays, none, more), simp (plays, none, more), simp (plays, none, more));
+      no_new_slot_fits = λ u v w L M R W h.
+          ⊎_elim (λ l. one_not_none (simp (plays, none, more) at l.0))
+          (λ r. true≢false (sym (simp (plays, none, more) at r.0))) h;
+      new_slot_fits = λ u v w L M R W.
+          inl (simp (plays, none, more), simp (plays, none, more), refl);
+      no_name_twice = twice;
+      no_other_name_fits = λ u v w L M R W h.
+          ⊎_elim (λ l. one_not_none (sym (simp (plays, none, more) at l.1)))
+          (λ r. true≢false (sym (simp (plays, none, more) at r.1))) h;
+    }

@@ -1,0 +1,13 @@
+use Rattle.std.proofs.Common.{arith, ◌∙◌}
+use Rattle.std.proofs.lemmas.Grind.{common_steps}
+use Rattle.signals.specs.Signals.{pointer_in}
+use Rattle.example_libraries.proofs.scopes.alias_outlives.Goals as goal
+
+pub returns-in-Ok-end : goal.returns-in-Ok-end
+returns-in-Ok-end g c =
+    let made = c.in-Ok.ensures in
+    let alias = c.in-Ok-alias.ensures in
+    let listed = made.listed _ c.requires.empty in
+    let left = c.in-Ok-end.ensures.others _ (alias.scopes _ _ c.requires.apart listed)
+    (pointer_in c.in-Ok-alias.alias) (alias.unlisted _ _ listed) in
+    let saw = left.seen ∙ (alias.seen ∙ made.seen) in grind (arith, common_steps)

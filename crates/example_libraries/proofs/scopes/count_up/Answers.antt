@@ -1,0 +1,20 @@
+use Rattle.std.proofs.Common.{inr, ap, subst, sym, ◌∙◌, refl}
+use Rattle.generational_core.specs.Leaving.{IsLeft}
+use Rattle.generational_errors.specs.Texts.{as_refused_mut}
+use Rattle.generational_sessions.proofs.callers.Lefts.{left_ticket, left_twice, set_free}
+use Rattle.generational_sessions.proofs.callers.Results.{err_so}
+use Rattle.generational_sessions.proofs.callers.Shortage.{read_short}
+use Rattle.example_libraries.proofs.scopes.count_up.Goals as goal
+
+pub returns-in_err-seen-clause-refused : goal.returns-in_err-seen-clause-refused
+returns-in_err-seen-clause-refused g c =
+    let free = set_free c.in_ok-update.ensures.changed.4 _ refl in
+    let read = c.in_err-seen.ensures.refused in
+    let short = read_short _ _ (g.met.S.AnyStorage.sound _) free _ read.1 in
+    err_so _ (λ e is. inr (is ∙ ap as_refused_mut short.0, ap (λ X. X.next) read.0 ∙ short.1))
+    c.from_residual-in_err-seen.ensures.1
+
+pub returns-clause-others : goal.returns-clause-others
+returns-clause-others g c b apart =
+    let read = subst (IsLeft _ b) (sym c.in_ok-seen.ensures.ticket) (left_ticket _ b) in
+    left_twice (c.in_ok-update.ensures.others b apart) read

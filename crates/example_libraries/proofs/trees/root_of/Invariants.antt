@@ -1,0 +1,6 @@
+use Rattle.std.proofs.Common.{◌≡◌}
+use Rattle.example_libraries.proofs.Walks.{last_of}
+use Rattle.example_libraries.proofs.trees.root_of.Given as goal
+
+abbrev pub invariant-up : goal.invariant-up
+invariant-up g l = l.root ≡ last_of l.node l.yielded

@@ -1,4 +1,0 @@
-use Rattle.gbox_workloads.proofs.workloads.release_each.Given as goal
-
-abbrev pub decreases-loop-owner : goal.decreases-loop-owner
-decreases-loop-owner g l = goal.left-loop-owner g l

@@ -1,5 +1,0 @@
-use Rattle.generational_containers.proofs.{arith, pool_empty}
-use Rattle.generational_containers.proofs.free_list.FreeList.new.Goals as goal
-
-pub invariant_of-result : goal.invariant_of-result
-invariant_of-result c = (pool_empty _, omega arith)

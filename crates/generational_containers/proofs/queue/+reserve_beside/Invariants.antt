@@ -1,4 +1,0 @@
-use Rattle.generational_containers.proofs.queue.+reserve_beside.Given as goal
-
-abbrev pub decreases-reserve_beside : goal.decreases-reserve_beside
-decreases-reserve_beside l = l.beside

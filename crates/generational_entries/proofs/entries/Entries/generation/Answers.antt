@@ -1,6 +1,0 @@
--- The generation of a slot's last cell.
-use Rattle.generational_entries.proofs.{found, refl, says}
-use Rattle.generational_entries.proofs.entries.Entries.generation.Goals as goal
-
-pub returns : goal.returns
-returns g c = says (found c.self.view_is c.self.invariant c.requires c.index.ensures) _ (λ d. refl)

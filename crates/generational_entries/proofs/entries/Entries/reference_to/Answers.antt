@@ -1,6 +1,0 @@
--- A reference to a slot's cell.
-use Rattle.generational_entries.proofs.{found, refl, says}
-use Rattle.generational_entries.proofs.entries.Entries.reference_to.Goals as goal
-
-pub returns : goal.returns
-returns g c = says (found c.self.view_is c.self.invariant c.requires c.index.ensures) _ (λ d. refl)

@@ -1,7 +1,0 @@
-use Rattle.generational_slots.proofs.{arith, free_seen, state_is}
-use Rattle.generational_slots.proofs.slots.Slots.spare.Goals as goal
-
-pub returns-clause-free : goal.returns-clause-free
-returns-clause-free g c =
-    let free = free_seen c.self.invariant.0 (state_is c.self.view_is) in
-    omega (arith, c.free.ensures)

@@ -1,6 +1,0 @@
-use Rattle.generational_slots.proofs.{ap, cell_seen, name_of_cell, target_in, ◌∙◌}
-use Rattle.generational_slots.proofs.slots.Slots.target.Goals as goal
-
-pub returns : goal.returns
-returns g c =
-    c.target.ensures ∙ ap target_in (cell_seen _ c.self.view_is (name_of_cell c.args.name))

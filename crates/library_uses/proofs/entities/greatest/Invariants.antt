@@ -1,6 +1,0 @@
-use Rattle.std.proofs.Common.{◌≡◌, ◌≤◌, ℕ, Some}
-use Rattle.std.specs.Prelude.{slice_get}
-use Rattle.library_uses.proofs.entities.greatest.Given as goal
-
-abbrev pub invariant-rows : goal.invariant-rows
-invariant-rows g l = (k : ℕ) (p : _) → slice_get l.yielded k ≡ Some p → p.1.now ≤ l.most

@@ -1,6 +1,0 @@
-use Rattle.std.proofs.Common.{◌≡◌}
-use Rattle.library_uses.proofs.Walks.{last_of}
-use Rattle.library_uses.proofs.trees.root_of.Given as goal
-
-abbrev pub invariant-up : goal.invariant-up
-invariant-up g l = l.root ≡ last_of l.node l.yielded

@@ -1,4 +1,0 @@
-use Rattle.reservation.proofs.+reserve_beside.Given as goal
-
-abbrev pub decreases-reserve_beside : goal.decreases-reserve_beside
-decreases-reserve_beside _ l = l.beside

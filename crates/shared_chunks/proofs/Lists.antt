@@ -1,0 +1,41 @@
+-- The items of chunks.
+use Rattle.std.proofs.Common.{◌≡◌, ℕ, ◌+◌, suc, ◌<◌, List, [], ◌∷◌, ◌++◌, length, take, map, sym, ap}
+use Rattle.std.proofs.Common.{◌∙◌, arith, length-append, get_or}
+use Rattle.std.specs.Global.{Vec}
+use Rattle.std.specs.Vec.{vec_items}
+use Rattle.std.proofs.Math.Seq.{take-suc}
+use Rattle.std.proofs.lemmas.List.{append-nil, append_assoc, map-append}
+use Rattle.shared_chunks.specs.Listed.{joined}
+
+module _ {X : Type 0} where
+  -- one chunk more
+  pub joined_snoc : (chunks : List (Vec X)) (chunk : Vec X)
+      → joined (chunks ++ chunk ∷ []) ≡ joined chunks ++ vec_items chunk
+  joined_snoc [] chunk = append-nil (vec_items chunk)
+  joined_snoc (c ∷ cs) chunk =
+      ap (λ xs. vec_items c ++ xs) (joined_snoc cs chunk)
+      ∙ sym (append_assoc (vec_items c) (joined cs) (vec_items chunk))
+
+  -- what the items of one chunk more stand for
+  pub mapped_take : {Y : Type 0} (f : X → Y) (chunks : List (Vec X)) (i : ℕ) (d : Vec X)
+      → i < length chunks
+      → map f (joined (take (i + 1) chunks))
+      ≡ map f (joined (take i chunks)) ++ map f (vec_items (get_or chunks i d))
+  mapped_take f chunks i d h =
+      let next : i + 1 ≡ suc i = omega arith in
+      let one = joined_snoc (take i chunks) (get_or chunks i d) in
+      ap (λ k. map f (joined (take k chunks))) next
+      ∙ (ap (λ cs. map f (joined cs)) (take-suc chunks i d h)
+      ∙ (ap (map f) one ∙ map-append f (joined (take i chunks)) (vec_items (get_or chunks i d))))
+
+  -- how many items there are after one more, which begins a chunk
+  pub turned : (full more : List (Vec X)) (last next : Vec X) (items : List X) (x : X) (n : ℕ)
+      → more ≡ full ++ last ∷ [] → items ≡ vec_items next ++ x ∷ [] → vec_items next ≡ []
+      → n ≡ length (joined full ++ vec_items last) → n + 1 ≡ length (joined more ++ items)
+  turned full more last next items x n is_more is_one none had =
+      let all = ap (λ cs. length (joined cs ++ items)) is_more
+      ∙ ap (λ xs. length (xs ++ items)) (joined_snoc full last) in
+      let both = length-append (joined full ++ vec_items last) items in
+      let one = ap length is_one ∙ length-append (vec_items next) (x ∷ []) in
+      let zero = ap length none in
+      omega arith

@@ -1,0 +1,191 @@
+//! The list.
+
+ghost use Rattle.std.specs.Prelude.{◌≡◌, ◌+◌, ◌<◌, ◌≤◌, ◌^◌, [], ◌∷◌, ◌++◌, IfOk, OnOk, OnErr};
+ghost use Rattle.std.specs.Prelude.{length, vec_len, vec_capacity, map};
+
+use crate::packed::{Packed, unpack_all};
+use std::alloc::{AllocError, Global};
+use std::marker::Model;
+use std::mem;
+use store_room::reserve_more;
+
+// How many items a chunk has at first, and at most, unless room for more is asked for at once.
+const LEAST: usize = 16;
+
+const MOST: usize = 1024;
+
+/// A list in chunks. Contracts see its items, and for how many more there is room.
+///
+/// The items stand in chunks that are full, and after these in the last one. Behind it there may be
+/// a spare one, which is empty: when the last chunk is full, the spare one takes its place. Each
+/// chunk has twice the room of the one before, up to 1024 items; of items with 112 bytes that is
+/// still less than what the C library gets from the system block by block.
+#[derive(Drop)]
+pub struct Chunks<X> {
+    alloc: Global,
+    full: Vec<Vec<X>>,
+    last: Vec<X>,
+    spare: Vec<X>,
+    len: usize,
+}
+
+impl<X> Model for Chunks<X> {
+    ghost use Rattle.std.specs.Prelude.{◌≡◌, ◌+◌, ◌-◌, ◌^◌, ◌<◌, ◌++◌, [], length, vec_len};
+    ghost use Rattle.std.specs.Prelude.{vec_capacity};
+    ghost use Rattle.shared_chunks.specs.Listed.{Listed, joined};
+
+    ghost Value = { Listed X };
+
+    ghost view = { λ c. record {
+      items = joined c.full.items ++ c.last.items;
+      room = (vec_capacity c.last - vec_len c.last) + vec_capacity c.spare;
+    } };
+
+    ghost invariant = { λ c. (c.spare.items ≡ [])
+        × (0 < vec_capacity c.spare → vec_len c.full < vec_capacity c.full)
+        × (c.len ≡ length (joined c.full.items ++ c.last.items))
+        × (c.len + ((vec_capacity c.last - vec_len c.last) + vec_capacity c.spare) < 2 ^ 64) };
+}
+
+impl<X: Copy> Chunks<X> {
+    /// A list of nothing. Takes no memory.
+    pub fn new(alloc: Global) -> Self
+        ensures { result ≡ record { items = []; room = 0 } }
+    {
+        Chunks {
+            alloc,
+            full: Vec::new(alloc),
+            last: Vec::new(alloc),
+            spare: Vec::new(alloc),
+            len: 0,
+        }
+    }
+
+    /// Makes room for so many items more. Where there isn't that room yet, it mostly makes twice as
+    /// much as is needed, so that few calls ask for memory. What is refused changes nothing, and
+    /// memory is refused only if there is none for what is needed alone.
+    #[inline(always)]
+    pub fn reserve(&mut self, more: usize) -> Result<(), AllocError>
+        ensures items { self.new.items ≡ self.old.items }
+        ensures room { self.old.room ≤ self.new.room }
+        ensures ok { OnOk result (more ≤ self.new.room) }
+        ensures err { OnErr result (self.new ≡ self.old) }
+    {
+        if more <= self.last.capacity() - self.last.len() {
+            return Ok(());
+        }
+        self.grow(more)
+    }
+
+    // Makes room for so many items more, which the last chunk doesn't have: a larger spare chunk, if
+    // that is needed.
+    #[cold]
+    #[inline(never)]
+    fn grow(&mut self, more: usize) -> Result<(), AllocError>
+        ensures items { self.new.items ≡ self.old.items }
+        ensures room { self.old.room ≤ self.new.room }
+        ensures ok { OnOk result (more ≤ self.new.room) }
+        ensures err { OnErr result (self.new ≡ self.old) }
+    {
+        let here = self.last.capacity() - self.last.len();
+        if more <= here + self.spare.capacity() {
+            return Ok(());
+        }
+        let needed = more - here;
+        let most = usize::MAX - self.len - here;
+        if most < needed {
+            return Err(AllocError);
+        }
+        let usual = self.last.capacity().saturating_mul(2).clamp(LEAST, MOST);
+        let wanted = usual.max(more.saturating_mul(2)).min(most);
+        reserve_more(&mut self.full, 1)?;
+        self.spare = new_chunk(self.alloc, needed, wanted - needed)?;
+        Ok(())
+    }
+
+    /// Appends an item, for which there is room. Takes no memory, moves no item, and is O(1).
+    #[tactic(auto, using(crate::proofs::Lists::joined_snoc))]
+    #[inline(always)]
+    pub fn push(&mut self, item: X)
+        requires { 0 < self.old.room }
+        ensures items { self.new.items ≡ self.old.items ++ item ∷ [] }
+        ensures room { self.new.room + 1 ≡ self.old.room }
+        ensures bounded { length self.new.items + self.new.room < 2 ^ 64 }
+    {
+        self.len += 1;
+        if self.last.len() < self.last.capacity() {
+            self.last.push_reserved(item);
+            return;
+        }
+        turn(self.alloc, &mut self.full, &mut self.last, &mut self.spare);
+        self.last.push_reserved(item);
+    }
+
+    /// How many items there are. Takes no memory, and is O(1).
+    pub fn len(&self) -> usize
+        ensures { result ≡ length self.now.items }
+    {
+        self.len
+    }
+
+    /// Takes all items away, and keeps the room. The full chunks are answered, so that who holds a
+    /// lock can let them go when it is open. Where memory is refused nothing changes.
+    pub fn empty(&mut self) -> Result<Vec<Vec<X>>, AllocError>
+        ensures items { OnOk result (self.new.items ≡ []) }
+        ensures room { OnOk result (self.old.room ≤ self.new.room) }
+        ensures err { OnErr result (self.new ≡ self.old) }
+    {
+        let mut none = Vec::new(self.alloc);
+        none.reserve(1)?;
+        let full = mem::replace(&mut self.full, none);
+        self.last.clear();
+        self.len = 0;
+        Ok(full)
+    }
+}
+
+// An empty chunk with room for as many items as are needed, and for so many beside these; or where
+// memory is refused for half as many beside these, for a quarter and so on.
+fn new_chunk<X>(alloc: Global, needed: usize, beside: usize) -> Result<Vec<X>, AllocError>
+    requires { needed + beside < 2 ^ 64 }
+    ensures items { IfOk result (λ chunk. chunk.items ≡ []) }
+    ensures least { IfOk result (λ chunk. needed ≤ vec_capacity chunk) }
+    ensures most { IfOk result (λ chunk. vec_capacity chunk ≤ needed + beside) }
+{
+    if let Ok(chunk) = Vec::with_capacity(alloc, needed + beside) {
+        return Ok(chunk);
+    }
+    if beside == 0 {
+        return Err(AllocError);
+    }
+    new_chunk(alloc, needed, beside / 2)
+}
+
+// Puts the last chunk, which is full, to those that are, and the spare one in its place.
+#[cold]
+#[inline(never)]
+fn turn<X: Copy>(alloc: Global, full: &mut Vec<Vec<X>>, last: &mut Vec<X>, spare: &mut Vec<X>)
+    requires { vec_len full.old < vec_capacity full.old }
+    ensures full { full.new.items ≡ full.old.items ++ last.old ∷ [] }
+    ensures last { last.new ≡ spare.old }
+    ensures spare { (spare.new.items ≡ []) × (vec_capacity spare.new ≡ 0) }
+{
+    let next = mem::replace(spare, Vec::new(alloc));
+    let done = mem::replace(last, next);
+    full.push_reserved(done);
+}
+
+impl<X: Packed> Chunks<X> {
+    /// A list of what the items stand for, in one piece.
+    #[tactic(auto, using(crate::proofs::Lists::mapped_take))]
+    pub fn unpacked(&self, number: u64) -> Result<Vec<X::Whole>, AllocError>
+        ensures { IfOk result (λ all. all.items ≡ map (X.unpacked number) self.now.items) }
+    {
+        let mut all = Vec::with_capacity(self.alloc, self.len)?;
+        for chunk in self.full.iter() {
+            unpack_all(&mut all, chunk.as_slice(), number)?;
+        }
+        unpack_all(&mut all, self.last.as_slice(), number)?;
+        Ok(all)
+    }
+}

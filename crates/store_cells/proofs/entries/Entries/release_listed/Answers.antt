@@ -1,0 +1,76 @@
+-- A listed reader ends.
+use Rattle.store_cells.proofs.{EntryList, ap, changed, data_free, entry_kept, false}
+use Rattle.store_cells.proofs.{is_noted_at, kept, listed, near_none, near_noted}
+use Rattle.store_cells.proofs.{no_reader, read_borrows, read_slot, reader_left, refl}
+use Rattle.store_cells.proofs.{release_borrows, release_indexed, release_kept}
+use Rattle.store_cells.proofs.{release_lists, release_rooms, release_written, same_near}
+use Rattle.store_cells.proofs.{says, says_with, set-own, still, still_listed, sym}
+use Rattle.store_cells.proofs.{true≢false, used_at, ◌∙◌, ◌≡◌}
+use Rattle.store_cells.proofs.entries.Entries.release_listed.Goals as goal
+
+pub list_noted-requires : goal.list_noted-requires
+list_noted-requires g c = (kept c.self.view_is c.self.invariant).base
+
+pub release-known-requires : goal.release-known-requires
+release-known-requires g c =
+    let s = listed (kept c.self.view_is c.self.invariant) c.list_noted.ensures.listed in
+    used_at (read_slot s c.requires c.index_mut.ensures.value).at c.in-Read.is
+
+pub invariant_of-self : goal.invariant_of-self
+invariant_of-self g c =
+    let s = listed (kept c.self.view_is c.self.invariant) c.list_noted.ensures.listed in
+    let v = still_listed c.self.invariant c.list_noted.ensures.listed
+    c.list_noted.ensures.capacity in
+    let a = read_slot s c.requires c.index_mut.ensures.value in
+    let r = c.list_noted.new.last in
+    let near = near_none r c.args.slot c.list_noted.ensures.nobody in
+    let left = c.release-known.ensures.after in
+    still a v _ (rw c.unlist.ensures (release_indexed a.at c.in-Read.is _ _ _ left _))
+    (near_noted a.at r _ _ near near
+    (λ z. absurd (true≢false (sym z ∙ c.list_noted.ensures.nobody)))
+    (rw c.unlist.ensures (release_written a.at c.in-Read.is r _)))
+    (release_rooms _ _ _ _ _ left)
+
+pub returns-in-Read-clause-known : goal.returns-in-Read-clause-known
+returns-in-Read-clause-known g c =
+    let s = listed (kept c.self.view_is c.self.invariant) c.list_noted.ensures.listed in
+    let a = read_slot s c.requires c.index_mut.ensures.value in
+    says_with a (read_borrows a.at c.in-Read.is) _
+    (λ d. rw c.in-Read.is c.release-known.ensures.known)
+
+pub returns-in-Read-clause-after : goal.returns-in-Read-clause-after
+returns-in-Read-clause-after g c =
+    let s = listed (kept c.self.view_is c.self.invariant) c.list_noted.ensures.listed in
+    let a = read_slot s c.requires c.index_mut.ensures.value in
+    let r = c.list_noted.new.last in
+    let near = near_none r c.args.slot c.list_noted.ensures.nobody in
+    let away : is_noted_at r c.args.slot ≡ false = rw c.list_noted.ensures.nobody refl in
+    let left = c.release-known.ensures.after in
+    rw c.unlist.ensures (changed a r _ _ _
+    (same_near a.at r _ near near (release_lists a.at c.in-Read.is _ _ _ left))
+    (read_borrows a.at c.in-Read.is) (release_borrows a.at c.in-Read.is r away _ _ _ left)
+    (λ d. rw (c.in-Read.is, release_kept a.at c.in-Read.is _ _ d.created_at)))
+
+pub invariant_of-self-in_default : goal.invariant_of-self-in_default
+invariant_of-self-in_default g c =
+    let s = listed (kept c.self.view_is c.self.invariant) c.list_noted.ensures.listed in
+    let a = read_slot s c.requires c.index_mut.ensures.value in
+    rw (set-own c.list_noted.new.entries.items c.args.slot c.index_mut.result.now a.at.there)
+    (still_listed c.self.invariant c.list_noted.ensures.listed c.list_noted.ensures.capacity)
+
+pub returns-in_default : goal.returns-in_default
+returns-in_default g c =
+    let s = listed (kept c.self.view_is c.self.invariant) c.list_noted.ensures.listed in
+    let a = read_slot s c.requires c.index_mut.ensures.value in
+    let e = c.index_mut.result.now in
+    let r = c.list_noted.new.last in
+    let near = near_none r c.args.slot c.list_noted.ensures.nobody in
+    let away : is_noted_at r c.args.slot ≡ false = rw c.list_noted.ensures.nobody refl in
+    record {
+      known = says a _ (λ d. sym (no_reader e.content _ d.created_at c.args.ticket
+          c.in_default.not-Read (data_free a.at away)));
+      after = changed a r _ e _ (same_near a.at r _ near near (λ k other. refl)) refl refl
+          (λ d. ap (entry_kept e.generation d.references) (reader_left e.content _ d.created_at
+          c.args.ticket c.in_default.not-Read (data_free a.at away)));
+      rooms = ap (λ (x : EntryList _). x.rooms) c.self.view_is;
+    }

@@ -1,0 +1,885 @@
+//! The slots of a store, with the borrows that stand at their cells.
+#![tactic(auto, using(crate::proofs::states::Entries::entries_len))]
+
+ghost use Rattle.std.specs.Prelude.{◌≡◌, ◌≢◌, ◌+◌, ◌-◌, ◌<◌, ◌≤◌, ◌∷◌, ◌++◌, ◌↔◌, [], true, false};
+ghost use Rattle.std.specs.Prelude.{length, slice_get, slice_set, Some, Err, IsTrue, IfSome, IfOk};
+ghost use Rattle.std.specs.Prelude.{IfErr, OnOk, OnErr, is_some, is_none, is_ok, option_copied};
+ghost use Rattle.std.specs.Prelude.{max, option_map, vec_capacity};
+ghost use Rattle.generational_core.specs.Answers.{value_of};
+ghost use Rattle.generational_core.specs.Borrowing.{leads_to, read_refusal, write_refusal};
+ghost use Rattle.generational_core.specs.Borrowing.BorrowRefusal.{BeingWritten};
+ghost use Rattle.generational_core.specs.Cells.{content_of, location_of};
+ghost use Rattle.generational_core.specs.Cells.Content.{Here};
+ghost use Rattle.generational_core.specs.Machine.{has_reader, has_writer};
+ghost use Rattle.generational_core.specs.Rows.{content_rows};
+ghost use Rattle.generational_core.specs.Slots.{last_generation};
+ghost use Rattle.generational_core.specs.declared.rows.BaseRow.TheVariants as row;
+ghost use Rattle.generational_errors.specs.declared.error.BorrowMutError.TheVariants as writes;
+ghost use Rattle.generational_errors.specs.declared.error.Refused.TheVariants as refused;
+ghost use Rattle.generational_errors.specs.declared.error.StoreError.TheVariants.{OutOfMemory};
+ghost use Rattle.store_parts.specs.Borrows.{AreBelow};
+ghost use Rattle.store_parts.specs.CellNames.{name_of_cell};
+ghost use Rattle.store_parts.specs.Table.{no_index, list_at, IsClosed, IsUsed};
+ghost use Rattle.store_cells.specs.Entries.{index_of, kept_data, listed_beside};
+ghost use Rattle.store_cells.specs.Entries.{IsListable, IsListed, IsUnborrowed};
+ghost use Rattle.store_cells.specs.Entry.{cell_at, cell_of, change_entry, content_in};
+ghost use Rattle.store_cells.specs.Entry.{has_no_borrow, is_unborrowed_value, kind_in};
+ghost use Rattle.store_cells.specs.Entry.{lend_to, readers_of, referring, target_in};
+ghost use Rattle.store_cells.specs.Entry.{value_for, with_reader, with_value};
+ghost use Rattle.store_cells.specs.Entry.{without_reader_in, FoundBorrowed, FoundReaders};
+ghost use Rattle.store_cells.specs.Entry.{IsAlone, IsReadable};
+ghost use Rattle.store_cells.specs.Entry.Kept.{Empty};
+ghost use Rattle.store_cells.specs.Latest.{cleared, is_noted};
+ghost use Rattle.store_cells.specs.declared.entry.StorageEntryData.TheVariants as content;
+
+use crate::entry::{EntryDetails, Kind, StorageEntry, StorageEntryData};
+use crate::latest::{LastBorrow, Noted};
+use generational_core::parts::Borrow;
+use generational_core::{
+    AlreadyBorrowedError, AlreadyBorrowedMutError, BaseRow, BorrowMutError, BorrowMutResult,
+    GenerationalBoxId, Location, Refused, StoreError,
+};
+use std::alloc::{AllocError, Global};
+use std::marker::Model;
+use std::mem;
+use store_parts::names::CellName;
+use store_parts::queue::reader_row;
+use store_parts::room::{more_room, reserve_room};
+use store_parts::table::{BorrowTable, NO_INDEX};
+use store_room::{halfway, push_more};
+
+/// The slots of a store. Contracts see each as its generation and its cell with the borrows that
+/// stand there, and for how many slots there is room.
+///
+/// What every call asks for stands together in `entries`. What is seldom asked of a cell stands
+/// apart, and so do borrows, in a table that stays as small as the most that stood at once. The
+/// borrow that began last is noted, until another begins. So a writer touches no list, and a reader
+/// of a value that nobody else reads touches neither a list nor its slot; a reader beside others is
+/// listed with them as well.
+pub struct Entries<T> {
+    alloc: Global,
+    entries: Vec<StorageEntry<T>>,
+    details: Vec<EntryDetails>,
+    borrows: BorrowTable,
+    last: LastBorrow,
+    // for how many slots there is room in each of these
+    room: usize,
+}
+
+impl<T> Model for Entries<T> {
+    ghost use Rattle.std.specs.Prelude.{◌≡◌, ◌≤◌, length, vec_capacity};
+    ghost use Rattle.store_cells.specs.Entries.{EntryList, entries_of, AreIndexed};
+    ghost use Rattle.store_cells.specs.Entries.{AreRoomy};
+    ghost use Rattle.store_cells.specs.Latest.{AreNoted};
+
+    ghost Value = { EntryList T };
+
+    ghost view = { λ e. record {
+      slots = entries_of e.last e.borrows.lists e.entries.items e.details.items;
+      rooms = e.room;
+    } };
+
+    ghost invariant = { λ e. AreIndexed e.borrows e.entries.items
+        × AreNoted e.last e.borrows.lists e.entries.items
+        × (length e.details.items ≡ length e.entries.items)
+        × AreRoomy e.room (length e.entries.items) (vec_capacity e.entries)
+        (vec_capacity e.details) e.borrows.rooms };
+}
+
+// In which order the buffers go decides how much of their memory glibc's malloc keeps for the next
+// store, and how much it gives back to the system: `docs/PERFORMANCE.md` tells of it.
+impl<T: Drop> Drop for Entries<T> {
+    fn drop(self) {
+        let Entries {
+            alloc: _,
+            entries,
+            details,
+            borrows,
+            last: _,
+            room: _,
+        } = self;
+        drop(entries);
+        drop(borrows);
+        drop(details);
+    }
+}
+
+impl<T> Entries<T> {
+    /// No slot. Takes no memory.
+    pub fn new(alloc: Global) -> Entries<T>
+        ensures { result ≡ record { slots = []; rooms = 0 } }
+    {
+        Entries {
+            alloc,
+            entries: Vec::new(alloc),
+            details: Vec::new(alloc),
+            borrows: BorrowTable::new(alloc),
+            last: LastBorrow::nobody(),
+            room: 0,
+        }
+    }
+
+    /// How many slots were made.
+    #[inline(always)]
+    pub fn len(&self) -> usize
+        ensures { result ≡ length self.now.slots }
+    {
+        self.entries.len()
+    }
+
+    /// For how many there is room.
+    #[inline(always)]
+    pub fn room(&self) -> usize
+        ensures { result ≡ self.now.rooms }
+    {
+        self.room
+    }
+
+    /// What a box of this name reaches.
+    #[inline(always)]
+    pub fn reach(&self, name: CellName) -> Option<CellName>
+        ensures { option_map name_of_cell result ≡ leads_to
+            (cell_at self.now.slots (name_of_cell name)) (name_of_cell name) }
+    {
+        match self.entries.get(name.slot) {
+            Some(entry) => entry.reach(name),
+            None => None,
+        }
+    }
+
+    /// Whose the value of this name is, also one that is lent.
+    #[inline(always)]
+    pub fn kind(&self, name: CellName) -> Option<Kind>
+        ensures { result ≡ kind_in (cell_at self.now.slots (name_of_cell name)) }
+    {
+        match self.entries.get(name.slot) {
+            Some(entry) => entry.kind(name.generation),
+            None => None,
+        }
+    }
+
+    /// What the reference of this name names.
+    #[inline(always)]
+    pub fn target(&self, name: CellName) -> Option<CellName>
+        ensures { option_map name_of_cell result
+            ≡ target_in (cell_at self.now.slots (name_of_cell name)) }
+    {
+        match self.entries.get(name.slot) {
+            Some(entry) => entry.target(name.generation),
+            None => None,
+        }
+    }
+
+    /// Where the slot's cell was made, and how many references name it.
+    #[inline(always)]
+    pub fn details(&self, slot: usize) -> EntryDetails
+        requires { slot < length self.now.slots }
+        ensures references { IfSome (slice_get self.now.slots slot)
+            (λ e. result.references ≡ e.references) }
+        ensures created { IfSome (slice_get self.now.slots slot)
+            (λ e. IfSome (location_of (cell_of e.kept)) (λ l. result.created_at ≡ l)) }
+    {
+        self.details[slot]
+    }
+
+    /// A reference to a slot's cell.
+    pub fn reference_to(&self, slot: usize) -> StorageEntryData<T>
+        requires { slot < length self.now.slots }
+        ensures { IfSome (slice_get self.now.slots slot)
+            (λ e. result ≡ content.Reference slot e.generation) }
+    {
+        let generation = self.entries[slot].generation;
+        StorageEntryData::Reference(slot as u32, generation)
+    }
+
+    /// The generation of the slot's last cell.
+    #[inline(always)]
+    pub fn generation(&self, slot: usize) -> u64
+        requires { slot < length self.now.slots }
+        ensures { IfSome (slice_get self.now.slots slot) (λ e. result ≡ e.generation) }
+    {
+        self.entries[slot].generation
+    }
+
+    /// Whether the cell of this name is a value, also one that is lent.
+    #[inline(always)]
+    pub fn holds(&self, name: CellName) -> bool
+        ensures { result
+            ≡ is_some (content_of (cell_at self.now.slots (name_of_cell name))) }
+    {
+        if self.last.is_at(name.slot) && self.last.generation == name.generation {
+            return true;
+        }
+        self.kind(name).is_some()
+    }
+
+    /// Whether the cell of this name is a value that isn't shared and has no borrow.
+    #[inline(always)]
+    pub fn has_unborrowed_value(&self, name: CellName) -> bool
+        ensures { result ≡ is_unborrowed_value (cell_at self.now.slots (name_of_cell name)) }
+    {
+        if self.last.is_at(name.slot) {
+            return false;
+        }
+        match self.entries.get(name.slot) {
+            Some(entry) => entry.has_unborrowed_value(name.generation),
+            None => false,
+        }
+    }
+
+    /// The writer that stands in the way of a read.
+    #[inline(always)]
+    pub fn borrow_error(&self, slot: usize) -> Option<AlreadyBorrowedMutError>
+        requires { slot < length self.now.slots }
+        ensures { IfSome (slice_get self.now.slots slot) (λ e. option_map
+            (λ x. BeingWritten x.borrowed_mut_at) result ≡ read_refusal (content_in e.kept)) }
+    {
+        match &self.entries[slot].content {
+            StorageEntryData::Lent(_, index) => {
+                let writer = writer_at(&self.borrows, &self.last, *index);
+                Some(AlreadyBorrowedMutError::new(writer.location))
+            }
+            _ => None,
+        }
+    }
+
+    /// Whether no borrow stands at the cell.
+    #[inline(always)]
+    pub fn is_unborrowed(&self, slot: usize) -> bool
+        requires { slot < length self.now.slots }
+        ensures { IfSome (slice_get self.now.slots slot)
+            (λ e. result ≡ is_none (write_refusal (content_in e.kept))) }
+    {
+        if self.last.is_at(slot) {
+            return false;
+        }
+        match &self.entries[slot].content {
+            StorageEntryData::Read(_, _, _) => false,
+            StorageEntryData::Lent(_, _) => false,
+            _ => true,
+        }
+    }
+
+    /// The borrows that stand in the way of a write or an end.
+    #[inline(always)]
+    pub fn borrow_mut_error(&self, slot: usize) -> BorrowMutResult<()>
+        requires { slot < length self.now.slots }
+        ensures { IfSome (slice_get self.now.slots slot)
+            (λ e. FoundBorrowed (write_refusal (content_in e.kept)) result) }
+    {
+        match &self.entries[slot].content {
+            StorageEntryData::Lent(_, index) => {
+                Err(writer_error(writer_at(&self.borrows, &self.last, *index)))
+            }
+            StorageEntryData::Read(_, index, _) => {
+                Err(readers_error(&self.borrows, *index, self.alloc))
+            }
+            _ => {
+                if self.last.is_at(slot) {
+                    return Err(reader_error(self.last.borrow, self.alloc));
+                }
+                Ok(())
+            }
+        }
+    }
+
+    /// Appends a row for each borrow of the slot's value, in order, under the value's id.
+    pub fn push_borrows(
+        &self,
+        slot: usize,
+        id: GenerationalBoxId,
+        rows: &mut Vec<BaseRow>,
+    ) -> Result<(), AllocError>
+        requires { slot < length self.now.slots }
+        ensures { OnOk result (IfSome (slice_get self.now.slots slot)
+            (λ e. rows.new.items ≡ rows.old.items ++ content_rows id (content_in e.kept))) }
+    {
+        match &self.entries[slot].content {
+            StorageEntryData::Lent(_, index) => {
+                push_writer(writer_at(&self.borrows, &self.last, *index), id, rows)
+            }
+            StorageEntryData::Read(_, index, _) => {
+                self.borrows.borrows_at(*index).push_readers(id, rows)
+            }
+            _ => {
+                if self.last.is_at(slot) {
+                    return push_more(rows, reader_row(id, &self.last.borrow));
+                }
+                Ok(())
+            }
+        }
+    }
+
+    /// Whether no borrow is noted.
+    #[inline(always)]
+    pub fn is_settled(&self) -> bool {
+        !self.last.is_noted()
+    }
+
+    /// The slot's value, unless a writer has it.
+    #[inline(always)]
+    pub fn peek(&self, slot: usize) -> Option<&T>
+        requires { slot < length self.now.slots }
+        ensures { IfSome (slice_get self.now.slots slot)
+            (λ e. option_copied result ≡ value_of (content_in e.kept)) }
+    {
+        match &self.entries[slot].content {
+            StorageEntryData::Data(_, value) => Some(value),
+            StorageEntryData::Read(_, _, value) => Some(value),
+            _ => None,
+        }
+    }
+
+    /// The value, where the reader stands.
+    #[inline(always)]
+    pub fn open(&self, slot: usize, ticket: u64) -> Option<&T>
+        requires { slot < length self.now.slots }
+        ensures { IfSome (slice_get self.now.slots slot)
+            (λ e. option_copied result ≡ value_for ticket (content_in e.kept)) }
+    {
+        let content = &self.entries[slot].content;
+        if self.last.is_reader_at(slot, ticket) {
+            return match content {
+                StorageEntryData::Data(_, value) => Some(value),
+                _ => self.peek_slow(slot),
+            };
+        }
+        match content {
+            StorageEntryData::Read(_, index, value) => {
+                if self.borrows.contains(*index, ticket) {
+                    return Some(value);
+                }
+                None
+            }
+            _ => None,
+        }
+    }
+
+    // The value of a cell beside whose noted reader others are listed.
+    #[cold]
+    #[inline(never)]
+    fn peek_slow(&self, slot: usize) -> Option<&T>
+        requires { slot < length self.now.slots }
+        ensures { IfSome (slice_get self.now.slots slot)
+            (λ e. option_copied result ≡ value_of (content_in e.kept)) }
+    {
+        self.peek(slot)
+    }
+}
+
+impl<T: Drop> Entries<T> {
+    /// Makes room for one slot more at least, and for so many that few growths pay for it, as far as
+    /// memory reaches. Refused only if memory runs out, or where no index of 32 bits is left for a
+    /// slot's borrows; the room is then unchanged.
+    #[cold]
+    #[inline(never)]
+    pub fn grow(&mut self) -> Result<(), StoreError>
+    where
+        T: Drop,
+        ensures slots { self.new.slots ≡ self.old.slots }
+        ensures rooms { self.old.rooms ≤ self.new.rooms }
+        ensures ok { OnOk result (self.old.rooms < self.new.rooms) }
+        ensures few { OnOk result (self.new.rooms < no_index) }
+        ensures cause { IfErr result (λ error. error ≡ OutOfMemory) }
+    {
+        let room = larger_room(self.room)?;
+        self.grow_within(room)
+    }
+
+    /// Makes room for this many slots in all, where there is less. Refused only if memory runs out,
+    /// or where no index of 32 bits is left for a slot's borrows; the room is then unchanged.
+    pub fn reserve(&mut self, room: usize) -> Result<(), StoreError>
+    where
+        T: Drop,
+        ensures slots { self.new.slots ≡ self.old.slots }
+        ensures rooms { self.old.rooms ≤ self.new.rooms }
+        ensures ok { OnOk result (room ≤ self.new.rooms) }
+        ensures most { self.new.rooms ≤ max self.old.rooms room }
+        ensures err { OnErr result (self.new.rooms ≡ self.old.rooms) }
+        ensures cause { IfErr result (λ error. error ≡ OutOfMemory) }
+    {
+        if room <= self.room {
+            return Ok(());
+        }
+        if room >= NO_INDEX as usize {
+            return Err(StoreError::OutOfMemory);
+        }
+        if let Err(cause) = self.reserve_all(room) {
+            self.give_back_room();
+            return Err(cause);
+        }
+        Ok(())
+    }
+
+    // Makes room for this many slots in all. Where memory is refused it makes room for half of those
+    // that are more than before, then for a quarter and so on, and for one more at least.
+    fn grow_within(&mut self, room: usize) -> Result<(), StoreError>
+    where
+        T: Drop,
+        requires more { self.old.rooms < room }
+        requires few { room < no_index }
+        ensures slots { self.new.slots ≡ self.old.slots }
+        ensures rooms { self.old.rooms ≤ self.new.rooms }
+        ensures ok { OnOk result (self.old.rooms < self.new.rooms) }
+        ensures few { OnOk result (self.new.rooms < no_index) }
+        ensures err { OnErr result (self.new.rooms ≡ self.old.rooms) }
+        ensures cause { IfErr result (λ error. error ≡ OutOfMemory) }
+    {
+        match self.reserve(room) {
+            Ok(()) => Ok(()),
+            Err(cause) => match halfway(self.room, room) {
+                Some(less) => self.grow_within(less),
+                None => Err(cause),
+            },
+        }
+    }
+
+    // Gives back what the buffers have beyond the room for slots.
+    fn give_back_room(&mut self)
+        ensures { self.new ≡ self.old }
+    {
+        self.entries.shrink_to(self.room);
+        self.details.shrink_to(self.room);
+        self.borrows.give_back_room();
+    }
+
+    // Makes room for this many slots in all. The lists of borrows come first: their buffer, mostly
+    // the largest, mostly has nothing to be moved. So few refusals come after slots were moved.
+    fn reserve_all(&mut self, room: usize) -> Result<(), StoreError>
+    where
+        T: Drop,
+        requires more { self.old.rooms ≤ room }
+        requires few { room < no_index }
+        ensures slots { self.new.slots ≡ self.old.slots }
+        ensures ok { OnOk result (self.new.rooms ≡ room) }
+        ensures err { OnErr result (self.new.rooms ≡ self.old.rooms) }
+        ensures cause { IfErr result (λ error. error ≡ OutOfMemory) }
+    {
+        self.borrows.reserve(room)?;
+        reserve_room(&mut self.entries, self.alloc, room)?;
+        reserve_room(&mut self.details, self.alloc, room)?;
+        self.borrows.grow(room)?;
+        self.room = room;
+        Ok(())
+    }
+
+    /// Lists the noted borrow, if there is one. Takes no memory.
+    #[inline(always)]
+    pub fn list_noted(&mut self)
+        ensures { self.new ≡ self.old }
+    {
+        list_noted(&mut self.entries, &mut self.borrows, &mut self.last);
+    }
+
+    /// Adds a reader to a value that isn't lent. Refused only for a reader beside others, if memory
+    /// runs out; nothing changes then. `is_unborrowed` says that the caller knows of no borrow there.
+    #[inline(always)]
+    pub fn begin_read(
+        &mut self,
+        name: CellName,
+        borrow: Borrow,
+        is_unborrowed: bool,
+    ) -> Result<(), AllocError>
+        requires there { IsReadable name.generation (slice_get self.old.slots name.slot) }
+        requires ascends { IfSome (slice_get self.old.slots name.slot)
+            (λ e. AreBelow borrow.ticket (readers_of (content_in e.kept))) }
+        requires alone { is_unborrowed ≡ true → IsAlone name.generation
+            (slice_get self.old.slots name.slot) }
+        ensures ok { OnOk result (self.new.slots ≡ change_entry self.old.slots name.slot
+            (λ e. record e { kept = with_reader borrow e.kept })) }
+        ensures err { OnErr result (self.new ≡ self.old) }
+        ensures beside { OnErr result (IfSome (slice_get self.old.slots name.slot)
+            (λ e. is_some (write_refusal (content_in e.kept)) ≡ true)) }
+        ensures rooms { self.new.rooms ≡ self.old.rooms }
+    {
+        list_noted(&mut self.entries, &mut self.borrows, &mut self.last);
+        if !is_unborrowed {
+            list_beside(&self.entries[name.slot], &mut self.borrows, borrow)?;
+        }
+        self.last.note(Noted::Reader, name, borrow);
+        Ok(())
+    }
+
+    /// Takes a reader away. The answer is whether it stood.
+    #[inline(always)]
+    pub fn release_read(&mut self, slot: usize, ticket: u64) -> bool
+        requires { slot < length self.old.slots }
+        ensures known { IfSome (slice_get self.old.slots slot)
+            (λ e. result ≡ has_reader (content_in e.kept) ticket) }
+        ensures after { self.new.slots ≡ change_entry self.old.slots slot
+            (λ e. record e { kept = without_reader_in ticket e.kept }) }
+        ensures rooms { self.new.rooms ≡ self.old.rooms }
+    {
+        if self.last.is_reader_at(slot, ticket) && self.entries[slot].content.is_unread() {
+            self.last.noted = Noted::Nobody;
+            return true;
+        }
+        self.release_listed(slot, ticket)
+    }
+
+    // Takes a reader away that is listed, or that doesn't stand.
+    #[cold]
+    #[inline(never)]
+    fn release_listed(&mut self, slot: usize, ticket: u64) -> bool
+        requires { slot < length self.old.slots }
+        ensures known { IfSome (slice_get self.old.slots slot)
+            (λ e. result ≡ has_reader (content_in e.kept) ticket) }
+        ensures after { self.new.slots ≡ change_entry self.old.slots slot
+            (λ e. record e { kept = without_reader_in ticket e.kept }) }
+        ensures rooms { self.new.rooms ≡ self.old.rooms }
+    {
+        list_noted(&mut self.entries, &mut self.borrows, &mut self.last);
+        let content = &mut self.entries[slot].content;
+        match content {
+            StorageEntryData::Read(_, index, _) => {
+                let known = self.borrows.release(index, ticket);
+                content.unlist();
+                known
+            }
+            _ => false,
+        }
+    }
+
+    /// Lends the value of a cell without borrows to a writer.
+    #[inline(always)]
+    pub fn begin_write(&mut self, name: CellName, writer: Borrow) -> T
+        requires free { IsAlone name.generation (slice_get self.old.slots name.slot) }
+        ensures value { IfSome (slice_get self.old.slots name.slot)
+            (λ e. content_in e.kept ≡ Some (Here result [])) }
+        ensures after { self.new.slots ≡ change_entry self.old.slots name.slot
+            (λ e. record e { kept = lend_to writer e.kept }) }
+        ensures rooms { self.new.rooms ≡ self.old.rooms }
+    {
+        list_noted(&mut self.entries, &mut self.borrows, &mut self.last);
+        let value = self.entries[name.slot].content.lend();
+        self.last.note(Noted::Writer, name, writer);
+        value
+    }
+
+    /// Puts a writer's value back, or hands it back where the writer doesn't stand, which changes
+    /// nothing.
+    #[inline(always)]
+    pub fn release_write(&mut self, slot: usize, ticket: u64, value: T) -> Result<(), T>
+        requires { slot < length self.old.slots }
+        ensures known { IfSome (slice_get self.old.slots slot)
+            (λ e. IsTrue (is_ok result) ↔ (has_writer (content_in e.kept) ticket ≡ true)) }
+        ensures ok { OnOk result (self.new.slots ≡ change_entry self.old.slots slot
+            (λ e. record e { kept = with_value value e.kept })) }
+        ensures err { IfErr result (λ back. (back ≡ value) × (self.new ≡ self.old)) }
+        ensures rooms { self.new.rooms ≡ self.old.rooms }
+    {
+        if self.last.is_writer_at(slot, ticket) {
+            self.last.noted = Noted::Nobody;
+            self.entries[slot].content.put_back(value);
+            return Ok(());
+        }
+        self.release_listed_writer(slot, ticket, value)
+    }
+
+    // Puts the value of a writer back that is listed, or hands it back where the writer doesn't
+    // stand.
+    #[cold]
+    #[inline(never)]
+    fn release_listed_writer(&mut self, slot: usize, ticket: u64, value: T) -> Result<(), T>
+        requires { slot < length self.old.slots }
+        ensures known { IfSome (slice_get self.old.slots slot)
+            (λ e. IsTrue (is_ok result) ↔ (has_writer (content_in e.kept) ticket ≡ true)) }
+        ensures ok { OnOk result (self.new.slots ≡ change_entry self.old.slots slot
+            (λ e. record e { kept = with_value value e.kept })) }
+        ensures err { IfErr result (λ back. (back ≡ value) × (self.new ≡ self.old)) }
+        ensures rooms { self.new.rooms ≡ self.old.rooms }
+    {
+        list_noted(&mut self.entries, &mut self.borrows, &mut self.last);
+        let content = &mut self.entries[slot].content;
+        match content {
+            StorageEntryData::Lent(_, index) => {
+                let index = *index;
+                if self.borrows.first(index).ticket != ticket {
+                    return Err(value);
+                }
+                content.put_back(value);
+                self.borrows.close(index);
+                Ok(())
+            }
+            _ => Err(value),
+        }
+    }
+
+    /// Puts another value in the place of that of a cell without borrows, and answers the old one.
+    #[inline(always)]
+    pub fn replace(&mut self, slot: usize, value: T) -> T
+        requires within { slot < length self.old.slots }
+        requires free { IfSome (slice_get self.old.slots slot)
+            (λ e. has_no_borrow (content_in e.kept) ≡ true) }
+        ensures value { IfSome (slice_get self.old.slots slot)
+            (λ e. content_in e.kept ≡ Some (Here result [])) }
+        ensures after { self.new.slots ≡ change_entry self.old.slots slot
+            (λ e. record e { kept = with_value value e.kept }) }
+        ensures rooms { self.new.rooms ≡ self.old.rooms }
+    {
+        match &mut self.entries[slot].content {
+            StorageEntryData::Data(_, kept) => mem::replace(kept, value),
+            _ => unreachable!(),
+        }
+    }
+
+    /// Ends the slot's cell, with the borrows that stand there. `is_unborrowed` says that the caller
+    /// knows it as a value without borrows.
+    #[inline(always)]
+    pub fn end(&mut self, slot: usize, is_unborrowed: bool)
+        requires within { slot < length self.old.slots }
+        requires alone { is_unborrowed ≡ true → IfSome (slice_get self.old.slots slot)
+            (λ e. has_no_borrow (content_in e.kept) ≡ true) }
+        ensures slots { self.new.slots ≡ change_entry self.old.slots slot
+            (λ e. record e { kept = Empty }) }
+        ensures rooms { self.new.rooms ≡ self.old.rooms }
+    {
+        let entry = &mut self.entries[slot];
+        let index = entry.index();
+        entry.content = StorageEntryData::Empty;
+        if is_unborrowed {
+            return;
+        }
+        self.last.forget(slot);
+        give_back(&mut self.borrows, index);
+    }
+
+    /// Puts a cell without borrows into a slot that has none, under the next generation, which is
+    /// answered. Nothing refers to it.
+    #[inline(always)]
+    pub fn refill(&mut self, slot: usize, content: StorageEntryData<T>, created_at: Location) -> u64
+        requires within { slot < length self.old.slots }
+        requires below { IfSome (slice_get self.old.slots slot)
+            (λ e. e.generation < last_generation) }
+        requires empty { IfSome (slice_get self.old.slots slot) (λ e. e.kept ≡ Empty) }
+        requires unborrowed { IsUnborrowed content }
+        ensures generation { IfSome (slice_get self.old.slots slot)
+            (λ e. result ≡ e.generation + 1) }
+        ensures filled { self.new.slots ≡ slice_set self.old.slots slot (record
+            { generation = result; kept = kept_data [] created_at content; references = 0 }) }
+        ensures rooms { self.new.rooms ≡ self.old.rooms }
+    {
+        self.details[slot] = EntryDetails {
+            created_at,
+            references: 0,
+        };
+        self.entries[slot].refill(content)
+    }
+
+    /// Adds a slot with a cell without borrows, to which nothing refers. There is room for it.
+    #[inline(always)]
+    pub fn push(&mut self, generation: u64, content: StorageEntryData<T>, created_at: Location)
+        requires room { length self.old.slots < self.old.rooms }
+        requires unborrowed { IsUnborrowed content }
+        ensures pushed { self.new.slots ≡ self.old.slots ++ (record
+            { generation = generation; kept = kept_data [] created_at content; references = 0 })
+            ∷ [] }
+        ensures rooms { self.new.rooms ≡ self.old.rooms }
+        ensures few { length self.old.slots < no_index }
+    {
+        self.entries.push_reserved(StorageEntry {
+            generation,
+            content,
+        });
+        self.details.push_reserved(EntryDetails {
+            created_at,
+            references: 0,
+        });
+    }
+
+    /// Lets the slot's reference name another cell.
+    pub fn redirect(&mut self, slot: usize, target: usize)
+        requires within { slot < length self.old.slots }
+        requires target { target < length self.old.slots }
+        requires refers { IfSome (slice_get self.old.slots slot)
+            (λ e. is_some (target_in (cell_of e.kept)) ≡ true) }
+        ensures slots { IfSome (slice_get self.old.slots target)
+            (λ t. self.new.slots ≡ change_entry self.old.slots slot (λ e. record e {
+              kept = referring (record { slot = target; generation = t.generation }) e.kept;
+            })) }
+        ensures rooms { self.new.rooms ≡ self.old.rooms }
+    {
+        let generation = self.entries[target].generation;
+        self.entries[slot].content = StorageEntryData::Reference(target as u32, generation);
+    }
+
+    /// One reference more names the slot's cell.
+    #[inline(always)]
+    pub fn count_up(&mut self, slot: usize)
+        requires within { slot < length self.old.slots }
+        requires few { IfSome (slice_get self.old.slots slot)
+            (λ e. e.references < length self.old.slots) }
+        ensures slots { self.new.slots ≡ change_entry self.old.slots slot
+            (λ e. record e { references = e.references + 1 }) }
+        ensures rooms { self.new.rooms ≡ self.old.rooms }
+    {
+        self.details[slot].references += 1;
+    }
+
+    /// One less does.
+    #[inline(always)]
+    pub fn count_down(&mut self, slot: usize)
+        requires within { slot < length self.old.slots }
+        requires some { IfSome (slice_get self.old.slots slot) (λ e. 0 < e.references) }
+        ensures slots { self.new.slots ≡ change_entry self.old.slots slot
+            (λ e. record e { references = e.references - 1 }) }
+        ensures rooms { self.new.rooms ≡ self.old.rooms }
+    {
+        self.details[slot].references -= 1;
+    }
+}
+
+// Lists the noted borrow, if there is one. Takes no memory.
+#[inline(always)]
+fn list_noted<T: Drop>(
+    entries: &mut Vec<StorageEntry<T>>,
+    borrows: &mut BorrowTable,
+    last: &mut LastBorrow,
+)
+    requires { IsListable last.old borrows.old entries.old.items }
+    ensures listed { IsListed last.old last.new borrows.old borrows.new entries.old.items
+        entries.new.items }
+    ensures capacity { vec_capacity entries.new ≡ vec_capacity entries.old }
+    ensures nobody { is_noted last.new.noted ≡ false }
+{
+    if last.is_noted() {
+        list_last(entries, borrows, last);
+        last.noted = Noted::Nobody;
+    }
+}
+
+// Lists the noted borrow, unless it is a reader that is listed.
+#[cold]
+#[inline(never)]
+fn list_last<T: Drop>(
+    entries: &mut Vec<StorageEntry<T>>,
+    borrows: &mut BorrowTable,
+    last: &LastBorrow,
+)
+    requires noted { is_noted last.now.noted ≡ true }
+    requires fits { IsListable last.now borrows.old entries.old.items }
+    ensures listed { IsListed last.now (cleared last.now) borrows.old borrows.new entries.old.items
+        entries.new.items }
+    ensures capacity { vec_capacity entries.new ≡ vec_capacity entries.old }
+{
+    let content = &mut entries[last.slot].content;
+    match content {
+        StorageEntryData::Data(_, _) => content.list(borrows.open(last.borrow)),
+        StorageEntryData::Lent(_, index) => *index = borrows.open(last.borrow),
+        _ => {}
+    }
+}
+
+// Lists a reader of a value that others read. If memory runs out, nothing changes.
+#[cold]
+#[inline(never)]
+fn list_beside<T>(
+    entry: &StorageEntry<T>,
+    borrows: &mut BorrowTable,
+    reader: Borrow,
+) -> Result<(), AllocError>
+    requires within { index_of entry.now.content ≢ no_index
+        → index_of entry.now.content < length borrows.old.lists }
+    requires ascends { index_of entry.now.content ≢ no_index → AreBelow reader.ticket
+        (list_at borrows.old.lists (index_of entry.now.content)) }
+    ensures ok { OnOk result (borrows.new
+        ≡ listed_beside reader (index_of entry.now.content) borrows.old) }
+    ensures err { OnErr result (borrows.new ≡ borrows.old) }
+    ensures beside { OnErr result (index_of entry.now.content ≢ no_index) }
+{
+    let index = entry.index();
+    if index == NO_INDEX {
+        return Ok(());
+    }
+    borrows.push(index, reader)
+}
+
+// The writer of a lent value: the one that is listed at its index, or the noted one.
+#[inline(always)]
+fn writer_at(borrows: &BorrowTable, last: &LastBorrow, index: u32) -> Borrow
+    requires { index ≢ no_index → index < length borrows.now.lists }
+    ensures none { index ≡ no_index → result ≡ last.now.borrow }
+    ensures some { index ≢ no_index → slice_get (list_at borrows.now.lists index) 0 ≡ Some result }
+{
+    if index == NO_INDEX {
+        return last.borrow;
+    }
+    borrows.first(index)
+}
+
+// Gives the index of a slot's borrows back, if there is one.
+#[inline(always)]
+fn give_back(borrows: &mut BorrowTable, index: u32)
+    requires { index ≢ no_index → IsUsed borrows.old index }
+    ensures none { index ≡ no_index → borrows.new ≡ borrows.old }
+    ensures some { index ≢ no_index → IsClosed borrows.old borrows.new index }
+{
+    if index != NO_INDEX {
+        borrows.close(index);
+    }
+}
+
+// The next larger number of slots for which room is made.
+fn larger_room(room: usize) -> Result<usize, StoreError>
+    ensures more { IfOk result (λ more. (room < more) × (more < no_index)) }
+    ensures cause { IfErr result (λ error. error ≡ OutOfMemory) }
+{
+    let most = NO_INDEX as usize - 1;
+    if room >= most {
+        return Err(StoreError::OutOfMemory);
+    }
+    Ok(most.min(room + more_room(room)))
+}
+
+// The answer to a write or an end where the readers at this index stand.
+#[cold]
+#[inline(never)]
+fn readers_error(borrows: &BorrowTable, index: u32, alloc: Global) -> Refused<BorrowMutError>
+    requires { index < length borrows.now.lists }
+    ensures { FoundReaders (list_at borrows.now.lists index) result }
+{
+    match borrows.borrows_at(index).locations(alloc) {
+        Ok(borrowed_at) => Refused::Borrow(BorrowMutError::AlreadyBorrowed(
+            AlreadyBorrowedError::new(borrowed_at),
+        )),
+        Err(_) => Refused::Store(StoreError::OutOfMemory),
+    }
+}
+
+// The answer to a write or an end where one reader stands.
+#[cold]
+#[inline(never)]
+fn reader_error(reader: Borrow, alloc: Global) -> Refused<BorrowMutError>
+    ensures { FoundReaders (reader ∷ []) result }
+{
+    match Vec::with_capacity(alloc, 1) {
+        Ok(mut borrowed_at) => {
+            borrowed_at.push_reserved(reader.location);
+            Refused::Borrow(BorrowMutError::AlreadyBorrowed(AlreadyBorrowedError::new(borrowed_at)))
+        }
+        Err(_) => Refused::Store(StoreError::OutOfMemory),
+    }
+}
+
+// Appends the row of the writer of the value with this id.
+fn push_writer(
+    writer: Borrow,
+    id: GenerationalBoxId,
+    rows: &mut Vec<BaseRow>,
+) -> Result<(), AllocError>
+    ensures { OnOk result (rows.new.items
+        ≡ rows.old.items ++ row.Writer id writer.ticket writer.location ∷ []) }
+{
+    push_more(rows, BaseRow::Writer(id, writer.ticket, writer.location))
+}
+
+// The answer to a write or an end where a writer stands.
+#[inline(always)]
+fn writer_error(writer: Borrow) -> Refused<BorrowMutError>
+    ensures { result ≡ refused.Borrow (writes.AlreadyBorrowedMut
+        (record { borrowed_mut_at = writer.location })) }
+{
+    Refused::Borrow(BorrowMutError::AlreadyBorrowedMut(AlreadyBorrowedMutError::new(
+        writer.location,
+    )))
+}

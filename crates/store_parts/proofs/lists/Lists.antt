@@ -1,0 +1,267 @@
+-- Lists after a write or a push, key counts, and lists of free slots.
+use Rattle.store_parts.proofs.Common
+use Rattle.std.proofs.lemmas.Bool.{or_right}
+use Common.{AllByRecursion, ap, arith, Bool, cases_Bool, cond, eq-eqb, eq_by_cmp, false, false≢true}
+use Common.{how_many, inl, inr, IsDistinct, IsDistinct-push, IsPool, length}
+use Common.{length-le_from_distinct_below, List, list_any, list_any-append, nat_cmp}
+use Common.{nat_cmp-IsAntisymmetric, nat_cmp_total, nat_eq, nat_eq_equiv, nat_tests, None, Option}
+use Common.{or_parts, refl, reverse, reverse-append, slice_get, slice_set, Some, suc, sym, true}
+use Common.{zero, ℕ, [], ◌++◌, ◌+◌, ◌-◌, ◌<◌, ◌||◌, ◌∙◌, ◌∷◌, ◌≡◌, ◌≢◌, ◌≤◌}
+use Rattle.std.specs.FinMap as map
+use Rattle.std.specs.FinSet as set
+
+pub number_test : (a b : ℕ) → eq_by_cmp nat_cmp a b ≡ nat_eq a b
+number_test a b = grind (arith, nat_tests)
+
+pub cond_same : {A : Type 0} (b : Bool) (x : A) → cond b x x ≡ x
+cond_same true x = refl
+cond_same false x = refl
+
+-- one where a test is passed
+abbrev pub bit : Bool → ℕ
+bit b = cond b 1 0
+
+bit_most : (b : Bool) → bit b ≤ 1
+bit_most b = grind arith
+
+module _ {A : Type 0} where
+  -- whether something stands there that passes
+  abbrev pub passes : (A → Bool) → Option A → Bool
+  passes p None = false
+  passes p (Some x) = p x
+
+  -- ys is xs with x at the i-th place, which may be the one after the last
+  pub record IsWritten (xs ys : List A) (i : ℕ) (x : A) : Type 0 where
+    pub at : (k : ℕ) → slice_get ys k ≡ cond (nat_eq k i) (Some x) (slice_get xs k)
+    pub count : (p : A → Bool)
+        → how_many p ys + bit (passes p (slice_get xs i)) ≡ how_many p xs + bit (p x)
+
+  -- the same behind an element more
+  written_behind : {xs ys : List A} {i : ℕ} {x : A} (z : A) → IsWritten xs ys i x
+      → IsWritten (z ∷ xs) (z ∷ ys) (suc i) x
+  written_behind z rest = record {
+    at = λ k. grind (arith, nat_tests, rest.at);
+    count = λ p. omega (arith, rest.count p);
+  }
+
+  pub set_written : (xs : List A) (i : ℕ) (x y : A) → slice_get xs i ≡ Some y
+      → IsWritten xs (slice_set xs i x) i x
+  set_written [] i x y h = absurd cc
+  set_written (z ∷ zs) zero x y h =
+      record { at = λ k. grind (arith, nat_tests); count = λ p. omega arith }
+  set_written (z ∷ zs) (suc i) x y h = written_behind z (set_written zs i x y h)
+
+  pub push_written : (xs : List A) (x : A) → IsWritten xs (xs ++ x ∷ []) (length xs) x
+  push_written [] x =
+      record { at = λ k. grind (arith, nat_tests); count = λ p. omega arith }
+  push_written (z ∷ zs) x = written_behind z (push_written zs x)
+
+  pub set-own : (xs : List A) (i : ℕ) (x : A) → slice_get xs i ≡ Some x → slice_set xs i x ≡ xs
+  set-own [] i x h = refl
+  set-own (z ∷ zs) zero x h = cc
+  set-own (z ∷ zs) (suc i) x h = rw (set-own zs i x h)
+
+  pub count_all : (xs : List A) → how_many (λ x. true) xs ≡ length xs
+  count_all [] = refl
+  count_all (x ∷ xs) = omega (arith, count_all xs)
+
+  -- what passes is counted, and what is counted stands somewhere
+  pub many_some : (p : A → Bool) (xs : List A) (k : ℕ) (x : A)
+      → slice_get xs k ≡ Some x → p x ≡ true → 0 < how_many p xs
+  many_some p [] k x at passed = absurd cc
+  many_some p (y ∷ ys) zero x at passed = grind arith
+  many_some p (y ∷ ys) (suc k) x at passed = omega (arith, many_some p ys k x at passed)
+
+  pub some_of_many : (p : A → Bool) (xs : List A) → 0 < how_many p xs
+      → (k : ℕ) × (x : A) × (slice_get xs k ≡ Some x) × (p x ≡ true)
+  some_of_many p [] many = absurd (omega arith)
+  some_of_many p (y ∷ ys) many = elim (cases_Bool (p y)) [
+    | inl passed ↦ (0, y, refl, passed)
+    | inr e ↦ let it = some_of_many p ys (omega (arith, rw e at many)) in
+        (suc it.0, it.1, it.2, it.3)
+  ]
+
+  -- no more pass than there are
+  pub many_within : (p : A → Bool) (xs : List A) → how_many p xs ≤ length xs
+  many_within p [] = omega arith
+  many_within p (x ∷ xs) = omega (arith, many_within p xs, bit_most (p x))
+
+  -- fewer pass than there are, where one doesn't
+  pub fewer_within : (p : A → Bool) (xs : List A) (i : ℕ) (x : A)
+      → slice_get xs i ≡ Some x → p x ≡ false → how_many p xs < length xs
+  fewer_within p [] i x there fails = absurd cc
+  fewer_within p (y ∷ xs) zero x there fails = let most = many_within p xs in grind arith
+  fewer_within p (y ∷ xs) (suc i) x there fails =
+      omega (arith, fewer_within p xs i x there fails, bit_most (p y))
+
+-- ---- elements that are written
+
+pub set_twice : {A : Type 0} (xs : List A) (i : ℕ) (x y : A)
+    → slice_set (slice_set xs i x) i y ≡ slice_set xs i y
+set_twice (z ∷ zs) (suc i) x y = rw (set_twice zs i x y)
+set_twice xs i x y = refl
+
+pub set_apart : {A : Type 0} (xs : List A) (i j : ℕ) (x y : A) → (i ≡ j → ⊥)
+    → slice_set (slice_set xs i x) j y ≡ slice_set (slice_set xs j y) i x
+set_apart (z ∷ zs) zero zero x y other = absurd (other refl)
+set_apart (z ∷ zs) (suc i) (suc j) x y other =
+    rw (set_apart zs i j x y (λ e. other (ap suc e)))
+set_apart xs i j x y other = refl
+
+pub get_left : {A : Type 0} (xs ys : List A) (i : ℕ) (e : A) → slice_get xs i ≡ Some e
+    → slice_get (xs ++ ys) i ≡ Some e
+get_left [] ys i e there = absurd cc
+get_left (x ∷ xs) ys zero e there = there
+get_left (x ∷ xs) ys (suc i) e there = get_left xs ys i e there
+
+pub set_left : {A : Type 0} (xs ys : List A) (i : ℕ) (e y : A) → slice_get xs i ≡ Some e
+    → slice_set (xs ++ ys) i y ≡ slice_set xs i y ++ ys
+set_left [] ys i e y there = absurd cc
+set_left (x ∷ xs) ys zero e y there = refl
+set_left (x ∷ xs) ys (suc i) e y there = rw (set_left xs ys i e y there)
+
+pub get_own : {A : Type 0} (xs : List A) (i : ℕ) (x y : A) → slice_get xs i ≡ Some x
+    → slice_get (slice_set xs i y) i ≡ Some y
+get_own xs i x y there = rw ((set_written xs i y x there).at, eq-eqb i i refl)
+
+pub get_other : {A : Type 0} (xs : List A) (i j : ℕ) (x : A) → (i ≡ j → ⊥)
+    → slice_get (slice_set xs i x) j ≡ slice_get xs j
+get_other (z ∷ zs) zero zero x other = absurd (other refl)
+get_other (z ∷ zs) (suc i) (suc j) x other = get_other zs i j x (λ e. other (ap suc e))
+get_other xs i j x other = refl
+
+-- ---- how many keys a map has
+
+len_step : {X : Type 0} (m : map.FinMap nat_cmp X) (i n : ℕ) (b : Bool) → map.contains_key m i ≡ b
+    → map.len (map.remove m i) ≡ n → map.len m ≡ bit b + n
+len_step {X} m i n b here rest =
+    let e = rw here at (map.len-remove nat_cmp_total m i) in
+    let some : b ≡ true → map.len m ≢ 0 =
+    λ has z. cc (map.empty_of_len m z, map.get-empty {X = X} nat_cmp i) in
+    grind arith
+
+-- a map whose keys are the indices, from the i-th on, of what passes, has as many keys as pass
+pub len_passing : {A X : Type 0} (p : A → Bool) (i : ℕ) (xs : List A) (m : map.FinMap nat_cmp X)
+    → ((k : ℕ) → k < i → map.contains_key m k ≡ false)
+    → ((k : ℕ) → map.contains_key m (i + k) ≡ passes p (slice_get xs k))
+    → map.len m ≡ how_many p xs
+len_passing p i [] m low at =
+    ap map.len (map.same_map nat_cmp_total map.nat_cmp-IsAntisymmetric m map.empty (λ k.
+    rw (map.get-empty nat_cmp k) (grind (arith, low k, at (k - i))))) ∙ map.len-empty nat_cmp _
+len_passing p i (x ∷ xs) m low at =
+    len_step m i (how_many p xs) (p x) (ap (map.contains_key m) (omega arith) ∙ at 0)
+    (len_passing p (i + 1) xs (map.remove m i)
+    (λ k h. rw (map.get-remove nat_cmp_total m i k, number_test k i)
+    (grind (arith, nat_tests, low k)))
+    (λ k. rw (map.get-remove nat_cmp_total m i (i + 1 + k), number_test (i + 1 + k) i)
+    (grind (arith, nat_tests, at (suc k)))))
+
+-- ---- sets of free slots
+
+pub contains-insert_at : (s : set.FinSet nat_cmp) (i k : ℕ)
+    → set.contains (set.insert s i) k ≡ cond (nat_eq k i) true (set.contains s k)
+contains-insert_at s i k =
+    rw (set.contains-insert nat_cmp_total s i k, number_test k i) (grind arith)
+
+pub contains-remove_at : (s : set.FinSet nat_cmp) (i k : ℕ)
+    → set.contains (set.remove s i) k ≡ cond (nat_eq k i) false (set.contains s k)
+contains-remove_at s i k =
+    rw (set.contains-remove nat_cmp_total s i k, number_test k i) (grind arith)
+
+-- what is true of one slot, where it is so already
+pub contains_own : (s : set.FinSet nat_cmp) (i : ℕ) {b : Bool} → set.contains s i ≡ b → (k : ℕ)
+    → set.contains s k ≡ cond (nat_eq k i) b (set.contains s k)
+contains_own s i own k = grind (arith, nat_tests)
+
+-- a slot that is taken and put back is free as before
+module _ (pool : set.FinSet nat_cmp) (i : ℕ) (member : set.contains pool i ≡ true) where
+  pub not_left : set.contains (set.remove pool i) i ≡ false
+  not_left = rw (contains-remove_at, eq-eqb i i refl)
+
+  pub put_back : set.insert (set.remove pool i) i ≡ pool
+  put_back = set.same_set nat_cmp_total nat_cmp-IsAntisymmetric _ _ (λ k.
+      rw (contains-insert_at, contains-remove_at) (grind (arith, nat_tests)))
+
+-- a slot that is put in and taken out again leaves the set as it was
+pub remove-insert_new : (s : set.FinSet nat_cmp) (i : ℕ)
+    → set.contains s i ≡ false → set.remove (set.insert s i) i ≡ s
+remove-insert_new s i absent = set.same_set nat_cmp_total nat_cmp-IsAntisymmetric _ _ (λ k.
+    rw (contains-remove_at, contains-insert_at) (grind (arith, nat_tests)))
+
+abbrev pub holds : List ℕ → ℕ → Bool
+holds slots slot = list_any (nat_eq slot) slots
+
+abbrev pub members : List ℕ → set.FinSet nat_cmp
+members slots = set.from_list slots
+
+pub members-holds : (xs : List ℕ) (q : ℕ) → set.contains (members xs) q ≡ holds xs q
+members-holds xs q = set.contains-from_list_nat xs q ∙ turn xs
+  where
+    turn : (ys : List ℕ) → list_any (λ y. nat_eq y q) ys ≡ holds ys q
+    turn [] = refl
+    turn (y ∷ ys) = λ i. nat_eq_equiv.symm y q i || turn ys i
+
+absent_all : (x : ℕ) (xs : List ℕ) → holds xs x ≡ false
+    → AllByRecursion (λ y. nat_eq x y ≡ false) xs
+absent_all x [] h = tt
+absent_all x (y ∷ ys) h =
+    let parts = or_parts (nat_eq x y) (holds ys x) h in (parts.0, absent_all x ys parts.1)
+
+all_absent : (x : ℕ) (xs : List ℕ) → AllByRecursion (λ y. nat_eq x y ≡ false) xs
+    → holds xs x ≡ false
+all_absent x [] h = refl
+all_absent x (y ∷ ys) h = rw h.0 (all_absent x ys h.1)
+
+module _ {xs : List ℕ} {rooms slot : ℕ} where
+  pub pool_put : IsPool xs rooms → slot < rooms → set.contains (members xs) slot ≡ false
+      → IsPool (slot ∷ xs) rooms
+  unfolding IsDistinct
+  pool_put p room absent = record {
+    distinct = (absent_all slot xs (sym (members-holds xs slot) ∙ absent), p.distinct);
+    below = λ q h. grind (arith, nat_tests, p.below q);
+  }
+
+  pub pool_take : IsPool (slot ∷ xs) rooms → IsPool xs rooms
+  unfolding IsDistinct
+  pool_take p = record {
+    distinct = p.distinct.1;
+    below = λ q h. p.below q (or_right (nat_eq q slot) _ h);
+  }
+
+  pub head_absent : IsPool (slot ∷ xs) rooms → set.contains (members xs) slot ≡ false
+  unfolding IsDistinct
+  head_absent p = members-holds xs slot ∙ all_absent slot xs p.distinct.0
+
+  pub members_take : IsPool (slot ∷ xs) rooms
+      → members xs ≡ set.remove (members (slot ∷ xs)) slot
+  members_take p = sym (remove-insert_new (members xs) slot (head_absent p))
+
+pub pool_length : {xs : List ℕ} {rooms : ℕ} → IsPool xs rooms → length xs ≤ rooms
+pool_length {xs} {rooms} p = length-le_from_distinct_below xs rooms p.distinct p.below
+
+-- the slots of a pool are counted by its list
+pub pool_count : (xs : List ℕ) {rooms : ℕ} → IsPool xs rooms → set.len (members xs) ≡ length xs
+pool_count [] p = set.len-empty nat_cmp
+pool_count (x ∷ xs) p =
+    rw (set.len-insert nat_cmp_total (members xs) x, head_absent p)
+    (omega (arith, pool_count xs (pool_take p)))
+
+-- a buffer keeps the last one at its end
+pub reverse_pushed : (xs ys : List ℕ) (x : ℕ) → xs ≡ ys ++ x ∷ []
+    → reverse xs ≡ x ∷ reverse ys
+reverse_pushed xs ys x e = ap reverse e ∙ reverse-append ys (x ∷ [])
+
+pub pool_empty : (rooms : ℕ) → IsPool [] rooms
+unfolding IsDistinct
+pool_empty rooms = record { distinct = tt; below = λ q h. absurd (false≢true h) }
+
+-- the same with a slot more at the end
+pub pool_push : {xs : List ℕ} {rooms slot : ℕ} → IsPool xs rooms → slot < rooms
+    → set.contains (members xs) slot ≡ false → IsPool (xs ++ slot ∷ []) rooms
+pool_push {xs} {rooms} {slot} p room absent = record {
+  distinct = IsDistinct-push nat_eq_equiv xs slot p.distinct
+      (sym (members-holds xs slot) ∙ absent);
+  below = λ q h.
+      let either = rw (list_any-append (nat_eq q) xs (slot ∷ [])) at h in
+      grind (arith, nat_tests, p.below q);
+}

@@ -1,0 +1,26 @@
+use Rattle.store_parts.proofs.{arith, changed_placed}
+use Rattle.store_parts.proofs.{listed_owners, name_of_cell, one_listed, places_is}
+use Rattle.store_parts.proofs.{room_record, room_within, slice_get}
+use Rattle.store_parts.proofs.owners.OwnerRecords.list.Goals as goal
+
+pub list_at-requires-clause-within : goal.list_at-requires-clause-within
+list_at-requires-clause-within c =
+    let room = rw (c.in-Some.is, ← places_is c.self.view_is) at c.requires in
+    let within = room_within c.self.inside.places.items c.in-Some.place room in
+    omega (arith, within, c.self.inside.places.ok.0)
+
+pub list_at-requires-clause-room : goal.list_at-requires-clause-room
+list_at-requires-clause-room c = rw (c.in-Some.is, ← places_is c.self.view_is) at c.requires
+
+pub invariant_of-self : goal.invariant_of-self
+invariant_of-self c =
+    let room = rw (c.in-Some.is, ← places_is c.self.view_is) at c.requires in
+    let held = room_record (slice_get c.self.inside.places.items c.in-Some.place) room in
+    rw c.list_at.ensures (changed_placed c.self.invariant held.0 c.in-Some.place held.1
+    (one_listed (name_of_cell c.args.name)))
+
+pub returns-in-Some : goal.returns-in-Some
+returns-in-Some c o reserved =
+    rw c.list_at.ensures (listed_owners c.self.invariant c.args.self.now c.self.view_is o
+    c.in-Some.place (name_of_cell c.args.name)
+    (rw c.in-Some.is at reserved))

@@ -1,0 +1,4 @@
+use Rattle.store_parts.proofs.pool.+grow_within.Given as goal
+
+abbrev pub decreases-grow_within : goal.decreases-grow_within
+decreases-grow_within _ l = l.room

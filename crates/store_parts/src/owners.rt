@@ -1,0 +1,483 @@
+//! The records that a store keeps of owners.
+
+ghost use Rattle.std.specs.Prelude.{◌≡◌, ℕ, ◌<◌, ◌↔◌, [], true};
+ghost use Rattle.std.specs.Prelude.{Option, Some, None, IfSome, IfNone, IsSome, IsTrue, IfErr, IfOk};
+ghost use Rattle.std.specs.Prelude.{length, OnOk, OnErr};
+ghost use Rattle.std.specs.Prelude.{option_copied, option_map, is_some, map as list_map};
+ghost use Rattle.std.specs.Prelude.{if◌then◌else◌, vec_len, slice_get, slice_set};
+ghost use Rattle.std.specs.FinMap as map;
+ghost use Rattle.generational_core.specs.State.{one_more, one_less, one_listed};
+ghost use Rattle.generational_core.specs.StepCalls.{owner_of};
+ghost use Rattle.generational_core.specs.Conditions.{names_under, names_in};
+ghost use Rattle.generational_core.specs.Names.{change};
+ghost use Rattle.store_parts.specs.CellNames.{name_of_cell};
+ghost use Rattle.store_parts.specs.OwnerRecords.{knows, permits, record_of};
+ghost use Rattle.store_parts.specs.OwnerRecords.{add_to_list_in, IsRefusal};
+ghost use Rattle.store_parts.specs.OwnerPlaces.{with_ownership, with_rooms};
+ghost use Rattle.store_parts.specs.OwnerPlaces.{change_place, change_record, rooms_at};
+ghost use Rattle.store_parts.specs.OwnerPlaces.{HasRoom, IsReserved};
+ghost use Rattle.generational_core.specs.Machine.{OwnerName};
+ghost use Rattle.store_parts.specs.OwnerPlaces.{owners_of};
+ghost use Rattle.store_parts.specs.OwnerPlaces.{record_at, HasRecord};
+
+mod rows;
+
+use crate::names::CellName;
+use crate::pool::{LastFirst, SlotPool, make_room};
+use generational_core::parts::{number_of, place_of};
+use generational_core::{Owner, OwnerId, StoreError};
+use std::alloc::{AllocError, Global};
+use std::marker::Model;
+use store_room::reserve_more;
+
+/// An owner's record: its boxes in order of insertion, and how many owner values are held.
+/// Contracts see it with its key.
+#[derive(Drop)]
+pub struct OwnerRecord {
+    key: u64,
+    boxes: Vec<CellName>,
+    count: u64,
+}
+
+impl Model for OwnerRecord {
+    ghost use Rattle.std.specs.Prelude.{map as list_map, vec_capacity};
+    ghost use Rattle.store_parts.specs.OwnerPlaces.{KeyedOwnership};
+    ghost use Rattle.store_parts.specs.CellNames.{name_of_cell};
+
+    ghost Value = { KeyedOwnership };
+
+    ghost view = { λ r. record {
+      key = r.key;
+      ownership = record { names = list_map name_of_cell r.boxes.items; count = r.count };
+      rooms = vec_capacity r.boxes;
+    } };
+}
+
+impl OwnerRecord {
+    // A record without boxes, for one owner value. Takes no memory.
+    fn new(alloc: Global, key: u64) -> OwnerRecord
+        ensures key { result.key ≡ key }
+        ensures held { result.ownership ≡ record { names = []; count = 1 } }
+    {
+        OwnerRecord {
+            key,
+            boxes: Vec::new(alloc),
+            count: 1,
+        }
+    }
+
+    // The key under which it stands.
+    #[inline(always)]
+    fn key(&self) -> u64
+        ensures { result ≡ self.now.key }
+    {
+        self.key
+    }
+
+    /// How many owner values it stands for.
+    #[inline(always)]
+    pub fn count(&self) -> u64
+        ensures { result ≡ self.now.ownership.count }
+    {
+        self.count
+    }
+
+    /// Its boxes.
+    pub fn boxes(&self) -> &[CellName]
+        ensures { list_map name_of_cell result.now ≡ self.now.ownership.names }
+    {
+        self.boxes.as_slice()
+    }
+
+    // Its boxes, which it gives away.
+    fn into_boxes(self) -> Vec<CellName>
+        ensures { list_map name_of_cell result.items ≡ self.ownership.names }
+    {
+        let OwnerRecord {
+            key: _,
+            boxes,
+            count: _,
+        } = self;
+        boxes
+    }
+
+    // Makes room for a box more on the list.
+    #[inline(always)]
+    fn reserve(&mut self) -> Result<(), AllocError>
+        ensures same { self.new ≡ with_rooms self.new.rooms self.old }
+        ensures ok { OnOk result (length self.new.ownership.names < self.new.rooms) }
+    {
+        reserve_more(&mut self.boxes, 1)
+    }
+
+    // Puts a box at the end of the list, where there is room.
+    #[inline(always)]
+    fn list(&mut self, name: CellName)
+        requires { length self.old.ownership.names < self.old.rooms }
+        ensures { self.new ≡ with_ownership (one_listed (name_of_cell name)) self.old }
+    {
+        self.boxes.push_reserved(name);
+    }
+
+    // One owner value more.
+    fn count_up(&mut self)
+        requires { self.old.ownership.count < 18446744073709551615 }
+        ensures { self.new ≡ with_ownership one_more self.old }
+    {
+        self.count += 1;
+    }
+
+    // One owner value less.
+    fn count_down(&mut self)
+        requires { 0 < self.old.ownership.count }
+        ensures { self.new ≡ with_ownership one_less self.old }
+    {
+        self.count -= 1;
+    }
+}
+
+/// The records of a store's owners. Contracts see them as a map by their keys.
+///
+/// Each stands at a place of its own until it is taken away, and an owner carries that place as a
+/// hint. So an owner of this very store is looked up in one step. Only one that another store gave
+/// is searched for at all places: another store of the same number, since the number is asked
+/// first.
+#[derive(Drop)]
+pub struct OwnerRecords {
+    places: Vec<Option<OwnerRecord>>,
+    // the places without a record
+    vacant: LastFirst,
+}
+
+impl Model for OwnerRecords {
+    ghost use Rattle.std.specs.Coded.{codes};
+    ghost use Rattle.std.specs.FinMap as map;
+    ghost use Rattle.store_parts.specs.OwnerPlaces.{owners_of, ArePlaced, Records};
+    ghost use Rattle.store_parts.specs.Pools.{members_of};
+
+    ghost Value = { Records };
+
+    ghost coded = { Prim.hlevel (codes, map.code) };
+
+    ghost view = { λ r. record { owners = owners_of r.places.items; places = r.places.items } };
+
+    ghost invariant = { λ r. ArePlaced (members_of r.vacant) r.vacant.rooms r.places.items };
+}
+
+impl OwnerRecords {
+    /// No records. Takes no memory.
+    pub fn new(alloc: Global) -> OwnerRecords
+        ensures { result.owners ≡ map.empty }
+    {
+        OwnerRecords {
+            places: Vec::new(alloc),
+            vacant: LastFirst::new(alloc),
+        }
+    }
+
+    /// Whether there is no record. Asks all places.
+    pub fn is_empty(&self) -> bool
+        ensures { IsTrue result ↔ (self.now.owners ≡ map.empty) }
+    {
+        are_vacant(self.places.as_slice())
+    }
+
+    /// The owner's record, if it is of a store with this number and these records.
+    #[inline(always)]
+    pub fn find(&self, number: u64, owner: &Owner) -> Option<&OwnerRecord>
+        ensures { option_map (λ r. r.ownership) (option_copied result) ≡
+            record_of number self.now.owners owner.now }
+    {
+        if number_of(owner) != number {
+            return None;
+        }
+        match find_place(&self.places, owner) {
+            Some(place) => self.places[place].as_ref(),
+            None => None,
+        }
+    }
+
+    /// The record of an owner's id, if it is of a store with this number and these records. An id
+    /// has no hint of its record's place, so all places are asked.
+    pub fn find_id(&self, number: u64, id: OwnerId) -> Option<&OwnerRecord>
+        ensures { option_map (λ r. r.ownership) (option_copied result) ≡
+            record_of number self.now.owners (owner_of id) }
+    {
+        if id.store != number {
+            return None;
+        }
+        match search_place(&self.places, id.key) {
+            Some(place) => self.places[place].as_ref(),
+            None => None,
+        }
+    }
+
+    /// Whether the owner is of a store with this number and these records.
+    pub fn knows(&self, number: u64, owner: &Owner) -> bool
+        ensures { result ≡ knows number self.now.owners owner.now }
+    {
+        self.find(number, owner).is_some()
+    }
+
+    /// Whether a call that goes by this owner, or by none, may go on.
+    #[inline(always)]
+    pub fn permits(&self, number: u64, owner: Option<&Owner>) -> bool
+        ensures { result ≡ permits number self.now.owners (option_copied owner.entry) }
+    {
+        match owner {
+            None => true,
+            Some(owner) => self.knows(number, owner),
+        }
+    }
+
+    /// Makes room for a box more on the owner's list, if there is an owner. The answer is where its
+    /// record stands. No record changes.
+    #[inline(always)]
+    pub fn reserve(
+        &mut self,
+        number: u64,
+        owner: Option<&Owner>,
+    ) -> Result<Option<usize>, StoreError>
+        ensures same { self.new.owners ≡ self.old.owners }
+        ensures known { OnOk result (permits number self.old.owners (option_copied owner.entry)
+            ≡ true) }
+        ensures ok { IfOk result (λ place. IsReserved self.new (option_copied owner.entry) place) }
+        ensures refused { IfErr result (λ cause. IsRefusal number self.old.owners
+            (option_copied owner.entry) cause) }
+    {
+        match owner {
+            None => Ok(None),
+            Some(owner) => self.reserve_for(number, owner),
+        }
+    }
+
+    // Makes room for a name in the list of an owner, and answers the owner's place.
+    fn reserve_for(&mut self, number: u64, owner: &Owner) -> Result<Option<usize>, StoreError>
+        ensures same { self.new.owners ≡ self.old.owners }
+        ensures known { OnOk result (knows number self.old.owners owner.now ≡ true) }
+        ensures ok { IfOk result (λ place. IsReserved self.new (Some owner.now) place) }
+        ensures refused { IfErr result (λ cause. IsRefusal number self.old.owners
+            (Some owner.now) cause) }
+    {
+        if number_of(owner) != number {
+            return Err(StoreError::UnknownOwner);
+        }
+        let place = match find_place(&self.places, owner) {
+            Some(place) => place,
+            None => return Err(StoreError::UnknownOwner),
+        };
+        match reserve_at(&mut self.places, place) {
+            Ok(()) => {}
+            Err(_) => return Err(StoreError::OutOfMemory),
+        }
+        Ok(Some(place))
+    }
+
+    /// Puts a box at the end of the list of the record at a place, where there is room for it, if a
+    /// place is given.
+    #[inline(always)]
+    pub fn list(&mut self, place: Option<usize>, name: CellName)
+        requires { IfSome place (λ i. HasRoom (slice_get self.old.places i)) }
+        ensures { (o : Option OwnerName) → IsReserved self.old o place
+            → self.new.owners ≡ add_to_list_in self.old.owners o (name_of_cell name) }
+    {
+        if let Some(place) = place {
+            list_at(&mut self.places, place, name);
+        }
+    }
+
+    /// Adds a record for one owner value under a key that has none. The answer is its place. Want
+    /// of memory changes nothing.
+    pub fn add(&mut self, alloc: Global, key: u64) -> Result<usize, AllocError>
+        requires { map.get self.old.owners key ≡ None }
+        ensures ok { OnOk result (self.new.owners ≡ map.insert self.old.owners key
+            (record { names = []; count = 1 })) }
+        ensures place { IfOk result (λ place.
+            HasRecord key (slice_get self.new.places place)) }
+        ensures err { OnErr result (self.new.owners ≡ self.old.owners) }
+    {
+        let added = OwnerRecord::new(alloc, key);
+        match self.vacant.take() {
+            Some(place) => {
+                self.places[place] = Some(added);
+                Ok(place)
+            }
+            None => {
+                match make_room(&mut self.places, &mut self.vacant) {
+                    Ok(()) => {}
+                    Err(_) => return Err(AllocError),
+                }
+                let place = self.places.len();
+                self.places.push_reserved(Some(added));
+                Ok(place)
+            }
+        }
+    }
+
+    /// Takes the owner's record away: its boxes. Takes no memory.
+    pub fn take(&mut self, owner: &Owner, alloc: Global) -> Vec<CellName>
+        ensures after { self.new.owners ≡ map.remove self.old.owners owner.now.key }
+        ensures names { list_map name_of_cell result.items
+            ≡ names_under self.old.owners owner.now.key }
+    {
+        match find_place(&self.places, owner) {
+            Some(place) => {
+                let boxes = take_at(&mut self.places, place, alloc);
+                self.vacant.put(place);
+                boxes
+            }
+            None => Vec::new(alloc),
+        }
+    }
+
+    /// One owner value more of the owner's record. The answer is the record's place.
+    pub fn count_up(&mut self, owner: &Owner) -> usize
+        requires { IfSome (map.get self.old.owners owner.now.key)
+            (λ h. h.count < 18446744073709551615) }
+        ensures counted { self.new.owners ≡ change self.old.owners owner.now.key one_more }
+        ensures place { IsSome (map.get self.old.owners owner.now.key) →
+            HasRecord owner.now.key (slice_get self.old.places result) }
+    {
+        match find_place(&self.places, owner) {
+            Some(place) => {
+                count_up_at(&mut self.places, place);
+                place
+            }
+            None => place_of(owner),
+        }
+    }
+
+    /// One owner value less of the owner's record.
+    pub fn count_down(&mut self, owner: &Owner)
+        requires { IfSome (map.get self.old.owners owner.now.key) (λ h. 0 < h.count) }
+        ensures { self.new.owners ≡ change self.old.owners owner.now.key one_less }
+    {
+        match find_place(&self.places, owner) {
+            Some(place) => count_down_at(&mut self.places, place),
+            None => {}
+        }
+    }
+}
+
+// The place of the owner's record: the one that the owner's hint names, or another.
+#[inline(always)]
+fn find_place(places: &Vec<Option<OwnerRecord>>, owner: &Owner) -> Option<usize>
+    ensures found { IfSome result (λ place.
+        HasRecord owner.now.key (slice_get places.now.items place)) }
+    ensures none { IfNone result ((place : ℕ) →
+        record_at owner.now.key (slice_get places.now.items place) ≡ None) }
+{
+    let (key, place) = (owner.id().key, place_of(owner));
+    if has_record(places, place, key) {
+        return Some(place);
+    }
+    search_place(places, key)
+}
+
+// The place of the record under a key. Asks all places.
+#[cold]
+#[inline(never)]
+fn search_place(places: &Vec<Option<OwnerRecord>>, key: u64) -> Option<usize>
+    ensures found { IfSome result (λ place. HasRecord key (slice_get places.now.items place)) }
+    ensures none { IfNone result ((place : ℕ) →
+        record_at key (slice_get places.now.items place) ≡ None) }
+{
+    for place in 0..places.len() {
+        if has_record(places, place, key) {
+            return Some(place);
+        }
+    }
+    None
+}
+
+// Whether the record under a key stands at a place.
+#[inline(always)]
+fn has_record(places: &Vec<Option<OwnerRecord>>, place: usize, key: u64) -> bool
+    ensures { result ≡ is_some (record_at key (slice_get places.now.items place)) }
+{
+    match places.get(place) {
+        Some(Some(found)) => key == found.key(),
+        _ => false,
+    }
+}
+
+// Whether no record stands at any place.
+fn are_vacant(places: &[Option<OwnerRecord>]) -> bool
+    ensures { IsTrue result ↔ (owners_of places.now ≡ map.empty) }
+{
+    for place in places {
+        if place.is_some() {
+            return false;
+        }
+    }
+    true
+}
+
+// Makes room for a box more on the list of the record at a place.
+#[inline(always)]
+fn reserve_at(places: &mut Vec<Option<OwnerRecord>>, place: usize) -> Result<(), AllocError>
+    requires { place < vec_len places.old }
+    ensures same { places.new.items ≡ change_record places.old.items place
+        (with_rooms (rooms_at (slice_get places.new.items place))) }
+    ensures ok { OnOk result (IfSome (slice_get places.new.items place)
+        (λ kept. IfSome kept (λ r. length r.ownership.names < r.rooms))) }
+{
+    match &mut places[place] {
+        Some(found) => found.reserve(),
+        None => Ok(()),
+    }
+}
+
+// Puts a box at the end of the list of the record at a place, where there is room.
+#[inline(always)]
+fn list_at(places: &mut Vec<Option<OwnerRecord>>, place: usize, name: CellName)
+    requires within { place < vec_len places.old }
+    requires room { HasRoom (slice_get places.old.items place) }
+    ensures { places.new.items
+        ≡ change_place places.old.items place (one_listed (name_of_cell name)) }
+{
+    match &mut places[place] {
+        Some(found) => found.list(name),
+        None => {}
+    }
+}
+
+// Takes the record at a place away: its boxes.
+fn take_at(places: &mut Vec<Option<OwnerRecord>>, place: usize, alloc: Global) -> Vec<CellName>
+    requires { place < vec_len places.old }
+    ensures after { places.new.items ≡ slice_set places.old.items place None }
+    ensures names { (key : ℕ) → HasRecord key (slice_get places.old.items place) →
+        list_map name_of_cell result.items
+        ≡ names_in (record_at key (slice_get places.old.items place)) }
+{
+    match places[place].take() {
+        Some(found) => found.into_boxes(),
+        None => Vec::new(alloc),
+    }
+}
+
+// One owner value more of the record at a place.
+fn count_up_at(places: &mut Vec<Option<OwnerRecord>>, place: usize)
+    requires within { place < vec_len places.old }
+    requires below { IfSome (slice_get places.old.items place)
+        (λ kept. IfSome kept (λ r. r.ownership.count < 18446744073709551615)) }
+    ensures { places.new.items ≡ change_place places.old.items place one_more }
+{
+    match &mut places[place] {
+        Some(found) => found.count_up(),
+        None => {}
+    }
+}
+
+// One owner value less of the record at a place.
+fn count_down_at(places: &mut Vec<Option<OwnerRecord>>, place: usize)
+    requires within { place < vec_len places.old }
+    requires above { IfSome (slice_get places.old.items place)
+        (λ kept. IfSome kept (λ r. 0 < r.ownership.count)) }
+    ensures { places.new.items ≡ change_place places.old.items place one_less }
+{
+    match &mut places[place] {
+        Some(found) => found.count_down(),
+        None => {}
+    }
+}

@@ -1,0 +1,27 @@
+use Rattle.std.proofs.Common.{Option, Some, ◌≡◌, ◌∙◌, sym, refl, true, is_some}
+use Rattle.generational_core.specs.Keeping.{boxed_at}
+use Rattle.store_slots.proofs.Common.{Cell, location_of, name_of_cell, Ref, Value}
+use Rattle.store_slots.proofs.states.Changes.{cell_seen, nothing}
+use Rattle.store_slots.proofs.slots.Slots.find.Goals as goal
+
+-- a cell that has a box is live, and the box was made where the cell was
+boxed : {T : Type 0} (c : Option (Cell T)) → is_some (boxed_at c) ≡ true
+    → (is_some c ≡ true) × (boxed_at c ≡ location_of c)
+boxed (Some (Value content l)) is = (refl, refl)
+boxed (Some (Ref m l)) is = (refl, refl)
+boxed _ is = cc
+
+pub created_at-requires : goal.created_at-requires
+created_at-requires g c =
+    let seen = rw (cell_seen _ c.self.view_is (name_of_cell c.args.name)) at c.is_boxed.ensures in
+    (boxed _ (sym seen ∙ c.if-not-is_boxed.false)).0
+
+pub returns-then-not-is_boxed : goal.returns-then-not-is_boxed
+returns-then-not-is_boxed g c =
+    let seen = rw (cell_seen _ c.self.view_is (name_of_cell c.args.name)) at c.is_boxed.ensures in
+    sym (nothing _ (sym seen ∙ c.if-not-is_boxed.true))
+
+pub returns : goal.returns
+returns g c =
+    let seen = rw (cell_seen _ c.self.view_is (name_of_cell c.args.name)) at c.is_boxed.ensures in
+    sym ((boxed _ (sym seen ∙ c.if-not-is_boxed.false)).1 ∙ c.created_at.ensures)

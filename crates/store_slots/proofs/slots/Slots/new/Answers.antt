@@ -1,0 +1,26 @@
+use Rattle.store_slots.proofs.{ap, arith, count_of, length, nat_cmp, new_state, refl}
+use Rattle.store_slots.proofs.{slotted_new, ◌∙◌, ◌≡◌}
+use Rattle.std.specs.FinSet as set
+use Rattle.store_slots.proofs.slots.Slots.new.Goals as goal
+
+pub invariant_of-result : goal.invariant_of-result
+invariant_of-result g c =
+    let none = ap (λ s. s.slots) c.new-2.ensures in (
+      slotted_new _ c.new-3.ensures.empty (rw (c.new.ensures, none) refl) none,
+      omega (arith, c.new-3.ensures.rooms),
+      rw none (record { each = λ k. tt }),
+      rw c.new.ensures (omega arith),
+    )
+
+pub returns-clause-state : goal.returns-clause-state
+returns-clause-state g c =
+    let none = ap (λ s. s.slots) c.new-2.ensures in
+    let unused : (count_of c.new.result (length c.new-2.result.slots)).peak ≡ 0 =
+    rw (c.new.ensures, none) refl in
+    rw unused (new_state c.args.start _ none)
+
+pub returns-clause-spare : goal.returns-clause-spare
+returns-clause-spare g c =
+    let none : length c.new-2.result.slots ≡ 0 = ap (λ s. length s.slots) c.new-2.ensures in
+    let empty = ap set.len c.new-3.ensures.empty ∙ set.len-empty nat_cmp in
+    omega (arith, c.new-3.ensures.rooms)

@@ -1,0 +1,51 @@
+-- The end of a name, with the value that goes then.
+use Rattle.store_slots.proofs.{has_target, is_some, name_of_cell, option_map}
+use Rattle.store_slots.proofs.{reference_closes, reference_left, refl, some_if, sym}
+use Rattle.store_slots.proofs.{target_in, value_closes, without, ◌∙◌, ◌≡◌}
+use Rattle.store_slots.proofs.slots.Slots.take_away.Goals as goal
+use goal.{in-Some, in_default}
+
+pub remove-requires-then-is_some : goal.remove-requires-then-is_some
+remove-requires-then-is_some g c =
+    let S = c.args.self.now.state in
+    let n = name_of_cell c.args.name in
+    let gone : c.match-ending.self.state ≡ without S (option_map name_of_cell c.args.ending) =
+    elim c.match-ending.branch [
+      | in-Some w ↦ rw (w.self-is, w.in-Some.is) w.remove.ensures
+      | in_default w ↦ rw (w.self-is, w.in_default.is) refl
+    ] in
+    let names = has_target name_of_cell c.args.target c.requires.target
+    (sym c.is_some.ensures ∙ c.if-is_some.true) in
+    let left = reference_left S n c.requires.linked _ c.requires.ending names in
+    rw (gone, left) (record {
+      there = some_if (λ o. is_some (target_in o)) _ refl names;
+      target = c.requires.target;
+      alone = λ is. cc;
+    })
+
+pub returns-then-is_some : goal.returns-then-is_some
+returns-then-is_some g c =
+    let S = c.args.self.now.state in
+    let n = name_of_cell c.args.name in
+    let gone : c.match-ending.self.state ≡ without S (option_map name_of_cell c.args.ending) =
+    elim c.match-ending.branch [
+      | in-Some w ↦ rw (w.self-is, w.in-Some.is) w.remove.ensures
+      | in_default w ↦ rw (w.self-is, w.in_default.is) refl
+    ] in
+    (rw gone at c.remove-then-is_some.ensures)
+    ∙ reference_closes S n c.requires.linked _ c.requires.ending
+    (has_target name_of_cell c.args.target c.requires.target
+    (sym c.is_some.ensures ∙ c.if-is_some.true))
+
+pub returns-else-is_some : goal.returns-else-is_some
+returns-else-is_some g c =
+    let S = c.args.self.now.state in
+    let n = name_of_cell c.args.name in
+    let gone : c.match-ending.self.state ≡ without S (option_map name_of_cell c.args.ending) =
+    elim c.match-ending.branch [
+      | in-Some w ↦ rw (w.self-is, w.in-Some.is) w.remove.ensures
+      | in_default w ↦ rw (w.self-is, w.in_default.is) refl
+    ] in
+    gone ∙ value_closes S n c.requires.linked _ c.requires.ending
+    (has_target name_of_cell c.args.target c.requires.target
+    (sym c.is_some.ensures ∙ c.if-is_some.false))

@@ -1,0 +1,481 @@
+-- What a write to a slot, or a new slot, is in the state for which the slots stand.
+use Rattle.store_slots.proofs.Common
+use Common.{ap, AreReferred, arith, bit, Bool, by_name, cases_eq, Cell, cell_at, cell_in, cell_of}
+use Common.{cells_of, change_entry, changed_there, cond, contains-insert_at, contains-insert_name}
+use Common.{contains_own, Content, content_at, content_of, Count, count_of, Empty, Entry, EntryList}
+use Common.{eq-eqb, eqb-true, Err, false, fill, get-insert_name, given_in, given_of, HasBegun}
+use Common.{how_many, IfErr, IfSome, inl, inr, is_live, is_name, is_reusable, is_shared, is_some}
+use Common.{is_spent, IsReferred, IsSlotTable, IsWritten, Kept, Kind, last_generation, le-ltb}
+use Common.{length, length-set, List, Live, Location, location_of, lt-ltb, Name, name_exact}
+use Common.{name_test, name_total, nat_cmp, nat_cmp_total, nat_eq, nat_lt, ne_eqb, None, not, Ok}
+use Common.{OnErr, OnOk, Option, passes, refers, refers_to, refill, refl, Result, Retirements}
+use Common.{set_written, Shared, slice_get, slice_get_within, SlotsState, SlotTable, Some, State}
+use Common.{state_of, sym, true, Value, with_content, ℕ, ◌&&◌, ◌+◌, ◌-◌, ◌<◌, ◌||◌, ◌∙◌, ◌≡◌, ◌≢◌}
+use Common.{◌≤◌}
+use Rattle.store_slots.proofs.states.States.{get_cells, get_given, live_cell}
+use Rattle.std.specs.FinMap as map
+use Rattle.std.specs.FinSet as set
+use Rattle.store_cells.specs.declared.entry.Kind.TheVariants as kind
+
+-- ---- what is there, and what isn't
+
+-- what passes a test that nothing passes is there
+pub some_if : {A : Type 0} (test : Option A → Bool) (o : Option A) → test None ≡ false
+    → test o ≡ true → is_some o ≡ true
+some_if test None none h = cc
+some_if test (Some x) none h = refl
+
+pub nothing : {A : Type 0} (o : Option A) → is_some o ≡ false → o ≡ None
+nothing None h = refl
+nothing (Some x) h = cc
+
+-- ---- a slot that is written
+
+module _ {T : Type 0} {slots after : List (Entry T)} {i : ℕ} {t : Entry T}
+    (w : IsWritten slots after i t) where
+  abbrev name : Name
+  name = record { slot = i; generation = t.generation }
+
+  -- what holds of the slot that is written, and of each other one, holds of all
+  each_after : (P : ℕ → Option (Entry T) → Type 0) → P i (Some t)
+      → ((k : ℕ) → k ≢ i → P k (slice_get slots k)) → (k : ℕ) → P k (slice_get after k)
+  each_after P own others k = elim (cases_eq k i) [
+    | inl e ↦ rw (e, w.at i, eq-eqb i i refl) own
+    | inr ne ↦ rw (w.at k, ne_eqb k i ne) (others k ne)
+  ]
+
+  -- nothing else is live in the slot
+  module _ (alone : (g : ℕ) → nat_eq g t.generation ≡ false
+      → cell_in (slice_get slots i) g ≡ None) where
+    get_written : (q : Name) → map.get (cells_of after) q
+        ≡ cond (nat_eq q.slot i && nat_eq q.generation t.generation) (cell_of t.kept)
+        (map.get (cells_of slots) q)
+    get_written q = rw (get_cells after q, get_cells slots q, w.at q.slot)
+        (by (nat_eq q.slot i) refl (nat_eq q.generation t.generation) refl)
+      where
+        by : (a : Bool) → nat_eq q.slot i ≡ a → (b : Bool) → nat_eq q.generation t.generation ≡ b
+            → cell_in (cond a (Some t) (slice_get slots q.slot)) q.generation
+            ≡ cond (a && b) (cell_of t.kept) (cell_in (slice_get slots q.slot) q.generation)
+        by true same true e = rw e refl
+        by true same false e = rw (e, eqb-true q.slot i same) (sym (alone q.generation e))
+        by false other b e = refl
+
+    pub cells_put : (c : Cell T) → cell_of t.kept ≡ Some c
+        → cells_of after ≡ map.insert (cells_of slots) name c
+    cells_put c full = map.same_map name_total name_exact _ _ (λ q.
+        get_written q
+        ∙ (rw (← name_test q name, full) (sym (get-insert_name (cells_of slots) name c q))))
+
+    pub cells_taken : cell_of t.kept ≡ None → cells_of after ≡ map.remove (cells_of slots) name
+    unfolding is_name
+    cells_taken empty = map.same_map name_total name_exact _ _ (λ q.
+        get_written q
+        ∙ rw (← name_test q name, empty)
+        (sym (map.get-remove name_total (cells_of slots) name q)))
+
+  module _ (start : ℕ) where
+    pub given_kept : ((g : ℕ) → given_in start (Some t) g ≡ given_in start (slice_get slots i) g)
+        → given_of start after ≡ given_of start slots
+    given_kept same = set.same_set name_total name_exact _ _ (λ q.
+        rw (get_given start after q, get_given start slots q) (each_after
+        (λ k o. given_in start o q.generation ≡ given_in start (slice_get slots k) q.generation)
+        (same q.generation) (λ k other. refl) q.slot))
+
+    pub given_put : ((g : ℕ) → given_in start (Some t) g
+        ≡ (nat_eq g t.generation || given_in start (slice_get slots i) g))
+        → given_of start after ≡ set.insert (given_of start slots) name
+    given_put more = set.same_set name_total name_exact _ _ (λ q. rw (
+      get_given start after q,
+      contains-insert_name (given_of start slots) name q,
+      name_test q name,
+      get_given start slots q,
+    ) (each_after (λ k o. given_in start o q.generation
+        ≡ ((nat_eq k i && nat_eq q.generation t.generation)
+        || given_in start (slice_get slots k) q.generation))
+        (rw (eq-eqb i i refl) (more q.generation)) (λ k other. rw (ne_eqb k i other) refl) q.slot))
+
+  -- the counts of references are right after it, where they are for the slot that is written, and
+  -- for others as many go uncounted as before and references came
+  pub referred : {less less' : Name → ℕ} → AreReferred less slots
+      → ((q : Name) → q.slot ≢ i → less' q + bit (passes (refers q) (slice_get slots i))
+      ≡ less q + bit (refers q t))
+      → (is_shared (cell_of t.kept) ≡ true
+      → t.references + less' name + bit (passes (refers name) (slice_get slots i))
+      ≡ how_many (refers name) slots + bit (refers name t))
+      → AreReferred less' after
+  referred {less} {less'} r others own = record {
+    each = each_after (IsReferred after less')
+        (λ shared. let e = own shared in let c = w.count (refers name) in omega arith)
+        (λ k other. still k other (slice_get slots k) (r.each k));
+  }
+    where
+      still : (k : ℕ) → k ≢ i → (o : Option (Entry T)) → IsReferred slots less k o
+          → IsReferred after less' k o
+      still k other None was = tt
+      still k other (Some e) was = λ shared.
+          let q : Name = record { slot = k; generation = e.generation } in
+          let change = others q other in
+          let count = w.count (refers q) in let before = was shared in omega arith
+
+  -- where the slot refers to nothing else than before, and its own count is as it was
+  pub referred_still : {less : Name → ℕ} → AreReferred less slots
+      → ((q : Name) → passes (refers q) (slice_get slots i) ≡ refers q t)
+      → IsReferred slots less i (Some t) → AreReferred less after
+  referred_still {less} r same own =
+      referred r (λ q other. ap (λ b. less q + bit b) (same q))
+      (λ shared. let e = own shared in let b = ap bit (same name) in omega arith)
+
+  -- ---- a slot whose count changes
+
+  module _ {e : Entry T} (there : slice_get slots i ≡ Some e) (gen : t.generation ≡ e.generation)
+      (own : t.kept ≡ e.kept) where
+    pub cells_same : cells_of after ≡ cells_of slots
+    cells_same = map.same_map name_total name_exact _ _ (λ q.
+        rw (get_cells after q, get_cells slots q) (each_after
+        (λ k o. cell_in o q.generation ≡ cell_in (slice_get slots k) q.generation)
+        (rw (there, gen, own) refl) (λ k other. refl) q.slot))
+
+    pub given_same : (start : ℕ) → given_of start after ≡ given_of start slots
+    given_same start = given_kept start (λ g. rw (there, gen) refl)
+
+    pub state_same : (start peak : ℕ) → state_of start peak after ≡ state_of start peak slots
+    state_same start peak = rw (cells_same, given_same start) refl
+
+-- ---- what holds of the slots holds after a write
+
+module _ {T : Type 0} {p : SlotTable T} (s : IsSlotTable p) {after : List (Entry T)} {i : ℕ}
+    {t : Entry T} (w : IsWritten p.slots after i t) where
+  -- where the counts are right
+  pub slotted : (free : set.FinSet nat_cmp) (rooms : ℕ) (counts : Count)
+      → ((k : ℕ) → set.contains free k ≡ cond (nat_eq k i) (is_spent t) (set.contains p.free k))
+      → set.len free + bit (is_reusable (slice_get p.slots i)) ≡ set.len p.free + bit (is_spent t)
+      → counts.usable + bit (passes (λ e. is_live e.kept) (slice_get p.slots i))
+      + bit (is_reusable (slice_get p.slots i))
+      ≡ p.counts.usable + bit (is_live t.kept) + bit (is_spent t)
+      → length after ≤ rooms → p.start ≤ t.generation → counts.usable ≤ counts.peak
+      → counts.peak ≤ length after
+      → IsSlotTable (record p { free = free; rooms = rooms; counts = counts; slots = after })
+  slotted free rooms counts pooled stocked counted roomy begun few bounded = record {
+    pooled = each_after w (λ k o. set.contains free k ≡ is_reusable o)
+        (rw (pooled i, eq-eqb i i refl) refl)
+        (λ k other. rw (pooled k, ne_eqb k i other) (s.pooled k));
+    roomy = roomy;
+    begun = each_after w (λ k o. HasBegun p.start o) begun (λ k other. s.begun k);
+    counted = let e = w.count (λ e. is_live e.kept) in let c = s.counted in omega arith;
+    stocked = let e = w.count is_spent in let c = s.stocked in omega arith;
+    few = few;
+    bounded = bounded;
+  }
+
+  -- where the slot is live, or free, as before
+  pub slotted_still : {e : Entry T} → slice_get p.slots i ≡ Some e
+      → t.generation ≡ e.generation → is_live t.kept ≡ is_live e.kept
+      → length after ≡ length p.slots → IsSlotTable (record p { slots = after })
+  slotted_still {e} there gen lives long =
+      let spent : is_spent t ≡ is_spent e = λ j. not (lives j)
+      && nat_lt (gen j) last_generation in
+      slotted p.free p.rooms p.counts
+      (contains_own p.free i (s.pooled i ∙ rw (there, spent) refl))
+      (rw (there, spent) refl) (rw (there, spent, lives) refl) (let r = s.roomy in omega arith)
+      (rw gen (rw there at (s.begun i))) s.few (let b = s.bounded in omega arith)
+
+-- ---- the slot of a live cell
+
+-- its entry
+pub record IsFound {T : Type 0} (slots : List (Entry T)) (n : Name) : Type 0 where
+  pub kept : Kept T
+  pub references : ℕ
+  pub there : slice_get slots n.slot
+      ≡ Some (record { generation = n.generation; kept = kept; references = references })
+  pub live : is_live kept ≡ true
+  pub cell : map.get (cells_of slots) n ≡ cell_of kept
+
+-- its entry, where it has a value or has lent one
+pub record IsHeld {T : Type 0} (slots : List (Entry T)) (n : Name) : Type 0 where
+  pub kind : Kind
+  pub content : Content T
+  pub created : Location
+  pub references : ℕ
+  pub there : slice_get slots n.slot ≡ Some (record {
+    generation = n.generation;
+    kept = Live kind content created;
+    references = references;
+  })
+
+module _ {T : Type 0} where
+  -- a cell that passes a test which nothing passes has one
+  pub found : (slots : List (Entry T)) (n : Name) (test : Option (Cell T) → Bool)
+      → test None ≡ false → test (map.get (cells_of slots) n) ≡ true → IsFound slots n
+  found slots n test none h = at (slice_get slots n.slot) refl (rw (get_cells slots n) at h)
+    where
+      own : (e : Entry T) → slice_get slots n.slot ≡ Some e
+          → (b : Bool) → nat_eq n.generation e.generation ≡ b
+          → test (cond b (cell_of e.kept) None) ≡ true → IsFound slots n
+      own e there true same h =
+          let g = eqb-true n.generation e.generation same in
+          record {
+            kept = e.kept;
+            references = e.references;
+            there = there ∙ (λ i. Some (record e { generation = sym g i }));
+            live = sym (live_cell e.kept) ∙ some_if test (cell_of e.kept) none h;
+            cell = get_cells slots n ∙ rw (there, same) refl;
+          }
+      own e there false other h = cc
+
+      at : (o : Option (Entry T)) → slice_get slots n.slot ≡ o
+          → test (cell_in o n.generation) ≡ true → IsFound slots n
+      at None there h = cc
+      at (Some e) there h = own e there _ refl h
+
+  pub held : (slots : List (Entry T)) (n : Name)
+      → is_some (content_of (map.get (cells_of slots) n)) ≡ true → IsHeld slots n
+  held slots n h =
+      let f = found slots n (λ o. is_some (content_of o)) refl h in
+      at f.kept f.there (rw f.cell at h)
+    where
+      at : (k : Kept T) {r : ℕ} → slice_get slots n.slot
+          ≡ Some (record { generation = n.generation; kept = k; references = r })
+          → is_some (content_of (cell_of k)) ≡ true → IsHeld slots n
+      at (Live kd c l) {r} there h =
+          record { kind = kd; content = c; created = l; references = r; there = there }
+      at _ there h = cc
+
+  -- the cell of a content
+  abbrev pub cell_with : Kind → Content T → Location → Cell T
+  cell_with kind.Value c l = Value c l
+  cell_with kind.Shared c l = Shared c l
+
+  module _ (kd : Kind) (c : Content T) (l : Location) where
+    cell_live : cell_of (Live kd c l) ≡ Some (cell_with kd c l)
+    cell_live = grind arith
+
+    content_live : content_of (Some (cell_with kd c l)) ≡ Some c
+    content_live = grind arith
+
+    refill_live : (d : Content T) → refill d (cell_with kd c l) ≡ cell_with kd d l
+    refill_live d = grind arith
+
+    refers_live : (q : Name) → refers_to q (cell_of (Live kd c l)) ≡ false
+    refers_live q = grind arith
+
+    shared_live : (d : Content T)
+        → is_shared (cell_of (Live kd c l)) ≡ is_shared (cell_of (Live kd d l))
+    shared_live d = grind arith
+
+module _ {T : Type 0} {slots : List (Entry T)} {n : Name} (f : IsHeld slots n) where
+  pub held_within : n.slot < length slots
+  held_within = slice_get_within slots n.slot _ f.there
+
+  cell_is : map.get (cells_of slots) n ≡ Some (cell_with f.kind f.content f.created)
+  cell_is =
+      get_cells slots n ∙ rw (f.there, eq-eqb n.generation n.generation refl)
+      (cell_live f.kind f.content f.created)
+
+  module _ (h : Content T → Content T) where
+    abbrev pub changed : List (Entry T)
+    changed = change_entry slots n.slot (λ e. record e { kept = with_content h e.kept })
+
+    abbrev filled_entry : Entry T
+    filled_entry = record {
+      generation = n.generation;
+      kept = Live f.kind (h f.content) f.created;
+      references = f.references;
+    }
+
+    written : IsWritten slots changed n.slot filled_entry
+    written = rw f.there (set_written slots n.slot filled_entry _ f.there)
+
+    -- another content is the machine's
+    pub state_changed : (start peak : ℕ)
+        → state_of start peak changed ≡ fill (state_of start peak slots) n (h f.content)
+    state_changed start peak = rw (
+      cells_put written (λ g e. rw (f.there, e) refl)
+          (cell_with f.kind (h f.content) f.created) (cell_live f.kind (h f.content) f.created),
+      given_kept written start (λ g. rw f.there refl),
+      changed_there by_name (cells_of slots) n (refill (h f.content)) _ cell_is,
+      refill_live f.kind f.content f.created (h f.content),
+    ) refl
+
+    pub referred_changed : {less : Name → ℕ} → AreReferred less slots → AreReferred less changed
+    referred_changed r =
+        referred_still written r
+        (λ q. rw (f.there, refers_live f.kind f.content f.created q)
+        (sym (refers_live f.kind (h f.content) f.created q)))
+        (λ shared. rw f.there at (r.each n.slot)
+        (shared_live f.kind f.content f.created (h f.content) ∙ shared))
+
+    pub changed_length : length changed ≡ length slots
+    changed_length = rw (f.there, length-set) refl
+
+module _ {T : Type 0} {slots : List (Entry T)} {n : Name} (f : IsFound slots n) where
+  pub found_within : n.slot < length slots
+  found_within = slice_get_within slots n.slot _ f.there
+
+  abbrev pub ended : List (Entry T)
+  ended = change_entry slots n.slot (λ e. record e { kept = Empty })
+
+  abbrev ended_entry : Entry T
+  ended_entry = record { generation = n.generation; kept = Empty; references = f.references }
+
+  pub emptied : IsWritten slots ended n.slot ended_entry
+  emptied = rw f.there (set_written slots n.slot ended_entry _ f.there)
+
+  -- an end of a slot's cell takes its name out of the machine's map
+  pub cells_ended : cells_of ended ≡ map.remove (cells_of slots) n
+  cells_ended = cells_taken emptied (λ g e. rw (f.there, e) refl) refl
+
+  pub state_ended : (start peak : ℕ) → state_of start peak ended
+      ≡ record (state_of start peak slots) { cells = map.remove (cells_of slots) n }
+  state_ended start peak =
+      rw (cells_ended, given_kept emptied start (λ g. rw f.there refl)) refl
+
+  pub ended_length : length ended ≡ length slots
+  ended_length = rw (f.there, length-set) refl
+
+-- ---- what holds of the slots holds after these changes
+
+module _ {T : Type 0} {p : SlotTable T} (s : IsSlotTable p) where
+  pub slotted_changed : {n : Name} (f : IsHeld p.slots n) (h : Content T → Content T)
+      → IsSlotTable (record p { slots = changed f h })
+  slotted_changed f h = slotted_still s (written f h) f.there refl refl (changed_length f h)
+
+  -- the counts with one usable slot less
+  abbrev pub lowered : Count
+  lowered = record p.counts { usable = p.counts.usable - 1 }
+
+  module _ {n : Name} (f : IsFound p.slots n) where
+    pub some_live : 1 ≤ p.counts.usable
+    some_live =
+        let c = rw (f.there, f.live) at ((emptied f).count (λ e. is_live e.kept)) in
+        let l = s.counted in omega arith
+
+    pub not_pooled : set.contains p.free n.slot ≡ false
+    not_pooled = s.pooled n.slot ∙ rw (f.there, f.live) refl
+
+    slotted_by : (now : set.FinSet nat_cmp) (left : ℕ) (spent : Bool)
+        → is_spent (ended_entry f) ≡ spent
+        → ((k : ℕ) → set.contains now k ≡ cond (nat_eq k n.slot) spent (set.contains p.free k))
+        → set.len now ≡ set.len p.free + bit spent → left + 1 ≡ p.counts.usable + bit spent
+        → left ≤ p.counts.usable
+        → IsSlotTable (record p {
+          free = now;
+          counts = record p.counts { usable = left };
+          slots = ended f;
+        })
+    slotted_by now left spent is pooled stocked counted fewer =
+        let same = ended_length f in
+        slotted s (emptied f) now p.rooms (record p.counts { usable = left })
+        (λ k. rw is (pooled k))
+        (rw (f.there, f.live, is) (omega arith)) (rw (f.there, f.live, is) (omega arith))
+        (let r = s.roomy in omega arith)
+        (rw f.there at (s.begun n.slot)) (let few = s.few in omega arith)
+        (let b = s.bounded in omega arith)
+
+    pub slotted_freed : n.generation < last_generation
+        → IsSlotTable (record p { free = set.insert p.free n.slot; slots = ended f })
+    slotted_freed below =
+        let more : set.len (set.insert p.free n.slot) ≡ set.len p.free + 1 =
+        set.len-insert nat_cmp_total p.free n.slot ∙ rw not_pooled refl in
+        slotted_by (set.insert p.free n.slot) p.counts.usable true
+        (lt-ltb n.generation last_generation below)
+        (contains-insert_at p.free n.slot) more refl (omega arith)
+
+    -- a slot whose cell had the last generation is retired
+    pub slotted_retired : last_generation ≤ n.generation
+        → IsSlotTable (record p { counts = lowered; slots = ended f })
+    slotted_retired last =
+        let one = some_live in
+        slotted_by p.free (p.counts.usable - 1) false (le-ltb n.generation last_generation last)
+        (contains_own p.free n.slot not_pooled) (omega arith) (omega arith) (omega arith)
+
+-- one more of the slots that were made is retired
+pub one_retired : (r now : Retirements) (made : ℕ) → now.retired ≡ r.retired + 1
+    → now.before ≡ (count_of r made).peak
+    → count_of now made
+    ≡ record { usable = (count_of r made).usable - 1; peak = (count_of r made).peak }
+one_retired r now made more most = grind arith
+
+-- what holds of a store's slots, and of the room for them
+abbrev pub Invariant : {T : Type 0} → set.FinSet nat_cmp → ℕ → ℕ → Retirements → EntryList T
+    → Type 0
+Invariant free rooms start r entries = IsSlotTable (record {
+  free = free;
+  rooms = rooms;
+  start = start;
+  counts = count_of r (length entries.slots);
+  slots = entries.slots;
+})
+    × (rooms ≤ entries.rooms) × AreReferred (λ m. 0) entries.slots
+    × (r.retired ≤ length entries.slots)
+
+-- it holds with another content
+pub invariant_changed : {T : Type 0} {free : set.FinSet nat_cmp} {rooms start : ℕ}
+    (r : Retirements) {before after : EntryList T} {n : Name} (f : IsHeld before.slots n)
+    (h : Content T → Content T) → Invariant free rooms start r before
+    → after.slots ≡ changed f h → after.rooms ≡ before.rooms → Invariant free rooms start r after
+invariant_changed r f h inv slots rooms = rw (slots, rooms, changed_length f h)
+    (slotted_changed inv.0 f h, inv.1, referred_changed f h inv.2, inv.3)
+
+-- ---- the state that contracts see
+
+pub state_is : {T : Type 0} {S : State T} {spare : ℕ} {now : SlotsState T}
+    → record { state = S; spare = spare } ≡ now → S ≡ now.state
+state_is view = ap (λ (x : SlotsState _). x.state) view
+
+-- the slot of a content that the state sees
+pub record IsSeen {T : Type 0} (slots : List (Entry T)) (S : State T) (n : Name) : Type 0 where
+  pub held : IsHeld slots n
+  pub open held use *
+  pub seen : content_at S n ≡ Some content
+
+located : {T : Type 0} (k : Kept T) (l : Location) → is_live k ≡ true
+    → IfSome (location_of (cell_of k)) (λ c. l ≡ c) → location_of (cell_of k) ≡ Some l
+located k l live h = grind arith
+
+module _ {T : Type 0} {now : SlotsState T} {start peak spare : ℕ} (slots : List (Entry T))
+    (view : record { state = state_of start peak slots; spare = spare } ≡ now) where
+  pub cell_seen : (n : Name) → cell_at slots n ≡ map.get now.state.cells n
+  cell_seen n = rw (← view) (sym (get_cells slots n))
+
+  -- where the slots tell of no content the state sees none
+  pub not_told : (n : Name) → false ≡ is_some (content_of (cell_at slots n))
+      → content_at now.state n ≡ None
+  not_told n h = nothing _ (rw (cell_seen n) at (sym h))
+
+module _ {T : Type 0} {now : SlotsState T} {start peak spare : ℕ} {slots : List (Entry T)}
+    (view : record { state = state_of start peak slots; spare = spare } ≡ now) where
+  pub found_in : (n : Name) → is_some (map.get now.state.cells n) ≡ true → IsFound slots n
+  found_in n h = found slots n is_some refl (rw (← view) at h)
+
+  pub created_in : {n : Name} → IsFound slots n → (l : Location) → IfSome (slice_get slots n.slot)
+      (λ e. IfSome (location_of (cell_of e.kept)) (λ k. l ≡ k))
+      → location_of (map.get now.state.cells n) ≡ Some l
+  created_in {n} f l h =
+      rw (← view, f.cell) (located f.kept l f.live (rw f.there at h))
+
+  pub held_in : (n : Name) → is_some (content_at now.state n) ≡ true → IsSeen slots now.state n
+  held_in n h =
+      let f = held slots n (rw (← view) at h) in
+      record { held = f; seen = rw (← view, cell_is f) (content_live f.kind f.content f.created) }
+
+  -- a slot holds a content of which the slots tell
+  pub held_told : (n : Name) → true ≡ is_some (content_of (cell_at slots n))
+      → IsSeen slots now.state n
+  held_told n h = held_in n (rw (cell_seen slots view n) at (sym h))
+
+  -- another content, for what the state sees
+  pub filled_in : {n : Name} (f : IsSeen slots now.state n) (h : Content T → Content T)
+      → state_of start peak (changed f.held h) ≡ fill now.state n (h f.content)
+  filled_in f h = rw (← view) (state_changed f.held h start peak)
+
+-- what holds of a result's two ways
+pub either : {A E : Type 0} (r : Result A E) {P Q X : Type 0} → OnOk r P → OnErr r Q → (P → X)
+    → (Q → X) → X
+either (Ok a) ok err f h = f ok
+either (Err e) ok err f h = h err
+
+-- what holds of both ways, where a refusal hands a value back
+pub returned : {T U : Type 0} (v : T) (r : Result U T) {P Q X : Type 0} → OnOk r P
+    → IfErr r (λ back. (back ≡ v) × Q) → (P → X) → (Q → X) → X
+returned v (Ok a) ok err f h = f ok
+returned v (Err back) ok err f h = h err.1

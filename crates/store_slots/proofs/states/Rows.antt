@@ -1,0 +1,206 @@
+-- The rows of the slots: that they stand in the order of the machine's slots, and what reads them
+-- back.
+use Rattle.store_slots.proofs.Common
+use Common.{all_slot_rows, ap, append-nil, append_assoc, AreApart, arith, bare_cell, bare_cells}
+use Common.{bare_entry, BaseRow, Bool, by_name, Cell, cell_of, cell_read, cell_rows, cells_of}
+use Common.{contains_up_to, Entry, entry_rows, eq-eqb, eq_by_cmp, false, find_bare, get_bare_cell}
+use Common.{give_up_to, given_from, given_of, IfSome, inl, inr, IsSlotTable, length, List, list_any}
+use Common.{live_from, lt-ltb, Name, name_cmp, name_exact, name_total, Names, nat_cmp}
+use Common.{nat_cmp_total, ne_eqb, None, number_test, Option, option_map, or-false, Plain, put}
+use Common.{put_new, read_append, read_rows, refl, rows_from, slice_get, slice_get_cases, slot_rows}
+use Common.{slots_of, SlotTable, Some, State, state_of, suc, sym, T, take, true, with_cell, zero, ℕ}
+use Common.{[], ◌&&◌, ◌++◌, ◌+◌, ◌<◌, ◌||◌, ◌∙◌, ◌∷◌, ◌≡◌}
+use Rattle.store_slots.proofs.states.States.{any_of, find_below, get_cells, get_last}
+use Rattle.std.proofs.Common.{map as list_map}
+use Rattle.std.specs.FinMap as map
+use Rattle.std.specs.FinSet as set
+
+module _ {A : Type 0} where
+  -- ---- one slot after the other
+
+  rows_more : (number i k : ℕ) (es : List (Entry A)) (e : Entry A) → slice_get es k ≡ Some e
+      → rows_from number i (take (suc k) es)
+      ≡ rows_from number i (take k es) ++ entry_rows number (i + k) e
+  rows_more number i k [] e there = cc
+  rows_more number i zero (x ∷ es) e there =
+      let at : i ≡ i + 0 = omega arith in
+      let same : x ≡ e = cc in rw (append-nil (entry_rows number i x), same, ← at) refl
+  rows_more number i (suc k) (x ∷ es) e there =
+      let at : (i + 1) + k ≡ i + suc k = omega arith in
+      rw (rows_more number (i + 1) k es e there, at)
+      (sym (append_assoc (entry_rows number i x) (rows_from number (i + 1) (take k es)) _))
+
+  pub rows_step : (number k : ℕ) (es : List (Entry A)) (before rows after : List BaseRow)
+      → k < length es → rows ≡ before ++ rows_from number 0 (take k es)
+      → IfSome (slice_get es k) (λ e. after ≡ rows ++ entry_rows number k e)
+      → after ≡ before ++ rows_from number 0 (take (k + 1) es)
+  rows_step number k es before rows after within is pushed = elim (slice_get_cases es k).1 [
+    | inl w ↦
+        let at : 0 + k ≡ k = omega arith in
+        let more : k + 1 ≡ suc k = omega arith in
+        rw (rw w.2 at pushed, is, more, rows_more number 0 k es w.0 w.2, at)
+        (append_assoc before (rows_from number 0 (take k es)) (entry_rows number k w.0))
+    | inr w ↦ absurd (omega (arith, w.0))
+  ]
+
+  -- ---- the machine's slots
+
+  numbered : ℕ → List (Entry A) → List (ℕ × ℕ)
+  numbered i [] = []
+  numbered i (e ∷ es) = (i, e.generation) ∷ numbered (i + 1) es
+
+  find_numbered : (i : ℕ) (es : List (Entry A)) (q k : ℕ) → q ≡ i + k
+      → map.find nat_cmp q (numbered i es) ≡ option_map (λ e. e.generation) (slice_get es k)
+  unfolding numbered
+  find_numbered i [] q k is = refl
+  find_numbered i (e ∷ es) q zero is = rw (number_test q i, eq-eqb q i (omega arith)) refl
+  find_numbered i (e ∷ es) q (suc k) is =
+      rw (number_test q i, ne_eqb q i (λ same. omega arith))
+      (find_numbered (i + 1) es q k (omega arith))
+
+  below_numbered : (x i : ℕ) (es : List (Entry A)) → x < i
+      → T (map.Entries.below_all nat_cmp x (numbered i es))
+  unfolding numbered
+  below_numbered x i [] below = tt
+  below_numbered x i (e ∷ es) below =
+      rw (lt-ltb x i below) (below_numbered x (i + 1) es (omega arith))
+
+  rising : (i : ℕ) (es : List (Entry A)) → T (map.is_sorted nat_cmp (numbered i es))
+  unfolding numbered
+  rising i [] = tt
+  rising i (e ∷ es) = both _ _ (below_numbered i (i + 1) es (omega arith)) (rising (i + 1) es)
+    where
+      both : (a b : Bool) → T a → T b → T (a && b)
+      both true b p q = q
+      both false b p q = p
+
+  rows_numbered : (number : ℕ) (slots : List (Entry A)) (i : ℕ) (es : List (Entry A))
+      → ((k : ℕ) → slice_get slots (i + k) ≡ slice_get es k)
+      → slot_rows number (cells_of slots) (numbered i es) ≡ rows_from number i es
+  unfolding numbered
+  rows_numbered number slots i [] same = refl
+  rows_numbered number slots i (e ∷ es) same =
+      let at : i ≡ i + 0 = omega arith in
+      let there : slice_get slots i ≡ Some e = ap (slice_get slots) at ∙ same 0 in
+      rw (
+        get_cells slots (record { slot = i; generation = e.generation }),
+        there,
+        eq-eqb e.generation e.generation refl,
+        rows_numbered number slots (i + 1) es rest,
+      ) refl
+    where
+      rest : (k : ℕ) → slice_get slots ((i + 1) + k) ≡ slice_get es k
+      rest k = let at : (i + 1) + k ≡ i + suc k = omega arith in rw at (same (suc k))
+
+  -- ---- reading back
+
+  give_all : ℕ → List (Entry A) → Names → Names
+  give_all i [] given = given
+  give_all i (e ∷ es) given = give_all (i + 1) es (give_up_to i e.generation given)
+
+  slots_read : (number i : ℕ) (es : List (Entry A)) (P : Plain)
+      → read_rows P (rows_from number i es)
+      ≡ record P {
+        cells = put P.cells (list_map bare_entry (live_from i es));
+        given = give_all i es P.given;
+      }
+  unfolding give_all
+  slots_read number i [] P = refl
+  slots_read number i (e ∷ es) P =
+      at (slots_read number (i + 1) es) (record P { given = give_up_to i e.generation P.given })
+      (record { slot = i; generation = e.generation }) (cell_of e.kept)
+    where
+      at : ((Q : Plain) → read_rows Q (rows_from number (i + 1) es) ≡ record Q {
+        cells = put Q.cells (list_map bare_entry (live_from (i + 1) es));
+        given = give_all (i + 1) es Q.given;
+      })
+          → (P : Plain) (n : Name) (o : Option (Cell A))
+          → read_rows P (cell_rows number n o ++ rows_from number (i + 1) es)
+          ≡ record P {
+            cells = put P.cells (list_map bare_entry (with_cell n o (live_from (i + 1) es)));
+            given = give_all (i + 1) es P.given;
+          }
+      at rest P n None = rest P
+      at rest P n (Some c) =
+          read_append (cell_rows number n (Some c)) (rows_from number (i + 1) es) P
+          ∙ ap (λ Q. read_rows Q (rows_from number (i + 1) es)) (cell_read P number n c)
+          ∙ rest (record P { cells = map.insert P.cells n (bare_cell c) })
+
+  live_apart : (i : ℕ) (es : List (Entry A))
+      → AreApart name_cmp (list_map bare_entry (live_from i es))
+  live_apart i [] = tt
+  live_apart i (e ∷ es) =
+      at (live_apart (i + 1) es) (record { slot = i; generation = e.generation }) refl
+      (cell_of e.kept)
+    where
+      at : AreApart name_cmp (list_map bare_entry (live_from (i + 1) es))
+          → (n : Name) → n.slot ≡ i → (o : Option (Cell A))
+          → AreApart name_cmp (list_map bare_entry (with_cell n o (live_from (i + 1) es)))
+      at rest n here None = rest
+      at rest n here (Some c) = (
+        find_bare n (live_from (i + 1) es)
+            ∙ ap (option_map bare_cell) (find_below (i + 1) es n (omega arith)),
+        rest,
+      )
+
+  cells_read : (slots : List (Entry A))
+      → put (map.empty {R = name_cmp}) (list_map bare_entry (live_from 0 slots))
+      ≡ bare_cells (cells_of slots)
+  unfolding cells_of
+  cells_read slots =
+      put_new by_name (list_map bare_entry (live_from 0 slots)) (live_apart 0 slots)
+      ∙ map.same_map name_total name_exact _ _ (λ q.
+      map.get-from_entries name_total (list_map bare_entry (live_from 0 slots)) q
+      ∙ find_bare q (live_from 0 slots)
+      ∙ sym (get_bare_cell (cells_of slots) q
+      ∙ ap (option_map bare_cell) (map.get-from_entries name_total (live_from 0 slots) q)))
+
+  contains_given : (i : ℕ) (es : List (Entry A)) (given : Names) (q : Name)
+      → set.contains (give_all i es given) q
+      ≡ (list_any (eq_by_cmp name_cmp q) (given_from 1 i es) || set.contains given q)
+  unfolding give_all
+  contains_given i [] given q = refl
+  contains_given i (e ∷ es) given q =
+      rw (
+        contains_given (i + 1) es (give_up_to i e.generation given) q,
+        contains_up_to i e.generation given q,
+        any_of 1 i e es q,
+      ) (turned (list_any (eq_by_cmp name_cmp q) (given_from 1 (i + 1) es)) _ _)
+    where
+      turned : (r a c : Bool) → (r || (a || c)) ≡ ((a || r) || c)
+      turned r a c = grind arith
+
+  given_read : (slots : List (Entry A)) → give_all 0 slots set.empty ≡ given_of 1 slots
+  unfolding given_of
+  given_read slots = set.same_set name_total name_exact _ _ (λ q.
+      rw (
+        contains_given 0 slots set.empty q,
+        set.contains-empty name_cmp q,
+        set.contains-from_list name_total (given_from 1 0 slots) q,
+      ) (or-false _))
+
+module _ {A : Type 0} {p : SlotTable A} (s : IsSlotTable p) {S : State A}
+    (view : state_of p.start p.counts.peak p.slots ≡ S) where
+  entries_are : map.entries (slots_of (state_of p.start p.counts.peak p.slots))
+      ≡ numbered 0 p.slots
+  entries_are =
+      ap map.entries (map.same_map nat_cmp_total map.nat_cmp-IsAntisymmetric _
+      (map.from_sorted {R = nat_cmp} (numbered 0 p.slots)) (λ q. get_last s q
+      ∙ sym (map.get-from_sorted nat_cmp (numbered 0 p.slots) q (rising 0 p.slots)
+      ∙ find_numbered 0 p.slots q q (omega arith))))
+      ∙ map.entries-from_sorted nat_cmp (numbered 0 p.slots) (rising 0 p.slots)
+
+  -- the rows stand in the order of the machine's slots
+  pub rows_seen : (number : ℕ) → rows_from number 0 p.slots ≡ all_slot_rows number S
+  rows_seen number =
+      rw (← view, entries_are)
+      (sym (rows_numbered number p.slots 0 p.slots (λ k. ap (slice_get p.slots) (omega arith))))
+
+  -- and are read back
+  pub rows_back : (number : ℕ) (P : Plain) → S.start ≡ 1 → P.cells ≡ map.empty
+      → P.given ≡ set.empty → read_rows P (all_slot_rows number S)
+      ≡ record P { cells = bare_cells S.cells; given = S.given }
+  rows_back number P first no_cells none_given =
+      let start : p.start ≡ 1 = rw (← view) at first in
+      rw (← rows_seen number, ← view) (slots_read number 0 p.slots P
+      ∙ rw (no_cells, none_given, cells_read p.slots, given_read p.slots, start) refl)

@@ -1,0 +1,330 @@
+-- The state for which a store's slots stand: what is at a name, which names were given, and how
+-- many slots are live, free and retired.
+use Rattle.store_slots.proofs.Common
+use Common.{and_from, and_parts, ap, arith, bit, Bool, by_number, Cell, cell_at, cell_in, cell_of}
+use Common.{cells_of, cond, cond_same, count_all, Entry, eq-eqb, eq_by_cmp, false, free, fresh}
+use Common.{get-keep, get_lasts, given_from, given_in, given_of, HasBegun, how_many, inl, inr}
+use Common.{is_free, is_live, is_name, is_retired, is_some, is_spent, IsFresh, IsLast, IsNew}
+use Common.{IsSlotTable, Kept, last_generation, last_name, le-leb, leb, leb-true, len_passing}
+use Common.{length, List, list_any, list_any-append, live_from, ltb, Name, name_cmp, name_test}
+use Common.{name_total, names_up, nat_cmp, nat_eq, nat_lt, nat_tests, ne_eqb, nil_from_length, None}
+use Common.{not, one_last, Option, option_map, or-false, passes, refl, retired, slice_get}
+use Common.{slice_get_past, slots, slots_of, SlotTable, Some, State, state_of, suc, sym, true}
+use Common.{unwrap_or, with_cell, zero, ℕ, [], ◌&&◌, ◌+◌, ◌-◌, ◌<◌, ◌||◌, ◌∙◌, ◌∷◌, ◌≡◌, ◌≢◌, ◌≤◌}
+use Rattle.std.specs.FinMap as map
+use Rattle.std.specs.FinSet as set
+
+-- names of two slots differ
+pub not_named : (q m : Name) → q.slot ≢ m.slot → is_name q m ≡ false
+not_named q m other = rw (name_test q m, ne_eqb q.slot m.slot other) refl
+
+module _ {T : Type 0} where
+  -- the list of live cells at a name that isn't, and that may be, its first one's
+  find_apart : (n here : Name) (c : Option (Cell T)) (rest : List (Name × Cell T))
+      → is_name n here ≡ false
+      → map.find name_cmp n (with_cell here c rest) ≡ map.find name_cmp n rest
+  unfolding is_name
+  find_apart n here None rest is = refl
+  find_apart n here (Some c) rest is = rw is refl
+
+  find_here : (n here : Name) (c : Option (Cell T)) (rest : List (Name × Cell T))
+      → map.find name_cmp n rest ≡ None
+      → map.find name_cmp n (with_cell here c rest) ≡ cond (is_name n here) c None
+  unfolding is_name
+  find_here n here None rest none = none ∙ sym (cond_same _ None)
+  find_here n here (Some c) rest none = rw none refl
+
+  pub find_below : (i : ℕ) (slots : List (Entry T)) (n : Name) → n.slot < i
+      → map.find name_cmp n (live_from i slots) ≡ None
+  find_below i [] n h = refl
+  find_below i (e ∷ slots) n h =
+      let here : Name = record { slot = i; generation = e.generation } in
+      find_apart n here (cell_of e.kept) _ (not_named n here (λ same. omega arith))
+      ∙ find_below (i + 1) slots n (omega arith)
+
+  find_at : (i : ℕ) (slots : List (Entry T)) (n : Name) (k : ℕ) → n.slot ≡ i + k
+      → map.find name_cmp n (live_from i slots) ≡ cell_in (slice_get slots k) n.generation
+  find_at i [] n k is = refl
+  find_at i (e ∷ slots) n (suc k) is =
+      let here : Name = record { slot = i; generation = e.generation } in
+      find_apart n here (cell_of e.kept) _ (not_named n here (λ same. omega arith))
+      ∙ find_at (i + 1) slots n k (omega arith)
+  find_at i (e ∷ slots) n zero is =
+      let here : Name = record { slot = i; generation = e.generation } in
+      find_here n here (cell_of e.kept) _ (find_below (i + 1) slots n (omega arith))
+      ∙ rw (name_test n here, eq-eqb n.slot i (omega arith)) refl
+
+  -- what the machine's map has at a name
+  pub get_cells : (slots : List (Entry T)) (n : Name)
+      → map.get (cells_of slots) n ≡ cell_at slots n
+  unfolding cells_of
+  get_cells slots n =
+      map.get-from_entries name_total (live_from 0 slots) n
+      ∙ find_at 0 slots n n.slot (omega arith)
+
+  -- a slot has a live cell where the machine has one
+  pub live_cell : (k : Kept T) → is_some (cell_of k) ≡ is_live k
+  live_cell k = grind arith
+
+  pub len_cells : (slots : List (Entry T))
+      → map.len (cells_of slots) ≡ how_many (λ e. is_live e.kept) slots
+  unfolding cells_of
+  len_cells slots = from 0 slots
+    where
+      from : (i : ℕ) (es : List (Entry T))
+          → map.len (map.from_entries {R = name_cmp} (live_from i es))
+          ≡ how_many (λ e. is_live e.kept) es
+      from i [] = map.len-empty name_cmp (Cell T)
+      from i (e ∷ es) = rw (← live_cell e.kept) (at (from (i + 1) es) (find_below (i + 1) es
+          (record { slot = i; generation = e.generation }) (omega arith)) (cell_of e.kept))
+        where
+          at : map.len (map.from_entries {R = name_cmp} (live_from (i + 1) es))
+              ≡ how_many (λ e. is_live e.kept) es
+              → map.find name_cmp (record { slot = i; generation = e.generation })
+              (live_from (i + 1) es) ≡ None → (o : Option (Cell T))
+              → map.len (map.from_entries {R = name_cmp} (with_cell
+              (record { slot = i; generation = e.generation }) o (live_from (i + 1) es)))
+              ≡ bit (is_some o) + how_many (λ e. is_live e.kept) es
+          at e absent None = omega arith
+          at e absent (Some c) =
+              map.len-insert name_total (map.from_entries (live_from (i + 1) es)) _ _
+              ∙ rw (map.get-from_entries name_total (live_from (i + 1) es), absent) (omega arith)
+
+any_up : (q : Name) (slot from count : ℕ)
+    → list_any (eq_by_cmp name_cmp q) (names_up slot from count)
+    ≡ (nat_eq q.slot slot && (leb from q.generation && ltb q.generation (from + count)))
+unfolding is_name
+any_up q slot from zero = none (nat_eq q.slot slot) from q.generation
+  where
+    none : (a : Bool) (from g : ℕ) → false ≡ (a && (leb from g && ltb g (from + 0)))
+    none a from g = grind (arith, nat_tests)
+any_up q slot from (suc k) =
+    (λ i. name_test q (record { slot = slot; generation = from + k }) i || any_up q slot from k i)
+    ∙ one (nat_eq q.slot slot) from k q.generation
+  where
+    one : (a : Bool) (from k g : ℕ)
+        → ((a && nat_eq g (from + k)) || (a && (leb from g && ltb g (from + k))))
+        ≡ (a && (leb from g && ltb g (from + suc k)))
+    one a from k g = grind (arith, nat_tests)
+
+up_to : (start last g : ℕ)
+    → (leb start g && ltb g (start + (last + 1 - start))) ≡ (leb start g && leb g last)
+up_to start last g = grind (arith, nat_tests)
+
+module _ {T : Type 0} (start : ℕ) where
+  pub any_of : (i : ℕ) (e : Entry T) (slots : List (Entry T)) (q : Name)
+      → list_any (eq_by_cmp name_cmp q) (given_from start i (e ∷ slots))
+      ≡ ((nat_eq q.slot i && given_in start (Some e) q.generation)
+      || list_any (eq_by_cmp name_cmp q) (given_from start (i + 1) slots))
+  any_of i e slots q =
+      list_any-append (eq_by_cmp name_cmp q) (names_up i start (e.generation + 1 - start)) _
+      ∙ rw (any_up q i start (e.generation + 1 - start), up_to start e.generation q.generation) refl
+
+  any_below : (i : ℕ) (slots : List (Entry T)) (q : Name) → q.slot < i
+      → list_any (eq_by_cmp name_cmp q) (given_from start i slots) ≡ false
+  any_below i [] q h = refl
+  any_below i (e ∷ slots) q h =
+      any_of i e slots q
+      ∙ rw (ne_eqb q.slot i (λ same. omega arith)) (any_below (i + 1) slots q (omega arith))
+
+  any_at : (i : ℕ) (slots : List (Entry T)) (q : Name) (k : ℕ) → q.slot ≡ i + k
+      → list_any (eq_by_cmp name_cmp q) (given_from start i slots)
+      ≡ given_in start (slice_get slots k) q.generation
+  any_at i [] q k is = refl
+  any_at i (e ∷ slots) q zero is =
+      any_of i e slots q
+      ∙ rw (eq-eqb q.slot i (omega arith), any_below (i + 1) slots q (omega arith)) (or-false _)
+  any_at i (e ∷ slots) q (suc k) is =
+      any_of i e slots q
+      ∙ rw (ne_eqb q.slot i (λ same. omega arith)) (any_at (i + 1) slots q k (omega arith))
+
+  pub get_given : (slots : List (Entry T)) (q : Name)
+      → set.contains (given_of start slots) q ≡ given_in start (slice_get slots q.slot) q.generation
+  unfolding given_of
+  get_given slots q =
+      set.contains-from_list name_total (given_from start 0 slots) q
+      ∙ any_at 0 slots q q.slot (omega arith)
+
+module _ {T : Type 0} {p : SlotTable T} (s : IsSlotTable p) where
+  abbrev here : State T
+  here = state_of p.start p.counts.peak p.slots
+
+  given_is : (n : Name) → list_any (eq_by_cmp name_cmp n) (set.items here.given)
+      ≡ given_in p.start (slice_get p.slots n.slot) n.generation
+  given_is n = sym (set.contains-items here.given n) ∙ get_given p.start p.slots n
+
+  last_of : (k : ℕ) (o : Option (Entry T)) → slice_get p.slots k ≡ o
+      → IsLast (set.items here.given) k (option_map (λ e. e.generation) o)
+  last_of k None none = λ n h is. let no = rw (given_is n, is, none) at h in cc
+  last_of k (Some e) there = (
+    rw (given_is (record { slot = k; generation = e.generation }), there)
+        (and_from _ _ (le-leb p.start e.generation (rw there at (s.begun k)))
+        (le-leb e.generation e.generation (omega arith))),
+    λ n h is.
+        let given = rw (given_is n, is, there) at h in
+        leb-true n.generation e.generation
+        (and_parts (leb p.start n.generation) (leb n.generation e.generation) given).1,
+  )
+
+  pub get_last : (k : ℕ)
+      → map.get (slots_of here) k ≡ option_map (λ e. e.generation) (slice_get p.slots k)
+  get_last k =
+      one_last (set.items here.given) (set.items here.given) k (λ n h. h) (λ n h. h) _ _
+      (get_lasts (set.items here.given) k) (last_of k (slice_get p.slots k) refl)
+
+  -- a test of the machine's slots that says of each what q says of its entry
+  len_kept : (q : Entry T → Bool) (test : ℕ → Bool)
+      → ((k : ℕ) (e : Entry T) → slice_get p.slots k ≡ Some e → test k ≡ q e)
+      → map.len (map.retain_keys (slots_of here) test) ≡ how_many q p.slots
+  len_kept q test same =
+      len_passing q 0 p.slots _ (λ k h. absurd (omega arith))
+      (λ k. ap (map.contains_key (map.retain_keys (slots_of here) test)) (omega arith)
+      ∙ (ap is_some (get-keep by_number (slots_of here) test k
+      ∙ ap (λ o. cond (test k) o None) (get_last k)) ∙ at k (slice_get p.slots k) refl))
+    where
+      some_if : (b : Bool) (g : ℕ) → is_some (cond b (Some g) None) ≡ b
+      some_if true g = refl
+      some_if false g = refl
+
+      at : (k : ℕ) (o : Option (Entry T)) → slice_get p.slots k ≡ o
+          → is_some (cond (test k) (option_map (λ e. e.generation) o) None) ≡ passes q o
+      at k None there = ap is_some (cond_same (test k) None)
+      at k (Some e) there = some_if (test k) e.generation ∙ same k e there
+
+  is_own : (k : ℕ) (e : Entry T) → slice_get p.slots k ≡ Some e
+      → last_name here k ≡ record { slot = k; generation = e.generation }
+  is_own k e there =
+      let last : map.get (slots_of here) k ≡ Some e.generation = get_last k ∙ rw there refl in
+      λ i. record { slot = k; generation = unwrap_or (last i) 0 }
+
+  live_is : (k : ℕ) (e : Entry T) → slice_get p.slots k ≡ Some e
+      → is_some (map.get here.cells (last_name here k)) ≡ is_live e.kept
+  live_is k e there = rw (
+    is_own k e there,
+    get_cells p.slots (record { slot = k; generation = e.generation }),
+    there,
+    eq-eqb e.generation e.generation refl,
+  ) (live_cell e.kept)
+
+  free_is : (k : ℕ) (e : Entry T) → slice_get p.slots k ≡ Some e → is_free here k ≡ is_spent e
+  free_is k e there =
+      λ i. not (live_is k e there i) && nat_lt (is_own k e there i).generation last_generation
+
+  slots_are : slots here ≡ length p.slots
+  slots_are =
+      len_passing (λ e. true) 0 p.slots _ (λ k h. absurd (omega arith))
+      (λ k. ap (map.contains_key (slots_of here)) (omega arith)
+      ∙ (ap is_some (get_last k)
+      ∙ (elim (slice_get p.slots k) as (λ o. is_some (option_map (λ e. e.generation) o)
+      ≡ passes (λ e. true) o)
+      [ None ↦ refl | Some e ↦ refl ])))
+      ∙ count_all p.slots
+
+  pub free_are : set.len p.free ≡ free here
+  free_are = s.stocked ∙ sym (len_kept is_spent (is_free here) free_is)
+
+  -- every slot is live, free or retired
+  all_slots : length p.slots ≡ p.counts.usable + retired here
+  all_slots =
+      let lost : retired here ≡ how_many
+      (λ e. not (is_live e.kept) && not (nat_lt e.generation last_generation)) p.slots =
+      len_kept _ (is_retired here) (λ k e there. λ i. not (live_is k e there i)
+      && not (nat_lt (is_own k e there i).generation last_generation)) in
+      let counted = s.counted in let stocked = s.stocked in let all = parts p.slots in omega arith
+    where
+      one : (a b : Bool) → 1 ≡ bit a + bit (not a && b) + bit (not a && not b)
+      one a b = grind arith
+
+      parts : (es : List (Entry T)) → length es ≡ how_many (λ e. is_live e.kept) es
+          + how_many is_spent es
+          + how_many (λ e. not (is_live e.kept) && not (nat_lt e.generation last_generation)) es
+      parts [] = refl
+      parts (e ∷ es) =
+          let rest = parts es in
+          let this = one (is_live e.kept) (nat_lt e.generation last_generation) in omega arith
+
+  -- a new slot's first name, where no slot is free
+  pub new_first : free here ≡ 0
+      → IsNew here (record { slot = length p.slots; generation = p.start })
+  new_first none = record {
+    ungiven = get_given p.start p.slots (record { slot = length p.slots; generation = p.start })
+        ∙ rw (slice_get_past p.slots (length p.slots) (omega arith)) refl;
+    fits = inl (none, sym slots_are, refl);
+  }
+
+  -- the next name of a free slot
+  pub new_next : (i : ℕ) (e : Entry T) → slice_get p.slots i ≡ Some e → is_spent e ≡ true
+      → IsNew here (record { slot = i; generation = e.generation + 1 })
+  new_next i e there spent = record {
+    ungiven = get_given p.start p.slots (record { slot = i; generation = e.generation + 1 })
+        ∙ rw there (above p.start e.generation);
+    fits = inr (
+      ap is_some (get_last i) ∙ rw there refl,
+      free_is i e there ∙ spent,
+      ap (λ (n : Name). n.generation + 1) (sym (is_own i e there)),
+    );
+  }
+    where
+      above : (s g : ℕ) → (leb s (g + 1) && leb (g + 1) g) ≡ false
+      above s g = grind (arith, nat_tests)
+
+  -- ---- the state that contracts see
+
+  module _ {S : State T} (view : here ≡ S) where
+    pub slots_seen : length p.slots ≡ slots S
+    slots_seen = sym slots_are ∙ ap slots view
+
+    pub free_seen : set.len p.free ≡ free S
+    free_seen = free_are ∙ ap free view
+
+    pub all_seen : length p.slots ≡ p.counts.usable + retired S
+    all_seen = all_slots ∙ ap (λ X. p.counts.usable + retired X) view
+
+    -- a slot is made only where none is free
+    pub bound_seen : slots S ≤ S.peak + retired S
+    bound_seen =
+        let few = s.few in let all = all_seen in let seen = slots_seen in
+        let most : p.counts.peak ≡ S.peak = ap (λ (X : State T). X.peak) view in omega arith
+
+module _ {T : Type 0} where
+  pub new_state : (start : ℕ) (slots : List (Entry T)) → slots ≡ []
+      → state_of start 0 slots ≡ fresh 0 start 0
+  unfolding cells_of given_of
+  new_state start slots none = rw none refl
+
+  pub slotted_new : (p : SlotTable T) → p.free ≡ set.empty
+      → p.counts ≡ record { usable = 0; peak = 0 } → p.slots ≡ [] → IsSlotTable p
+  slotted_new p unused uncounted none = record {
+    pooled = λ k. rw (unused, none) (set.contains-empty nat_cmp k);
+    roomy = rw none (omega arith);
+    begun = λ k. rw none tt;
+    counted = rw (uncounted, none)
+        (let empty = ap set.len unused ∙ set.len-empty nat_cmp in omega arith);
+    stocked = rw none (ap set.len unused ∙ set.len-empty nat_cmp);
+    few = rw uncounted (omega arith);
+    bounded = rw uncounted (omega arith);
+  }
+
+  module _ {S : State T} (start peak : ℕ) (slots : List (Entry T))
+      (view : state_of start peak slots ≡ S) where
+    pub fresh_of : peak ≤ length slots → length slots ≡ 0 → IsFresh S
+    fresh_of bounded none =
+        let unused : peak ≡ 0 = omega arith in
+        rw (← view) (ap (λ p. state_of start p slots) unused
+        ∙ new_state start slots (nil_from_length slots none))
+
+    pub none_of_fresh : ((k : ℕ) → HasBegun start (slice_get slots k)) → IsFresh S
+        → length slots ≡ 0
+    none_of_fresh begun f = at slots (begun 0) (sym (get_given start slots first)
+        ∙ (ap (λ (X : State T). set.contains X.given first) (view ∙ f)
+        ∙ set.contains-empty name_cmp first))
+      where
+        first : Name
+        first = record { slot = 0; generation = start }
+
+        at : (xs : List (Entry T)) → HasBegun start (slice_get xs 0)
+            → given_in start (slice_get xs 0) start ≡ false → length xs ≡ 0
+        at [] b g = refl
+        at (e ∷ es) b g =
+            let given = and_from _ _ (le-leb start start (omega arith))
+            (le-leb start e.generation b) in absurd cc

@@ -1,0 +1,78 @@
+//! How many slots a store has, and how many of them were retired.
+
+ghost use Rattle.std.specs.Prelude.{◌≡◌, ◌+◌, ◌<◌, ◌≤◌};
+ghost use Rattle.store_slots.specs.SlotsState.{count_of};
+
+use std::marker::Model;
+
+/// How many slots a store has.
+#[derive(Clone, Copy)]
+pub struct SlotCounts {
+    /// All that were ever made.
+    pub slots: usize,
+    /// Those that are free.
+    pub free: usize,
+    /// Those that are never used again.
+    pub retired: usize,
+    /// The most cells that were live at once.
+    pub peak_live: usize,
+}
+
+/// How many slots of a store were retired, and the most that were usable at once before the last
+/// of them was. A slot is usable while it is live or free. A slot more is only made where none is
+/// free, so the most usable ones are also the most cells that were live at once.
+#[derive(Drop)]
+pub struct Counts {
+    retired: usize,
+    // the most before a slot was last retired
+    before: usize,
+}
+
+impl Model for Counts {
+    ghost use Rattle.store_slots.specs.SlotsState.{Retirements};
+
+    ghost Value = { Retirements };
+
+    ghost view = { λ c. record { retired = c.retired; before = c.before } };
+}
+
+impl Counts {
+    /// None.
+    #[inline(always)]
+    pub fn new() -> Counts
+        ensures { result ≡ record { retired = 0; before = 0 } }
+    {
+        Counts {
+            retired: 0,
+            before: 0,
+        }
+    }
+
+    /// How many were retired.
+    #[inline(always)]
+    pub fn retired(&self) -> usize
+        ensures { result ≡ self.now.retired }
+    {
+        self.retired
+    }
+
+    /// The most that were usable at once, where so many were made.
+    #[inline(always)]
+    pub fn peak(&self, made: usize) -> usize
+        requires { self.now.retired ≤ made }
+        ensures { result ≡ (count_of self.now made).peak }
+    {
+        self.before.max(made - self.retired)
+    }
+
+    /// One more of those that were made is retired.
+    #[inline(always)]
+    pub fn retire_one(&mut self, made: usize)
+        requires { self.old.retired < made }
+        ensures retired { self.new.retired ≡ self.old.retired + 1 }
+        ensures before { self.new.before ≡ (count_of self.old made).peak }
+    {
+        self.before = self.peak(made);
+        self.retired += 1;
+    }
+}

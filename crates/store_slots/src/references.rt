@@ -1,0 +1,54 @@
+//! What references lead to and name, and the counts of references at the slots of their targets.
+
+ghost use Rattle.std.specs.Prelude.{◌≡◌, ◌<◌, IfSome, is_some, length, option_map, slice_get};
+ghost use Rattle.generational_core.specs.Borrowing.{leads_to};
+ghost use Rattle.generational_core.specs.Cells.{is_shared};
+ghost use Rattle.generational_core.specs.Keeping.{boxed_at};
+ghost use Rattle.store_parts.specs.CellNames.{name_of_cell};
+ghost use Rattle.store_cells.specs.Entry.{cell_at};
+ghost use Rattle.store_slots.specs.SlotsState.{count_less, count_more, shared_target};
+
+use store_cells::entries::Entries;
+use store_cells::entry::Kind;
+use store_parts::names::CellName;
+
+// Whether a live cell of this name has a box: a shared value has none.
+pub(crate) fn is_boxed<T: Drop>(entries: &Entries<T>, name: CellName) -> bool
+    ensures { result ≡ is_some (boxed_at (cell_at entries.now.slots (name_of_cell name))) }
+{
+    match entries.kind(name) {
+        Some(kind) => matches!(kind, Kind::Value),
+        None => entries.target(name).is_some(),
+    }
+}
+
+// The slot of what a new reference names counts it.
+#[inline(always)]
+pub(crate) fn refer<T: Drop>(entries: &mut Entries<T>, target: Option<CellName>)
+    requires within { IfSome target (λ m. m.slot < length entries.old.slots) }
+    requires few { IfSome target (λ m. IfSome (slice_get entries.old.slots m.slot)
+        (λ e. e.references < length entries.old.slots)) }
+    ensures slots { entries.new.slots
+        ≡ count_more entries.old.slots (option_map name_of_cell target) }
+    ensures rooms { entries.new.rooms ≡ entries.old.rooms }
+{
+    if let Some(target) = target {
+        entries.count_up(target.slot);
+    }
+}
+
+// The slot of what a reference names counts it no more, if that is live.
+#[inline(always)]
+pub(crate) fn forget<T: Drop>(entries: &mut Entries<T>, target: Option<CellName>)
+    requires some { IfSome (shared_target entries.old.slots (option_map name_of_cell target))
+        (λ m. IfSome (slice_get entries.old.slots m.slot) (λ e. 0 < e.references)) }
+    ensures slots { entries.new.slots ≡ count_less entries.old.slots
+        (shared_target entries.old.slots (option_map name_of_cell target)) }
+    ensures rooms { entries.new.rooms ≡ entries.old.rooms }
+{
+    if let Some(target) = target {
+        if let Some(Kind::Shared) = entries.kind(target) {
+            entries.count_down(target.slot);
+        }
+    }
+}

@@ -1,0 +1,877 @@
+//! The slots of a store with the pool of the free ones.
+
+ghost use Rattle.std.specs.Prelude.{◌≡◌, ◌+◌, ◌-◌, ◌<◌, ◌≤◌, ◌∷◌, ◌++◌, [], true, Some, None};
+ghost use Rattle.std.specs.Prelude.{Err, IfSome, IfOk, IfErr, IsSome, OnOk, OnErr, IsTrue, ◌↔◌};
+ghost use Rattle.std.specs.Prelude.{is_none, is_ok, option_copied, option_map, length, not};
+ghost use Rattle.std.specs.Prelude.{false, is_some};
+ghost use Rattle.std.specs.Prelude.{map as list_map};
+ghost use Rattle.std.specs.List.{IsDistinct, list_all};
+ghost use Rattle.std.specs.FinMap as map;
+ghost use Rattle.generational_core.specs.declared.boxes.GenerationalPointer.{GenerationalPointer};
+ghost use Rattle.generational_errors.specs.declared.error.StoreError.TheVariants.{OutOfMemory};
+ghost use Rattle.generational_core.specs.Answers.{refusal_of_read_error};
+ghost use Rattle.generational_core.specs.Borrowing.{fill, read_refusal, write_refusal};
+ghost use Rattle.generational_core.specs.Boxes.{box_of, name_of};
+ghost use Rattle.generational_core.specs.Cells.{is_shared, location_of};
+ghost use Rattle.generational_core.specs.Cells.Content.{Here, Lent};
+ghost use Rattle.generational_core.specs.Cells.Cell.{Ref};
+ghost use Rattle.generational_core.specs.Conditions.{fresh, IsFresh, IsLinked};
+ghost use Rattle.generational_core.specs.State.{HasTargets};
+ghost use Rattle.generational_core.specs.Ending.{close, hindrance_to};
+ghost use Rattle.generational_core.specs.Machine.{has_reader, has_writer, point, turn};
+ghost use Rattle.generational_core.specs.Machine.Action.{Point};
+ghost use Rattle.generational_core.specs.Keeping.{boxed_at};
+ghost use Rattle.generational_core.specs.Names.{is_name};
+ghost use Rattle.generational_core.specs.Seeing.{value_reached};
+ghost use Rattle.generational_core.specs.Slots.{slots, free, retired};
+ghost use Rattle.generational_core.specs.State.{content_at, is_named};
+ghost use Rattle.generational_core.specs.StepCalls.{is_hindered, may_set, tells_of_borrow};
+ghost use Rattle.store_cells.specs.declared.entry.StorageEntryData.TheVariants as content;
+ghost use Rattle.store_parts.specs.Borrows.{AreBelow};
+ghost use Rattle.store_cells.specs.Entries.{IsUnborrowed, kept_data, target_of};
+ghost use Rattle.store_cells.specs.Entry.{FoundBorrowed, cell_of, has_no_borrow};
+ghost use Rattle.store_cells.specs.Entry.{is_unborrowed_value};
+ghost use Rattle.store_cells.specs.Entry.{less_read, one_read, readers_of};
+ghost use Rattle.store_parts.specs.CellNames.{name_of_cell};
+ghost use Rattle.store_cells.specs.Entry.{target_in, value_for};
+ghost use Rattle.store_slots.specs.SlotsState.{change_content, content_reached, reached};
+ghost use Rattle.store_slots.specs.SlotsState.{refusal_to_read_at, refusal_to_refer_at};
+ghost use Rattle.store_slots.specs.SlotsState.{refusal_to_write_at};
+ghost use Rattle.store_slots.specs.SlotsState.{would_end, Finds, HasEnded, IsMade, IsReadable, IsWritable};
+ghost use Rattle.store_slots.specs.SlotsState.{IsTurned};
+ghost use Rattle.store_slots.specs.SlotRows.{all_slot_rows, ReadSlots};
+ghost use Rattle.store_slots.specs.SlotsState.{with_records};
+
+use crate::blocking_borrow::{
+    are_unborrowed_values, find_blocking_borrow, find_blocking_value, would_end,
+};
+use crate::counts::{Counts, SlotCounts};
+use crate::found::{Found, look};
+use crate::references::{forget, is_boxed, refer};
+use crate::refusals::{dropped, dropped_mut};
+use crate::rows::push_slots;
+use generational_core::parts::Borrow;
+use generational_core::{
+    BaseRow, BorrowError, BorrowMutError, BorrowMutResult, Location, Refused, StoreError,
+};
+use std::alloc::{AllocError, Global};
+use std::marker::Model;
+use store_cells::entries::Entries;
+use store_cells::entry::{Kind, StorageEntryData};
+use store_parts::names::CellName;
+use store_parts::pool::{SlotPool, grow_within};
+
+/// The slots of a store. Contracts see the state of the abstract machine for which they stand,
+/// without a number, owners and tickets, and how many cells more take no memory. `P` chooses which
+/// free slot is taken.
+#[derive(Drop)]
+pub struct Slots<T, P: SlotPool> {
+    // the first generation of a slot
+    start: u64,
+    counts: Counts,
+    entries: Entries<T>,
+    pool: P,
+}
+
+impl<T, P: SlotPool> Model for Slots<T, P> {
+    ghost use Rattle.std.specs.Prelude.{◌≤◌, ◌+◌, ◌-◌, length};
+    ghost use Rattle.std.specs.Coded.{codes};
+    ghost use Rattle.std.specs.FinMap as map;
+    ghost use Rattle.std.specs.FinSet as set;
+    ghost use Rattle.store_slots.specs.SlotsState.{SlotsState, state_of, IsSlotTable, AreReferred};
+    ghost use Rattle.store_slots.specs.SlotsState.{count_of};
+
+    ghost Value = { SlotsState T };
+
+    ghost coded = { Prim.hlevel (codes, map.code) };
+
+    ghost view = { λ s. record {
+      state = state_of s.start (count_of s.counts (length s.entries.slots)).peak s.entries.slots;
+      spare = set.len (P.members s.pool) + (P.rooms s.pool - length s.entries.slots);
+    } };
+
+    ghost invariant = { λ s.
+        IsSlotTable (record {
+          free = P.members s.pool;
+          rooms = P.rooms s.pool;
+          start = s.start;
+          counts = count_of s.counts (length s.entries.slots);
+          slots = s.entries.slots;
+        })
+        × (P.rooms s.pool ≤ s.entries.rooms) × AreReferred (λ m. 0) s.entries.slots
+        × (s.counts.retired ≤ length s.entries.slots) };
+}
+
+impl<T, P: SlotPool> Slots<T, P> {
+    /// No slot. Takes no memory.
+    pub fn new(alloc: Global, start: u64) -> Self
+        ensures state { result.state ≡ fresh 0 start 0 }
+        ensures spare { result.spare ≡ 0 }
+    {
+        Slots {
+            start,
+            counts: Counts::new(),
+            entries: Entries::new(alloc),
+            pool: P::new(alloc),
+        }
+    }
+}
+
+impl<T: Drop, P: SlotPool> Slots<T, P> {
+    /// Whether no slot was ever made.
+    pub fn is_fresh(&self) -> bool
+        ensures { IsTrue result ↔ IsFresh (with_records self.now.state 0 map.empty 0) }
+    {
+        self.entries.len() == 0
+    }
+
+    /// How many slots there are, of which kinds, and the most cells that were live at once.
+    pub fn counts(&self) -> SlotCounts
+        ensures slots { result.slots ≡ slots self.now.state }
+        ensures free { result.free ≡ free self.now.state }
+        ensures retired { result.retired ≡ retired self.now.state }
+        ensures peak { result.peak_live ≡ self.now.state.peak }
+        ensures bounded { slots self.now.state
+            ≤ self.now.state.peak + retired self.now.state }
+    {
+        let made = self.entries.len();
+        SlotCounts {
+            slots: made,
+            free: self.pool.free(),
+            retired: self.counts.retired(),
+            peak_live: self.counts.peak(made),
+        }
+    }
+
+    /// Appends the rows of the slots, ascending, with ids of the store with this number.
+    pub fn push_rows(&self, number: u64, rows: &mut Vec<BaseRow>) -> Result<(), AllocError>
+        ensures ok { OnOk result
+            (rows.new.items ≡ rows.old.items ++ all_slot_rows number self.now.state) }
+        ensures back { ReadSlots number self.now.state }
+    {
+        push_slots(&self.entries, number, rows)
+    }
+
+    /// Where a cell was made.
+    pub fn created_at(&self, name: CellName) -> Location
+        requires { IsSome (map.get self.now.state.cells (name_of_cell name)) }
+        ensures { location_of (map.get self.now.state.cells (name_of_cell name)) ≡ Some result }
+    {
+        self.entries.details(name.slot).created_at
+    }
+
+    /// Where the cell of this name was made, if that is live and has a box: a shared value has none.
+    pub fn find(&self, name: CellName) -> Option<Location>
+        ensures { result ≡ boxed_at (map.get self.now.state.cells (name_of_cell name)) }
+    {
+        if !is_boxed(&self.entries, name) {
+            return None;
+        }
+        Some(self.created_at(name))
+    }
+
+    /// A reference to a cell.
+    pub fn reference_to(&self, name: CellName) -> StorageEntryData<T>
+        requires { IsSome (map.get self.now.state.cells (name_of_cell name)) }
+        ensures { result ≡ content.Reference name.slot name.generation }
+    {
+        self.entries.reference_to(name.slot)
+    }
+
+    /// The value that a box of this name reaches, unless a writer has it.
+    #[inline(always)]
+    pub fn peek(&self, name: CellName) -> Option<&T>
+        requires { IsLinked self.now.state.cells }
+        ensures { option_copied result
+            ≡ value_reached self.now.state (reached self.now.state (name_of_cell name)) }
+    {
+        match self.entries.reach(name) {
+            Some(value) => self.entries.peek(value.slot),
+            None => None,
+        }
+    }
+
+    /// Whether a box of this name reaches a value.
+    #[inline(always)]
+    pub fn is_live(&self, name: CellName) -> bool
+        ensures { result ≡ is_some (reached self.now.state (name_of_cell name)) }
+    {
+        self.entries.reach(name).is_some()
+    }
+
+    /// What a box of this name reaches, and which borrow is there.
+    #[inline(always)]
+    pub fn look(&self, name: CellName) -> Found
+        requires { IsLinked self.now.state.cells }
+        ensures { Finds self.now.state.cells (reached self.now.state (name_of_cell name)) result }
+    {
+        look(&self.entries, name)
+    }
+
+    /// Whether no borrow stands in the way where the reference of this name is to name another
+    /// value.
+    pub fn may_point(&self, name: CellName, new: CellName, shared: bool) -> bool
+        requires linked { IsLinked self.now.state.cells }
+        requires shared { shared
+            ≡ is_shared (map.get self.now.state.cells (name_of_cell new)) }
+        ensures { (a b : GenerationalPointer) → name_of a ≡ name_of_cell name
+            → result ≡ not (is_hindered (Point a b) (point self.now.state a b
+            (map.get self.now.state.cells (name_of_cell name)) (Some (name_of_cell new))
+            (map.get self.now.state.cells (name_of_cell new))).0) }
+    {
+        let Some(old) = self.entries.target(name) else {
+            return true;
+        };
+        if old == new || !shared {
+            return true;
+        }
+        self.may_lose(name, Some(old))
+    }
+
+    /// What the reference of this name names, if it is one.
+    pub fn target(&self, name: CellName) -> Option<CellName>
+        ensures { option_map name_of_cell result
+            ≡ target_in (map.get self.now.state.cells (name_of_cell name)) }
+    {
+        self.entries.target(name)
+    }
+
+    /// The value that a box of this name reaches, unless a writer has it, and whether it is known
+    /// to have no borrow. A value that isn't shared and has no borrow is asked for first. A refusal
+    /// tells where the box was made.
+    #[inline(always)]
+    pub fn readable(
+        &self,
+        name: CellName,
+        created_at: Location,
+    ) -> Result<(CellName, bool), BorrowError>
+        requires { IsLinked self.now.state.cells }
+        ensures { IsReadable self.now.state (name_of_cell name) created_at result }
+    {
+        if self.entries.has_unborrowed_value(name) {
+            return Ok((name, true));
+        }
+        self.find_readable(name, created_at)
+    }
+
+    // What `readable` promises, by a look. Apart from it, so that the place of what the look finds is
+    // made only here.
+    #[inline(always)]
+    fn find_readable(
+        &self,
+        name: CellName,
+        created_at: Location,
+    ) -> Result<(CellName, bool), BorrowError>
+        requires { IsLinked self.now.state.cells }
+        ensures { IsReadable self.now.state (name_of_cell name) created_at result }
+    {
+        match self.look(name) {
+            Found::Nothing => Err(dropped(created_at)),
+            Found::Unborrowed(value) => Ok((value, true)),
+            Found::Read(value) => Ok((value, false)),
+            Found::Lent(writer) => Err(BorrowError::AlreadyBorrowedMut(writer)),
+        }
+    }
+
+    /// The value that a box of this name reaches, unless a writer has it, and whether it is shared.
+    /// A refusal tells where the box was made.
+    #[inline(always)]
+    pub fn unlent(
+        &self,
+        name: CellName,
+        created_at: Location,
+    ) -> Result<(CellName, bool), BorrowError>
+        requires { IsLinked self.now.state.cells }
+        ensures ok { IfOk result (λ r.
+            (reached self.now.state (name_of_cell name) ≡ Some (name_of_cell r.0))
+            × (read_refusal (content_at self.now.state (name_of_cell r.0)) ≡ None)
+            × (r.1 ≡ is_shared (map.get self.now.state.cells (name_of_cell r.0)))) }
+        ensures err { IfErr result (λ e.
+            refusal_to_read_at self.now.state (name_of_cell name) created_at
+            ≡ Some (refusal_of_read_error e)) }
+    {
+        let (value, shared) = match self.entries.target(name) {
+            Some(target) => (target, true),
+            None => match self.entries.reach(name) {
+                Some(own) => (own, false),
+                None => return Err(dropped(created_at)),
+            },
+        };
+        match self.entries.borrow_error(value.slot) {
+            None => Ok((value, shared)),
+            Some(writer) => Err(BorrowError::AlreadyBorrowedMut(writer)),
+        }
+    }
+
+    /// The shared value that a box of this name reaches, unless a writer has it.
+    #[inline(always)]
+    pub fn shared(&self, name: CellName, created_at: Location) -> Result<CellName, BorrowError>
+        requires { IsLinked self.now.state.cells }
+        ensures ok { IfOk result (λ m.
+            (reached self.now.state (name_of_cell name) ≡ Some (name_of_cell m))
+            × (read_refusal (content_at self.now.state (name_of_cell m)) ≡ None)
+            × (is_shared (map.get self.now.state.cells (name_of_cell m)) ≡ true)) }
+        ensures err { IfErr result (λ e.
+            refusal_to_refer_at self.now.state (name_of_cell name) created_at
+            ≡ Some (refusal_of_read_error e)) }
+    {
+        let (value, shared) = match self.unlent(name, created_at) {
+            Ok(found) => found,
+            Err(error) => return Err(error),
+        };
+        if shared {
+            return Ok(value);
+        }
+        Err(dropped(created_at))
+    }
+
+    /// The value that a box of this name reaches, unless a borrow stands there. A value that isn't
+    /// shared and has no borrow is asked for first. A refusal tells where the box was made.
+    #[inline(always)]
+    pub fn writable(&self, name: CellName, created_at: Location) -> BorrowMutResult<CellName>
+        requires { IsLinked self.now.state.cells }
+        ensures { IsWritable self.now.state (name_of_cell name) created_at result }
+    {
+        if self.entries.has_unborrowed_value(name) {
+            return Ok(name);
+        }
+        self.find_writable(name, created_at)
+    }
+
+    // What `writable` promises, by a look.
+    #[inline(always)]
+    fn find_writable(&self, name: CellName, created_at: Location) -> BorrowMutResult<CellName>
+        requires { IsLinked self.now.state.cells }
+        ensures { IsWritable self.now.state (name_of_cell name) created_at result }
+    {
+        match self.look(name) {
+            Found::Nothing => Err(dropped_mut(created_at)),
+            Found::Unborrowed(value) => Ok(value),
+            Found::Read(value) => match self.entries.borrow_mut_error(value.slot) {
+                Ok(()) => Ok(value),
+                Err(refused) => Err(refused),
+            },
+            Found::Lent(writer) => {
+                Err(Refused::Borrow(BorrowMutError::AlreadyBorrowedMut(writer)))
+            }
+        }
+    }
+
+    /// The value of this name, where the reader stands.
+    #[inline(always)]
+    pub fn open(&self, name: CellName, ticket: u64) -> Option<&T>
+        ensures { option_copied result
+            ≡ value_for ticket (content_at self.now.state (name_of_cell name)) }
+    {
+        if self.entries.holds(name) {
+            return self.entries.open(name.slot, ticket);
+        }
+        None
+    }
+
+    /// Whether a borrow is noted apart from the lists.
+    #[inline(always)]
+    pub fn has_noted(&self) -> bool {
+        !self.entries.is_settled()
+    }
+
+    /// The noted borrow, if there is one, goes to a list. Nothing that contracts see changes.
+    #[inline(always)]
+    pub fn list_noted(&mut self)
+        ensures { self.new ≡ self.old }
+    {
+        self.entries.list_noted();
+    }
+
+    /// Adds a reader to a value that isn't lent. Only a reader beside another may lack memory, and
+    /// then nothing changes. The caller may know that the value has no borrow.
+    #[inline(always)]
+    pub fn begin_read(
+        &mut self,
+        name: CellName,
+        borrow: Borrow,
+        is_unborrowed: bool,
+    ) -> Result<(), AllocError>
+        requires there { IsSome (content_at self.old.state (name_of_cell name)) }
+        requires free { read_refusal (content_at self.old.state (name_of_cell name)) ≡ None }
+        requires alone { is_unborrowed ≡ true
+            → write_refusal (content_at self.old.state (name_of_cell name)) ≡ None }
+        requires ascends { AreBelow borrow.ticket
+            (readers_of (content_at self.old.state (name_of_cell name))) }
+        ensures ok { OnOk result (IfSome (content_at self.old.state (name_of_cell name))
+            (λ c. self.new.state ≡ fill self.old.state (name_of_cell name) (one_read borrow c))) }
+        ensures err { OnErr result (self.new.state ≡ self.old.state) }
+        ensures beside { OnErr result (is_some
+            (write_refusal (content_at self.old.state (name_of_cell name))) ≡ true) }
+    {
+        self.entries.begin_read(name, borrow, is_unborrowed)
+    }
+
+    /// Takes a reader away. The answer is whether it stood.
+    #[inline(always)]
+    pub fn release_read(&mut self, name: CellName, ticket: u64) -> bool
+        ensures known { result ≡ has_reader (content_at self.old.state (name_of_cell name)) ticket }
+        ensures after { self.new.state
+            ≡ change_content self.old.state (name_of_cell name) (less_read ticket) }
+    {
+        self.entries.holds(name) && self.entries.release_read(name.slot, ticket)
+    }
+
+    /// Lends a value without borrows to a writer.
+    #[inline(always)]
+    pub fn begin_write(&mut self, name: CellName, writer: Borrow) -> T
+        requires { has_no_borrow (content_at self.old.state (name_of_cell name)) ≡ true }
+        ensures value { content_at self.old.state (name_of_cell name) ≡ Some (Here result []) }
+        ensures after { self.new.state
+            ≡ fill self.old.state (name_of_cell name) (Lent writer) }
+    {
+        self.entries.begin_write(name, writer)
+    }
+
+    /// Puts a writer's value back, or hands it back where the writer doesn't stand, which changes
+    /// nothing.
+    #[inline(always)]
+    pub fn release_write(&mut self, name: CellName, ticket: u64, value: T) -> Result<(), T>
+        ensures known { IsTrue (is_ok result) ↔
+            (has_writer (content_at self.old.state (name_of_cell name)) ticket ≡ true) }
+        ensures ok { OnOk result
+            (self.new.state ≡ fill self.old.state (name_of_cell name) (Here value [])) }
+        ensures err { IfErr result (λ back. (back ≡ value) × (self.new.state ≡ self.old.state)) }
+    {
+        if self.entries.holds(name) {
+            return self.entries.release_write(name.slot, ticket, value);
+        }
+        Err(value)
+    }
+
+    /// Puts another value in the place of the one that a box of this name reaches, and at which no
+    /// borrow stands, and answers the old one.
+    #[inline(always)]
+    pub fn replace(&mut self, name: CellName, value: T) -> T
+        requires { has_no_borrow
+            (content_reached self.old.state (reached self.old.state (name_of_cell name))) ≡ true }
+        ensures value { IfSome (reached self.old.state (name_of_cell name))
+            (λ m. content_at self.old.state m ≡ Some (Here result [])) }
+        ensures after { IfSome (reached self.old.state (name_of_cell name))
+            (λ m. self.new.state ≡ fill self.old.state m (Here value [])) }
+    {
+        let Some(reached) = self.entries.reach(name) else {
+            unreachable!();
+        };
+        self.entries.replace(reached.slot, value)
+    }
+
+    // For how many cells more there is room.
+    #[inline(always)]
+    fn spare(&self) -> usize
+        ensures count { result ≡ self.now.spare }
+        ensures free { free self.now.state ≤ result }
+    {
+        self.pool.free() + (self.pool.room() - self.entries.len())
+    }
+
+    // Makes room for one cell more at least. Want of memory is the only refusal. No slot changes.
+    #[cold]
+    #[inline(never)]
+    fn grow(&mut self) -> Result<(), StoreError>
+        ensures state { self.new.state ≡ self.old.state }
+        ensures ok { OnOk result (self.old.spare < self.new.spare) }
+        ensures cause { IfErr result (λ error. error ≡ OutOfMemory) }
+    {
+        if self.pool.room() == self.entries.room() {
+            self.entries.grow()?;
+        }
+        grow_within(&mut self.pool, self.entries.room())
+    }
+
+    // Makes room for a cell more, where there is none.
+    #[inline(always)]
+    fn reserve_one(&mut self) -> Result<(), StoreError>
+        ensures state { self.new.state ≡ self.old.state }
+        ensures ok { OnOk result (0 < self.new.spare) }
+        ensures more { OnOk result (self.old.spare ≤ self.new.spare) }
+        ensures needed { OnErr result (self.old.spare ≡ 0) }
+    {
+        if self.spare() > 0 {
+            return Ok(());
+        }
+        self.grow()
+    }
+
+    /// Makes room for two cells more, where there isn't.
+    pub fn reserve_two(&mut self) -> Result<(), StoreError>
+        ensures state { self.new.state ≡ self.old.state }
+        ensures ok { OnOk result (2 ≤ self.new.spare) }
+        ensures cause { IfErr result (λ error. error ≡ OutOfMemory) }
+        ensures needed { OnErr result (free self.old.state < 2) }
+    {
+        let spare = self.spare();
+        if spare == 0 {
+            self.grow()?;
+        }
+        if spare < 2 {
+            self.grow()?;
+        }
+        Ok(())
+    }
+
+    /// Makes room for this many cells more, where there isn't, and for no more than these. Want of
+    /// memory is the only refusal. No slot changes.
+    pub fn reserve(&mut self, more: usize) -> Result<(), StoreError>
+        ensures state { self.new.state ≡ self.old.state }
+        ensures ok { OnOk result (more ≤ self.new.spare) }
+        ensures spare { self.old.spare ≤ self.new.spare }
+        ensures cause { IfErr result (λ error. error ≡ OutOfMemory) }
+    {
+        let spare = self.spare();
+        if more <= spare {
+            return Ok(());
+        }
+        let Some(room) = self.pool.room().checked_add(more - spare) else {
+            return Err(StoreError::OutOfMemory);
+        };
+        self.entries.reserve(room)?;
+        self.pool.grow(room)
+    }
+
+    /// Makes a cell without borrows. What a reference names counts it from then on. A refusal hands
+    /// the content back, and changes nothing: there was no room for a cell, and no memory.
+    #[inline(always)]
+    pub fn make(
+        &mut self,
+        content: StorageEntryData<T>,
+        created_at: Location,
+    ) -> Result<CellName, StorageEntryData<T>>
+        requires unborrowed { IsUnborrowed content }
+        requires target { IfSome (target_of content)
+            (λ m. is_shared (map.get self.old.state.cells m) ≡ true) }
+        requires linked { HasTargets self.old.state.cells }
+        ensures ok { IfOk result (λ n. IsMade self.old self.new
+            (cell_of (kept_data [] created_at content)) (name_of_cell n)) }
+        ensures err { OnErr result (self.new.state ≡ self.old.state) }
+        ensures needed { OnErr result ((free self.old.state ≡ 0) × (self.old.spare ≡ 0)) }
+        ensures back { IfErr result (λ back. back ≡ content) }
+    {
+        let Some(slot) = self.pool.take() else {
+            if self.reserve_one().is_err() {
+                return Err(content);
+            }
+            return Ok(self.extend(content, created_at));
+        };
+        let name = CellName {
+            slot,
+            generation: self.entries.generation(slot) + 1,
+        };
+        let target = content.target();
+        self.entries.refill(slot, content, created_at);
+        refer(&mut self.entries, target);
+        Ok(name)
+    }
+
+    // Makes a cell in a new slot, where none is free and there is room for one.
+    #[inline(always)]
+    fn extend(&mut self, content: StorageEntryData<T>, created_at: Location) -> CellName
+        requires none { free self.old.state ≡ 0 }
+        requires room { 0 < self.old.spare }
+        requires unborrowed { IsUnborrowed content }
+        requires target { IfSome (target_of content)
+            (λ m. is_shared (map.get self.old.state.cells m) ≡ true) }
+        requires linked { HasTargets self.old.state.cells }
+        ensures { IsMade self.old self.new (cell_of (kept_data [] created_at content))
+            (name_of_cell result) }
+    {
+        let name = CellName {
+            slot: self.entries.len(),
+            generation: self.start,
+        };
+        let target = content.target();
+        self.entries.push(name.generation, content, created_at);
+        refer(&mut self.entries, target);
+        name
+    }
+
+    // Takes a cell away. Its slot is free from then on, unless its generation is the last. What a
+    // reference names counts it no more. The caller may know that the cell is a value without
+    // borrows.
+    #[inline(always)]
+    fn remove(&mut self, name: CellName, target: Option<CellName>, is_unborrowed: bool)
+        requires there { IsSome (map.get self.old.state.cells (name_of_cell name)) }
+        requires target { option_map name_of_cell target
+            ≡ target_in (map.get self.old.state.cells (name_of_cell name)) }
+        requires alone { is_unborrowed ≡ true
+            → has_no_borrow (content_at self.old.state (name_of_cell name)) ≡ true }
+        ensures { self.new.state ≡ record self.old.state
+            { cells = map.remove self.old.state.cells (name_of_cell name) } }
+    {
+        forget(&mut self.entries, target);
+        self.entries.end(name.slot, is_unborrowed);
+        if name.generation < u64::MAX {
+            self.pool.put(name.slot);
+        } else {
+            self.counts.retire_one(self.entries.len());
+        }
+    }
+
+    // The value that goes where a name ends: its own, or the one that it refers to as the last. The
+    // caller knows what it refers to.
+    #[inline(always)]
+    fn would_end(&self, name: CellName, target: Option<CellName>) -> Option<CellName>
+        requires linked { IsLinked self.now.state.cells }
+        requires target { option_map name_of_cell target
+            ≡ target_in (map.get self.now.state.cells (name_of_cell name)) }
+        ensures { option_map name_of_cell result ≡ would_end
+            (is_named (map.remove self.now.state.cells (name_of_cell name)))
+            (map.get self.now.state.cells (name_of_cell name)) (name_of_cell name) }
+    {
+        would_end(&self.entries, name, target)
+    }
+
+    /// Whether no borrow stands in the way of a name's end.
+    pub fn may_end(&self, name: CellName) -> bool
+        requires { IsLinked self.now.state.cells }
+        ensures { result ≡ is_none (hindrance_to self.now.state (name_of_cell name ∷ [])) }
+    {
+        let target = self.entries.target(name);
+        self.may_lose(name, target)
+    }
+
+    // Whether no borrow stands at the value that goes where a name ends.
+    fn may_lose(&self, name: CellName, target: Option<CellName>) -> bool
+        requires linked { IsLinked self.now.state.cells }
+        requires target { option_map name_of_cell target
+            ≡ target_in (map.get self.now.state.cells (name_of_cell name)) }
+        ensures { result ≡ is_none (hindrance_to self.now.state (name_of_cell name ∷ [])) }
+    {
+        match self.would_end(name, target) {
+            Some(ending) => self.entries.is_unborrowed(ending.slot),
+            None => true,
+        }
+    }
+
+    /// Ends a name, unless a borrow stands in the way.
+    #[inline(always)]
+    pub fn end(&mut self, name: CellName) -> BorrowMutResult<()>
+        requires { IsLinked self.old.state.cells }
+        ensures { HasEnded self.old.state self.new.state (name_of_cell name ∷ []) result }
+    {
+        if self.entries.has_unborrowed_value(name) {
+            self.remove(name, None, true);
+            return Ok(());
+        }
+        if self.end_slow(name) {
+            return Ok(());
+        }
+        self.end_refused(name)
+    }
+
+    // Ends a name of any cell, unless a borrow stands in the way. The answer is whether it ended: so
+    // no place is made for a refusal.
+    #[cold]
+    #[inline(never)]
+    fn end_slow(&mut self, name: CellName) -> bool
+        requires { IsLinked self.old.state.cells }
+        ensures known { result
+            ≡ is_none (hindrance_to self.old.state (name_of_cell name ∷ [])) }
+        ensures ended { result ≡ true
+            → self.new.state ≡ close self.old.state (name_of_cell name ∷ []) }
+        ensures stays { result ≡ false → self.new.state ≡ self.old.state }
+    {
+        let target = self.entries.target(name);
+        let ending = self.would_end(name, target);
+        if let Some(value) = ending {
+            if !self.entries.is_unborrowed(value.slot) {
+                return false;
+            }
+        }
+        self.take_away(name, target, ending);
+        true
+    }
+
+    // Hands on the borrows that block the end of a name. Apart from `end`, so that the refusal's place
+    // is made only here.
+    #[inline(always)]
+    fn end_refused(&self, name: CellName) -> BorrowMutResult<()>
+        requires { IsLinked self.now.state.cells }
+        ensures { FoundBorrowed (hindrance_to self.now.state (name_of_cell name ∷ [])) result }
+    {
+        match self.find_blocking_borrow(name) {
+            Ok(()) => Ok(()),
+            Err(refused) => Err(refused),
+        }
+    }
+
+    // The borrows that block the end of a name.
+    #[cold]
+    #[inline(never)]
+    fn find_blocking_borrow(&self, name: CellName) -> BorrowMutResult<()>
+        requires { IsLinked self.now.state.cells }
+        ensures { FoundBorrowed (hindrance_to self.now.state (name_of_cell name ∷ [])) result }
+    {
+        let target = self.entries.target(name);
+        match self.would_end(name, target) {
+            Some(value) => self.entries.borrow_mut_error(value.slot),
+            None => Ok(()),
+        }
+    }
+
+    // Ends a name, whatever stands in the way.
+    #[inline(always)]
+    fn close(&mut self, name: CellName)
+        requires { IsLinked self.old.state.cells }
+        ensures { self.new.state ≡ close self.old.state (name_of_cell name ∷ []) }
+    {
+        let target = self.entries.target(name);
+        let ending = self.would_end(name, target);
+        self.take_away(name, target, ending);
+    }
+
+    // Takes the cell of a name away with the value that goes then. Where that is shared, its slot is
+    // free before the reference's. The caller knows what the cell refers to, and which value goes.
+    #[inline(always)]
+    fn take_away(&mut self, name: CellName, target: Option<CellName>, ending: Option<CellName>)
+        requires linked { IsLinked self.old.state.cells }
+        requires target { option_map name_of_cell target
+            ≡ target_in (map.get self.old.state.cells (name_of_cell name)) }
+        requires ending { option_map name_of_cell ending ≡ would_end
+            (is_named (map.remove self.old.state.cells (name_of_cell name)))
+            (map.get self.old.state.cells (name_of_cell name)) (name_of_cell name) }
+        ensures { self.new.state ≡ close self.old.state (name_of_cell name ∷ []) }
+    {
+        if let Some(value) = ending {
+            self.remove(value, None, false);
+        }
+        if target.is_some() {
+            self.remove(name, target, false);
+        }
+    }
+
+    /// Lets the reference of this name, whose box was made at a location, name another value, if
+    /// that is shared. The one that it named before goes if nothing refers to it then, unless a
+    /// borrow stands in the way.
+    pub fn point(
+        &mut self,
+        name: CellName,
+        created_at: Location,
+        new: CellName,
+        shared: bool,
+    ) -> BorrowMutResult<()>
+        requires linked { IsLinked self.old.state.cells }
+        requires there { IsSome (content_at self.old.state (name_of_cell new)) }
+        requires shared { shared
+            ≡ is_shared (map.get self.old.state.cells (name_of_cell new)) }
+        ensures { (b : GenerationalPointer) → IsTurned self.old.state self.new.state result
+            (point self.old.state (box_of 0 (name_of_cell name) created_at) b
+            (map.get self.old.state.cells (name_of_cell name)) (Some (name_of_cell new))
+            (map.get self.old.state.cells (name_of_cell new))) }
+    {
+        let Some(old) = self.entries.target(name) else {
+            if !self.entries.holds(name) {
+                return Err(dropped_mut(created_at));
+            }
+            return Err(dropped_mut(self.entries.details(new.slot).created_at));
+        };
+        if !shared {
+            return Err(dropped_mut(self.entries.details(new.slot).created_at));
+        }
+        self.turn(name, old, new)
+    }
+
+    // Lets a reference that names the old value name the new one, which is shared.
+    fn turn(&mut self, name: CellName, old: CellName, new: CellName) -> BorrowMutResult<()>
+        requires linked { IsLinked self.old.state.cells }
+        requires refers { target_in (map.get self.old.state.cells (name_of_cell name))
+            ≡ Some (name_of_cell old) }
+        requires shared { is_shared (map.get self.old.state.cells (name_of_cell new)) ≡ true }
+        ensures { IfSome (location_of (map.get self.old.state.cells (name_of_cell name)))
+            (λ l. IsTurned self.old.state self.new.state result (turn self.old.state
+            (name_of_cell name) (name_of_cell old) (name_of_cell new) l)) }
+    {
+        if old == new {
+            return Ok(());
+        }
+        let Some(ending) = self.would_end(name, Some(old)) else {
+            self.redirect(name, old, new);
+            return Ok(());
+        };
+        match self.entries.borrow_mut_error(ending.slot) {
+            Ok(()) => {}
+            Err(refused) => return Err(refused),
+        }
+        self.redirect(name, old, new);
+        self.remove(ending, None, false);
+        Ok(())
+    }
+
+    // Lets a reference name another shared value.
+    fn redirect(&mut self, name: CellName, old: CellName, new: CellName)
+        requires linked { IsLinked self.old.state.cells }
+        requires refers { target_in (map.get self.old.state.cells (name_of_cell name))
+            ≡ Some (name_of_cell old) }
+        requires shared { is_shared (map.get self.old.state.cells (name_of_cell new)) ≡ true }
+        ensures { IfSome (location_of (map.get self.old.state.cells (name_of_cell name)))
+            (λ l. self.new.state ≡ record self.old.state {
+              cells = map.insert self.old.state.cells
+                  (name_of_cell name) (Ref (name_of_cell new) l);
+            }) }
+    {
+        self.entries.count_down(old.slot);
+        self.entries.redirect(name.slot, new.slot);
+        refer(&mut self.entries, Some(new));
+    }
+
+    /// Whether no borrow stands in the way of the end of a list of names. Takes no memory.
+    pub fn may_end_all(&self, names: &[CellName]) -> bool
+        requires linked { IsLinked self.now.state.cells }
+        requires apart { IsDistinct is_name (list_map name_of_cell names.now) }
+        ensures { result ≡ is_none (hindrance_to self.now.state (list_map name_of_cell names.now)) }
+    {
+        are_unborrowed_values(&self.entries, names)
+            || find_blocking_value(&self.entries, names).is_none()
+    }
+
+    /// Ends the names of a list, from the first to the last, or none of them, where a borrow stands
+    /// in the way: then the first name that it hinders is told.
+    pub fn end_all(&mut self, names: &[CellName]) -> BorrowMutResult<()>
+        requires linked { IsLinked self.old.state.cells }
+        requires apart { IsDistinct is_name (list_map name_of_cell names.now) }
+        ensures { HasEnded self.old.state self.new.state (list_map name_of_cell names.now) result }
+    {
+        if are_unborrowed_values(&self.entries, names) {
+            self.remove_all(names);
+            return Ok(());
+        }
+        self.end_all_slow(names)
+    }
+
+    // Takes values away that aren't shared and have no borrow.
+    #[inline(always)]
+    fn remove_all(&mut self, names: &[CellName])
+        requires linked { IsLinked self.old.state.cells }
+        requires apart { IsDistinct is_name (list_map name_of_cell names.now) }
+        requires unborrowed { list_all (λ n. is_unborrowed_value
+            (map.get self.old.state.cells (name_of_cell n))) names.now ≡ true }
+        ensures { self.new.state ≡ close self.old.state (list_map name_of_cell names.now) }
+    {
+        for name in names {
+            self.remove(*name, None, true);
+        }
+    }
+
+    // Ends the names of any list, or none of them.
+    #[cold]
+    #[inline(never)]
+    fn end_all_slow(&mut self, names: &[CellName]) -> BorrowMutResult<()>
+        requires linked { IsLinked self.old.state.cells }
+        requires apart { IsDistinct is_name (list_map name_of_cell names.now) }
+        ensures { HasEnded self.old.state self.new.state (list_map name_of_cell names.now) result }
+    {
+        match find_blocking_borrow(&self.entries, names) {
+            Ok(()) => {}
+            Err(refused) => return Err(refused),
+        }
+        for name in names {
+            self.close(*name);
+        }
+        Ok(())
+    }
+}

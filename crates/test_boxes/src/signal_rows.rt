@@ -1,0 +1,137 @@
+//! Short histories of scopes and signals, with the answers that they must have.
+
+use crate::expected::assert_same;
+use crate::signal_calls::{
+    alias, asked, double, end, end_hindered, first_made, is_gone, scope, second_made, sees, set,
+    set_ended, signal, swap, update_ended,
+};
+use example_libraries::scopes::{count_up, outlived, set_source, set_through_alias};
+use generational_box::{LastFirst, OldestFirst, Storage, Store};
+use signals::{Scope, Signal};
+use std::alloc::Global;
+use std::process::Abort;
+
+/// What happens in one store.
+trait History {
+    fn play<R: Abort, S: Storage<u64>>(rt: &R, alloc: Global, store: &mut S);
+}
+
+/// Plays a history in an empty store, once with each order of free slots.
+fn play<H: History>(rt: &impl Abort, alloc: Global) {
+    let mut last: Store<u64, LastFirst> = Store::new(alloc, 7);
+    H::play(rt, alloc, &mut last);
+    let mut oldest: Store<u64, OldestFirst> = Store::new(alloc, 7);
+    H::play(rt, alloc, &mut oldest);
+}
+
+struct SourcesSwapped;
+
+/// Two scopes, and an alias that outlives its signal's scope and is led elsewhere.
+impl History for SourcesSwapped {
+    fn play<R: Abort, S: Storage<u64>>(rt: &R, _: Global, store: &mut S) {
+        let (old, new, third) = (1, 2, 3);
+        let a = scope(rt, store);
+        let s = signal(rt, store, &a, old, first_made());
+        let b = scope(rt, store);
+        let t = alias(rt, store, &b, s);
+        let u = signal(rt, store, &b, new, second_made());
+        end(rt, store, a);
+        is_gone(rt, store, s, first_made());
+        sees(rt, store, t, old);
+        swap(rt, store, t, u);
+        sees(rt, store, t, new);
+        set(rt, store, t, third);
+        sees(rt, store, u, third);
+        end_both(rt, store, b, t, u);
+    }
+}
+
+/// The end of the scope that is left, with two signals.
+fn end_both<S: Storage<u64>>(
+    rt: &impl Abort,
+    store: &mut S,
+    scope: Scope,
+    first: Signal<u64>,
+    second: Signal<u64>,
+) {
+    end(rt, store, scope);
+    is_gone(rt, store, first, first_made());
+    is_gone(rt, store, second, second_made());
+    assert_same(rt, &store.slots(), &5);
+    assert_same(rt, &store.free(), &5);
+}
+
+#[test]
+fn an_alias_outlives_its_scope_and_is_led_elsewhere(rt: HostRuntime) {
+    play::<SourcesSwapped>(&rt, rt.alloc());
+}
+
+struct EndRefused;
+
+/// A scope whose signal is read doesn't end, and comes back.
+impl History for EndRefused {
+    fn play<R: Abort, S: Storage<u64>>(rt: &R, alloc: Global, store: &mut S) {
+        let b = scope(rt, store);
+        let u = signal(rt, store, &b, 4, second_made());
+        let guard = u.as_box().try_read(store, asked()).expect(rt, "a reader");
+        let b = end_hindered(rt, store, b, alloc);
+        assert!(rt; guard.release(store));
+        sees(rt, store, u, 4);
+        end(rt, store, b);
+        is_gone(rt, store, u, second_made());
+    }
+}
+
+#[test]
+fn a_scope_that_is_read_comes_back(rt: HostRuntime) {
+    play::<EndRefused>(&rt, rt.alloc());
+}
+
+struct TicketsTaken;
+
+/// Each read, set and update takes one ticket, and leaves no borrow; a refused one takes none.
+impl History for TicketsTaken {
+    fn play<R: Abort, S: Storage<u64>>(rt: &R, _: Global, store: &mut S) {
+        let a = scope(rt, store);
+        let s = signal(rt, store, &a, 6, first_made());
+        let tickets = store.tickets_left();
+        sees(rt, store, s, 6);
+        set(rt, store, s, 7);
+        double(rt, store, s, 7);
+        assert_same(rt, &tickets.checked_sub(3), &Some(store.tickets_left()));
+        assert!(rt; s.as_box().can_write(store));
+        sees(rt, store, s, 14);
+        end(rt, store, a);
+        set_ended(rt, store, s, 8, first_made());
+        update_ended(rt, store, s, first_made());
+        assert_same(rt, &tickets.checked_sub(4), &Some(store.tickets_left()));
+    }
+}
+
+#[test]
+fn a_call_takes_one_ticket(rt: HostRuntime) {
+    play::<TicketsTaken>(&rt, rt.alloc());
+}
+
+struct CallersAnswer;
+
+/// What the callers answer, and a scope that is leaked: its signals live on.
+impl History for CallersAnswer {
+    fn play<R: Abort, S: Storage<u64>>(rt: &R, _: Global, store: &mut S) {
+        assert_same(rt, &outlived(store, 4, asked()), &Some(4));
+        let a = scope(rt, store);
+        let s = signal(rt, store, &a, 6, first_made());
+        let u = signal(rt, store, &a, 8, second_made());
+        assert_same(rt, &set_through_alias(store, &a, s, 7, asked()), &Some(7));
+        assert_same(rt, &set_source(store, s, u, 9, asked()).ok(), &Some(9));
+        sees(rt, store, u, 9);
+        assert_same(rt, &count_up(store, u, asked()).ok(), &Some(10));
+        a.leak();
+        sees(rt, store, s, 10);
+    }
+}
+
+#[test]
+fn callers_answer_what_they_promise(rt: HostRuntime) {
+    play::<CallersAnswer>(&rt, rt.alloc());
+}

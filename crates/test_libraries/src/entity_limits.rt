@@ -1,0 +1,154 @@
+//! Tables of components, and tables whose store has given all its tickets.
+
+use crate::entity_acts::{components_over, entities_over, give, spawn, spawned_at};
+use crate::expected::assert_same;
+use crate::fresh::{Scene, SceneOfTwo, play, play_at_ticket, play_two};
+use entity_table::{AttachError, ComponentTable, Entity, Stale};
+use example_libraries::entities::{greatest, renamed, told_after};
+use generational_box::Storage;
+use std::alloc::Global;
+use std::process::Abort;
+
+/// Sees what component an entity has.
+fn has<S: Storage<u64>>(
+    rt: &impl Abort,
+    table: &ComponentTable<u64, u64, S>,
+    entity: Entity<u64>,
+    component: Option<u64>,
+) {
+    assert_same(rt, &table.contains(entity), &component.is_some());
+    assert_same(rt, &table.get(entity).copied(), &component);
+}
+
+/// An entity with a component, which goes, and another that takes its slot.
+struct ComponentsFollow;
+
+impl SceneOfTwo<u64, u64> for ComponentsFollow {
+    fn play<R: Abort, S: Storage<u64> + Drop, P: Storage<u64> + Drop>(
+        &self,
+        rt: &R,
+        alloc: Global,
+        store: S,
+        parts: P,
+    ) {
+        let mut entities = entities_over(rt, alloc, store);
+        let mut components = components_over(rt, alloc, parts);
+        let first = spawn(rt, &mut entities, 0);
+        give(rt, &mut components, first, 11);
+        give(rt, &mut components, first, 12);
+        has(rt, &components, first, Some(12));
+        assert!(rt; entities.despawn(first).is_ok());
+        let second = spawn(rt, &mut entities, 1);
+        has(rt, &components, second, None);
+        give(rt, &mut components, second, 13);
+        has(rt, &components, first, None);
+        assert!(rt; components.remove(second));
+        has(rt, &components, second, None);
+    }
+}
+
+#[test]
+fn components_are_those_of_their_entities(rt: HostRuntime) {
+    play_two::<u64, u64, ComponentsFollow>(&rt, rt.alloc(), &ComponentsFollow);
+}
+
+/// An entity that goes, and one that comes.
+struct StaleIsTold;
+
+impl Scene<u64> for StaleIsTold {
+    fn play<R: Abort, S: Storage<u64> + Drop>(&self, rt: &R, alloc: Global, store: S) {
+        let mut table = entities_over(rt, alloc, store);
+        let first = match table.spawn(0, spawned_at(3)) {
+            Ok(entity) => entity,
+            Err(_lacking) => rt.abort(),
+        };
+        let stale = Stale {
+            spawned_at: spawned_at(3),
+        };
+        let told = told_after(&mut table, first, 4, spawned_at(4));
+        assert_same(rt, &told, &Err(stale));
+        assert_same(rt, &table.len(), &1);
+    }
+}
+
+#[test]
+fn a_caller_is_told_what_is_stale(rt: HostRuntime) {
+    play::<u64, StaleIsTold>(&rt, rt.alloc(), &StaleIsTold);
+}
+
+/// An entity that is looked at, set and tested, where no ticket is left.
+struct AnEntityGoes;
+
+impl Scene<u64> for AnEntityGoes {
+    fn play<R: Abort, S: Storage<u64> + Drop>(&self, rt: &R, alloc: Global, store: S) {
+        let mut table = entities_over(rt, alloc, store);
+        let entity = spawn(rt, &mut table, 0);
+        assert!(rt; table.set(entity, 5).is_ok());
+        assert_same(rt, &table.get(entity).copied().ok(), &Some(5));
+        table.retain(|element| *element == 5);
+        assert_same(rt, &table.len(), &1);
+        assert!(rt; table.despawn(entity).is_ok());
+    }
+}
+
+#[test]
+fn no_call_of_a_table_takes_a_ticket(rt: HostRuntime) {
+    play_at_ticket::<u64, AnEntityGoes>(&rt, rt.alloc(), u64::MAX, &AnEntityGoes);
+}
+
+/// An entity that goes, and another in its slot, which is given a component by both handles.
+struct AGoneHandleGivesNothing;
+
+impl SceneOfTwo<u64, u64> for AGoneHandleGivesNothing {
+    fn play<R: Abort, S: Storage<u64> + Drop, P: Storage<u64> + Drop>(
+        &self,
+        rt: &R,
+        alloc: Global,
+        store: S,
+        parts: P,
+    ) {
+        let mut entities = entities_over(rt, alloc, store);
+        let mut components = components_over(rt, alloc, parts);
+        let first = spawn(rt, &mut entities, 0);
+        assert!(rt; entities.despawn(first).is_ok());
+        let second = spawn(rt, &mut entities, 1);
+        assert!(rt; renamed(&entities, &mut components, second, 11, spawned_at(5)).is_ok());
+        let stale = Stale {
+            spawned_at: first.spawned_at(),
+        };
+        let told = renamed(&entities, &mut components, first, 12, spawned_at(6));
+        assert!(rt; told == Err(AttachError::Stale(stale)));
+        has(rt, &components, second, Some(11));
+        assert!(rt; first != second);
+        assert!(rt; components.iter().all(|(entity, _)| entity == second));
+    }
+}
+
+#[test]
+fn a_gone_handle_gives_no_component(rt: HostRuntime) {
+    play_two::<u64, u64, AGoneHandleGivesNothing>(&rt, rt.alloc(), &AGoneHandleGivesNothing);
+}
+
+/// Entities that are gone over, before and after one of them goes.
+struct LiveOnesAreGoneOver;
+
+impl Scene<u64> for LiveOnesAreGoneOver {
+    fn play<R: Abort, S: Storage<u64> + Drop>(&self, rt: &R, alloc: Global, store: S) {
+        let mut table = entities_over(rt, alloc, store);
+        assert_same(rt, &table.iter().len(), &0);
+        let first = spawn(rt, &mut table, 0);
+        let second = spawn(rt, &mut table, 1);
+        assert!(rt; table.set(first, 7).is_ok());
+        assert!(rt; table.set(second, 9).is_ok());
+        assert_same(rt, &table.iter().len(), &2);
+        assert_same(rt, &greatest(&table), &9);
+        assert!(rt; table.despawn(second).is_ok());
+        assert_same(rt, &greatest(&table), &7);
+        assert!(rt; table.iter().all(|(entity, _)| entity == first));
+    }
+}
+
+#[test]
+fn live_entities_are_gone_over(rt: HostRuntime) {
+    play::<u64, LiveOnesAreGoneOver>(&rt, rt.alloc(), &LiveOnesAreGoneOver);
+}

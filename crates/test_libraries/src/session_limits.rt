@@ -1,0 +1,143 @@
+//! Tables of sessions whose store has given all its tickets, values that are let go, and callers.
+
+use crate::counted::{Counted, another, assert_count, new_counted};
+use crate::expected::assert_same;
+use crate::fresh::{Scene, play, play_at_ticket};
+use crate::session_acts::{put_at, sessions_over};
+use example_libraries::sessions::{one_visit, seen_beside, told_after_logout};
+use generational_box::{Storage, StoreError};
+use session_table::{Entry, LoginError, SessionTable, Stale};
+use std::alloc::Global;
+use std::process::Abort;
+
+/// Begins a session.
+pub(crate) fn log_in<T, S: Storage<T>>(rt: &impl Abort, table: &mut SessionTable<T, S>, id: u64) {
+    assert!(rt; table.login(id, 0).is_ok());
+}
+
+/// Puts a value.
+pub(crate) fn put<T: Drop, S: Storage<T>>(
+    rt: &impl Abort,
+    table: &mut SessionTable<T, S>,
+    id: u64,
+    value: T,
+) -> Entry<T> {
+    table
+        .put(id, value, put_at(3))
+        .map_err(|refusal| refusal.cause)
+        .expect(rt, "an entry")
+}
+
+/// A session whose value is looked at and set, and an id for which no login is left.
+struct TicketsAreUsedUp;
+
+impl Scene<u64> for TicketsAreUsedUp {
+    fn play<R: Abort, S: Storage<u64> + Drop>(&self, rt: &R, alloc: Global, store: S) {
+        let mut table = sessions_over(rt, alloc, store);
+        log_in(rt, &mut table, 1);
+        let entry = put(rt, &mut table, 1, 5);
+        let short = StoreError::NumbersExhausted;
+        assert_same(rt, &table.login(2, 0), &Err(LoginError::Store(short)));
+        assert!(rt; table.set(entry, 6).is_ok());
+        assert_same(rt, &table.get(entry).copied().ok(), &Some(6));
+        assert!(rt; table.logout(1));
+        let _left = table.finish();
+    }
+}
+
+#[test]
+fn logins_are_refused_where_no_ticket_is_left(rt: HostRuntime) {
+    play_at_ticket::<u64, TicketsAreUsedUp>(&rt, rt.alloc(), u64::MAX - 1, &TicketsAreUsedUp);
+}
+
+/// Sets a value, which lets the old one go.
+fn set<S: Storage<Counted>>(
+    rt: &impl Abort,
+    table: &mut SessionTable<Counted, S>,
+    entry: Entry<Counted>,
+    value: Counted,
+) {
+    assert!(rt; table.set(entry, value).is_ok());
+}
+
+/// Values of two sessions, which end with them.
+fn values_go<S: Storage<Counted>>(
+    rt: &impl Abort,
+    table: &mut SessionTable<Counted, S>,
+    first: &Counted,
+    second: &Counted,
+) {
+    log_in(rt, table, 1);
+    log_in(rt, table, 2);
+    let entry = put(rt, table, 1, another(rt, first));
+    put(rt, table, 2, another(rt, first));
+    put(rt, table, 2, another(rt, second));
+    assert_count(rt, first, 3);
+    set(rt, table, entry, another(rt, second));
+    assert_count(rt, first, 2);
+    assert!(rt; table.logout(1));
+    assert_count(rt, second, 2);
+    assert_count(rt, first, 2);
+}
+
+/// The same of values of which the test keeps a clone each. The table's end leaves no other.
+struct ValuesEnd;
+
+impl Scene<Counted> for ValuesEnd {
+    fn play<R: Abort, S: Storage<Counted> + Drop>(&self, rt: &R, alloc: Global, store: S) {
+        let mut table = sessions_over(rt, alloc, store);
+        let first = new_counted(rt, alloc);
+        let second = new_counted(rt, alloc);
+        values_go(rt, &mut table, &first, &second);
+        let _left = table.finish();
+        assert_count(rt, &first, 1);
+        assert_count(rt, &second, 1);
+    }
+}
+
+#[test]
+fn values_are_let_go_with_their_sessions(rt: HostRuntime) {
+    play::<Counted, ValuesEnd>(&rt, rt.alloc(), &ValuesEnd);
+}
+
+/// Visits of ids with sessions and without.
+fn visits_leave_no_session<S: Storage<u64>>(rt: &impl Abort, table: &mut SessionTable<u64, S>) {
+    log_in(rt, table, 1);
+    assert_same(rt, &one_visit(table, 2, 0, 7, put_at(6)), &Some(7));
+    assert_same(rt, &one_visit(table, 1, 0, 7, put_at(6)), &None);
+    assert_same(rt, &table.len(), &1);
+}
+
+/// Values of two sessions, of which one is logged out.
+fn callers_are_told<S: Storage<u64>>(rt: &impl Abort, table: &mut SessionTable<u64, S>) {
+    log_in(rt, table, 2);
+    let first = match table.put(1, 5, put_at(3)) {
+        Ok(entry) => entry,
+        Err(_lacking) => rt.abort(),
+    };
+    let stale = Stale { put_at: put_at(3) };
+    let told = told_after_logout(table, 1, first, 2, 6, put_at(5));
+    assert_same(rt, &told, &Err(stale));
+    let second = match table.put(2, 8, put_at(4)) {
+        Ok(entry) => entry,
+        Err(_lacking) => rt.abort(),
+    };
+    assert_same(rt, &seen_beside(table, 1, 2, second), &Ok(8));
+}
+
+/// Both, in one table.
+struct CallersAnswer;
+
+impl Scene<u64> for CallersAnswer {
+    fn play<R: Abort, S: Storage<u64> + Drop>(&self, rt: &R, alloc: Global, store: S) {
+        let mut table = sessions_over(rt, alloc, store);
+        visits_leave_no_session(rt, &mut table);
+        callers_are_told(rt, &mut table);
+        let _left = table.finish();
+    }
+}
+
+#[test]
+fn callers_of_sessions(rt: HostRuntime) {
+    play::<u64, CallersAnswer>(&rt, rt.alloc(), &CallersAnswer);
+}

@@ -1,0 +1,127 @@
+//! Trees of values that are let go, trees whose store has given all its tickets, and callers of trees.
+
+use crate::counted::{Counted, another, assert_count, new_counted};
+use crate::expected::assert_same;
+use crate::fresh::{Scene, play, play_at_ticket};
+use crate::tree_acts::{made_at, tree_over};
+use example_libraries::trees::{moved_round, told_after};
+use generational_box::Storage;
+use scene_tree::{Node, SceneTree, TreeError};
+use std::alloc::Global;
+use std::process::Abort;
+
+/// A root with a value.
+fn root<T: Drop, S: Storage<T>>(rt: &impl Abort, tree: &mut SceneTree<T, S>, value: T) -> Node<T> {
+    tree.add_root(value, made_at(0))
+        .map_err(|refusal| refusal.cause)
+        .expect(rt, "a root")
+}
+
+/// A child with a value.
+fn child<T: Drop, S: Storage<T>>(
+    rt: &impl Abort,
+    tree: &mut SceneTree<T, S>,
+    parent: Node<T>,
+    value: T,
+) -> Node<T> {
+    tree.add_child(parent, value, made_at(1))
+        .map_err(|(_, error)| error)
+        .expect(rt, "a child")
+}
+
+/// Removes a node with all below it.
+fn remove<S: Storage<Counted>>(
+    rt: &impl Abort,
+    tree: &mut SceneTree<Counted, S>,
+    node: Node<Counted>,
+) {
+    assert!(rt; tree.remove_subtree(node).is_ok());
+}
+
+/// Sets a node's value, which lets the old one go.
+fn set<S: Storage<Counted>>(
+    rt: &impl Abort,
+    tree: &mut SceneTree<Counted, S>,
+    node: Node<Counted>,
+    value: Counted,
+) {
+    assert!(rt; tree.set(node, value).is_ok());
+}
+
+/// Values of a root and its children, which a removal lets go.
+struct ValuesGo;
+
+impl Scene<Counted> for ValuesGo {
+    fn play<R: Abort, S: Storage<Counted> + Drop>(&self, rt: &R, alloc: Global, store: S) {
+        let value = new_counted(rt, alloc);
+        let mut tree = tree_over(rt, alloc, store);
+        let top = root(rt, &mut tree, another(rt, &value));
+        let below = child(rt, &mut tree, top, another(rt, &value));
+        child(rt, &mut tree, below, another(rt, &value));
+        child(rt, &mut tree, top, another(rt, &value));
+        assert_count(rt, &value, 5);
+        set(rt, &mut tree, top, another(rt, &value));
+        assert_count(rt, &value, 5);
+        remove(rt, &mut tree, below);
+        assert_count(rt, &value, 3);
+        remove(rt, &mut tree, top);
+        assert_count(rt, &value, 1);
+    }
+}
+
+#[test]
+fn a_removal_lets_its_values_go(rt: HostRuntime) {
+    play::<Counted, ValuesGo>(&rt, rt.alloc(), &ValuesGo);
+}
+
+/// A node that goes, and one that comes.
+fn stale_is_told<S: Storage<u64>>(rt: &impl Abort, tree: &mut SceneTree<u64, S>) {
+    let first = match tree.add_root(0, made_at(3)) {
+        Ok(node) => node,
+        Err(_lacking) => rt.abort(),
+    };
+    let told = Err(TreeError::Stale(made_at(3)));
+    assert_same(rt, &told_after(tree, first, 4, made_at(4)), &told);
+}
+
+/// Two nodes, each of which is to be below the other.
+fn no_cycle_is_made<S: Storage<u64>>(rt: &impl Abort, tree: &mut SceneTree<u64, S>) {
+    let first = root(rt, tree, 1);
+    let second = root(rt, tree, 2);
+    let moved = moved_round(tree, first, second);
+    assert_same(rt, &moved, &Err(TreeError::Cycle));
+}
+
+/// Both, in one tree.
+struct CallersAreTold;
+
+impl Scene<u64> for CallersAreTold {
+    fn play<R: Abort, S: Storage<u64> + Drop>(&self, rt: &R, alloc: Global, store: S) {
+        let mut tree = tree_over(rt, alloc, store);
+        stale_is_told(rt, &mut tree);
+        no_cycle_is_made(rt, &mut tree);
+    }
+}
+
+#[test]
+fn callers_of_trees_are_told(rt: HostRuntime) {
+    play::<u64, CallersAreTold>(&rt, rt.alloc(), &CallersAreTold);
+}
+
+/// A node that is looked at, set and removed, where no ticket is left.
+struct ANodeGoes;
+
+impl Scene<u64> for ANodeGoes {
+    fn play<R: Abort, S: Storage<u64> + Drop>(&self, rt: &R, alloc: Global, store: S) {
+        let mut tree = tree_over(rt, alloc, store);
+        let node = root(rt, &mut tree, 0);
+        assert!(rt; tree.set(node, 5).is_ok());
+        assert_same(rt, &tree.get(node).copied().ok(), &Some(5));
+        assert!(rt; tree.remove_subtree(node).is_ok());
+    }
+}
+
+#[test]
+fn no_call_of_a_tree_takes_a_ticket(rt: HostRuntime) {
+    play_at_ticket::<u64, ANodeGoes>(&rt, rt.alloc(), u64::MAX, &ANodeGoes);
+}

@@ -1,0 +1,107 @@
+//! Want of memory in drawn lists. Each test passes whichever one allocation is refused: a list is run
+//! twice, and all replies before the first call that is refused are the same, with their ids.
+
+use boxes_parts::{is_lacking, is_same};
+use boxes_script::fuzz_list;
+use generational_box::{Call, LastFirst, OldestFirst, Reply, Session, Storage, Store};
+use std::alloc::{AllocError, Global};
+use std::process::Abort;
+
+/// How many calls a list has.
+const COUNT: usize = 200;
+
+/// Draws a list. Where memory lacks it is drawn again: what is less may lack too, a few times.
+fn list_or_again(rt: &impl Abort, alloc: Global, seed: u64) -> Vec<Call<String>> {
+    for _ in 0..9 {
+        if let Ok(calls) = fuzz_list(alloc, seed, COUNT) {
+            return calls;
+        }
+    }
+    fuzz_list(alloc, seed, COUNT).expect(rt, "memory")
+}
+
+/// The replies to a list. One that finds no room for its places or replies is run again.
+fn replies_or_again<S: Storage<String>>(
+    rt: &impl Abort,
+    session: &mut Session<String, S>,
+    calls: Vec<Call<String>>,
+) -> Vec<Reply<String>> {
+    let ran = match session.run(calls) {
+        Err(back) => session.run(back),
+        ran => ran,
+    };
+    ran.map_err(|_| AllocError).expect(rt, "replies")
+}
+
+/// The replies of a store to a drawn list.
+fn answers<S: Storage<String> + Drop>(
+    rt: &impl Abort,
+    alloc: Global,
+    store: S,
+    seed: u64,
+) -> Vec<Reply<String>> {
+    assert!(rt; store.is_fresh());
+    let mut session = Session::new(alloc, store);
+    let replies = replies_or_again(rt, &mut session, list_or_again(rt, alloc, seed));
+    let _store = session.finish();
+    replies
+}
+
+/// Whether two replies name the same id or slot, where they name one.
+fn names_same(one: &Reply<String>, other: &Reply<String>) -> bool {
+    match (one, other) {
+        (Reply::Box(one), Reply::Box(other)) => one.id() == other.id(),
+        (Reply::Id(one), Reply::Id(other)) => one == other,
+        (Reply::Slot(one), Reply::Slot(other)) => one == other,
+        _ => true,
+    }
+}
+
+/// Asserts that replies are the same up to the first one that tells of want of memory.
+fn assert_same_before_refusal(rt: &impl Abort, ones: &[Reply<String>], others: &[Reply<String>]) {
+    assert!(rt; ones.len() == COUNT && others.len() == COUNT);
+    for (one, other) in ones.iter().zip(others) {
+        if is_lacking(one) || is_lacking(other) {
+            return;
+        }
+        assert!(rt; is_same(one, other) && names_same(one, other));
+    }
+}
+
+/// Runs a drawn list over two stores that take the slot that was freed last.
+fn assert_last_first(rt: &impl Abort, alloc: Global, seed: u64) {
+    let one: Store<String, LastFirst> = Store::new(alloc, 1);
+    let ones = answers(rt, alloc, one, seed);
+    let other: Store<String, LastFirst> = Store::new(alloc, 1);
+    let others = answers(rt, alloc, other, seed);
+    assert_same_before_refusal(rt, &ones, &others);
+}
+
+/// Runs a drawn list over two stores that take the slot that has been free for the longest.
+fn assert_oldest_first(rt: &impl Abort, alloc: Global, seed: u64) {
+    let one: Store<String, OldestFirst> = Store::new(alloc, 1);
+    let ones = answers(rt, alloc, one, seed);
+    let other: Store<String, OldestFirst> = Store::new(alloc, 1);
+    let others = answers(rt, alloc, other, seed);
+    assert_same_before_refusal(rt, &ones, &others);
+}
+
+#[test]
+fn the_first_list(rt: HostRuntime) {
+    assert_last_first(&rt, rt.alloc(), 1);
+}
+
+#[test]
+fn the_second_list(rt: HostRuntime) {
+    assert_oldest_first(&rt, rt.alloc(), 2);
+}
+
+#[test]
+fn the_third_list(rt: HostRuntime) {
+    assert_last_first(&rt, rt.alloc(), 3);
+}
+
+#[test]
+fn the_fourth_list(rt: HostRuntime) {
+    assert_oldest_first(&rt, rt.alloc(), 4);
+}

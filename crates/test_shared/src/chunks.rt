@@ -1,0 +1,5 @@
+//! Scenarios of lists in chunks: past several chunks, and where memory is refused.
+#[cfg(test)]
+mod memory;
+#[cfg(test)]
+mod tight;

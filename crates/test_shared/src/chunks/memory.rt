@@ -1,0 +1,118 @@
+//! Lists in chunks, past several chunks. Each test passes whichever one allocation is refused: what
+//! lacks memory is tried a second time.
+
+ghost use Rattle.std.specs.Prelude.{◌≤◌};
+
+use shared_chunks::{Chunks, Packed};
+use std::alloc::Global;
+use std::process::Abort;
+use std::test::*;
+
+// The number of the lists.
+const LIST: u64 = 9;
+
+/// A number in a list.
+#[derive(Clone, Copy)]
+struct Entry {
+    value: u64,
+}
+
+/// A number, and that of its list.
+#[derive(Clone, Copy, Debug, PartialEq)]
+struct Numbered {
+    list: u64,
+    value: u64,
+}
+
+impl Packed for Entry {
+    type Whole = Numbered;
+
+    ghost unpacked = { λ number entry. record { list = number; value = entry.value } };
+
+    fn unpack(&self, number: u64) -> Numbered {
+        Numbered {
+            list: number,
+            value: self.value,
+        }
+    }
+}
+
+/// Makes room. Where memory lacks the list stays as long as it was.
+fn reserve_or_again(rt: &impl Abort, list: &mut Chunks<Entry>, more: usize)
+    ensures { more ≤ list.new.room }
+{
+    let before = list.len();
+    if list.reserve(more).is_ok() {
+        return;
+    }
+    assert_eq!(rt; list.len(), before);
+    list.reserve(more).expect(rt, "room");
+}
+
+/// Appends the numbers from this one up, room being made for each.
+fn append(rt: &impl Abort, list: &mut Chunks<Entry>, from: u64, count: u64) {
+    for more in 0..count {
+        reserve_or_again(rt, list, 1);
+        list.push(Entry {
+            value: from.wrapping_add(more),
+        });
+    }
+}
+
+/// Asserts that the list has the numbers from 0 up, so many.
+fn assert_counts_up(rt: &impl Abort, list: &Chunks<Entry>, count: u64) {
+    let all = match list.unpacked(LIST) {
+        Ok(all) => all,
+        Err(_) => list.unpacked(LIST).expect(rt, "memory"),
+    };
+    assert_eq!(rt; (list.len() as u64, all.len() as u64), (count, count));
+    for (value, entry) in (0..count).zip(all.iter()) {
+        assert_eq!(rt; *entry, Numbered { list: LIST, value });
+    }
+}
+
+/// Takes all away, and asserts that nothing is left.
+fn empty_or_again(rt: &impl Abort, list: &mut Chunks<Entry>) {
+    let before = list.len();
+    if list.empty().is_err() {
+        assert_eq!(rt; list.len(), before);
+        let emptied = list.empty();
+        assert!(rt; emptied.is_ok());
+    }
+    assert_counts_up(rt, list, 0);
+}
+
+/// One after the other, past the third of the largest chunks; and again after all were taken away.
+#[test]
+fn past_several_chunks(rt: HostRuntime) {
+    let mut list = Chunks::new(rt.alloc());
+    for count in [5_000, 40, 3_000] {
+        append(&rt, &mut list, 0, count);
+        assert_counts_up(&rt, &list, count);
+        empty_or_again(&rt, &mut list);
+    }
+}
+
+/// Room for more than the largest chunk has at once, before anything stands in the list and after.
+#[test]
+fn many_at_once(rt: HostRuntime) {
+    let mut list = Chunks::new(rt.alloc());
+    reserve_or_again(&rt, &mut list, 3_000);
+    append(&rt, &mut list, 0, 3_500);
+    reserve_or_again(&rt, &mut list, 7_000);
+    append(&rt, &mut list, 3_500, 7_000);
+    assert_counts_up(&rt, &list, 10_500);
+}
+
+/// What no memory reaches for changes nothing.
+#[test]
+fn more_than_there_is(rt: HostRuntime) {
+    let mut list = Chunks::new(rt.alloc());
+    append(&rt, &mut list, 0, 20);
+    for more in [usize::MAX, usize::MAX / 8, usize::MAX / 16] {
+        let reserved = list.reserve(more);
+        assert!(rt; reserved.is_err());
+    }
+    append(&rt, &mut list, 20, 100);
+    assert_counts_up(&rt, &list, 120);
+}

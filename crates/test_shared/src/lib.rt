@@ -1,0 +1,25 @@
+//! Scenarios of threads: stores that they share, with what calls answer, what the audited history
+//! has, and that each call that waits is answered; and boxes and guards of a sequential store that
+//! they hand each other. The expected values are worked out by hand.
+#![tactic(auto)]
+
+#[cfg(test)]
+mod beside;
+#[cfg(test)]
+mod chunks;
+#[cfg(test)]
+mod judging;
+#[cfg(test)]
+mod kinds;
+#[cfg(test)]
+mod memory;
+#[cfg(test)]
+mod rows;
+#[cfg(test)]
+mod sending;
+#[cfg(test)]
+mod stages;
+#[cfg(test)]
+mod unshared;
+#[cfg(test)]
+mod waking;

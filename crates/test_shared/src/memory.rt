@@ -1,0 +1,16 @@
+//! What finds no memory leaves no step. Each test passes whichever one allocation is refused: what
+//! lacks memory is called a second time.
+
+use crate::stages::plays_with_little_memory;
+use std::test::*;
+use test_shared_workers::Scenario;
+
+#[test]
+fn for_steps_boxes_and_owners(rt: HostRuntime) {
+    plays_with_little_memory(&rt, rt.alloc(), Scenario::MemoryLacks);
+}
+
+#[test]
+fn for_checkpoints(rt: HostRuntime) {
+    plays_with_little_memory(&rt, rt.alloc(), Scenario::HistoryIsTrimmed);
+}

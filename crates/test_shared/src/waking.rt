@@ -1,0 +1,60 @@
+//! That each call that waits is answered once no borrow stands in its way.
+
+use crate::stages::plays;
+use std::test::*;
+use test_shared_workers::{Freeing, Scenario};
+
+#[test]
+fn a_history_is_trimmed_while_a_call_waits(rt: HostRuntime) {
+    plays(&rt, rt.alloc(), 2, Scenario::TrimBeside);
+}
+
+#[test]
+fn a_readers_release_wakes(rt: HostRuntime) {
+    plays(&rt, rt.alloc(), 3, Scenario::Wake(Freeing::ReaderReleased));
+}
+
+#[test]
+fn a_writers_release_wakes(rt: HostRuntime) {
+    plays(&rt, rt.alloc(), 3, Scenario::Wake(Freeing::WriterReleased));
+}
+
+#[test]
+fn an_end_wakes(rt: HostRuntime) {
+    plays(&rt, rt.alloc(), 3, Scenario::Wake(Freeing::BoxEnded));
+}
+
+#[test]
+fn an_owners_release_wakes(rt: HostRuntime) {
+    plays(&rt, rt.alloc(), 3, Scenario::Wake(Freeing::OwnerReleased));
+}
+
+#[test]
+fn a_box_pointed_elsewhere_wakes(rt: HostRuntime) {
+    plays(
+        &rt,
+        rt.alloc(),
+        3,
+        Scenario::Wake(Freeing::PointedElsewhere),
+    );
+}
+
+#[test]
+fn a_reference_wakes(rt: HostRuntime) {
+    plays(&rt, rt.alloc(), 3, Scenario::Wake(Freeing::ReferenceMade));
+}
+
+#[test]
+fn an_owners_reference_wakes(rt: HostRuntime) {
+    plays(
+        &rt,
+        rt.alloc(),
+        3,
+        Scenario::Wake(Freeing::ReferenceInserted),
+    );
+}
+
+#[test]
+fn a_release_wakes_all_that_wait(rt: HostRuntime) {
+    plays(&rt, rt.alloc(), 3, Scenario::WakeAll);
+}

@@ -1,0 +1,26 @@
+//! Scenarios of a store that threads share, over workers and their stores: what calls answer, what
+//! the audited history has, and that each call that waits is answered. The expected values are
+//! worked out by hand. `test_shared` plays them.
+#![tactic(auto)]
+
+mod audits;
+mod beside;
+mod gates;
+mod judge;
+mod kinds;
+mod places;
+mod recorded;
+mod recorder;
+mod rows;
+mod scenes;
+mod unshared;
+mod waking;
+mod workers;
+
+pub use crate::audits::audited;
+pub use crate::judge::Judge;
+pub use crate::kinds::{Entry, turn};
+pub use crate::scenes::{Scenario, play};
+pub use crate::unshared::{live, trim};
+pub use crate::waking::Freeing;
+pub use crate::workers::{Handle, Worker};

@@ -1,6 +1,0 @@
-use Rattle.std.proofs.Common.{◌∙◌}
-use Rattle.generational_core.proofs.machine.Unborrowed.{test_sees}
-use Rattle.uses.proofs.leaving.sees_value.Goals as goal
-
-pub returns : goal.returns
-returns g c = c.can_read.ensures ∙ test_sees _ _ (g.met.S.AnyStorage.sound _)

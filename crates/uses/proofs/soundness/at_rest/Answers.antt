@@ -1,4 +1,0 @@
-use Rattle.uses.proofs.soundness.at_rest.Goals as goal
-
-pub returns-clause-sound : goal.returns-clause-sound
-returns-clause-sound g c = g.met.S.AnyStorage.sound _
