@@ -1,20 +1,22 @@
 #!/usr/bin/env python3
-"""Compares docs/map.md with the sources, and shows what its tables leave out.
+"""Compares docs/maintaining/map.md with the sources, and shows what its tables leave out.
 
-    .ci/map.py                   compares, and fails where the page and the sources differ
+    .ci/map.py                   compares, and fails where the pages and the sources differ
     .ci/map.py --try             does so, and shows that pages with a wrong line are refused
     .ci/map.py --files CRATE..   prints each file of these crates with its first line, and what it uses
 
 The page has the crates of crates.txt in tables, one for each kind; a crate's name tells its kind. It
 has a table of each crate's sources, but for tests, in the order in which they are read. Each source,
-definition and file of lemmas says in its first line what it is.
+definition and file of lemmas says in its first line what it is. And each test that
+docs/maintaining/planted.md names as what refuses a bug is there.
 """
 import os
 import re
 import sys
 
 ROOT = os.path.join(os.path.dirname(os.path.abspath(__file__)), "..")
-PAGE = os.path.join(ROOT, "docs", "map.md")
+PAGE = os.path.join(ROOT, "docs", "maintaining", "map.md")
+PLANTED = os.path.join(ROOT, "docs", "maintaining", "planted.md")
 SOURCES = "## In which order to read"
 # The kinds of crates, each by the heading of its table and what its names are.
 KINDS = {
@@ -58,6 +60,11 @@ def sources_of(crate):
 
 def read(crate, file):
     with open(os.path.join(ROOT, "crates", crate, file), encoding="utf-8") as text:
+        return text.read()
+
+
+def text_of(path):
+    with open(path, encoding="utf-8") as text:
         return text.read()
 
 
@@ -138,6 +145,25 @@ def compare_files():
                 first_line(crate, file)
 
 
+def tests_there():
+    """Each function of the crates of tests, as `module::function`."""
+    found = set()
+    for crate in (it for it in all_crates() if it.startswith(TESTS)):
+        for module in sources_of(crate):
+            name = module.rpartition("/")[2]
+            found |= {f"{name}::{it}" for it in re.findall(r"\bfn (\w+)", read(crate, f"src/{module}.rt"))}
+    return found
+
+
+def compare_planted(page):
+    """The tests that refuse planted bugs, each of which must be there."""
+    bugs = rows(page)
+    wanted(bugs and all(len(it) == 3 for it in bugs), "a planted bug has a row of three cells")
+    named = {name for bug in bugs for name in re.findall(r"`(\w+::\w+)`", bug[2])}
+    gone = sorted(named - tests_there())
+    wanted(not gone, f"planted.md names tests that aren't there: {' '.join(gone)}")
+
+
 def is_list(crate, file):
     """Whether a file of lemmas only names those of its folder."""
     return file.endswith(".antt") and os.path.isdir(os.path.join(ROOT, "crates", crate, file.removesuffix(".antt")))
@@ -162,10 +188,10 @@ def wrong_pages(page):
     yield page.replace("`borrow`, ", "`borrow`, `lent`, ", 1)
 
 
-def refuse(page, wrong):
+def refuse(compared, page, wrong):
     wanted(wrong != page, "a change changes nothing")
     try:
-        compare(wrong)
+        compared(wrong)
     except Failure:
         return
     raise Failure("a wrong page isn't refused")
@@ -177,14 +203,16 @@ def main():
         for crate in words[1:]:
             print_files(crate)
         return
-    with open(PAGE, encoding="utf-8") as text:
-        page = text.read()
+    page, planted = text_of(PAGE), text_of(PLANTED)
     compare(page)
     compare_files()
+    compare_planted(planted)
     if words == ["--try"]:
         for wrong in wrong_pages(page):
-            refuse(page, wrong)
-    print("docs/map.md is what the sources say")
+            refuse(compare, page, wrong)
+        refuse(compare_planted, planted, planted.replace("`pairs::", "`peers::"))
+        refuse(compare_planted, planted, planted.replace("::words_that_are_no_list`", "::words_that_are_none`"))
+    print("docs/maintaining/map.md and planted.md are what the sources say")
 
 
 if __name__ == "__main__":

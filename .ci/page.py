@@ -16,7 +16,7 @@ import re
 import sys
 
 ROOT = pathlib.Path(__file__).resolve().parent.parent
-PAGES = [ROOT / "README.md", *sorted((ROOT / "docs").glob("*.md"))]
+PAGES = [ROOT / "README.md", *sorted((ROOT / "docs").rglob("*.md"))]
 WITH_CODE = ["README.md", "CALLING.md"]
 USES = ["example_callers", "example_libraries"]
 TESTS = ["test_boxes", "test_libraries"]
@@ -151,7 +151,7 @@ def told_faults(page):
 def are_wrong_tellings_found():
     """Whether a wrong link, a wrong heading and a wrong line of crates.txt are found out."""
     page = ROOT / "README.md"
-    wrong = [link_faults(page, text) for text in ("[a](docs/none.md)", "[a](docs/map.md#none)")]
+    wrong = [link_faults(page, text) for text in ("[a](docs/none.md)", "[a](docs/maintaining/map.md#none)")]
     return all(wrong) and bool(crate_faults("    signals: generational_core"))
 
 
