@@ -16,7 +16,8 @@ import re
 import sys
 
 ROOT = pathlib.Path(__file__).resolve().parent.parent
-PAGES = [ROOT / "README.md", *sorted((ROOT / "docs").rglob("*.md"))]
+# Those of docs/api are written from the sources (`.ci/api.py`).
+PAGES = [ROOT / "README.md", *(it for it in sorted((ROOT / "docs").rglob("*.md")) if it.parent.name != "api")]
 WITH_CODE = ["README.md", "CALLING.md"]
 USES = ["example_callers", "example_libraries"]
 TESTS = ["test_boxes", "test_libraries"]
