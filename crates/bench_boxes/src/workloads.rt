@@ -31,84 +31,84 @@ pub fn answer(outcome: Result<u64, Stopped>) -> u64 {
 
 /// w1: values are made, read once in a shuffled order, and ended.
 #[inline(always)]
-pub fn insert_and_read<E: Element, S: Storage<E>>(
+pub fn insert_and_read<E: Element, S: Storage<E> + Drop>(
     alloc: Global,
-    store: &mut S,
+    mut store: S,
     n: u64,
     seed: u64,
 ) -> Result<u64, Stopped> {
     let n = count(n)?;
     let mut random = Random::new(seed);
-    let mut keys = make_many(alloc, store, &mut random, n)?;
+    let mut keys = make_many(alloc, &mut store, &mut random, n)?;
     shuffle(&mut random, &mut keys);
-    let checksum = read_each(store, &keys)?;
-    end_each(store, &keys)?;
+    let checksum = read_each(&mut store, &keys)?;
+    end_each(&mut store, &keys)?;
     Ok(checksum)
 }
 
 /// w2: values are made; 10n times one is ended and another made in its place; each is read, and
 /// ended.
 #[inline(always)]
-pub fn churn<E: Element, S: Storage<E>>(
+pub fn churn<E: Element, S: Storage<E> + Drop>(
     alloc: Global,
-    store: &mut S,
+    mut store: S,
     n: u64,
     seed: u64,
 ) -> Result<u64, Stopped> {
     let n = count(n)?;
     let mut random = Random::new(seed);
-    let mut keys = make_many(alloc, store, &mut random, n)?;
+    let mut keys = make_many(alloc, &mut store, &mut random, n)?;
     for _round in 0..10 {
-        replace_some(alloc, store, &mut random, &mut keys)?;
+        replace_some(alloc, &mut store, &mut random, &mut keys)?;
     }
-    let checksum = read_each(store, &keys)?;
-    end_each(store, &keys)?;
+    let checksum = read_each(&mut store, &keys)?;
+    end_each(&mut store, &keys)?;
     Ok(checksum)
 }
 
 /// w3: values are made; 10n times one is read; each is ended.
 #[inline(always)]
-pub fn read_often<E: Element, S: Storage<E>>(
+pub fn read_often<E: Element, S: Storage<E> + Drop>(
     alloc: Global,
-    store: &mut S,
+    mut store: S,
     n: u64,
     seed: u64,
 ) -> Result<u64, Stopped> {
     let n = count(n)?;
     let mut random = Random::new(seed);
-    let keys = make_many(alloc, store, &mut random, n)?;
+    let keys = make_many(alloc, &mut store, &mut random, n)?;
     let mut checksum = START;
     for _round in 0..10 {
-        checksum = read_some(store, &mut random, &keys, checksum)?;
+        checksum = read_some(&mut store, &mut random, &keys, checksum)?;
     }
-    end_each(store, &keys)?;
+    end_each(&mut store, &keys)?;
     Ok(checksum)
 }
 
 /// w4: values are made; 10n times one is replaced by another; each is ended.
 #[inline(always)]
-pub fn write_often<E: Element, S: Storage<E>>(
+pub fn write_often<E: Element, S: Storage<E> + Drop>(
     alloc: Global,
-    store: &mut S,
+    mut store: S,
     n: u64,
     seed: u64,
 ) -> Result<u64, Stopped> {
     let n = count(n)?;
     let mut random = Random::new(seed);
-    let keys = make_many(alloc, store, &mut random, n)?;
+    let keys = make_many(alloc, &mut store, &mut random, n)?;
     let mut checksum = START;
     for _round in 0..10 {
-        checksum = write_some(alloc, store, &mut random, &keys, checksum)?;
+        checksum = write_some(alloc, &mut store, &mut random, &keys, checksum)?;
     }
-    end_each(store, &keys)?;
+    end_each(&mut store, &keys)?;
     Ok(checksum)
 }
 
 /// w5: ten times, owners make a hundred values each, of which the last is read, and are released.
 #[inline(always)]
-pub fn own_and_release<E: Element, S: Storage<E>>(
+pub fn own_and_release<E: Element, S: Storage<E> + Drop>(
     alloc: Global,
-    store: &mut S,
+    mut store: S,
     n: u64,
     seed: u64,
 ) -> Result<u64, Stopped> {
@@ -117,8 +117,15 @@ pub fn own_and_release<E: Element, S: Storage<E>>(
     let mut checksum = START;
     for _round in 0..10 {
         let mut owners = Vec::with_capacity(alloc, n / VALUES)?;
-        let made = own_many(alloc, store, &mut random, &mut owners, n / VALUES, checksum);
-        let released = release_each(store, owners);
+        let made = own_many(
+            alloc,
+            &mut store,
+            &mut random,
+            &mut owners,
+            n / VALUES,
+            checksum,
+        );
+        let released = release_each(&mut store, owners);
         checksum = made?;
         released?;
     }
@@ -128,35 +135,35 @@ pub fn own_and_release<E: Element, S: Storage<E>>(
 /// w6: n / 10 shared values are made, with ten references each; as many times as there are
 /// references, one is pointed at the value of another and read; each is ended.
 #[inline(always)]
-pub fn point_often<E: Element, S: Storage<E>>(
+pub fn point_often<E: Element, S: Storage<E> + Drop>(
     alloc: Global,
-    store: &mut S,
+    mut store: S,
     n: u64,
     seed: u64,
 ) -> Result<u64, Stopped> {
     let n = count(n)?;
     let mut random = Random::new(seed);
-    let keys = share_many(alloc, store, &mut random, n / REFERENCES)?;
-    let checksum = point_some(store, &mut random, &keys)?;
-    end_each(store, &keys)?;
+    let keys = share_many(alloc, &mut store, &mut random, n / REFERENCES)?;
+    let checksum = point_some(&mut store, &mut random, &keys)?;
+    end_each(&mut store, &keys)?;
     Ok(checksum)
 }
 
 /// w8: values are made; as many times as there are, two are read that are borrowed at once, and then
 /// three; each is ended.
 #[inline(always)]
-pub fn read_together<E: Element, S: Storage<E>>(
+pub fn read_together<E: Element, S: Storage<E> + Drop>(
     alloc: Global,
-    store: &mut S,
+    mut store: S,
     n: u64,
     seed: u64,
 ) -> Result<u64, Stopped> {
     let n = count(n)?;
     let mut random = Random::new(seed);
-    let keys = make_many(alloc, store, &mut random, n)?;
-    let pairs = read_pairs(store, &mut random, &keys)?;
-    let checksum = read_triples(store, &mut random, &keys, pairs)?;
-    end_each(store, &keys)?;
+    let keys = make_many(alloc, &mut store, &mut random, n)?;
+    let pairs = read_pairs(&mut store, &mut random, &keys)?;
+    let checksum = read_triples(&mut store, &mut random, &keys, pairs)?;
+    end_each(&mut store, &keys)?;
     Ok(checksum)
 }
 
