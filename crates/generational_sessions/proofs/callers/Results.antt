@@ -1,18 +1,11 @@
 -- What clauses on results and options say of the value with which a caller goes on.
-use Rattle.std.{proofs.lemmas.Result.IfOk-at_ok, specs.Result.IsErrAnd, specs.Result.result_ok}
-use Rattle.std.specs.Prelude.{IfErr, IfNone, IfOk, IfSome, OnErr, OnSome}
-use Rattle.generational_sessions.proofs.{ap, Err, None, none-some, Ok, OnOk, Option, Result}
-use Rattle.generational_sessions.proofs.{same_Some, Some, sym, ◌∙◌, ◌≡◌}
+use Rattle.std.specs.Result.{IsErrAnd, result_ok}
+use Rattle.std.specs.Prelude.{IfErr, IfNone, IfOk, IfSome, OnErr}
+use Rattle.generational_sessions.proofs.{Err, None, none-some, Ok, OnOk, Option, Result, same_Some}
+use Rattle.generational_sessions.proofs.{Some, sym, ◌∙◌, ◌≡◌}
 
 module _ {X : Type 0} where
-  -- where `?` goes on, the value is that of the result
-  pub of_ok : {E : Type 0} (P : X → Type 0) (r : Result X E) (x : X)
-      → Some x ≡ result_ok r → IfOk r P → P x
-  of_ok {E = E} P (Ok y) x e p =
-      let same : ◌≡◌ {A = Result X E} (Ok y) (Ok x) = ap (λ z. Ok z) (sym (same_Some x y e)) in
-      IfOk-at_ok {T = X} {E = E} P {r = Ok y} {x = x} same p
-  of_ok P (Err z) x e p = absurd (none-some x (sym e))
-
+  -- where `?` goes on, what holds of an Ok result holds
   pub on_ok : {E P : Type 0} (r : Result X E) (x : X) → Some x ≡ result_ok r → OnOk r P → P
   on_ok (Ok y) x e p = p
   on_ok (Err z) x e p = absurd (none-some x (sym e))
@@ -27,10 +20,6 @@ module _ {X : Type 0} where
       → IsErrAnd r P → IfErr r Q
   err_so (Ok y) so p = tt
   err_so (Err e) so p = so e p
-
-  pub on_some : {P : Type 0} (r : Option X) (x : X) → r ≡ Some x → OnSome r P → P
-  on_some (Some y) x e p = p
-  on_some None x e p = absurd (none-some x e)
 
   -- what follows of the option into which a result was made
   pub some_so : {E : Type 0} {P Q : X → Type 0} (r : Result X E) (o : Option X) → o ≡ result_ok r
