@@ -4,7 +4,7 @@ use Rattle.std.proofs.Common.{ℕ, ◌≡◌, ◌≢◌, true, Option, None, Som
 use Rattle.std.proofs.Common.{◌∙◌, ⊎_elim}
 use Rattle.std.proofs.lemmas.Bool.{true≢false}
 use Rattle.std.proofs.lemmas.Option.{same_Some}
-use Rattle.std.specs.Prelude.{is_some}
+use Rattle.std.specs.Prelude.{List, filter, is_some}
 use Rattle.generational_core.specs.Borrowing.{BorrowRefusal, reach, refusal_to_read}
 use Rattle.generational_core.specs.Boxes.{name_of}
 use Rattle.generational_core.specs.Conditions.{fresh}
@@ -28,7 +28,7 @@ use Rattle.generational_core.proofs.machine.Seeing.{led_box, reaches}
 use Rattle.generational_core.proofs.machine.Stepping.{meets_cases, meets_given, meets_number}
 use Rattle.document_tree.specs.declared.part.Part.{Part}
 use Rattle.document_tree.specs.declared.place.Place.{Place}
-use Rattle.document_tree.specs.Documents.{Shown, shown_by, shown_of, shown_in, part_in, WasMade, Leaves, Changes}
+use Rattle.document_tree.specs.Documents.{Shown, shown_by, shown_of, shown_in, part_in, live_among, with_children, WasMade, Leaves, Changes}
 use Rattle.generational_sessions.proofs.callers.Ids.{same_id_reach, same_value_there, unreached}
 use Rattle.document_tree.specs.Places.{IsSame}
 
@@ -174,6 +174,19 @@ module _ {T : Type 0} where
       → Changes E p y F → y ≡ shown_in D p → is_some (part_in D p) ≡ true → (q : Place) → Leaves D q F
   put_back {D} {E} {F} {p} first second same =
       unchanged (subst (λ shown. Changes D p shown F) same (changed_twice first second))
+
+  -- what a part shows whose children were looked through while it was out
+  pub shows_live : {D E F : State (Part T)} {p : Place} {x : Option (Shown T)} (content : T)
+      (list after : List Place) → Changes D p x E → after ≡ live_among E list
+      → Changes E p (Some (record { content = content; children = after })) F
+      → Some (record { content = content; children = list }) ≡ shown_in D p
+      → (q : Place) → part_in D q ≡ part_in D p
+      → shown_in F q ≡ with_children (live_among D) (shown_in D p)
+  shows_live {D} {p = p} content list after first left second old q same =
+      second.here q (first.parts q ∙ (same ∙ sym (first.parts p)))
+      ∙ (ap (λ xs. Some (record { content = content; children = xs }))
+      (left ∙ λ i. filter (λ r. is_some (first.parts r i)) list)
+      ∙ ap (with_children (live_among D)) old)
 
   -- ---- where a part was added
 

@@ -1,5 +1,5 @@
 -- What a caller sees of a document: to which part each place leads, and what it shows.
-use Rattle.std.specs.Prelude.{◌≡◌, ◌≢◌, ◌++◌, ◌∷◌, [], List, Option, None, Some}
+use Rattle.std.specs.Prelude.{◌≡◌, ◌≢◌, ◌++◌, ◌∷◌, [], List, Option, None, Some, filter, is_some}
 use Rattle.std.specs.FinMap as map
 use Rattle.generational_core.specs.Borrowing.{reach}
 use Rattle.generational_core.specs.Boxes.{name_of}
@@ -57,6 +57,15 @@ module _ {T : Type 0} where
   abbrev pub with_child : Place → Option (Shown T) → Option (Shown T)
   with_child p None = None
   with_child p (Some shown) = Some (record shown { children = shown.children ++ p ∷ [] })
+
+  -- what is shown with other children, as a function of those that there were
+  abbrev pub with_children : (List Place → List Place) → Option (Shown T) → Option (Shown T)
+  with_children f None = None
+  with_children f (Some shown) = Some (record shown { children = f shown.children })
+
+  -- a list of places without those that lead to no part
+  abbrev pub live_among : State (Part T) → List Place → List Place
+  live_among D list = filter (λ p. is_some (part_in D p)) list
 
   -- a place that the document gave, once
   abbrev pub WasMade : State (Part T) → Place → Type 0

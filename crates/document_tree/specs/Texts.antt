@@ -11,3 +11,4 @@ gone_text l = codes "the place of the part added at " ++ (location_text l ++ cod
 abbrev pub place_error_text : PlaceError → List ℕ
 place_error_text (error.Gone gone) = gone_text gone.made_at
 place_error_text error.OutOfMemory = codes "out of memory"
+place_error_text error.OutOfRange = codes "the index is past the children"

@@ -1,13 +1,16 @@
 //! Documents.
 
 ghost use Rattle.std.specs.Prelude.{◌≡◌, ◌≢◌, ◌↔◌, ◌⊎◌, [], None, Some, true, is_some, option_copied};
-ghost use Rattle.std.specs.Prelude.{Err, IfOk, OnOk, IfErr, OnErr, IsErr, IsTrue, IsFalse, ◌++◌, ◌∷◌, ◌<◌, map, reverse};
+ghost use Rattle.std.specs.Prelude.{Err, IfOk, OnOk, IfErr, OnErr, IsErr, IsTrue, IsFalse, ◌++◌, ◌∷◌, ◌<◌, ◌≤◌, map, reverse};
+ghost use Rattle.std.specs.Prelude.{List, length, slice_get};
+ghost use Rattle.std.specs.List.{insert, remove};
+ghost use Rattle.std.specs.Fn.{FnOnceReturnsAtMut};
 ghost use Rattle.generational_core.specs.Slots.{free};
 ghost use Rattle.generational_core.specs.Conditions.{IsFresh};
 ghost use Rattle.generational_errors.specs.declared.error.StoreError.TheVariants.{OutOfMemory};
 ghost use Rattle.document_tree.specs.declared.place.Place.{Place};
 ghost use Rattle.document_tree.specs.Documents.{shown_by, shown_in, part_in, content_of, children_of};
-ghost use Rattle.document_tree.specs.Documents.{with_content, with_child, WasMade, Leaves, Changes};
+ghost use Rattle.document_tree.specs.Documents.{with_content, with_child, with_children, live_among, WasMade, Leaves, Changes};
 ghost use Rattle.document_tree.specs.Documents.{added_in, first_gone, EndsPart, IsOnlyPlace};
 ghost use Rattle.document_tree.specs.declared.place.PlaceError.TheVariants as errors;
 ghost use Rattle.document_tree.specs.Outlines.{children_in, deep_outline_of, outline_of};
@@ -229,6 +232,39 @@ impl<T, S: Storage<Part<T>>> Document<T, S> {
         Ok(())
     }
 
+    /// Changes the content of a part by a closure, and answers what that answers. What it leaves shows at
+    /// each place that leads to the part, with the children that there were; every other place shows what
+    /// it showed.
+    ///
+    /// Refused where the place is gone, or is another document's: the closure isn't called then, and the
+    /// document stays as it was. Takes no memory, and is O(1), but for the closure.
+    pub fn update<R, F: FnOnce(&mut T) -> R>(&mut self, place: Place, f: F) -> Result<R, Gone>
+    where
+        T: Drop,
+        F: Drop,
+        requires { F.IsAlwaysCallable f }
+        ensures changed { IfOk result (λ answer. (old : T) × (changed : T) ×
+            (content_of (shown_in self.old place) ≡ Some old) ×
+            FnOnceReturnsAtMut F.FnOnce f old answer changed ×
+            ((q : Place) → part_in self.old q ≡ part_in self.old place →
+            shown_in self.new q ≡ with_content changed (shown_in self.old place))) }
+        ensures others { (q : Place) → part_in self.old q ≢ part_in self.old place →
+            Leaves self.old q self.new }
+        ensures parts { (q : Place) → part_in self.new q ≡ part_in self.old q }
+        ensures kept { (q : Place) → WasMade self.old q → WasMade self.new q }
+        ensures gone { IsErr result ↔ shown_in self.old place ≡ None }
+        ensures told { IfErr result (λ gone. gone.made_at ≡ made_at place) }
+        ensures refused { OnErr result (self.new ≡ self.old) }
+    {
+        self.find(place)?;
+        let Some(mut body) = self.swap(place, None) else {
+            unreachable!();
+        };
+        let answer = change_content(&mut body.content, f);
+        self.swap(place, Some(body));
+        Ok(answer)
+    }
+
     /// The child becomes the last child of the parent's part, at each place that leads there. Every
     /// other place shows what it showed.
     ///
@@ -266,6 +302,123 @@ impl<T, S: Storage<Part<T>>> Document<T, S> {
         if !pushed {
             return Err(PlaceError::OutOfMemory);
         }
+        Ok(())
+    }
+
+    /// The child becomes a child of the parent's part at an index, at each place that leads there: those
+    /// behind move up by one. Every other place shows what it showed.
+    ///
+    /// Refused, in this order: `Gone`, where the parent is gone, or is another document's, and then
+    /// where the child is; `OutOfRange`, where the part has fewer children than the index; `OutOfMemory`.
+    /// Every place shows what it showed then. Takes memory for the list of children. O(c) for c children
+    /// behind, but for finding room.
+    pub fn insert(&mut self, parent: Place, index: usize, child: Place) -> Result<(), PlaceError>
+    where
+        T: Drop,
+        ensures shown { OnOk result ((q : Place) →
+            part_in self.old q ≡ part_in self.old parent →
+            shown_in self.new q
+            ≡ with_children (λ list. insert list index child) (shown_in self.old parent)) }
+        ensures others { (q : Place) → part_in self.old q ≢ part_in self.old parent →
+            Leaves self.old q self.new }
+        ensures parts { (q : Place) → part_in self.new q ≡ part_in self.old q }
+        ensures kept { (q : Place) → WasMade self.old q → WasMade self.new q }
+        ensures refused { OnErr result ((q : Place) → Leaves self.old q self.new) }
+        ensures gone { (shown_in self.old parent ≡ None) ⊎ (shown_in self.old child ≡ None) →
+            result ≡ Err (errors.Gone (record {
+              made_at = first_gone (shown_in self.old parent) parent child;
+            })) }
+        ensures range { is_some (shown_in self.old child) ≡ true →
+            ((list : List Place) → children_of (shown_in self.old parent) ≡ Some list →
+            length list < index → result ≡ Err errors.OutOfRange) }
+        ensures cause { IfErr result (λ error. (error ≡ errors.OutOfMemory)
+            ⊎ (shown_in self.old parent ≡ None) ⊎ (shown_in self.old child ≡ None)
+            ⊎ ((list : List Place) → children_of (shown_in self.old parent) ≡ Some list →
+            length list < index)) }
+    {
+        let count = self.children(parent)?.len();
+        self.find(child)?;
+        if count < index {
+            return Err(PlaceError::OutOfRange);
+        }
+        let Some(mut body) = self.swap(parent, None) else {
+            unreachable!();
+        };
+        let inserted = insert_place(&mut body.children, index, child);
+        self.swap(parent, Some(body));
+        if !inserted {
+            return Err(PlaceError::OutOfMemory);
+        }
+        Ok(())
+    }
+
+    /// Takes the child at an index out of the children of the parent's part, at each place that leads
+    /// there, and answers it: those behind move down by one. The child shows what it showed, as does
+    /// every other place.
+    ///
+    /// Refused, in this order: `Gone`, where the parent is gone, or is another document's; `OutOfRange`,
+    /// where the part has no child at the index. The document stays as it was then. Takes no memory, and
+    /// O(c) time for c children behind.
+    pub fn take_child(&mut self, parent: Place, index: usize) -> Result<Place, PlaceError>
+    where
+        T: Drop,
+        ensures taken { IfOk result (λ child. (list : List Place) →
+            children_of (shown_in self.old parent) ≡ Some list →
+            slice_get list index ≡ Some child) }
+        ensures shown { OnOk result ((q : Place) →
+            part_in self.old q ≡ part_in self.old parent →
+            shown_in self.new q
+            ≡ with_children (λ list. remove list index) (shown_in self.old parent)) }
+        ensures others { (q : Place) → part_in self.old q ≢ part_in self.old parent →
+            Leaves self.old q self.new }
+        ensures parts { (q : Place) → part_in self.new q ≡ part_in self.old q }
+        ensures kept { (q : Place) → WasMade self.old q → WasMade self.new q }
+        ensures refused { OnErr result (self.new ≡ self.old) }
+        ensures gone { shown_in self.old parent ≡ None →
+            result ≡ Err (errors.Gone (record { made_at = made_at parent })) }
+        ensures range { (list : List Place) → children_of (shown_in self.old parent) ≡ Some list →
+            length list ≤ index → result ≡ Err errors.OutOfRange }
+        ensures cause { OnErr result ((shown_in self.old parent ≡ None)
+            ⊎ ((list : List Place) → children_of (shown_in self.old parent) ≡ Some list →
+            length list ≤ index)) }
+    {
+        if self.children(parent)?.len() <= index {
+            return Err(PlaceError::OutOfRange);
+        }
+        let Some(mut body) = self.swap(parent, None) else {
+            unreachable!();
+        };
+        let child = body.children.remove(index);
+        self.swap(parent, Some(body));
+        Ok(child)
+    }
+
+    /// Takes those that are gone out of the children of the parent's part, at each place that leads there.
+    /// The others stay, in their order, and every other place shows what it showed.
+    ///
+    /// Refused where the parent is gone, or is another document's: the document stays as it was. Takes no
+    /// memory, and O(c) time for c children.
+    pub fn clear_gone(&mut self, parent: Place) -> Result<(), Gone>
+    where
+        T: Drop,
+        ensures shown { OnOk result ((q : Place) →
+            part_in self.old q ≡ part_in self.old parent →
+            shown_in self.new q
+            ≡ with_children (λ list. live_among self.old list) (shown_in self.old parent)) }
+        ensures others { (q : Place) → part_in self.old q ≢ part_in self.old parent →
+            Leaves self.old q self.new }
+        ensures parts { (q : Place) → part_in self.new q ≡ part_in self.old q }
+        ensures kept { (q : Place) → WasMade self.old q → WasMade self.new q }
+        ensures refused { OnErr result (self.new ≡ self.old) }
+        ensures gone { IsErr result ↔ shown_in self.old parent ≡ None }
+        ensures told { IfErr result (λ gone. gone.made_at ≡ made_at parent) }
+    {
+        self.find(parent)?;
+        let Some(mut body) = self.swap(parent, None) else {
+            unreachable!();
+        };
+        self.retain_live(&mut body.children);
+        self.swap(parent, Some(body));
         Ok(())
     }
 
@@ -345,6 +498,13 @@ impl<T, S: Storage<Part<T>>> Document<T, S> {
         }
     }
 
+    // Takes those that lead to no part out of a list.
+    fn retain_live(&self, places: &mut Vec<Place>)
+        ensures { places.new.items ≡ live_among self.now places.old.items }
+    {
+        places.retain(|place| self.store.is_live(place.raw));
+    }
+
     // Lets a place lead to the part to which another leads.
     fn lead(&mut self, place: Place, other: Place)
         requires place { is_some (shown_in self.old place) ≡ true }
@@ -418,4 +578,21 @@ fn push_place(places: &mut Vec<Place>, place: Place) -> bool
     ensures same { IsFalse result → places.new.items ≡ places.old.items }
 {
     places.push(place).is_ok()
+}
+
+// Puts a place at an index of a list. Whether there was room.
+fn insert_place(places: &mut Vec<Place>, index: usize, place: Place) -> bool
+    requires { index ≤ length places.old.items }
+    ensures inserted { IsTrue result → places.new.items ≡ insert places.old.items index place }
+    ensures same { IsFalse result → places.new.items ≡ places.old.items }
+{
+    places.insert(index, place).is_ok()
+}
+
+// Changes a content by a closure, which is called once.
+fn change_content<T, R, F: FnOnce(&mut T) -> R>(content: &mut T, f: F) -> R
+    requires { F.IsAlwaysCallable f }
+    ensures { FnOnceReturnsAtMut F.FnOnce f content.old result content.new }
+{
+    f(content)
 }

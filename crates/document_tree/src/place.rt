@@ -109,9 +109,12 @@ pub enum PlaceError {
     Gone(Gone),
     /// Memory lacked.
     OutOfMemory,
+    /// The index is past the children.
+    OutOfRange,
 }
 
-/// Prints as `Gone` does where a place is gone, or that memory ran out.
+/// Prints as `Gone` does where a place is gone, that memory ran out, or that the index is past the
+/// children.
 impl fmt::Display for PlaceError {
     ghost use Rattle.document_tree.specs.Texts.{place_error_text};
 
@@ -121,6 +124,7 @@ impl fmt::Display for PlaceError {
         match self {
             PlaceError::Gone(gone) => write!(f, "{gone}"),
             PlaceError::OutOfMemory => write!(f, "out of memory"),
+            PlaceError::OutOfRange => write!(f, "the index is past the children"),
         }
     }
 }
