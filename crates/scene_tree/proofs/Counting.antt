@@ -1,16 +1,20 @@
 -- How many nodes of a list live at a slot.
 use Rattle.std.proofs.Common.{◌≡◌, ◌≢◌, ◌<◌, ◌≤◌, ◌+◌, ℕ, zero, suc, true, false, cond, List, [], ◌∷◌, ◌++◌}
-use Rattle.std.proofs.Common.{Some, refl, sym, ap, subst, ◌∙◌, ⊎_elim, arith, not, take, get_or, length}
-use Rattle.std.specs.Prelude.{slice_get, nat_eq, map}
-use Rattle.std.specs.List.{IsDistinct, AllByRecursion}
+use Rattle.std.proofs.Common.{Some, refl, sym, ap, subst, ◌∙◌, ⊎_elim, arith, not, take, drop, get_or, length, inl, inr}
+use Rattle.std.specs.Prelude.{◌⊎◌, slice_get, nat_eq, map}
+use Rattle.std.specs.List.{IsDistinct, AllByRecursion, insert}
 use Rattle.std.proofs.lemmas.Bool.{and_from, and_parts, cases_Bool, cases_eq, eq-eqb, eqb-true, true≢false}
 use Rattle.std.proofs.lemmas.Bool.Decides.{eqb_tells}
-use Rattle.std.proofs.lemmas.List.Sums.{sum_by-append, sum_by-cons, sum_by-take-le}
+use Rattle.std.proofs.lemmas.List.Sums.{sum_by-append, sum_by-cons, sum_by-take-drop, sum_by-take-le}
 use Rattle.std.proofs.lemmas.List.{take_more}
 use Rattle.std.proofs.lemmas.Option.{none-some, same_Some}
+use Rattle.generational_sessions.proofs.callers.Elements.{get_pushed}
 use Rattle.scene_tree.specs.declared.node.Node.{Node}
+use Rattle.scene_tree.specs.declared.spot.Spot.{Spot}
+use Rattle.scene_tree.specs.declared.spot.Spot.TheVariants as spot
 use Rattle.scene_tree.specs.Families.{Family, IsCleared, alone, count_at, family_at}
 use Rattle.scene_tree.specs.Nodes.{IsSame, is_same, times, slot_in, without}
+use Rattle.scene_tree.specs.Spots.{place_of, placed}
 
 module _ {T : Type 0} where
   -- with a node more before the others
@@ -38,16 +42,46 @@ module _ {T : Type 0} where
       → count_at s (xs ++ ys) ≡ count_at s xs + count_at s ys
   count_both s xs ys = sum_by-append (λ n. cond (nat_eq (slot_in n) s) 1 0) xs ys
 
-  pub count_last : (s : ℕ) (xs : List (Node T)) (c : Node T) → slot_in c ≡ s
-      → count_at s (xs ++ c ∷ []) ≡ count_at s xs + 1
-  count_last s xs c is =
-      let both = count_both s xs (c ∷ []) in let one = count_here s c [] is in omega (arith, both, one)
+  count_inserted : (s : ℕ) (xs : List (Node T)) (i : ℕ) (c : Node T)
+      → count_at s (insert xs i c) ≡ count_at s (c ∷ xs)
+  count_inserted s xs i c =
+      let both = count_both s (take i xs) (c ∷ drop i xs) in
+      let parts = sum_by-take-drop (λ n. cond (nat_eq (slot_in n) s) 1 0) xs i in
+      let rest = sum_by-cons (λ n. cond (nat_eq (slot_in n) s) 1 0) c (drop i xs) in
+      let all = sum_by-cons (λ n. cond (nat_eq (slot_in n) s) 1 0) c xs in
+      omega (arith, both, parts, rest, all)
 
-  pub count_others : (s : ℕ) (xs : List (Node T)) (c : Node T) → slot_in c ≢ s
-      → count_at s (xs ++ c ∷ []) ≡ count_at s xs
-  count_others s xs c ne =
-      let both = count_both s xs (c ∷ []) in let none = count_apart s c [] ne in
-      omega (arith, both, none)
+  -- with a node more at a spot, it is counted as with one more before the others
+  pub count_placed : (s : ℕ) (at : Spot T) (xs : List (Node T)) (c : Node T)
+      → count_at s (placed at c xs) ≡ count_at s (c ∷ xs)
+  count_placed s (spot.FirstOf up) xs c = refl
+  count_placed s (spot.LastOf up) xs c =
+      let both = count_both s xs (c ∷ []) in
+      let one = sum_by-cons (λ n. cond (nat_eq (slot_in n) s) 1 0) c [] in
+      let all = sum_by-cons (λ n. cond (nat_eq (slot_in n) s) 1 0) c xs in
+      omega (arith, both, one, all)
+  count_placed s (spot.Before by) xs c = count_inserted s xs (place_of by xs) c
+  count_placed s (spot.After by) xs c = count_inserted s xs (place_of by xs + 1) c
+
+  -- what stands in such a list is the node, or stood there before
+  inserted_from : (xs : List (Node T)) (i k : ℕ) (c x : Node T) → slice_get (insert xs i c) k ≡ Some x
+      → ((j : ℕ) × (slice_get xs j ≡ Some x)) ⊎ (c ≡ x)
+  inserted_from xs zero zero c x at = inr (same_Some c x at)
+  inserted_from xs zero (suc k) c x at = inl (k, at)
+  inserted_from [] (suc i) zero c x at = inr (same_Some c x at)
+  inserted_from [] (suc i) (suc k) c x at = absurd (none-some x at)
+  inserted_from (y ∷ xs) (suc i) zero c x at = inl (0, at)
+  inserted_from (y ∷ xs) (suc i) (suc k) c x at =
+      ⊎_elim (λ old. inl (suc old.0, old.1)) inr (inserted_from xs i k c x at)
+
+  pub placed_from : (at : Spot T) (xs : List (Node T)) (k : ℕ) (c x : Node T)
+      → slice_get (placed at c xs) k ≡ Some x
+      → ((j : ℕ) × (slice_get xs j ≡ Some x)) ⊎ (c ≡ x)
+  placed_from (spot.FirstOf up) xs k c x at = inserted_from xs 0 k c x at
+  placed_from (spot.LastOf up) xs k c x at = ⊎_elim (λ old. inl (k, old)) (λ more. inr more.1)
+      (get_pushed xs k c x at)
+  placed_from (spot.Before by) xs k c x at = inserted_from xs (place_of by xs) k c x at
+  placed_from (spot.After by) xs k c x at = inserted_from xs (place_of by xs + 1) k c x at
 
   pub count_take : (s : ℕ) (xs : List (Node T)) (n : ℕ) → count_at s (take n xs) ≤ count_at s xs
   count_take s xs n = sum_by-take-le (λ m. cond (nat_eq (slot_in m) s) 1 0) xs n

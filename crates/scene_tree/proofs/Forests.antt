@@ -1,14 +1,15 @@
 -- Forests after a change.
-use Rattle.std.proofs.Common.{◌≡◌, ◌≢◌, ◌<◌, ℕ, zero, suc, true, List}
+use Rattle.std.proofs.Common.{◌≡◌, ◌≢◌, ◌<◌, ℕ, zero, suc, true, List, ◌∷◌}
 use Rattle.std.proofs.Common.{Option, None, Some, refl, sym, ap, ◌∙◌, ⊎_elim, arith, inl, inr}
 use Rattle.std.specs.Prelude.{◌⊎◌, slice_get}
 use Rattle.std.proofs.lemmas.Bool.{cases_eq, cases_lt}
 use Rattle.std.proofs.lemmas.Option.{none-some, same_Some}
 use Rattle.scene_tree.specs.declared.node.Node.{Node}
+use Rattle.scene_tree.specs.declared.spot.Spot.{Spot}
 use Rattle.scene_tree.specs.Families.{Family, IsAttached, IsCleared, IsDetached, IsForest, IsRooted, IsUnder, above, alone, children_at, count_at, family_at, parent_at}
 use Rattle.scene_tree.specs.Families.{slot_of}
 use Rattle.scene_tree.specs.Nodes.{is_same, slot_in}
-use Rattle.scene_tree.proofs.Counting.{counts, count_last, count_others, count_without, none_without}
+use Rattle.scene_tree.proofs.Counting.{counts, count_apart, count_here, count_placed, count_without, none_without}
 use Rattle.scene_tree.proofs.Paths.{step_under}
 
 pub slot_cases : (o : Option ℕ) (up : ℕ) → (o ≡ Some up) ⊎ (o ≢ Some up)
@@ -60,11 +61,11 @@ module _ {T : Type 0} (fs gs : List (Family T)) where
       rooted zero s r = ap (λ x. slot_of x.parent) (same s) ∙ r
       rooted (suc d) s r = (r.0, ap (λ x. slot_of x.parent) (same s) ∙ r.1, rooted d r.0 r.2)
 
-  -- ---- a node that was made the last child of another
+  -- ---- a node that was made a child of another
 
-  module _ (f : IsForest fs) (parent child : Node T) (root : above fs (slot_in child) ≡ None)
+  module _ (f : IsForest fs) (parent child : Node T) (spot : Spot T) (root : above fs (slot_in child) ≡ None)
       (apart : (e : ℕ) → IsUnder fs (slot_in child) e (slot_in parent) → ⊥)
-      (new : IsAttached fs parent child gs) where
+      (new : IsAttached fs parent spot child gs) where
     same_above : (s : ℕ) → s ≢ slot_in child → above gs s ≡ above fs s
     same_above s ne = ap slot_of (new.parents s ne)
 
@@ -92,10 +93,14 @@ module _ {T : Type 0} (fs gs : List (Family T)) where
         (cases_eq s (slot_in child))
 
     -- how often a node stands in a list
+    more : (s : ℕ) → count_at s (children_at gs (slot_in parent))
+        ≡ count_at s (child ∷ children_at fs (slot_in parent))
+    more s = ap (count_at s) new.listed ∙ count_placed s spot (children_at fs (slot_in parent)) child
+
     kept : (s up : ℕ) → s ≢ slot_in child → count_at s (children_at gs up) ≡ count_at s (children_at fs up)
     kept s up ne = ⊎_elim
-        (λ is. ap (λ i. count_at s (children_at gs i)) is ∙ (ap (count_at s) new.last
-        ∙ (count_others s (children_at fs (slot_in parent)) child (λ e. ne (sym e))
+        (λ is. ap (λ i. count_at s (children_at gs i)) is ∙ (more s
+        ∙ (count_apart s child (children_at fs (slot_in parent)) (λ e. ne (sym e))
         ∙ ap (λ i. count_at s (children_at fs i)) (sym is))))
         (λ other. ap (count_at s) (new.others up other)) (cases_eq up (slot_in parent))
 
@@ -110,9 +115,9 @@ module _ {T : Type 0} (fs gs : List (Family T)) where
     attached = record {
       once = λ s up is. ⊎_elim
           (λ at. let zero = none s (slot_in parent) at in
-          let more = count_last s (children_at fs (slot_in parent)) child (sym at) in
+          let one = count_here s child (children_at fs (slot_in parent)) (sym at) in
           ap (λ i. count_at s (children_at gs i)) (up_is s up at is)
-          ∙ (ap (count_at s) new.last ∙ (omega (arith, zero, more))))
+          ∙ (more s ∙ (omega (arith, zero, one))))
           (λ ne. kept s up ne ∙ f.once s up (sym (same_above s ne) ∙ is)) (cases_eq s (slot_in child));
       only = λ s other ne. ⊎_elim
           (λ at. ap (count_at s) (new.others other (λ is. ne (ap (above gs) at ∙ (ap slot_of new.here ∙ ap Some (sym is)))))

@@ -21,14 +21,15 @@ use Rattle.generational_core.proofs.machine.Calling.{made}
 use Rattle.generational_core.proofs.machine.Leaving.{same_value}
 use Rattle.generational_sessions.specs.PlainStores.{IsSimple}
 use Rattle.generational_sessions.proofs.callers.SimpleStores.{fresh_simple, made_simple}
-use Rattle.generational_sessions.proofs.callers.Elements.{get_pushed}
 use Rattle.scene_tree.specs.declared.node.Node.{Node}
+use Rattle.scene_tree.specs.declared.spot.Spot.{Spot}
 use Rattle.scene_tree.specs.Families.{Family, IsAttached, IsCleared, IsDetached, IsOpened, IsUnder, above, alone, children_at, count_at, family_at, parent_at}
 use Rattle.scene_tree.specs.Families.{families, family_in, slot_of}
 use Rattle.scene_tree.specs.declared.links.Links.{Links}
 use Rattle.scene_tree.specs.Keeping.{IsKept, IsLiveIn}
 use Rattle.scene_tree.specs.Nodes.{is_same, pointer_in, slot_in}
-use Rattle.scene_tree.proofs.Counting.{counted, same_id}
+use Rattle.scene_tree.specs.Spots.{placed}
+use Rattle.scene_tree.proofs.Counting.{counted, placed_from, same_id}
 use Rattle.scene_tree.proofs.Forests.{above_parent, attached, cleared, detached, parent_is, same_forest, slot_cases, under_alone}
 use Rattle.scene_tree.proofs.Stores.{live_within, made_beside, made_slots, one_live}
 
@@ -144,23 +145,23 @@ module _ {T : Type 0} where
       pub opened_alone : family_at gs b.id.slot ≡ alone
       opened_alone = opened_same b.id.slot ∙ lone b.id.slot (made_beside sound k.simple v l b m)
 
-    -- a node that was made the last child of another
-    pub kept_attached : (gs : List (Family T)) (parent child : Node T) → IsLiveIn S parent
+    -- a node that was made a child of another
+    pub kept_attached : (gs : List (Family T)) (parent child : Node T) (spot : Spot T) → IsLiveIn S parent
         → IsLiveIn S child → above fs (slot_in child) ≡ None
         → ((e : ℕ) → IsUnder fs (slot_in child) e (slot_in parent) → ⊥)
-        → IsAttached fs parent child gs → IsKept S gs
-    kept_attached gs parent child live lives root apart new = record {
+        → IsAttached fs parent spot child gs → IsKept S gs
+    kept_attached gs parent child spot live lives root apart new = record {
       simple = k.simple;
       whole = new.long ∙ k.whole;
-      forest = attached fs gs k.forest parent child root apart new;
+      forest = attached fs gs k.forest parent child spot root apart new;
       parents = λ s up is. ⊎_elim
           (λ at. subst (IsLiveIn S) (same_Some parent up (sym new.here ∙ (ap (parent_at gs) (sym at) ∙ is))) live)
           (λ ne. k.parents s up (sym (new.parents s ne) ∙ is)) (cases_eq s (slot_in child));
       children = λ s i c is. ⊎_elim
-          (λ at. ⊎_elim (λ old. k.children (slot_in parent) i c old)
-          (λ more. subst (IsLiveIn S) more.1 lives)
-          (get_pushed (children_at fs (slot_in parent)) i child c
-          (sym (ap (λ xs. slice_get xs i) (ap (children_at gs) at ∙ new.last)) ∙ is)))
+          (λ at. ⊎_elim (λ old. k.children (slot_in parent) old.0 c old.1)
+          (λ more. subst (IsLiveIn S) more lives)
+          (placed_from spot (children_at fs (slot_in parent)) i child c
+          (sym (ap (λ xs. slice_get xs i) (ap (children_at gs) at ∙ new.listed)) ∙ is)))
           (λ ne. k.children s i c (sym (ap (λ xs. slice_get xs i) (new.others s ne)) ∙ is))
           (cases_eq s (slot_in parent));
     }
@@ -221,9 +222,9 @@ module _ {T : Type 0} where
       (λ is. made_beside sound k.simple v l (pointer_in child) m n live (sym (ap (λ n. n.slot) is)))
 
   -- both: a new child
-  module _ {S R : State T} {fs : List (Family T)} (k : IsKept S fs) (sound : IsSound S) (v : T) (l : Location) (parent child : Node T)
+  module _ {S R : State T} {fs : List (Family T)} (k : IsKept S fs) (sound : IsSound S) (v : T) (l : Location) (parent child : Node T) (spot : Spot T)
       (m : Meets S (Make None v l) (Made (pointer_in child)) R) (live : IsLiveIn S parent)
-      (gs hs : List (Family T)) (o : IsOpened fs (slot_in child) gs) (a : IsAttached gs parent child hs) where
+      (gs hs : List (Family T)) (o : IsOpened fs (slot_in child) gs) (a : IsAttached gs parent spot child hs) where
     apart : slot_in parent ≢ slot_in child
     apart = made_beside sound k.simple v l (pointer_in child) m parent live
 
@@ -234,7 +235,7 @@ module _ {T : Type 0} where
     lone_child = opened_alone k sound v l (pointer_in child) m gs o
 
     pub kept_added : IsKept R hs
-    kept_added = kept_attached (kept_opened k sound v l (pointer_in child) m gs o) hs parent child
+    kept_added = kept_attached (kept_opened k sound v l (pointer_in child) m gs o) hs parent child spot
         (ap is_some (added_left k sound v l child m parent live) ∙ live)
         (ap is_some (made None v l (Ok child.raw) m)) (ap (λ x. slot_of x.parent) lone_child)
         (λ e under. apart (under_alone gs
@@ -249,11 +250,11 @@ module _ {T : Type 0} where
 
     pub added_parent : family_at hs (slot_in parent) ≡ record {
       parent = parent_at fs (slot_in parent);
-      children = children_at fs (slot_in parent) ++ child ∷ [];
+      children = placed spot child (children_at fs (slot_in parent));
     }
     added_parent = λ i. record {
       parent = (a.parents (slot_in parent) apart ∙ ap (λ x. x.parent) (same (slot_in parent))) i;
-      children = (a.last ∙ ap (λ x. x.children ++ child ∷ []) (same (slot_in parent))) i;
+      children = (a.listed ∙ ap (λ x. placed spot child x.children) (same (slot_in parent))) i;
     }
 
     pub added_beside : (s : ℕ) → s ≢ slot_in child → s ≢ slot_in parent

@@ -6,6 +6,7 @@ pub mod Keeping
 pub mod Losing
 pub mod Moving
 pub mod Paths
+pub mod Spotting
 pub mod Stores
 pub mod Trees
 pub mod Walking

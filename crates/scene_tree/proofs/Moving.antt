@@ -1,20 +1,40 @@
--- A tree in which a node was moved below another.
-use Rattle.std.proofs.Common.{◌≡◌, ◌≢◌, ◌++◌, ◌∷◌, [], ℕ, zero, suc, List, Some, sym, ap, ◌∙◌, ⊎_elim}
+-- A tree in which a node was moved, or was made a root.
+use Rattle.std.proofs.Common.{◌≡◌, ◌≢◌, ℕ, zero, suc, List, Some, true, sym, ap, subst, ◌∙◌, ⊎_elim}
+use Rattle.std.specs.Prelude.{IfOk, Result, Ok, Err}
 use Rattle.std.proofs.lemmas.Bool.{cases_eq}
-use Rattle.std.proofs.lemmas.Option.{none-some}
+use Rattle.std.proofs.lemmas.Option.{none-some, same_Some}
 use Rattle.generational_core.specs.State.{State, IsSound}
 use Rattle.scene_tree.specs.declared.node.Node.{Node}
+use Rattle.scene_tree.specs.declared.spot.Spot.{Spot}
+use Rattle.scene_tree.specs.declared.spot.Spot.TheVariants as spot
 use Rattle.scene_tree.specs.Families.{Family, IsAttached, IsDetached, IsUnder, above, children_at, parent_at, slot_of}
 use Rattle.scene_tree.specs.Keeping.{IsKept, IsLiveIn}
 use Rattle.scene_tree.specs.Nodes.{IsOther, slot_in, without}
+use Rattle.scene_tree.specs.Spots.{named, placed}
+use Rattle.scene_tree.specs.Trees.{CanMove, TreeState, is_live, parent_for}
 use Rattle.scene_tree.proofs.Counting.{same_without}
 use Rattle.scene_tree.proofs.Forests.{above_parent, slot_cases}
 use Rattle.scene_tree.proofs.Keeping.{kept_attached, kept_detached}
 use Rattle.scene_tree.proofs.Stores.{one_live}
 
+module _ {T : Type 0} {S : State T} {fs gs : List (Family T)} (sound : IsSound S)
+    (k : IsKept S fs) (node : Node T) (live : IsLiveIn S node) (d : IsDetached fs node gs) where
+  -- each other node has the parent that it had, and each but its parent the children
+  pub freed_parents : (n : Node T) → IsLiveIn S n → IsOther node n
+      → parent_at gs (slot_in n) ≡ parent_at fs (slot_in n)
+  freed_parents n living other =
+      d.parents (slot_in n) (λ is. other (one_live S node n sound k.simple live living (sym is)))
+
+  pub freed_others : (n : Node T) → IsLiveIn S n
+      → ((up : Node T) → parent_at fs (slot_in node) ≡ Some up → IsOther up n)
+      → children_at gs (slot_in n) ≡ children_at fs (slot_in n)
+  freed_others n living beside =
+      d.others (slot_in n) (λ is. let p = above_parent fs (slot_in node) (slot_in n) is in
+      beside p.0 p.1 (one_live S p.0 n sound k.simple (k.parents (slot_in node) p.0 p.1) living p.2))
+
 module _ {T : Type 0} {S : State T} {fs gs hs : List (Family T)} (sound : IsSound S)
-    (k : IsKept S fs) (node parent : Node T) (live : IsLiveIn S node) (lives : IsLiveIn S parent)
-    (d : IsDetached fs node gs) (a : IsAttached gs parent node hs) where
+    (k : IsKept S fs) (node parent : Node T) (spot : Spot T) (live : IsLiveIn S node) (lives : IsLiveIn S parent)
+    (d : IsDetached fs node gs) (a : IsAttached gs parent spot node hs) where
   -- what is under the node once it is detached was so before
   under_before : (e s : ℕ) → IsUnder gs (slot_in node) e s → IsUnder fs (slot_in node) e s
   under_before zero s under = under
@@ -27,13 +47,13 @@ module _ {T : Type 0} {S : State T} {fs gs hs : List (Family T)} (sound : IsSoun
       )) (cases_eq s (slot_in node))
 
   pub kept_moved : ((e : ℕ) → IsUnder fs (slot_in node) e (slot_in parent) → ⊥) → IsKept S hs
-  kept_moved apart = kept_attached (kept_detached k sound gs node live d) hs parent node lives live
+  kept_moved apart = kept_attached (kept_detached k sound gs node live d) hs parent node spot lives live
       (ap slot_of d.here) (λ e under. apart e (under_before e (slot_in parent) under)) a
 
-  -- the node is the last child, and was taken out from where it stood
-  pub moved_last : children_at hs (slot_in parent)
-      ≡ without node (children_at fs (slot_in parent)) ++ node ∷ []
-  moved_last = a.last ∙ ap (λ xs. xs ++ node ∷ []) (⊎_elim (λ here. d.lost (slot_in parent) here)
+  -- the node is at its spot, and was taken out from where it stood
+  pub moved_placed : children_at hs (slot_in parent)
+      ≡ placed spot node (without node (children_at fs (slot_in parent)))
+  moved_placed = a.listed ∙ ap (placed spot node) (⊎_elim (λ here. d.lost (slot_in parent) here)
       (λ other. d.others (slot_in parent) other
       ∙ sym (same_without node (children_at fs (slot_in parent))
       (k.forest.only (slot_in node) (slot_in parent) other)))
@@ -53,13 +73,38 @@ module _ {T : Type 0} {S : State T} {fs gs hs : List (Family T)} (sound : IsSoun
       → ((up : Node T) → parent_at fs (slot_in node) ≡ Some up → IsOther up n)
       → children_at hs (slot_in n) ≡ children_at fs (slot_in n)
   moved_others n living other beside = a.others (slot_in n) (not_parent n living other)
-      ∙ d.others (slot_in n) (λ is. let p = above_parent fs (slot_in node) (slot_in n) is in
-      beside p.0 p.1 (one_live S p.0 n sound k.simple (k.parents (slot_in node) p.0 p.1) living p.2))
+      ∙ freed_others sound k node live d n living beside
 
   -- each other node has the parent that it had
   pub moved_parents : (n : Node T) → IsLiveIn S n → IsOther node n
       → parent_at hs (slot_in n) ≡ parent_at fs (slot_in n)
   moved_parents n living other =
-      let ne : slot_in n ≢ slot_in node =
-      λ is. other (one_live S node n sound k.simple live living (sym is)) in
-      a.parents (slot_in n) ne ∙ d.parents (slot_in n) ne
+      a.parents (slot_in n) (λ is. other (one_live S node n sound k.simple live living (sym is)))
+      ∙ freed_parents sound k node live d n living other
+
+-- what may be put beside a sibling may become a child of its parent
+pub move_within : {T : Type 0} (t : TreeState T) (node : Node T) (at : Spot T) (up : Node T)
+    → CanMove t node (named at) → is_live t up ≡ true → parent_for t at ≡ Some up → CanMove t node up
+move_within t node (spot.FirstOf parent) up may live is = subst (CanMove t node) (same_Some parent up is) may
+move_within t node (spot.LastOf parent) up may live is = subst (CanMove t node) (same_Some parent up is) may
+move_within t node (spot.Before sibling) up may live is = record {
+  node = may.node;
+  parent = live;
+  apart = λ below. may.apart (suc below.0, (up, is, below.1));
+}
+move_within t node (spot.After sibling) up may live is = record {
+  node = may.node;
+  parent = live;
+  apart = λ below. may.apart (suc below.0, (up, is, below.1));
+}
+
+-- what follows of a value from two facts on it
+pub ok_both : {X E : Type 0} {P Q R : X → Type 0} (r : Result X E) → ((x : X) → P x → Q x → R x)
+    → IfOk r P → IfOk r Q → IfOk r R
+ok_both (Ok x) f p q = f x p q
+ok_both (Err e) f p q = tt
+
+pub ok_map : {X E : Type 0} {P Q : X → Type 0} (r : Result X E) → ((x : X) → P x → Q x)
+    → IfOk r P → IfOk r Q
+ok_map (Ok x) f p = f x p
+ok_map (Err e) f p = tt

@@ -63,6 +63,10 @@ module _ {T : Type 0} where
 pub never : {X : Type 0} {x : Option X} → is_some x ≡ true → x ≡ None → ⊥
 never there none = true≢false (sym there ∙ ap is_some none)
 
+pub missing : {X : Type 0} (x : Option X) → is_some x ≡ false → x ≡ None
+missing None none = refl
+missing (Some v) none = absurd (true≢false none)
+
 -- what stands in two lists in a row stands in one of them
 get_both : {X : Type 0} (xs ys : List X) (i : ℕ) (x : X) → slice_get (xs ++ ys) i ≡ Some x
     → ((j : ℕ) × (slice_get xs j ≡ Some x)) ⊎ ((j : ℕ) × (slice_get ys j ≡ Some x))
@@ -127,7 +131,7 @@ module _ {T : Type 0} where
 
     -- ---- the tree
 
-    rooted_in : (d : ℕ) (n : Node T) → IsLiveIn S n → IsRooted fs d (slot_in n) → IsRootedIn tree d n
+    pub rooted_in : (d : ℕ) (n : Node T) → IsLiveIn S n → IsRooted fs d (slot_in n) → IsRootedIn tree d n
     rooted_in zero n live r = ⊎_elim (λ is. live_parent n live ∙ is)
         (λ some. absurd (none-some (slot_in some.0) (sym r ∙ ap slot_of some.1)))
         (parent_cases (parent_at fs (slot_in n)) refl)

@@ -6,7 +6,9 @@ use Rattle.std.specs.Vec.{vec_capacity}
 use Rattle.std.specs.List.{count_by, flat_map}
 use Rattle.scene_tree.specs.declared.links.Links.{Links}
 use Rattle.scene_tree.specs.declared.node.Node.{Node}
+use Rattle.scene_tree.specs.declared.spot.Spot.{Spot}
 use Rattle.scene_tree.specs.Nodes.{slot_in, without}
+use Rattle.scene_tree.specs.Spots.{placed}
 
 -- a node's parent, if it has one, and its children in order
 pub record Family (T : Type 0) : Type 0 where
@@ -86,13 +88,13 @@ module _ {T : Type 0} where
     pub old : slot < length before → after ≡ before
     pub next : slot ≡ length before → after ≡ before ++ alone ∷ []
 
-  -- a node was made the last child of another
-  pub record IsAttached (before : List (Family T)) (parent child : Node T) (after : List (Family T)) : Type 0 where
+  -- a node was made a child of another, at a spot among its children
+  pub record IsAttached (before : List (Family T)) (parent : Node T) (spot : Spot T) (child : Node T) (after : List (Family T)) : Type 0 where
     pub long : length after ≡ length before
     pub here : parent_at after (slot_in child) ≡ Some parent
     pub parents : (s : ℕ) → s ≢ slot_in child → parent_at after s ≡ parent_at before s
-    pub last : children_at after (slot_in parent)
-        ≡ children_at before (slot_in parent) ++ child ∷ []
+    pub listed : children_at after (slot_in parent)
+        ≡ placed spot child (children_at before (slot_in parent))
     pub others : (s : ℕ) → s ≢ slot_in parent → children_at after s ≡ children_at before s
 
   -- a node was taken out of its parent's children, if it had a parent

@@ -1,6 +1,7 @@
 pub mod Families
 pub mod Keeping
 pub mod Nodes
+pub mod Spots
 pub mod Texts
 pub mod Trees
 pub mod Walking

@@ -7,6 +7,8 @@ use Rattle.generational_core.specs.Boxes.{name_of}
 use Rattle.generational_core.specs.Seeing.{value_in}
 use Rattle.generational_core.specs.State.{State, IsGiven}
 use Rattle.scene_tree.specs.declared.node.Node.{Node}
+use Rattle.scene_tree.specs.declared.spot.Spot.{Spot}
+use Rattle.scene_tree.specs.declared.spot.Spot.TheVariants as spot
 use Rattle.scene_tree.specs.Families.{Family, alone, family_at}
 use Rattle.scene_tree.specs.Nodes.{IsOther, IsSame, pointer_in, slot_in, times}
 
@@ -40,6 +42,13 @@ module _ {T : Type 0} where
 
   abbrev pub children_of : TreeState T → Node T → List (Node T)
   children_of t n = (family_of t n).children
+
+  -- the parent of what is put at a spot: a sibling has it, if it has one
+  abbrev pub parent_for : TreeState T → Spot T → Option (Node T)
+  parent_for t (spot.FirstOf parent) = Some parent
+  parent_for t (spot.LastOf parent) = Some parent
+  parent_for t (spot.Before sibling) = parent_of t sibling
+  parent_for t (spot.After sibling) = parent_of t sibling
 
   -- from one tree to another a node is left: it shows what it showed, and has the family that it had
   pub record IsLeft (old : TreeState T) (n : Node T) (new : TreeState T) : Type 0 where

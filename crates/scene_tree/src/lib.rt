@@ -8,9 +8,11 @@
 
 mod links;
 mod node;
+mod spot;
 mod tree;
 mod walk;
 
 pub use crate::node::{Node, Stale, TreeError};
+pub use crate::spot::Spot;
 pub use crate::tree::SceneTree;
 pub use crate::walk::Ancestors;

@@ -5,10 +5,12 @@ ghost use Rattle.std.specs.Vec.{vec_capacity};
 ghost use Rattle.scene_tree.specs.Nodes.{slot_in, without};
 ghost use Rattle.scene_tree.specs.Families.{families, family_at, parent_at, children_at, above, alone};
 ghost use Rattle.scene_tree.specs.Families.{IsForest, IsInLevels, IsUnder, IsOpened, IsAttached};
-ghost use Rattle.scene_tree.specs.Families.{IsDetached, IsCleared, count_at, HasRoom, HasSpace};
+ghost use Rattle.scene_tree.specs.Families.{IsDetached, IsCleared, IsRooted, count_at, HasRoom, HasSpace};
+ghost use Rattle.scene_tree.specs.Spots.{placed};
 ghost use Rattle.scene_tree.specs.declared.node.Node.{Node};
 
 use crate::node::Node;
+use crate::spot::Spot;
 use std::alloc::{AllocError, Global};
 
 /// The parent and the children of a slot's node.
@@ -60,14 +62,14 @@ pub(crate) fn open_slot<T>(alloc: Global, links: &mut Vec<Links<T>>, slot: usize
     }
 }
 
-/// Makes one node the last child of another.
-pub(crate) fn attach<T>(links: &mut Vec<Links<T>>, parent: Node<T>, child: Node<T>)
+/// Makes one node a child of another, at a spot among its children.
+pub(crate) fn attach<T>(links: &mut Vec<Links<T>>, parent: Node<T>, spot: Spot<T>, child: Node<T>)
     requires room { HasRoom links.old.items (slot_in parent) }
     requires child { slot_in child < length links.old.items }
-    ensures { IsAttached (families links.old.items) parent child (families links.new.items) }
+    ensures { IsAttached (families links.old.items) parent spot child (families links.new.items) }
 {
     set_parent(links, child.slot(), Some(parent));
-    push_child(links, parent.slot(), child);
+    insert_child(links, parent.slot(), spot, child);
 }
 
 /// Takes a node out of its parent's children, if it has a parent.
@@ -99,18 +101,27 @@ fn set_parent<T>(links: &mut Vec<Links<T>>, slot: usize, parent: Option<Node<T>>
     links[slot].parent = parent;
 }
 
-// Adds a child at the end of those of a slot's node.
-fn push_child<T>(links: &mut Vec<Links<T>>, slot: usize, child: Node<T>)
+// Puts a child at a spot among those of a slot's node.
+fn insert_child<T>(links: &mut Vec<Links<T>>, slot: usize, spot: Spot<T>, child: Node<T>)
     requires room { HasRoom links.old.items slot }
     ensures length { length links.new.items ≡ length links.old.items }
-    ensures last { children_at (families links.new.items) slot
-        ≡ children_at (families links.old.items) slot ++ child ∷ [] }
+    ensures listed { children_at (families links.new.items) slot
+        ≡ placed spot child (children_at (families links.old.items) slot) }
     ensures others { (s : ℕ) → s ≢ slot →
         children_at (families links.new.items) s ≡ children_at (families links.old.items) s }
     ensures parents { (s : ℕ) →
         parent_at (families links.new.items) s ≡ parent_at (families links.old.items) s }
 {
-    links[slot].children.push_reserved(child);
+    insert_node(&mut links[slot].children, spot, child);
+}
+
+// Puts a node at a spot in a list.
+fn insert_node<T>(list: &mut Vec<Node<T>>, spot: Spot<T>, node: Node<T>)
+    requires room { HasSpace list.old }
+    ensures { list.new.items ≡ placed spot node list.old.items }
+{
+    let index = spot.index_in(list.as_slice());
+    let _room_was_reserved = list.insert(index, node);
 }
 
 // Takes a node out of the children of a slot's node.
@@ -175,6 +186,23 @@ pub(crate) fn is_under<T>(links: &Vec<Links<T>>, slot: usize, top: usize) -> boo
         match parent_at(links, at) {
             Some(parent) => at = parent.slot(),
             None => return false,
+        }
+    }
+    unreachable!()
+}
+
+/// How many steps a root is above a slot.
+pub(crate) fn depth_at<T>(links: &Vec<Links<T>>, slot: usize) -> usize
+    requires forest { IsForest (families links.now.items) }
+    requires within { slot < length links.now.items }
+    ensures { IsRooted (families links.now.items) result slot }
+{
+    let mut at = slot;
+    // No way to a root is longer than there are slots.
+    for steps in 0..links.len() {
+        match parent_at(links, at) {
+            Some(parent) => at = parent.slot(),
+            None => return steps,
         }
     }
     unreachable!()

@@ -128,14 +128,16 @@ impl Error for Stale {}
 pub enum TreeError {
     /// The node is gone; it was made here.
     Stale(Location),
+    /// The node has no parent, so no sibling; it was made here.
+    NoParent(Location),
     /// The node would be below itself.
     Cycle,
     /// The store refused, or memory lacks.
     Store(StoreError),
 }
 
-/// Prints as `Stale` does where the node is gone, that the node would be below itself, or the text of
-/// the store's refusal.
+/// Prints as `Stale` does where the node is gone, that a node has no parent and where it was made, that
+/// the node would be below itself, or the text of the store's refusal.
 impl fmt::Display for TreeError {
     ghost use Rattle.scene_tree.specs.Texts.{tree_error_text};
 
@@ -144,6 +146,9 @@ impl fmt::Display for TreeError {
     fn fmt<W: fmt::Write>(&self, f: &mut fmt::Formatter<W>) -> fmt::Result {
         match self {
             TreeError::Stale(made_at) => { write!(f, "the node made at {made_at} is gone") }
+            TreeError::NoParent(made_at) => {
+                write!(f, "the node made at {made_at} has no parent")
+            }
             TreeError::Cycle => write!(f, "the node would be below itself"),
             TreeError::Store(cause) => write!(f, "{cause}"),
         }

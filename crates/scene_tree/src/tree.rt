@@ -3,6 +3,8 @@
 ghost use Rattle.std.specs.Prelude.{ℕ, ◌<◌, ◌≤◌, ◌+◌, true, length, slice_get};
 ghost use Rattle.std.specs.Prelude.{◌≡◌, ◌↔◌, ◌⊎◌, ◌++◌, ◌∷◌, [], None, Some, Err, is_some};
 ghost use Rattle.std.specs.Prelude.{IfOk, OnOk, IfErr, OnErr, IsErr};
+ghost use Rattle.std.specs.Borrow.{MutBor};
+ghost use Rattle.std.specs.Fn.{FnOnceReturnsAtMut};
 ghost use Rattle.generational_core.specs.Conditions.{IsFresh};
 ghost use Rattle.generational_errors.specs.declared.error.StoreError.TheVariants.{OutOfMemory};
 ghost use Rattle.scene_tree.specs.declared.node.Node.{Node};
@@ -13,13 +15,15 @@ ghost use Rattle.scene_tree.specs.Keeping.{HasLost, IsLiveIn};
 ghost use Rattle.scene_tree.specs.Nodes.{made_at, times, without, IsOther};
 ghost use Rattle.scene_tree.specs.Trees.{TreeState, value_of, is_live, family_of, parent_of};
 ghost use Rattle.scene_tree.specs.Trees.{children_of, WasMade, IsBelow, IsLeft, CanMove};
-ghost use Rattle.scene_tree.specs.Trees.{AreAncestors, IsSubtree, IsTree, count_of};
+ghost use Rattle.scene_tree.specs.Trees.{AreAncestors, IsRootedIn, IsSubtree, IsTree, count_of, parent_for};
+ghost use Rattle.scene_tree.specs.Spots.{named, placed};
 
 use crate::links::{
-    Links, attach, children_at, clear_all, detach, gather, is_under, open_slot, parent_at,
-    reserve_child, reserve_node, reserve_one,
+    Links, attach, children_at, clear_all, depth_at, detach, gather, is_under, open_slot,
+    parent_at, reserve_child, reserve_node, reserve_one,
 };
 use crate::node::{Node, Stale, TreeError};
+use crate::spot::Spot;
 use crate::walk::Ancestors;
 use generational_core::{GenerationalBox, Location, Refusal, Storage, StoreError};
 use std::alloc::Global;
@@ -131,9 +135,52 @@ impl<T, S: Storage<T>> SceneTree<T, S> {
         ensures back { IfErr result (λ back. back.0 ≡ value) }
         ensures refused { OnErr result (self.new ≡ self.old) }
     {
-        if !self.is_alive(parent) {
-            return Err((value, TreeError::Stale(parent.made_at())));
-        }
+        self.add_at(Spot::LastOf(parent), value, here)
+    }
+
+    /// A new node with this value, at a spot among the children of another, and without children. Its
+    /// handle is none that was ever given, and every other node is left.
+    ///
+    /// Refused, in this order: `Stale`, where the node that the spot names is gone, or is another tree's;
+    /// `NoParent`, where it is to be a sibling and has no parent; `Store` of `OutOfMemory`. The value
+    /// comes back then, and the tree stays as it was. Takes memory as `add_child` does. O(1) at the first
+    /// index but for moving the c children behind, and O(c) beside a sibling, but for finding room.
+    pub fn add_at(
+        &mut self,
+        spot: Spot<T>,
+        value: T,
+        here: Location,
+    ) -> Result<Node<T>, (T, TreeError)>
+        ensures shown { IfOk result (λ n. value_of self.new n ≡ Some value) }
+        ensures below { IfOk result (λ n. family_of self.new n
+            ≡ record { parent = parent_for self.old spot; children = [] }) }
+        ensures placed { IfOk result (λ n. (up : Node T) → parent_for self.old spot ≡ Some up →
+            (value_of self.new up ≡ value_of self.old up) × (family_of self.new up ≡ record {
+              parent = parent_of self.old up;
+              children = placed spot n (children_of self.old up);
+            })) }
+        ensures count { OnOk result (count_of self.new ≡ count_of self.old + 1) }
+        ensures others { IfOk result (λ n. (f : Node T) → IsOther n f →
+            ((up : Node T) → parent_for self.old spot ≡ Some up → IsOther up f) →
+            IsLeft self.old f self.new) }
+        ensures new { IfOk result (λ n. WasMade self.old n → ⊥) }
+        ensures made { IfOk result (λ n. WasMade self.new n) }
+        ensures here { IfOk result (λ n. made_at n ≡ here) }
+        ensures kept { (f : Node T) → WasMade self.old f → WasMade self.new f }
+        ensures stale { value_of self.old (named spot) ≡ None →
+            result ≡ Err (value, error.Stale (made_at (named spot))) }
+        ensures root { is_live self.old (named spot) ≡ true → parent_for self.old spot ≡ None →
+            result ≡ Err (value, error.NoParent (made_at (named spot))) }
+        ensures short { IfErr result (λ back. (value_of self.old (named spot) ≡ None)
+            ⊎ (parent_for self.old spot ≡ None)
+            ⊎ (back.1 ≡ error.Store OutOfMemory)) }
+        ensures back { IfErr result (λ back. back.0 ≡ value) }
+        ensures refused { OnErr result (self.new ≡ self.old) }
+    {
+        let parent = match self.parent_for(spot) {
+            Ok(parent) => parent,
+            Err(error) => return Err((value, error)),
+        };
         if !reserve_node(&mut self.links, parent.slot()) {
             return Err((value, TreeError::Store(StoreError::OutOfMemory)));
         }
@@ -143,8 +190,61 @@ impl<T, S: Storage<T>> SceneTree<T, S> {
         };
         let child = Node { raw };
         open_slot(self.alloc, &mut self.links, child.slot());
-        attach(&mut self.links, parent, child);
+        attach(&mut self.links, parent, spot, child);
         Ok(child)
+    }
+
+    // The parent of what is put at a spot.
+    fn parent_for(&self, spot: Spot<T>) -> Result<Node<T>, TreeError>
+        ensures parent { IfOk result (λ up. parent_for self.now spot ≡ Some up) }
+        ensures live { IfOk result (λ up. is_live self.now up ≡ true) }
+        ensures stale { value_of self.now (named spot) ≡ None →
+            result ≡ Err (error.Stale (made_at (named spot))) }
+        ensures root { is_live self.now (named spot) ≡ true → parent_for self.now spot ≡ None →
+            result ≡ Err (error.NoParent (made_at (named spot))) }
+        ensures why { IfErr result (λ e. (value_of self.now (named spot) ≡ None)
+            ⊎ (parent_for self.now spot ≡ None)) }
+    {
+        match spot {
+            Spot::FirstOf(parent) => self.if_alive(parent),
+            Spot::LastOf(parent) => self.if_alive(parent),
+            Spot::Before(sibling) => self.parent_or(sibling),
+            Spot::After(sibling) => self.parent_or(sibling),
+        }
+    }
+
+    // A node, if it is live.
+    fn if_alive(&self, node: Node<T>) -> Result<Node<T>, TreeError>
+        ensures same { IfOk result (λ n. n ≡ node) }
+        ensures live { OnOk result (is_live self.now node ≡ true) }
+        ensures stale { IfErr result (λ e. e ≡ error.Stale (made_at node)) }
+        ensures gone { OnErr result (value_of self.now node ≡ None) }
+    {
+        if self.is_alive(node) {
+            Ok(node)
+        } else {
+            Err(TreeError::Stale(node.made_at()))
+        }
+    }
+
+    // A node's parent.
+    fn parent_or(&self, node: Node<T>) -> Result<Node<T>, TreeError>
+        ensures parent { IfOk result (λ up. parent_of self.now node ≡ Some up) }
+        ensures live { IfOk result (λ up. is_live self.now up ≡ true) }
+        ensures stale { value_of self.now node ≡ None → result ≡ Err (error.Stale (made_at node)) }
+        ensures root { is_live self.now node ≡ true → parent_of self.now node ≡ None →
+            result ≡ Err (error.NoParent (made_at node)) }
+        ensures why { OnErr result ((value_of self.now node ≡ None)
+            ⊎ (parent_of self.now node ≡ None)) }
+    {
+        let links = &self.links;
+        if !self.is_alive(node) {
+            return Err(TreeError::Stale(node.made_at()));
+        }
+        match parent_at(links, node.slot()) {
+            Some(parent) => Ok(parent),
+            None => Err(TreeError::NoParent(node.made_at())),
+        }
     }
 
     /// Puts another value in the place of a node's, which is let go. Every other node is left, and
@@ -173,6 +273,33 @@ impl<T, S: Storage<T>> SceneTree<T, S> {
         }
         node.raw.set(&mut self.store, value);
         Ok(())
+    }
+
+    /// Changes a node's value in its place, by a closure that is called once on it, and answers what that
+    /// answers. Every other node is left, and the node has the family that it had.
+    ///
+    /// Refused where the node is gone, or is another tree's: the closure isn't called, and the tree stays
+    /// as it was. Takes no memory, and is O(1), but for the closure.
+    pub fn update<R, F: FnOnce(&mut T) -> R>(&mut self, node: Node<T>, f: F) -> Result<R, Stale>
+        requires { (value : MutBor T) → value_of self.old node ≡ Some value.now → F.pre f value }
+        ensures changed { IfOk result (λ answer. (old : T) × (changed : T) ×
+            (value_of self.old node ≡ Some old) ×
+            FnOnceReturnsAtMut F.FnOnce f old answer changed ×
+            (value_of self.new node ≡ Some changed)) }
+        ensures family { family_of self.new node ≡ family_of self.old node }
+        ensures count { count_of self.new ≡ count_of self.old }
+        ensures others { (n : Node T) → IsOther node n → IsLeft self.old n self.new }
+        ensures kept { (n : Node T) → WasMade self.old n → WasMade self.new n }
+        ensures stale { IsErr result ↔ value_of self.old node ≡ None }
+        ensures told { IfErr result (λ stale. stale.made_at ≡ made_at node) }
+        ensures refused { OnErr result (self.new ≡ self.old) }
+    {
+        let Some(answer) = node.raw.with_mut(&mut self.store, f) else {
+            return Err(Stale {
+                made_at: node.made_at(),
+            });
+        };
+        Ok(answer)
     }
 
     /// A node's value. The tree is lent meanwhile.
@@ -239,6 +366,23 @@ impl<T, S: Storage<T>> SceneTree<T, S> {
             });
         }
         Ok(Ancestors::new(links, parent_at(links, node.slot())))
+    }
+
+    /// How many steps a node is below its root: as many as it has ancestors, none at a root.
+    ///
+    /// Refused where the node is gone, or is another tree's. Takes no memory, and O(d) time for d steps.
+    pub fn depth(&self, node: Node<T>) -> Result<usize, Stale>
+        ensures depth { IfOk result (λ steps. IsRootedIn self.now steps node) }
+        ensures stale { IsErr result ↔ value_of self.now node ≡ None }
+        ensures told { IfErr result (λ stale. stale.made_at ≡ made_at node) }
+    {
+        let links = &self.links;
+        if !self.is_alive(node) {
+            return Err(Stale {
+                made_at: node.made_at(),
+            });
+        }
+        Ok(depth_at(links, node.slot()))
     }
 
     /// A node's children, in order.
@@ -312,13 +456,100 @@ impl<T, S: Storage<T>> SceneTree<T, S> {
             ⊎ (e ≡ error.Store OutOfMemory)) }
         ensures refused { OnErr result (self.new ≡ self.old) }
     {
-        self.test_move(node, parent)?;
+        self.move_at(node, Spot::LastOf(parent))
+    }
+
+    /// Moves a node with all below it to a spot among the children of another. Its parent loses this
+    /// one child, all below it stays where it is, and every node shows what it showed.
+    ///
+    /// Refused, in this order: `Stale`, where the node is gone, or is another tree's; `Stale`, where
+    /// the node that the spot names is; `Cycle`, where that is the node or below it; `NoParent`, where it
+    /// is to be a sibling and has no parent; `Store` of `OutOfMemory`. The tree stays as it was then. Takes
+    /// memory where the new parent's children have no room, and O(d + c) time for d steps from the spot to
+    /// the root and c children of both parents, but for finding room.
+    pub fn move_at(&mut self, node: Node<T>, spot: Spot<T>) -> Result<(), TreeError>
+        ensures state { self.new.state ≡ self.old.state }
+        ensures moved { OnOk result (parent_of self.new node ≡ parent_for self.old spot) }
+        ensures placed { OnOk result ((up : Node T) → parent_for self.old spot ≡ Some up →
+            children_of self.new up ≡ placed spot node (without node (children_of self.old up))) }
+        ensures lost { OnOk result ((up : Node T) → parent_of self.old node ≡ Some up →
+            ((to : Node T) → parent_for self.old spot ≡ Some to → IsOther to up) →
+            children_of self.new up ≡ without node (children_of self.old up)) }
+        ensures parents { (n : Node T) → IsOther node n →
+            parent_of self.new n ≡ parent_of self.old n }
+        ensures others { (n : Node T) →
+            ((to : Node T) → parent_for self.old spot ≡ Some to → IsOther to n) →
+            ((up : Node T) → parent_of self.old node ≡ Some up → IsOther up n) →
+            children_of self.new n ≡ children_of self.old n }
+        ensures gone { value_of self.old node ≡ None → result ≡ Err (error.Stale (made_at node)) }
+        ensures stale { is_live self.old node ≡ true → value_of self.old (named spot) ≡ None →
+            result ≡ Err (error.Stale (made_at (named spot))) }
+        ensures cycle { is_live self.old node ≡ true → IsBelow self.old node (named spot) →
+            result ≡ Err error.Cycle }
+        ensures root { CanMove self.old node (named spot) → parent_for self.old spot ≡ None →
+            result ≡ Err (error.NoParent (made_at (named spot))) }
+        ensures short { IfErr result (λ e. (value_of self.old node ≡ None)
+            ⊎ (value_of self.old (named spot) ≡ None)
+            ⊎ IsBelow self.old node (named spot)
+            ⊎ (parent_for self.old spot ≡ None)
+            ⊎ (e ≡ error.Store OutOfMemory)) }
+        ensures refused { OnErr result (self.new ≡ self.old) }
+    {
+        let parent = self.parent_moved(node, spot)?;
         if !reserve_child(&mut self.links, parent.slot()) {
             return Err(TreeError::Store(StoreError::OutOfMemory));
         }
         detach(&mut self.links, node);
-        attach(&mut self.links, parent, node);
+        attach(&mut self.links, parent, spot, node);
         Ok(())
+    }
+
+    /// Makes a node a root, with all below it: its parent loses this one child, all below it stays where
+    /// it is, and every node shows what it showed. A root stays as it is.
+    ///
+    /// Refused where the node is gone, or is another tree's: the tree stays as it was. Takes no memory,
+    /// and O(c) time for c children of the parent.
+    pub fn detach(&mut self, node: Node<T>) -> Result<(), Stale>
+        ensures state { self.new.state ≡ self.old.state }
+        ensures root { OnOk result (parent_of self.new node ≡ None) }
+        ensures lost { OnOk result ((up : Node T) → parent_of self.old node ≡ Some up →
+            children_of self.new up ≡ without node (children_of self.old up)) }
+        ensures parents { (n : Node T) → IsOther node n →
+            parent_of self.new n ≡ parent_of self.old n }
+        ensures others { (n : Node T) →
+            ((up : Node T) → parent_of self.old node ≡ Some up → IsOther up n) →
+            children_of self.new n ≡ children_of self.old n }
+        ensures stale { IsErr result ↔ value_of self.old node ≡ None }
+        ensures told { IfErr result (λ stale. stale.made_at ≡ made_at node) }
+        ensures refused { OnErr result (self.new ≡ self.old) }
+    {
+        if !self.is_alive(node) {
+            return Err(Stale {
+                made_at: node.made_at(),
+            });
+        }
+        detach(&mut self.links, node);
+        Ok(())
+    }
+
+    // The parent that a node gets by a move to a spot, or why it can't be moved there.
+    fn parent_moved(&self, node: Node<T>, spot: Spot<T>) -> Result<Node<T>, TreeError>
+        ensures parent { IfOk result (λ up. parent_for self.now spot ≡ Some up) }
+        ensures may { IfOk result (λ up. CanMove self.now node up) }
+        ensures gone { value_of self.now node ≡ None → result ≡ Err (error.Stale (made_at node)) }
+        ensures stale { is_live self.now node ≡ true → value_of self.now (named spot) ≡ None →
+            result ≡ Err (error.Stale (made_at (named spot))) }
+        ensures cycle { is_live self.now node ≡ true → IsBelow self.now node (named spot) →
+            result ≡ Err error.Cycle }
+        ensures root { CanMove self.now node (named spot) → parent_for self.now spot ≡ None →
+            result ≡ Err (error.NoParent (made_at (named spot))) }
+        ensures why { OnErr result ((value_of self.now node ≡ None)
+            ⊎ (value_of self.now (named spot) ≡ None)
+            ⊎ IsBelow self.now node (named spot)
+            ⊎ (parent_for self.now spot ≡ None)) }
+    {
+        self.test_move(node, spot.node())?;
+        self.parent_for(spot)
     }
 
     // Whether a node may become a child of another, or why not.

@@ -1,16 +1,17 @@
-use Rattle.std.proofs.Common.{refl, sym, ap, ◌∙◌, ◌++◌, ◌∷◌, []}
+use Rattle.std.proofs.Common.{refl, sym, ap, ◌∙◌}
 use Rattle.std.proofs.lemmas.Option.{slice_get_within}
+use Rattle.scene_tree.specs.Spots.{placed}
 use Rattle.scene_tree.proofs.Writes.{beside, read, same_part, written}
-use Rattle.scene_tree.proofs.links.push_child.Goals as goal
+use Rattle.scene_tree.proofs.links.insert_child.Goals as goal
 
-pub returns-clause-last : goal.returns-clause-last
-returns-clause-last g c =
+pub returns-clause-listed : goal.returns-clause-listed
+returns-clause-listed g c =
     let links = c.args.links.now.items in
     let lt = slice_get_within links c.args.slot c.requires.room.0 c.requires.room.1 in
     let old = c.index_mut.result.now in
-    ap (λ f. f.children) (written links c.args.slot (record old { children = c.push_reserved.new.self }) lt)
-    ∙ (c.push_reserved.ensures.items
-    ∙ ap (λ f. f.children ++ c.args.child ∷ []) (sym (read links c.args.slot old lt c.index_mut.ensures.value)))
+    ap (λ f. f.children) (written links c.args.slot (record old { children = c.insert_node.new.list }) lt)
+    ∙ (c.insert_node.ensures
+    ∙ ap (λ f. placed c.args.spot c.args.child f.children) (sym (read links c.args.slot old lt c.index_mut.ensures.value)))
 
 pub returns-clause-others : goal.returns-clause-others
 returns-clause-others g c s other = ap (λ f. f.children) (beside _ _ _ s other)

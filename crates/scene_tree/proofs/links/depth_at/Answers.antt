@@ -1,0 +1,35 @@
+use Rattle.std.proofs.Common.{arith, ap, sym, subst, ◌<◌, ◌≡◌, ◌∙◌, Some, length, suc}
+use Rattle.std.proofs.lemmas.List.{length-map}
+use Rattle.scene_tree.specs.Families.{IsRooted, above, families, family_in, slot_of}
+use Rattle.scene_tree.proofs.Gathering.{above_within}
+use Rattle.scene_tree.proofs.Paths.{depth_within, rooted_up}
+use Rattle.scene_tree.proofs.links.depth_at.Goals as goal
+
+pub loop-steps-init : goal.loop-steps-init
+loop-steps-init g c =
+    let fs = families c.args.links.now.items in
+    let len = length-map c.args.links.now.items family_in in
+    let r = c.requires.forest.rooted c.args.slot in
+    let lt : c.args.slot < length fs = omega (arith, len, c.requires.within) in
+    let far = depth_within fs (length fs) (above_within fs c.requires.forest) r.0 c.args.slot r.1 lt in
+    record { rooted = (r.0, omega (arith, far, len), r.1); deeper = λ d down. subst (λ n. IsRooted fs n c.args.slot) (omega arith) down }
+
+pub loop-steps-preserved : goal.loop-steps-preserved
+loop-steps-preserved g c =
+    let fs = families c.args.links.now.items in
+    let up : above fs c.loop-steps.at ≡ Some c.slot-at.result =
+    ap slot_of (sym c.parent_at.ensures ∙ c.in-Some.is) ∙ ap Some (sym c.slot-at.ensures) in
+    let r = c.loop-steps.invariant.rooted in
+    let lt = r.1 in
+    let less = rooted_up fs r.0 c.loop-steps.at c.slot-at.result up r.2 in
+    let one = less.1 in record {
+      rooted = (less.0, omega (arith, lt, one), less.2);
+      deeper = λ d down. subst (λ n. IsRooted fs n c.args.slot) (omega arith)
+          (c.loop-steps.invariant.deeper (suc d) (c.slot-at.result, up, down));
+    }
+
+pub returns-in-None : goal.returns-in-None
+returns-in-None g c =
+    let fs = families c.args.links.now.items in
+    subst (λ n. IsRooted fs n c.args.slot) (omega arith)
+    (c.loop-steps.invariant.deeper 0 (ap slot_of (sym c.parent_at.ensures ∙ c.in-None.is)))

@@ -1,0 +1,69 @@
+use Rattle.std.proofs.Common.{sym, ap, refl, ◌∙◌}
+use Rattle.std.specs.Prelude.{is_some}
+use Rattle.std.proofs.lemmas.Bool.{true≢false}
+use Rattle.std.proofs.lemmas.Option.{none-some}
+use Rattle.generational_core.proofs.machine.Calling.{seen_reached, sets}
+use Rattle.generational_core.proofs.machine.Leaving.{same_value}
+use Rattle.generational_core.proofs.machine.Stepping.{meets_given}
+use Rattle.generational_core.proofs.machine.Unborrowed.{quiet_sees}
+use Rattle.generational_sessions.proofs.callers.PlainStores.{reach_apart}
+use Rattle.generational_sessions.proofs.callers.Ids.{others_left, seen_store}
+use Rattle.generational_sessions.proofs.callers.SimpleStores.{set_seen, simple_still}
+use Rattle.scene_tree.specs.Nodes.{pointer_in}
+use Rattle.scene_tree.proofs.Keeping.{kept_still}
+use Rattle.scene_tree.proofs.Stores.{same_slots, set_count}
+use Rattle.scene_tree.proofs.Trees.{left_with, live_family, missing}
+use Rattle.scene_tree.proofs.tree.SceneTree.update.Goals as goal
+
+pub invariant_of-self-2 : goal.invariant_of-self-2
+invariant_of-self-2 g c =
+    let sound = g.met.S.AnyStorage.sound in
+    let set = c.in-Some.ensures.changed.set in
+    kept_still c.self.invariant (simple_still (sound _) c.self.invariant.simple _ _ set tt tt)
+    (same_slots _ _ refl set)
+    (λ n. set_seen (sound _) c.self.invariant.simple.unborrowed _ _ _ set (pointer_in n))
+
+pub returns-clause-changed : goal.returns-clause-changed
+returns-clause-changed g c =
+    let changed = c.in-Some.ensures.changed in
+    rw (← c.self.view_is) (
+      changed.old,
+      changed.new,
+      (sets _ _ _ changed.set).0,
+      changed.called,
+      (sets _ _ _ changed.set).2 _ refl,
+    )
+
+pub returns-clause-family : goal.returns-clause-family
+returns-clause-family g c =
+    let set = c.in-Some.ensures.changed.set in
+    rw (← c.self.view_is) (live_family _ c.args.node (ap is_some ((sets _ _ _ set).2 _ refl))
+    ∙ sym (live_family _ c.args.node (ap is_some (sets _ _ _ set).0)))
+
+pub returns-clause-others : goal.returns-clause-others
+returns-clause-others g c n other =
+    let sound = g.met.S.AnyStorage.sound in
+    let set = c.in-Some.ensures.changed.set in
+    let to = seen_reached _ _ _ (sets _ _ _ set).0 in
+    rw (← c.self.view_is) (left_with _ _ n (others_left _ _ set
+    (pointer_in c.args.node) (pointer_in n) (seen_store _ _ (sound _) (ap is_some (sets _ _ _ set).0))
+    (λ ne. same_value _ _ _ _ (sound _) set _
+    (λ same. ne (reach_apart _ c.self.invariant.simple.plain _ _ to.0 to.1 (sym same))) tt) other)
+    (λ live. refl))
+
+pub returns-clause-count : goal.returns-clause-count
+returns-clause-count g c = rw (← c.self.view_is) (set_count _ _ _ c.in-Some.ensures.changed.set)
+
+pub returns-clause-kept : goal.returns-clause-kept
+returns-clause-kept g c n = rw (← c.self.view_is) (meets_given _ _ _ _ c.in-Some.ensures.changed.set _)
+
+pub returns-in_default-clause-stale : goal.returns-in_default-clause-stale
+returns-in_default-clause-stale g c =
+    let sees = quiet_sees _ c.self.invariant.simple.unborrowed (pointer_in c.args.node) (g.met.S.AnyStorage.sound _) in
+    rw (← c.self.view_is) (λ _. missing _ (sym sees ∙ sym c.in_default.ensures.free), λ _. refl)
+
+pub returns-clause-stale : goal.returns-clause-stale
+returns-clause-stale g c = rw (← c.self.view_is) (
+  λ is. absurd (true≢false (sym is)),
+  λ none. absurd (none-some _ (sym none ∙ (sets _ _ _ c.in-Some.ensures.changed.set).0)),
+)
