@@ -1,13 +1,14 @@
 //! Trees, and handles of their nodes.
 
-ghost use Rattle.std.specs.Prelude.{◌≡◌, ◌⊎◌, Err, IfOk, IsErr, None};
+ghost use Rattle.std.specs.Prelude.{◌≡◌, ◌⊎◌, ◌∷◌, ℕ, Err, IfOk, IsErr, None, OnOk, Some};
 ghost use Rattle.generational_errors.specs.declared.error.StoreError.TheVariants.{OutOfMemory};
 ghost use Rattle.scene_tree.specs.declared.node.TreeError.TheVariants as error;
-ghost use Rattle.scene_tree.specs.Nodes.{made_at};
-ghost use Rattle.scene_tree.specs.Trees.{IsBelow, WasMade, parent_of};
+ghost use Rattle.scene_tree.specs.declared.node.Node.{Node};
+ghost use Rattle.scene_tree.specs.Nodes.{IsOther, made_at, without};
+ghost use Rattle.scene_tree.specs.Trees.{IsBelow, IsLeft, WasMade, children_of, parent_of};
 
 use generational_box::{Location, Storage};
-use scene_tree::{Node, SceneTree, Stale, TreeError};
+use scene_tree::{Node, SceneTree, Spot, Stale, TreeError};
 
 /// Removes a node with all below it, adds another, and looks at the first: the answer is that the first
 /// is gone, and where that was made, whichever slot the second took. Only a removal that lacks memory
@@ -55,4 +56,45 @@ pub fn root_of<S: Storage<u64>>(
         root = above;
     }
     Ok(root)
+}
+
+/// Puts a node before all its siblings, and leaves it where it is if it has no parent.
+pub fn to_front<S: Storage<u64>>(
+    tree: &mut SceneTree<u64, S>,
+    node: Node<u64>,
+) -> Result<(), TreeError>
+    ensures { OnOk result ((up : Node ℕ) → parent_of tree.old node ≡ Some up →
+        children_of tree.new up ≡ node ∷ without node (children_of tree.old up)) }
+{
+    match tree.parent(node)? {
+        Some(parent) => tree.move_at(node, Spot::FirstOf(parent)),
+        None => Ok(()),
+    }
+}
+
+/// Makes a node beside another, right before it: the two have one parent.
+pub fn twin_before<S: Storage<u64>>(
+    tree: &mut SceneTree<u64, S>,
+    node: Node<u64>,
+    value: u64,
+    here: Location,
+) -> Result<Node<u64>, (u64, TreeError)>
+    ensures { IfOk result (λ twin. parent_of tree.new twin ≡ parent_of tree.old node) }
+{
+    tree.add_at(Spot::Before(node), value, here)
+}
+
+/// Makes a node a root, and tells its depth, which is none.
+pub fn freed<S: Storage<u64>>(tree: &mut SceneTree<u64, S>, node: Node<u64>) -> Result<usize, Stale>
+    ensures { IfOk result (λ depth. depth ≡ 0) }
+{
+    tree.detach(node)?;
+    tree.depth(node)
+}
+
+/// Adds to a node's number, in its place: every other node is left.
+pub fn count_up<S: Storage<u64>>(tree: &mut SceneTree<u64, S>, node: Node<u64>) -> Result<(), Stale>
+    ensures { (other : Node ℕ) → IsOther node other → IsLeft tree.old other tree.new }
+{
+    tree.update(node, |count: &mut u64| *count = count.wrapping_add(1))
 }
