@@ -1,7 +1,7 @@
 //! What is done to a document, one act a line, with what must come of it.
 
 use crate::expected::assert_same;
-use document_tree::{Document, Part, Place};
+use document_tree::{Document, Part, Place, PlaceError};
 use generational_box::{Location, Storage};
 use std::alloc::Global;
 use std::process::Abort;
@@ -13,7 +13,15 @@ pub(crate) enum Act {
     Repeat(usize),
     /// The first takes the second as its last child.
     Append(usize, usize),
+    /// The first takes the third as a child, at an index.
+    Insert(usize, usize, usize),
+    /// Takes the child at an index out of a place's children. It is this one.
+    Take(usize, usize, usize),
+    /// Takes the children that are gone out of a place's.
+    Clear(usize),
     Set(usize, u64),
+    /// Adds to a place's content.
+    Update(usize, u64),
     /// The first leads to the second's part.
     Exchange(usize, usize),
     Remove(usize),
@@ -105,6 +113,18 @@ fn carries_out<S: Storage<Part<u64>>>(
             let child = place_at(rt, places, child);
             document.append(place_at(rt, places, parent), child).is_ok()
         }
+        Act::Insert(parent, index, child) => {
+            let child = place_at(rt, places, child);
+            document
+                .insert(place_at(rt, places, parent), index, child)
+                .is_ok()
+        }
+        Act::Take(parent, index, child) => {
+            let taken = document.take_child(place_at(rt, places, parent), index);
+            is_taken(rt, taken, place_at(rt, places, child))
+        }
+        Act::Clear(parent) => document.clear_gone(place_at(rt, places, parent)).is_ok(),
+        Act::Update(number, more) => update(document, place_at(rt, places, number), more),
         Act::Set(number, content) => document.set(place_at(rt, places, number), content).is_ok(),
         Act::Exchange(number, other) => {
             let other = place_at(rt, places, other);
@@ -113,6 +133,27 @@ fn carries_out<S: Storage<Part<u64>>>(
                 .is_ok()
         }
         Act::Remove(number) => document.remove(place_at(rt, places, number)).is_ok(),
+    }
+}
+
+/// Adds to a content, and says whether there was one.
+fn update<S: Storage<Part<u64>>>(document: &mut Document<u64, S>, place: Place, more: u64) -> bool {
+    document
+        .update(
+            place,
+            |content: &mut u64| *content = content.wrapping_add(more),
+        )
+        .is_ok()
+}
+
+/// Sees which child was taken, and says whether one was.
+fn is_taken(rt: &impl Abort, taken: Result<Place, PlaceError>, child: Place) -> bool {
+    match taken {
+        Ok(place) => {
+            assert_same(rt, &place.id(), &child.id());
+            true
+        }
+        Err(_) => false,
     }
 }
 

@@ -144,3 +144,59 @@ fn a_place_that_is_gone_reads_no_later_part(rt: HostRuntime) {
     ];
     play_lines(&rt, rt.alloc(), &lines);
 }
+
+// Children that are inserted, taken out, and end.
+#[test]
+fn children_come_and_go(rt: HostRuntime) {
+    let lines = [
+        done(Act::Add(1), &[Some((1, &[]))]),
+        done(Act::Repeat(0), &[Some((1, &[])), Some((1, &[]))]),
+        done(
+            Act::Add(2),
+            &[Some((1, &[])), Some((1, &[])), Some((2, &[]))],
+        ),
+        // The children are those of both places of a part.
+        done(
+            Act::Insert(0, 0, 2),
+            &[Some((1, &[2])), Some((1, &[2])), Some((2, &[]))],
+        ),
+        done(
+            Act::Insert(1, 0, 0),
+            &[Some((1, &[0, 2])), Some((1, &[0, 2])), Some((2, &[]))],
+        ),
+        gone(
+            Act::Insert(0, 3, 2),
+            &[Some((1, &[0, 2])), Some((1, &[0, 2])), Some((2, &[]))],
+        ),
+        done(
+            Act::Insert(0, 2, 1),
+            &[Some((1, &[0, 2, 1])), Some((1, &[0, 2, 1])), Some((2, &[]))],
+        ),
+        gone(
+            Act::Take(0, 3, 0),
+            &[Some((1, &[0, 2, 1])), Some((1, &[0, 2, 1])), Some((2, &[]))],
+        ),
+        done(
+            Act::Take(0, 2, 1),
+            &[Some((1, &[0, 2])), Some((1, &[0, 2])), Some((2, &[]))],
+        ),
+        done(
+            Act::Update(1, 6),
+            &[Some((7, &[0, 2])), Some((7, &[0, 2])), Some((2, &[]))],
+        ),
+        // A child that went is listed until it is cleared away.
+        done(
+            Act::Remove(2),
+            &[Some((7, &[0, 2])), Some((7, &[0, 2])), None],
+        ),
+        done(Act::Clear(1), &[Some((7, &[0])), Some((7, &[0])), None]),
+        gone(
+            Act::Insert(0, 0, 2),
+            &[Some((7, &[0])), Some((7, &[0])), None],
+        ),
+        gone(Act::Update(2, 1), &[Some((7, &[0])), Some((7, &[0])), None]),
+        gone(Act::Clear(2), &[Some((7, &[0])), Some((7, &[0])), None]),
+        done(Act::Take(1, 0, 0), &[Some((7, &[])), Some((7, &[])), None]),
+    ];
+    play_lines(&rt, rt.alloc(), &lines);
+}

@@ -60,6 +60,22 @@ pub(crate) fn append_or_again<S: Storage<Part<u64>>>(
     assert_same(rt, &count(rt, document, parent), &before.wrapping_add(1));
 }
 
+/// Inserts a child before the others. Where memory lacks the children are what they were.
+fn insert_or_again<S: Storage<Part<u64>>>(
+    rt: &impl Abort,
+    document: &mut Document<u64, S>,
+    parent: Place,
+    child: Place,
+) {
+    let before = count(rt, document, parent);
+    if let Err(error) = document.insert(parent, 0, child) {
+        assert_same(rt, &error, &PlaceError::OutOfMemory);
+        assert_same(rt, &count(rt, document, parent), &before);
+        assert!(rt; document.insert(parent, 0, child).is_ok());
+    }
+    assert_same(rt, &count(rt, document, parent), &before.wrapping_add(1));
+}
+
 /// How many children a place has.
 fn count<S: Storage<Part<u64>>>(
     rt: &impl Abort,
@@ -83,6 +99,7 @@ impl Scene<Part<u64>> for AppendMany {
         for _ in 0..MANY {
             let place = repeat_or_again(rt, &mut document, symbol);
             append_or_again(rt, &mut document, page, place);
+            insert_or_again(rt, &mut document, symbol, place);
         }
     }
 }

@@ -39,6 +39,8 @@ mod session_memory;
 #[cfg(test)]
 mod tree_acts;
 #[cfg(test)]
+mod tree_handles;
+#[cfg(test)]
 mod tree_histories;
 #[cfg(test)]
 mod tree_limits;

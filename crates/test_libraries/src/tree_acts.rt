@@ -2,9 +2,18 @@
 
 use crate::expected::assert_same;
 use generational_box::{Location, Storage};
-use scene_tree::{Node, SceneTree, Stale, TreeError};
+use scene_tree::{Node, SceneTree, Spot, Stale, TreeError};
 use std::alloc::Global;
 use std::process::Abort;
+
+/// Where a node is put, by another.
+#[derive(Clone, Copy)]
+pub(crate) enum Side {
+    FirstOf,
+    LastOf,
+    Before,
+    After,
+}
 
 /// An act. Nodes are named by the order in which they were made, from 0.
 #[derive(Clone, Copy)]
@@ -12,9 +21,17 @@ pub(crate) enum Act {
     Root(u64),
     /// A child of a node, with a value.
     Child(usize, u64),
+    /// A child at a spot beside or below a node, with a value.
+    ChildAt(Side, usize, u64),
     Set(usize, u64),
+    /// Adds to a node's value.
+    Update(usize, u64),
     /// Moves a node below another.
     Move(usize, usize),
+    /// Moves a node to a spot beside or below another.
+    MoveAt(usize, Side, usize),
+    /// Makes a node a root.
+    Detach(usize),
     Remove(usize),
 }
 
@@ -25,6 +42,8 @@ pub(crate) enum Reply {
     /// This node is gone.
     Stale(usize),
     Cycle,
+    /// This node has no parent.
+    NoParent(usize),
 }
 
 /// An act, with what must come of it.
@@ -92,14 +111,61 @@ fn answer<S: Storage<u64>>(
             assert!(rt; nodes.push(child).is_ok());
             Ok(())
         }
+        Act::ChildAt(side, by, value) => {
+            let spot = spot_at(side, node_at(rt, nodes, by));
+            let child = add_at(rt, tree, spot, value, nodes.len())?;
+            assert!(rt; nodes.push(child).is_ok());
+            Ok(())
+        }
         Act::Set(node, value) => set(rt, tree, node_at(rt, nodes, node), value),
+        Act::Update(node, more) => {
+            tree.update(node_at(rt, nodes, node), |value: &mut u64| {
+                *value = value.wrapping_add(more);
+            })?;
+            Ok(())
+        }
         Act::Move(node, parent) => {
             tree.move_to(node_at(rt, nodes, node), node_at(rt, nodes, parent))
+        }
+        Act::MoveAt(node, side, by) => {
+            let spot = spot_at(side, node_at(rt, nodes, by));
+            tree.move_at(node_at(rt, nodes, node), spot)
+        }
+        Act::Detach(node) => {
+            tree.detach(node_at(rt, nodes, node))?;
+            Ok(())
         }
         Act::Remove(node) => {
             let list = tree.remove_subtree(node_at(rt, nodes, node))?;
             are_nodes(rt, nodes, list.as_slice(), gone);
             Ok(())
+        }
+    }
+}
+
+/// A spot by a node.
+fn spot_at(side: Side, node: Node<u64>) -> Spot<u64> {
+    match side {
+        Side::FirstOf => Spot::FirstOf(node),
+        Side::LastOf => Spot::LastOf(node),
+        Side::Before => Spot::Before(node),
+        Side::After => Spot::After(node),
+    }
+}
+
+/// Makes a child at a spot. Its value comes back where that is refused.
+fn add_at<S: Storage<u64>>(
+    rt: &impl Abort,
+    tree: &mut SceneTree<u64, S>,
+    spot: Spot<u64>,
+    value: u64,
+    number: usize,
+) -> Result<Node<u64>, TreeError> {
+    match tree.add_at(spot, value, made_at(number)) {
+        Ok(child) => Ok(child),
+        Err((back, error)) => {
+            assert_same(rt, &back, &value);
+            Err(error)
         }
     }
 }
@@ -148,6 +214,7 @@ fn reply_is(rt: &impl Abort, answer: Result<(), TreeError>, reply: Reply) {
         Reply::Done => Ok(()),
         Reply::Stale(number) => Err(TreeError::Stale(made_at(number))),
         Reply::Cycle => Err(TreeError::Cycle),
+        Reply::NoParent(number) => Err(TreeError::NoParent(made_at(number))),
     };
     assert_same(rt, &answer, &wanted);
 }
@@ -243,4 +310,6 @@ fn is_gone<S: Storage<u64>>(
     assert_same(rt, &tree.parent(node).map(|_| ()), &Err(stale));
     assert_same(rt, &tree.children(node).map(|_| ()), &Err(stale));
     assert_same(rt, &tree.subtree(node).map(|_| ()), &Err(error));
+    assert_same(rt, &tree.depth(node), &Err(stale));
+    assert_same(rt, &tree.detach(node), &Err(stale));
 }

@@ -1,7 +1,7 @@
 //! Histories of trees, as lines.
 
 use crate::fresh::{Scene, play_both};
-use crate::tree_acts::{Act, Line, Reply, play, tree_over};
+use crate::tree_acts::{Act, Line, Reply, Side, play, tree_over};
 use generational_box::Storage;
 use std::alloc::Global;
 use std::process::Abort;
@@ -331,6 +331,143 @@ fn a_node_moves_behind_its_siblings(rt: HostRuntime) {
             Reply::Stale(2),
             &[Some((1, None)), Some((5, Some(0))), None],
             &[1],
+        ),
+    ];
+    play_lines(&rt, rt.alloc(), &lines);
+}
+
+// Children that come before, after, first and last, then go about among themselves.
+#[test]
+fn children_are_put_at_spots(rt: HostRuntime) {
+    let lines = [
+        done(Act::Root(1), &[Some((1, None))], &[]),
+        refused(
+            Act::ChildAt(Side::Before, 0, 9),
+            Reply::NoParent(0),
+            &[Some((1, None))],
+            &[],
+        ),
+        done(
+            Act::ChildAt(Side::FirstOf, 0, 2),
+            &[Some((1, None)), Some((2, Some(0)))],
+            &[1],
+        ),
+        done(
+            Act::ChildAt(Side::Before, 1, 3),
+            &[Some((1, None)), Some((2, Some(0))), Some((3, Some(0)))],
+            &[2, 1],
+        ),
+        done(
+            Act::ChildAt(Side::After, 2, 4),
+            &[
+                Some((1, None)),
+                Some((2, Some(0))),
+                Some((3, Some(0))),
+                Some((4, Some(0))),
+            ],
+            &[2, 3, 1],
+        ),
+        done(
+            Act::MoveAt(1, Side::Before, 3),
+            &[
+                Some((1, None)),
+                Some((2, Some(0))),
+                Some((3, Some(0))),
+                Some((4, Some(0))),
+            ],
+            &[2, 1, 3],
+        ),
+        done(
+            Act::MoveAt(2, Side::After, 3),
+            &[
+                Some((1, None)),
+                Some((2, Some(0))),
+                Some((3, Some(0))),
+                Some((4, Some(0))),
+            ],
+            &[1, 3, 2],
+        ),
+        // A node is moved beside a node that is it, or is below it.
+        refused(
+            Act::MoveAt(2, Side::After, 2),
+            Reply::Cycle,
+            &[
+                Some((1, None)),
+                Some((2, Some(0))),
+                Some((3, Some(0))),
+                Some((4, Some(0))),
+            ],
+            &[1, 3, 2],
+        ),
+        refused(
+            Act::MoveAt(1, Side::Before, 0),
+            Reply::NoParent(0),
+            &[
+                Some((1, None)),
+                Some((2, Some(0))),
+                Some((3, Some(0))),
+                Some((4, Some(0))),
+            ],
+            &[1, 3, 2],
+        ),
+        done(
+            Act::MoveAt(2, Side::FirstOf, 3),
+            &[
+                Some((1, None)),
+                Some((2, Some(0))),
+                Some((3, Some(3))),
+                Some((4, Some(0))),
+            ],
+            &[1, 3, 2],
+        ),
+        done(
+            Act::Detach(3),
+            &[
+                Some((1, None)),
+                Some((2, Some(0))),
+                Some((3, Some(3))),
+                Some((4, None)),
+            ],
+            &[1, 2],
+        ),
+        done(
+            Act::MoveAt(2, Side::LastOf, 0),
+            &[
+                Some((1, None)),
+                Some((2, Some(0))),
+                Some((3, Some(0))),
+                Some((4, None)),
+            ],
+            &[1, 2],
+        ),
+        removed(
+            1,
+            &[1],
+            &[Some((1, None)), None, Some((3, Some(0))), Some((4, None))],
+            &[2],
+        ),
+        refused(
+            Act::MoveAt(2, Side::After, 1),
+            Reply::Stale(1),
+            &[Some((1, None)), None, Some((3, Some(0))), Some((4, None))],
+            &[2],
+        ),
+        done(
+            Act::Update(2, 5),
+            &[Some((1, None)), None, Some((8, Some(0))), Some((4, None))],
+            &[2],
+        ),
+        refused(
+            Act::Update(1, 5),
+            Reply::Stale(1),
+            &[Some((1, None)), None, Some((8, Some(0))), Some((4, None))],
+            &[2],
+        ),
+        refused(
+            Act::ChildAt(Side::FirstOf, 1, 9),
+            Reply::Stale(1),
+            &[Some((1, None)), None, Some((8, Some(0))), Some((4, None))],
+            &[2],
         ),
     ];
     play_lines(&rt, rt.alloc(), &lines);

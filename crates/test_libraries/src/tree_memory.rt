@@ -5,7 +5,7 @@ use crate::expected::assert_same;
 use crate::fresh::{Scene, play};
 use crate::tree_acts::{are_nodes, made_at, tree_over};
 use generational_box::{Storage, StoreError};
-use scene_tree::{Node, SceneTree, TreeError};
+use scene_tree::{Node, SceneTree, Spot, TreeError};
 use std::alloc::Global;
 use std::process::Abort;
 
@@ -50,9 +50,44 @@ pub(crate) fn child_or_again<S: Storage<u64>>(
     made.map_err(|(_, error)| error).expect(rt, "a child")
 }
 
+/// Makes a child at a spot below a node. One that lacks memory leaves that node's children.
+fn child_at_or_again<S: Storage<u64>>(
+    rt: &impl Abort,
+    tree: &mut SceneTree<u64, S>,
+    parent: Node<u64>,
+    spot: Spot<u64>,
+    value: u64,
+) -> Node<u64> {
+    let before = count_of(rt, tree, parent);
+    let made = match tree.add_at(spot, value, made_at(1)) {
+        Ok(child) => Ok(child),
+        Err((back, error)) => {
+            assert_same(rt, &error, &LACKING);
+            assert_same(rt, &count_of(rt, tree, parent), &before);
+            tree.add_at(spot, back, made_at(1))
+        }
+    };
+    made.map_err(|(_, error)| error).expect(rt, "a child")
+}
+
 /// How many children a node has.
 fn count_of<S: Storage<u64>>(rt: &impl Abort, tree: &SceneTree<u64, S>, node: Node<u64>) -> usize {
     tree.children(node).expect(rt, "a live node").len()
+}
+
+/// Moves a node before the others of a parent. A move that lacks memory leaves it where it was.
+fn move_first_or_again<S: Storage<u64>>(
+    rt: &impl Abort,
+    tree: &mut SceneTree<u64, S>,
+    node: Node<u64>,
+    parent: Node<u64>,
+) {
+    let before = count_of(rt, tree, parent);
+    if let Err(error) = tree.move_at(node, Spot::FirstOf(parent)) {
+        assert_same(rt, &error, &LACKING);
+        assert_same(rt, &count_of(rt, tree, parent), &before);
+        assert!(rt; tree.move_at(node, Spot::FirstOf(parent)).is_ok());
+    }
 }
 
 /// Moves a node. A move that lacks memory leaves it where it was.
@@ -112,4 +147,27 @@ impl Scene<u64> for GrowAndCut {
 #[test]
 fn trees_that_lack_memory_stay(rt: HostRuntime) {
     play::<u64, GrowAndCut>(&rt, rt.alloc(), &GrowAndCut);
+}
+
+/// Makes children before one of a root's, and moves them all below it, each before the others.
+struct GrowBefore;
+
+impl Scene<u64> for GrowBefore {
+    fn play<R: Abort, S: Storage<u64> + Drop>(&self, rt: &R, alloc: Global, store: S) {
+        let mut tree = tree_over(rt, alloc, store);
+        let root = root_or_again(rt, &mut tree);
+        let last = child_or_again(rt, &mut tree, root, 0);
+        for value in 1..MANY {
+            let spot = Spot::Before(last);
+            let child = child_at_or_again(rt, &mut tree, root, spot, value);
+            move_first_or_again(rt, &mut tree, child, last);
+        }
+        assert_same(rt, &count_of(rt, &tree, root), &1);
+        assert_same(rt, &(count_of(rt, &tree, last) as u64), &(MANY - 1));
+    }
+}
+
+#[test]
+fn spots_that_lack_memory_stay(rt: HostRuntime) {
+    play::<u64, GrowBefore>(&rt, rt.alloc(), &GrowBefore);
 }
