@@ -143,8 +143,8 @@ impl<T, S: Storage<T>> SceneTree<T, S> {
     ///
     /// Refused, in this order: `Stale`, where the node that the spot names is gone, or is another tree's;
     /// `NoParent`, where it is to be a sibling and has no parent; `Store` of `OutOfMemory`. The value
-    /// comes back then, and the tree stays as it was. Takes memory as `add_child` does. O(1) at the first
-    /// index but for moving the c children behind, and O(c) beside a sibling, but for finding room.
+    /// comes back then, and the tree stays as it was. Takes memory as `add_child` does. O(c) for c
+    /// children of the parent, and O(1) as the last of them, but for finding room.
     pub fn add_at(
         &mut self,
         spot: Spot<T>,
