@@ -9,11 +9,13 @@ use Rattle.generational_core.specs.State.{State}
 use Rattle.generational_sessions.specs.PlainStores.{IsSimple}
 use Rattle.generational_sessions.proofs.callers.SimpleStores.{fresh_sees, fresh_simple}
 use Rattle.reactive.specs.declared.fault.Fault.{Fault}
+use Rattle.reactive.specs.declared.fault.Fault.TheVariants as fault
 use Rattle.reactive.specs.declared.key.Key.{Key}
 use Rattle.reactive.specs.declared.node.Node.{Node}
 use Rattle.reactive.specs.Changing.{IsReset, IsResetTo}
 use Rattle.reactive.specs.Ending.{HasLost, IsAmong}
-use Rattle.reactive.specs.Graphs.{GraphState, HasPlan, IsKept, plans_in, shown_in}
+use Rattle.reactive.specs.Graphs.{GraphState, HasKind, HasPlan, IsKept, IsUnruled, IsUnset, kind_by, kind_by_rule, kind_in, plans_in, shown_in}
+use Rattle.reactive.specs.Graphs.Kind.{NoNode, Source}
 use Rattle.reactive.specs.Meaning.{Graph, Means}
 use Rattle.reactive.specs.Plans.{Plan, Give, Stop}
 use Rattle.reactive.specs.Refreshing.{Blames, Refreshed}
@@ -33,6 +35,20 @@ module _ {T R : Type 0} where
       by_rule : (o : Option R) → (if is_none o || nat_eq now now then n.value else None) ≡ n.value
       by_rule None = refl
       by_rule (Some r) = ap (λ b. if b then n.value else None) (eq-eqb now now refl)
+
+  -- a node that was put is of the kind that its rule says
+  pub put_kind : (old new : GraphState T R) (k : Key) (n : Node T R)
+      → IsPut (nodes_in old.state) k n (nodes_in new.state) → HasKind old k (kind_by_rule n.rule) new
+  put_kind old new k n put =
+      record { here = ap kind_by put.here; others = λ j ne. ap kind_by (put.others j ne) }
+
+  -- a source isn't set where it isn't given a rule
+  pub unset : (g : GraphState T R) (k : Key) (f : Fault) → kind_in g k ≡ Source → IsUnruled g k f → IsUnset g k f
+  unset g k (fault.Gone j) is h = h
+  unset g k (fault.Cycle j) is h = h
+  unset g k (fault.NoValue j) is h = h
+  unset g k (fault.NoSource j) is h = absurd h
+  unset g k (fault.Store e) is h = (h.0, is, h.1)
 
 module _ {T R : Type 0} (plan : R → Plan T) where
   -- a table that is sound for a graph is sound for its own
@@ -91,6 +107,9 @@ module _ {T R : Type 0} (plan : R → Plan T) where
           (own_graph (plans_in plan old) old.revision (nodes_in new) sound);
     }
 
+    pub same_plans : graph_of plan (nodes_in new) ≡ plans_in plan old
+    same_plans = λ i k. sound.same k i
+
     pub refreshed_shown : (k : Key) (r : Result (Unit {0}) Fault)
         → Refreshed (plans_in plan old) old.revision (nodes_in new) k r
         → OnOk r ((v : T) × (known_of (nodes_in new) now k ≡ Some v) × Means (plans_in plan old) k v)
@@ -124,6 +143,14 @@ module _ {T R : Type 0} (plan : R → Plan T) where
     changed = reset.changed;
     checked = reset.checked;
   }
+
+  pub reset_kind : {E : Type 0} (r : Result (Unit {0}) E) (old new : GraphState T R) (k : Key) (rule : Option R)
+      (value : Option T) → OnOk r ((n : Node T R) × IsResetTo rule value new.revision n × (old.revision < new.revision)
+      × IsPut (nodes_in old.state) k n (nodes_in new.state)) → OnOk r (HasKind old k (kind_by_rule rule) new)
+  reset_kind (Ok u) old new k rule value (n, reset, later, put) =
+      let kind = put_kind old new k n put in
+      record { here = kind.here ∙ ap kind_by_rule reset.rule; others = kind.others }
+  reset_kind (Err e) old new k rule value put = tt
 
   pub kept_reset : {E : Type 0} (r : Result (Unit {0}) E) (old new : GraphState T R) (k : Key) (rule : Option R) (value : Option T)
       → IsKept plan old → IsSimple new.state
@@ -176,6 +203,23 @@ module _ {T R : Type 0} (plan : R → Plan T) where
             → OnOk r ((k : Key) → IsAmong k gone → plans_in plan new k ≡ Stop)
         at (Ok u) l = λ k among. ap (plan_at plan) (l.ended k among)
         at (Err e) l = tt
+
+    pub lost_gone : OnOk r ((k : Key) → IsAmong k gone → kind_in new k ≡ NoNode)
+    lost_gone = at r lost
+      where
+        at : (r : Result (Unit {0}) E) → OnOk r (HasLost (nodes_in old.state) gone (nodes_in new.state))
+            → OnOk r ((k : Key) → IsAmong k gone → kind_in new k ≡ NoNode)
+        at (Ok u) l = λ k among. ap kind_by (l.ended k among)
+        at (Err e) l = tt
+
+    pub lost_kept : (k : Key) → (IsAmong k gone → ⊥) → kind_in new k ≡ kind_in old k
+    lost_kept k not = at r lost refused
+      where
+        at : (r : Result (Unit {0}) E) → OnOk r (HasLost (nodes_in old.state) gone (nodes_in new.state))
+            → OnErr r ((new.state ≡ old.state) × (new.revision ≡ old.revision))
+            → kind_in new k ≡ kind_in old k
+        at (Ok u) l same = ap kind_by (l.others k not)
+        at (Err e) l (state, revision) = ap (λ S. kind_by (nodes_in S k)) state
 
     pub lost_others : (k : Key) → (IsAmong k gone → ⊥) → plans_in plan new k ≡ plans_in plan old k
     lost_others k not = at r lost refused

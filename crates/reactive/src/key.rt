@@ -2,7 +2,7 @@
 
 use generational_core::GenerationalBoxId;
 
-/// A handle of a node: a source, a memo or an effect. It is copied freely, owns nothing, and outlives
+/// A handle of a node: a source or a memo. It is copied freely, owns nothing, and outlives
 /// its node: no later node is mistaken for it.
 #[derive(Clone, Copy, PartialEq, Eq, PartialOrd, Ord, Hash, Debug)]
 pub struct Key {

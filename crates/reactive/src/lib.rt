@@ -1,12 +1,13 @@
-//! Sources and memos above the boxes: what a memo shows is what its rule gives on the sources as they
-//! are now, whatever was kept and in whatever order they were set.
+//! Sources, memos and effects above the boxes: what a memo shows is what its rule gives on the sources
+//! as they are now, whatever was kept and in whatever order they were set.
 //!
 //! A [`Key`] is the box of a node. A [`Rule`] says what a memo computes of other nodes, through a
-//! [`Reads`]. A [`Reactive`] has a store of the nodes. Nothing is computed by a set: a memo is brought
-//! up to date where it is asked for, and its rule is run only if something that it read has another
-//! value.
+//! [`Reads`]. A [`Reactive`] has a store of the nodes, and [`Effects`] are told where one means something
+//! else. Nothing is computed by a set: a memo is brought up to date where it is asked for, and its rule
+//! is run only if something that it read has another value.
 #![tactic(auto)]
 
+mod effects;
 mod fault;
 mod key;
 pub mod laws;
@@ -18,6 +19,7 @@ mod reader;
 mod rule;
 mod scope;
 
+pub use crate::effects::{Effect, Effects, Told};
 pub use crate::fault::Fault;
 pub use crate::key::Key;
 pub use crate::node::Node;

@@ -1,14 +1,18 @@
 //! The nodes of a store.
 
-ghost use Rattle.std.specs.Prelude.{◌≡◌, ◌≢◌, ◌≤◌, ◌<◌, ℕ, List, Option, Some, None, IfSome, IfNone, option_copied, take, IsTrue, slice_get};
+ghost use Rattle.std.specs.Prelude.{◌≡◌, ◌≢◌, ◌≤◌, ◌<◌, ◌+◌, ◌^◌, ℕ, List, Option, Some, None, IfSome, IfNone, option_copied, take, IsTrue, slice_get};
 ghost use Rattle.std.specs.Prelude.{IfOk, IfErr, OnOk, OnErr};
 ghost use Rattle.std.specs.Prelude.{map as list_map, ◌⊎◌};
+ghost use Rattle.generational_core.specs.Slots.{free};
 ghost use Rattle.generational_sessions.specs.PlainStores.{IsSimple};
+ghost use Rattle.generational_errors.specs.declared.error.StoreError.TheVariants.{NumbersExhausted, OutOfMemory};
+ghost use Rattle.reactive.specs.declared.fault.Fault.TheVariants as fault;
 ghost use Rattle.reactive.specs.declared.key.Key.{Key};
 ghost use Rattle.reactive.specs.declared.node.Node.{Node};
 ghost use Rattle.reactive.specs.Changing.{IsResetTo};
 ghost use Rattle.reactive.specs.Chains.{GoesOn};
 ghost use Rattle.reactive.specs.Ending.{HasLost};
+ghost use Rattle.reactive.specs.Graphs.{IsUnruled};
 ghost use Rattle.reactive.specs.Looks.{Looked, Verified};
 ghost use Rattle.reactive.specs.Meaning.{Graph};
 ghost use Rattle.reactive.specs.Plans.{Asked, Ran};
@@ -401,6 +405,8 @@ impl<T: Value + Drop, R: Rule<T>, S: Storage<Node<T, R>>> Nodes<T, R, S> {
             × IsPut (nodes_in (S.state self.old.store)) key node (nodes_in (S.state self.new.store))) }
         ensures refused { OnErr result (S.state self.new.store ≡ S.state self.old.store) }
         ensures back { IfErr result (λ refusal. refusal.value ≡ node) }
+        ensures cause { IfErr result (λ refusal. refusal.cause ≡ OutOfMemory) }
+        ensures short { OnErr result (free (S.state self.old.store) ≡ 0) }
         ensures revision { self.new.revision ≡ self.old.revision }
     {
         match GenerationalBox::leak(&mut self.store, node, here) {
@@ -437,8 +443,10 @@ impl<T: Value + Drop, R: Rule<T>, S: Storage<Node<T, R>>> Nodes<T, R, S> {
         ensures put { OnOk result ((n : Node T R) × IsResetTo rule value self.new.revision n
             × (self.old.revision < self.new.revision)
             × IsPut (nodes_in (S.state self.old.store)) key n (nodes_in (S.state self.new.store))) }
+        ensures live { OnOk result (nodes_in (S.state self.old.store) key ≢ None) }
         ensures refused { OnErr result ((S.state self.new.store ≡ S.state self.old.store)
             × (self.new.revision ≡ self.old.revision)) }
+        ensures cause { IfErr result (IsUnruled (record { state = S.state self.old.store; revision = self.old.revision }) key) }
     {
         let Some(next) = self.revision.checked_add(1) else {
             return Err(Fault::Store(StoreError::NumbersExhausted));
@@ -466,6 +474,7 @@ impl<T: Value + Drop, R: Rule<T>, S: Storage<Node<T, R>>> Nodes<T, R, S> {
         ensures later { OnOk result (self.old.revision < self.new.revision) }
         ensures refused { OnErr result ((S.state self.new.store ≡ S.state self.old.store)
             × (self.new.revision ≡ self.old.revision)) }
+        ensures cause { IfErr result (λ f. (f ≡ fault.Store NumbersExhausted) × (self.old.revision + 1 ≡ 2 ^ 64)) }
     {
         let Some(next) = self.revision.checked_add(1) else {
             return Err(Fault::Store(StoreError::NumbersExhausted));

@@ -2,11 +2,14 @@
 
 ghost use Rattle.std.specs.Prelude.{◌≡◌, ◌≢◌, ℕ, Some, None, IfOk, IfErr, IfSome, OnOk, OnErr, IsTrue, option_copied};
 ghost use Rattle.generational_core.specs.Conditions.{IsFresh};
+ghost use Rattle.generational_core.specs.Slots.{free};
 ghost use Rattle.reactive.specs.declared.fault.Fault.TheVariants as fault;
 ghost use Rattle.reactive.specs.declared.key.Key.{Key};
 ghost use Rattle.reactive.specs.declared.node.Node.{Node};
 ghost use Rattle.reactive.specs.Ending.{IsAmong};
-ghost use Rattle.reactive.specs.Graphs.{HasPlan, plans_in, shown_in};
+ghost use Rattle.reactive.specs.Graphs.{HasKind, HasPlan, IsLast, IsUnruled, IsUnset, kind_in, plans_in, shown_in};
+ghost use Rattle.reactive.specs.Graphs.Kind.{NoNode, Source, Memo};
+ghost use Rattle.generational_errors.specs.declared.error.StoreError.TheVariants.{NumbersExhausted, OutOfMemory};
 ghost use Rattle.reactive.specs.Meaning.{Means};
 ghost use Rattle.reactive.specs.Plans.{Give, Stop};
 ghost use Rattle.reactive.specs.Refreshing.{Answers, Blames};
@@ -73,8 +76,11 @@ impl<T: Value + Drop, R: Rule<T>, S: Storage<Node<T, R>>> Reactive<T, R, S> {
     /// Refused by `OutOfMemory` alone: the graph stays as it was. O(1), but for finding room.
     pub fn source(&mut self, value: T, here: Location) -> Result<Key, StoreError>
         ensures plan { IfOk result (λ key. HasPlan R.plan self.old key (Give value) self.new) }
-        ensures new { IfOk result (λ key. plans_in R.plan self.old key ≡ Stop) }
+        ensures kind { IfOk result (λ key. HasKind self.old key Source self.new) }
+        ensures new { IfOk result (λ key. kind_in self.old key ≡ NoNode) }
         ensures refused { OnErr result (self.new ≡ self.old) }
+        ensures cause { IfErr result (λ cause. cause ≡ OutOfMemory) }
+        ensures short { OnErr result (free self.old.state ≡ 0) }
     {
         let node = Node {
             rule: None,
@@ -95,8 +101,11 @@ impl<T: Value + Drop, R: Rule<T>, S: Storage<Node<T, R>>> Reactive<T, R, S> {
     /// Refused by `OutOfMemory` alone: the graph stays as it was. O(1), but for finding room.
     pub fn memo(&mut self, rule: R, here: Location) -> Result<Key, StoreError>
         ensures plan { IfOk result (λ key. HasPlan R.plan self.old key (R.plan rule) self.new) }
-        ensures new { IfOk result (λ key. plans_in R.plan self.old key ≡ Stop) }
+        ensures kind { IfOk result (λ key. HasKind self.old key Memo self.new) }
+        ensures new { IfOk result (λ key. kind_in self.old key ≡ NoNode) }
         ensures refused { OnErr result (self.new ≡ self.old) }
+        ensures cause { IfErr result (λ cause. cause ≡ OutOfMemory) }
+        ensures short { OnErr result (free self.old.state ≡ 0) }
     {
         let node = Node {
             rule: Some(rule),
@@ -124,7 +133,7 @@ impl<T: Value + Drop, R: Rule<T>, S: Storage<Node<T, R>>> Reactive<T, R, S> {
         ensures shown { OnOk result ((v : T) × (shown_in self.new key ≡ Some v)
             × Means (plans_in R.plan self.old) key v) }
         ensures blames { IfErr result (Blames (plans_in R.plan self.old) key) }
-        ensures plans { (k : Key) → plans_in R.plan self.new k ≡ plans_in R.plan self.old k }
+        ensures plans { plans_in R.plan self.new ≡ plans_in R.plan self.old }
     {
         self.nodes.refresh(key)
     }
@@ -144,7 +153,7 @@ impl<T: Value + Drop, R: Rule<T>, S: Storage<Node<T, R>>> Reactive<T, R, S> {
     /// Refused as `refresh`, and where memory runs out for the copy.
     pub fn get(&mut self, key: Key) -> Result<T, Fault>
         ensures answer { Answers (plans_in R.plan self.old) key result }
-        ensures plans { (k : Key) → plans_in R.plan self.new k ≡ plans_in R.plan self.old k }
+        ensures plans { plans_in R.plan self.new ≡ plans_in R.plan self.old }
         ensures shown { IfOk result (λ v. shown_in self.new key ≡ Some v) }
     {
         match self.refresh(key) {
@@ -167,7 +176,10 @@ impl<T: Value + Drop, R: Rule<T>, S: Storage<Node<T, R>>> Reactive<T, R, S> {
     /// memory, and is O(1).
     pub fn set(&mut self, key: Key, value: T) -> Result<(), Fault>
         ensures set { OnOk result (HasPlan R.plan self.old key (Give value) self.new) }
+        ensures kind { OnOk result (HasKind self.old key Source self.new) }
+        ensures source { OnOk result (kind_in self.old key ≡ Source) }
         ensures refused { OnErr result (self.new ≡ self.old) }
+        ensures cause { IfErr result (IsUnset self.old key) }
     {
         match self.is_set(key, &value) {
             Ok(true) => Ok(()),
@@ -178,7 +190,9 @@ impl<T: Value + Drop, R: Rule<T>, S: Storage<Node<T, R>>> Reactive<T, R, S> {
 
     // Whether a source has a value.
     fn is_set(&self, key: Key, value: &T) -> Result<bool, Fault>
-        ensures { IfOk result (λ is. IsTrue is → plans_in R.plan self.now key ≡ Give value.now) }
+        ensures is { IfOk result (λ is. IsTrue is → plans_in R.plan self.now key ≡ Give value.now) }
+        ensures source { OnOk result (kind_in self.now key ≡ Source) }
+        ensures cause { IfErr result (IsUnset self.now key) }
     {
         let Some(node) = node_of(&self.nodes.store, key) else {
             return Err(Fault::Gone(key));
@@ -198,7 +212,10 @@ impl<T: Value + Drop, R: Rule<T>, S: Storage<Node<T, R>>> Reactive<T, R, S> {
     /// is another graph's. The graph stays as it was then. Takes no memory, and is O(1).
     pub fn set_rule(&mut self, key: Key, rule: R) -> Result<(), Fault>
         ensures set { OnOk result (HasPlan R.plan self.old key (R.plan rule) self.new) }
+        ensures kind { OnOk result (HasKind self.old key Memo self.new) }
+        ensures live { OnOk result (kind_in self.old key ≢ NoNode) }
         ensures refused { OnErr result (self.new ≡ self.old) }
+        ensures cause { IfErr result (IsUnruled self.old key) }
     {
         self.nodes.reset(key, Some(rule), None)
     }
@@ -210,9 +227,12 @@ impl<T: Value + Drop, R: Rule<T>, S: Storage<Node<T, R>>> Reactive<T, R, S> {
     /// and is O(n).
     pub fn end_all(&mut self, keys: &[Key]) -> Result<(), Fault>
         ensures ended { OnOk result ((k : Key) → IsAmong k keys.now → plans_in R.plan self.new k ≡ Stop) }
+        ensures gone { OnOk result ((k : Key) → IsAmong k keys.now → kind_in self.new k ≡ NoNode) }
         ensures others { (k : Key) → (IsAmong k keys.now → ⊥) →
             plans_in R.plan self.new k ≡ plans_in R.plan self.old k }
+        ensures kept { (k : Key) → (IsAmong k keys.now → ⊥) → kind_in self.new k ≡ kind_in self.old k }
         ensures refused { OnErr result (self.new ≡ self.old) }
+        ensures cause { IfErr result (λ f. (f ≡ fault.Store NumbersExhausted) × IsLast self.old) }
     {
         self.nodes.remove_all(keys)
     }

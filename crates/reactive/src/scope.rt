@@ -3,7 +3,10 @@
 ghost use Rattle.std.specs.Prelude.{◌≡◌, [], ◌∷◌, ◌++◌, IfOk, IfErr, OnOk, OnErr};
 ghost use Rattle.reactive.specs.declared.key.Key.{Key};
 ghost use Rattle.reactive.specs.Ending.{IsAmong};
-ghost use Rattle.reactive.specs.Graphs.{HasPlan, plans_in};
+ghost use Rattle.reactive.specs.Graphs.{HasKind, HasPlan, IsLast, kind_in, plans_in};
+ghost use Rattle.reactive.specs.Graphs.Kind.{NoNode, Source, Memo};
+ghost use Rattle.reactive.specs.declared.fault.Fault.TheVariants as fault;
+ghost use Rattle.generational_errors.specs.declared.error.StoreError.TheVariants.{NumbersExhausted, OutOfMemory};
 ghost use Rattle.reactive.specs.Plans.{Give, Stop};
 
 use crate::fault::Fault;
@@ -51,10 +54,12 @@ impl Scope {
         here: Location,
     ) -> Result<Key, StoreError>
         ensures plan { IfOk result (λ key. HasPlan R.plan graph.old key (Give value) graph.new) }
-        ensures new { IfOk result (λ key. plans_in R.plan graph.old key ≡ Stop) }
+        ensures kind { IfOk result (λ key. HasKind graph.old key Source graph.new) }
+        ensures new { IfOk result (λ key. kind_in graph.old key ≡ NoNode) }
         ensures listed { IfOk result (λ key. self.new ≡ self.old ++ key ∷ []) }
         ensures refused { OnErr result (graph.new ≡ graph.old) }
         ensures unlisted { OnErr result (self.new ≡ self.old) }
+        ensures cause { IfErr result (λ cause. cause ≡ OutOfMemory) }
     {
         if self.keys.reserve(1).is_err() {
             return Err(StoreError::OutOfMemory);
@@ -74,10 +79,12 @@ impl Scope {
         here: Location,
     ) -> Result<Key, StoreError>
         ensures plan { IfOk result (λ key. HasPlan R.plan graph.old key (R.plan rule) graph.new) }
-        ensures new { IfOk result (λ key. plans_in R.plan graph.old key ≡ Stop) }
+        ensures kind { IfOk result (λ key. HasKind graph.old key Memo graph.new) }
+        ensures new { IfOk result (λ key. kind_in graph.old key ≡ NoNode) }
         ensures listed { IfOk result (λ key. self.new ≡ self.old ++ key ∷ []) }
         ensures refused { OnErr result (graph.new ≡ graph.old) }
         ensures unlisted { OnErr result (self.new ≡ self.old) }
+        ensures cause { IfErr result (λ cause. cause ≡ OutOfMemory) }
     {
         if self.keys.reserve(1).is_err() {
             return Err(StoreError::OutOfMemory);
@@ -96,10 +103,13 @@ impl Scope {
         graph: &mut Reactive<T, R, S>,
     ) -> Result<(), (Scope, Fault)>
         ensures ended { OnOk result ((k : Key) → IsAmong k self → plans_in R.plan graph.new k ≡ Stop) }
+        ensures gone { OnOk result ((k : Key) → IsAmong k self → kind_in graph.new k ≡ NoNode) }
         ensures others { (k : Key) → (IsAmong k self → ⊥) →
             plans_in R.plan graph.new k ≡ plans_in R.plan graph.old k }
+        ensures kept { (k : Key) → (IsAmong k self → ⊥) → kind_in graph.new k ≡ kind_in graph.old k }
         ensures refused { OnErr result (graph.new ≡ graph.old) }
         ensures back { IfErr result (λ refusal. refusal.0 ≡ self) }
+        ensures cause { IfErr result (λ refusal. (refusal.1 ≡ fault.Store NumbersExhausted) × IsLast graph.old) }
     {
         match graph.end_all(&self.keys) {
             Ok(()) => {

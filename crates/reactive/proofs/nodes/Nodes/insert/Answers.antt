@@ -1,5 +1,6 @@
 use Rattle.std.proofs.Common.{refl, sym}
 use Rattle.generational_sessions.proofs.callers.SimpleStores.{made_simple}
+use Rattle.generational_sessions.proofs.callers.Shortage.{make_short}
 use Rattle.reactive.proofs.Stores.{made_none, made_puts}
 use Rattle.reactive.proofs.nodes.Nodes.insert.Goals as goal
 
@@ -17,5 +18,13 @@ returns-in-Ok g c =
       );
       refused = tt;
       back = tt;
+      cause = tt;
+      short = tt;
       revision = refl;
     }
+
+pub returns-in-Err-clause-cause : goal.returns-in-Err-clause-cause
+returns-in-Err-clause-cause g c = (make_short _ _ _ c.in-Err.ensures.step).0
+
+pub returns-in-Err-clause-short : goal.returns-in-Err-clause-short
+returns-in-Err-clause-short g c = (make_short _ _ _ c.in-Err.ensures.step).1

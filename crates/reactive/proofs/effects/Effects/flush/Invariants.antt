@@ -1,0 +1,13 @@
+use Rattle.std.proofs.Common.{◌≡◌, ◌++◌, List}
+use Rattle.reactive.specs.declared.effects.Told.{Told}
+use Rattle.reactive.specs.Graphs.{plans_in}
+use Rattle.reactive.specs.Hearing.{AllHear}
+use Rattle.reactive.proofs.effects.Effects.flush.Given as goal
+
+-- The effects before this one heard what their nodes mean.
+abbrev pub invariant-loop-effect : goal.invariant-loop-effect
+invariant-loop-effect g l =
+    (plans_in g.R.Rule.plan l.graph ≡ plans_in g.R.Rule.plan l.fn.graph)
+    × ((news : List (Told _)) × (l.told.items ≡ l.fn.told.items ++ news)
+    × AllHear g.T.Value.is_same (plans_in g.R.Rule.plan l.fn.graph) l.effect-index
+    l.fn.self.effects.items l.effect-items news)

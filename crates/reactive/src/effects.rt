@@ -1,0 +1,179 @@
+//! Effects: nodes that are watched, and told of where they mean something else.
+
+ghost use Rattle.std.specs.Prelude.{◌≡◌, ℕ, List, [], ◌∷◌, ◌++◌, length, IsTrue, OnOk, OnErr, Result, Ok, Err, None, filter, not};
+ghost use Rattle.reactive.specs.declared.effects.Told.{Told};
+ghost use Rattle.reactive.specs.declared.fault.Fault.{Fault};
+ghost use Rattle.reactive.specs.declared.key.Key.{Key};
+ghost use Rattle.reactive.specs.Hearing.{AllHear, Hears, Says, WasTold, is_old};
+ghost use Rattle.reactive.specs.Graphs.{plans_in};
+
+use crate::fault::Fault;
+use crate::key::Key;
+use crate::node::Node;
+use crate::reactive::Reactive;
+use crate::rule::{Rule, Value};
+use generational_core::{Storage, StoreError};
+use std::alloc::{AllocError, Global};
+use std::marker::Model;
+
+/// A node that is watched, and what was last told of it: its value, or why it means nothing.
+#[derive(Drop)]
+pub struct Effect<T> {
+    pub(crate) key: Key,
+    pub(crate) told: Option<Result<T, Fault>>,
+}
+
+/// What a flush tells: a node that is watched, and what it means now, or why it means nothing.
+#[derive(Drop)]
+pub struct Told<T> {
+    pub key: Key,
+    pub answer: Result<T, Fault>,
+}
+
+impl<T: Value + Drop> Effect<T> {
+    // Whether a value is what was last told.
+    fn has_heard(&self, value: &T) -> bool
+        ensures old { result ≡ is_old T.is_same self.now.told (Ok value.now) }
+        ensures told { IsTrue result → WasTold self.now.told (Ok value.now) }
+    {
+        match &self.told {
+            Some(Ok(last)) => last.same(value),
+            _ => false,
+        }
+    }
+
+    // Tells a value, unless it was the last that was told.
+    fn hear_value(&mut self, value: &T, told: &mut Vec<Told<T>>) -> Result<(), AllocError>
+        ensures heard { OnOk result ((news : List (Told T)) × (told.new.items ≡ told.old.items ++ news)
+            × Hears T.is_same self.old (Ok value.now) self.new news) }
+        ensures kept { OnErr result (self.new ≡ self.old) }
+        ensures untold { OnErr result (told.new.items ≡ told.old.items) }
+    {
+        if self.has_heard(value) {
+            return Ok(());
+        }
+        let kept = value.copy()?;
+        let key = self.key;
+        let answer = Ok(value.copy()?);
+        match told.push(Told { key, answer }) {
+            Ok(()) => {}
+            Err(_) => return Err(AllocError),
+        }
+        self.told = Some(Ok(kept));
+        Ok(())
+    }
+
+    // Tells that there is no value, unless that was told.
+    fn hear_fault(&mut self, fault: Fault, told: &mut Vec<Told<T>>) -> Result<(), AllocError>
+        ensures heard { OnOk result ((news : List (Told T)) × (told.new.items ≡ told.old.items ++ news)
+            × Hears T.is_same self.old (Err fault) self.new news) }
+        ensures kept { OnErr result (self.new ≡ self.old) }
+        ensures untold { OnErr result (told.new.items ≡ told.old.items) }
+    {
+        if let Some(Err(_)) = &self.told {
+            return Ok(());
+        }
+        let key = self.key;
+        let answer = Err(fault);
+        match told.push(Told { key, answer }) {
+            Ok(()) => {}
+            Err(_) => return Err(AllocError),
+        }
+        self.told = Some(Err(fault));
+        Ok(())
+    }
+
+    // Brings the node up to date, and tells what it means, unless that was told.
+    fn hear<R: Rule<T>, S: Storage<Node<T, R>>>(
+        &mut self,
+        graph: &mut Reactive<T, R, S>,
+        told: &mut Vec<Told<T>>,
+    ) -> Result<(), StoreError>
+        ensures heard { OnOk result ((a : Result T Fault) × Says (plans_in R.plan graph.old) self.old.key a
+            × ((news : List (Told T)) × (told.new.items ≡ told.old.items ++ news)
+            × Hears T.is_same self.old a self.new news)) }
+        ensures plans { plans_in R.plan graph.new ≡ plans_in R.plan graph.old }
+        ensures kept { OnErr result (self.new ≡ self.old) }
+        ensures untold { OnErr result (told.new.items ≡ told.old.items) }
+    {
+        let heard = match graph.refresh(self.key) {
+            Ok(()) => match graph.peek(self.key) {
+                Some(value) => self.hear_value(value, told),
+                None => unreachable!(),
+            },
+            Err(Fault::Store(cause)) => return Err(cause),
+            Err(fault) => self.hear_fault(fault, told),
+        };
+        match heard {
+            Ok(()) => Ok(()),
+            Err(_) => Err(StoreError::OutOfMemory),
+        }
+    }
+}
+
+/// Nodes that are watched, in the order in which they were. Contracts see them as effects: each a node,
+/// with what was last told of it. A node that is watched twice has two effects.
+#[derive(Drop)]
+pub struct Effects<T> {
+    effects: Vec<Effect<T>>,
+}
+
+impl<T: Value + Drop> Effects<T> {
+    /// No effects. Takes no memory.
+    pub fn new(alloc: Global) -> Self
+        ensures { result.effects.items ≡ [] }
+    {
+        Effects {
+            effects: Vec::new(alloc),
+        }
+    }
+
+    /// Watches a node: the next flush tells what it means, and each later one where that has changed.
+    ///
+    /// Refused if memory runs out: the effects stay as they were. O(1), but for finding room.
+    pub fn watch(&mut self, key: Key) -> Result<(), AllocError>
+        ensures watched { OnOk result (self.new.effects.items
+            ≡ self.old.effects.items ++ record { key = key; told = None } ∷ []) }
+        ensures refused { OnErr result (self.new.effects.items ≡ self.old.effects.items) }
+    {
+        let told = None;
+        match self.effects.push(Effect { key, told }) {
+            Ok(()) => Ok(()),
+            Err(_) => Err(AllocError),
+        }
+    }
+
+    /// Watches a node no longer: its effects go, and the others stay, in order. Takes no memory, and is
+    /// O(n).
+    pub fn unwatch(&mut self, key: Key)
+        ensures { self.new.effects.items
+            ≡ filter (λ e. not (⟦<Key as PartialEq>⟧.eq e.key key)) self.old.effects.items }
+    {
+        self.effects.retain(|effect| effect.key != key);
+    }
+
+    /// Brings each watched node up to date, in order, and pushes one entry for each that means another
+    /// value than was last told, or has begun to mean nothing. No node means something else afterwards.
+    ///
+    /// Of a node that means nothing, since it has ended, needs itself, or its rule gives no value, the
+    /// fault is told once, and nothing more until it means something. Its effect stays until `unwatch`.
+    ///
+    /// Refused as `Reactive::refresh` by the store, where memory runs out: what was pushed until then is
+    /// right, and a later flush tells the rest. Takes the time of a `refresh` of each watched node, and
+    /// memory for what is told.
+    pub fn flush<R: Rule<T>, S: Storage<Node<T, R>>>(
+        &mut self,
+        graph: &mut Reactive<T, R, S>,
+        told: &mut Vec<Told<T>>,
+    ) -> Result<(), StoreError>
+        ensures told { (n : ℕ) × (news : List (Told T)) × (told.new.items ≡ told.old.items ++ news)
+            × AllHear T.is_same (plans_in R.plan graph.old) n self.old.effects.items self.new.effects.items news
+            × (OnOk result (n ≡ length self.old.effects.items)) }
+        ensures plans { plans_in R.plan graph.new ≡ plans_in R.plan graph.old }
+    {
+        for effect in self.effects.iter_mut() {
+            effect.hear(graph, told)?;
+        }
+        Ok(())
+    }
+}
