@@ -14,7 +14,7 @@ use Rattle.reactive.specs.declared.key.Key.{Key}
 use Rattle.reactive.specs.declared.node.Node.{Node}
 use Rattle.reactive.specs.Changing.{IsReset, IsResetTo}
 use Rattle.reactive.specs.Ending.{HasLost, IsAmong}
-use Rattle.reactive.specs.Graphs.{GraphState, HasKind, HasPlan, IsKept, IsUnruled, IsUnset, kind_by, kind_by_rule, kind_in, plans_in, shown_in}
+use Rattle.reactive.specs.Graphs.{GraphState, HasKind, HasPlan, IsKept, IsUnruled, IsUnset, kind_by, kind_by_rule, kind_in, kinds_of, plans_in, shown_in}
 use Rattle.reactive.specs.Graphs.Kind.{NoNode, Source}
 use Rattle.reactive.specs.Meaning.{Graph, Means}
 use Rattle.reactive.specs.Plans.{Plan, Give, Stop}
@@ -22,6 +22,7 @@ use Rattle.reactive.specs.Refreshing.{Blames, Refreshed}
 use Rattle.reactive.specs.Tables.{IsPut, IsSound, Shows, Table, graph_of, known_by, known_of, nodes_in, plan_at, plan_by}
 use Rattle.reactive.specs.Tables.{pointer_in}
 use Rattle.reactive.proofs.Changing.{ended_sound, made_sound, set_sound}
+use Rattle.reactive.proofs.Keys.{key_cases}
 use Rattle.reactive.proofs.Tables.{known_means, known_shows}
 
 module _ {T R : Type 0} where
@@ -41,6 +42,17 @@ module _ {T R : Type 0} where
       → IsPut (nodes_in old.state) k n (nodes_in new.state) → HasKind old k (kind_by_rule n.rule) new
   put_kind old new k n put =
       record { here = ap kind_by put.here; others = λ j ne. ap kind_by (put.others j ne) }
+
+  -- a node that was put where one of its kind was leaves what each key is
+  pub put_kinds : (old new : Table T R) (k : Key) (n m : Node T R) → old k ≡ Some n
+      → kind_by_rule m.rule ≡ kind_by_rule n.rule → IsPut old k m new → kinds_of new ≡ kinds_of old
+  put_kinds old new k n m is same put = λ i j. at j i
+    where
+      at : (j : Key) → kinds_of new j ≡ kinds_of old j
+      at j = ⊎_elim
+          (λ e. ap (λ x. kind_by (new x)) e ∙ (ap kind_by put.here ∙ (same
+          ∙ (sym (ap kind_by is) ∙ sym (ap (λ x. kind_by (old x)) e)))))
+          (λ ne. ap kind_by (put.others j ne)) (key_cases j k)
 
   -- a source isn't set where it isn't given a rule
   pub unset : (g : GraphState T R) (k : Key) (f : Fault) → kind_in g k ≡ Source → IsUnruled g k f → IsUnset g k f

@@ -9,7 +9,7 @@ use Rattle.reactive.specs.declared.key.Key.{Key}
 use Rattle.reactive.specs.declared.node.Node.{Node}
 use Rattle.reactive.specs.Meaning.{Graph}
 use Rattle.reactive.specs.Plans.{Plan}
-use Rattle.reactive.specs.Tables.{IsSound, graph_of, known_of, nodes_in}
+use Rattle.reactive.specs.Tables.{IsSound, Table, graph_of, known_of, nodes_in}
 
 -- the state of the store, and the revision
 pub record GraphState (T R : Type 0) : Type 0 where
@@ -30,6 +30,9 @@ module _ {T R : Type 0} where
   abbrev pub kind_by : Option (Node T R) → Kind
   kind_by None = NoNode
   kind_by (Some n) = kind_by_rule n.rule
+
+  abbrev pub kinds_of : Table T R → Key → Kind
+  kinds_of nodes k = kind_by (nodes k)
 
   abbrev pub kind_in : GraphState T R → Key → Kind
   kind_in g k = kind_by (nodes_in g.state k)

@@ -5,7 +5,7 @@ ghost use Rattle.reactive.specs.declared.effects.Told.{Told};
 ghost use Rattle.reactive.specs.declared.fault.Fault.{Fault};
 ghost use Rattle.reactive.specs.declared.key.Key.{Key};
 ghost use Rattle.reactive.specs.Hearing.{AllHear, Hears, Says, WasTold, is_old};
-ghost use Rattle.reactive.specs.Graphs.{plans_in};
+ghost use Rattle.reactive.specs.Graphs.{kind_in, plans_in};
 
 use crate::fault::Fault;
 use crate::key::Key;
@@ -93,6 +93,7 @@ impl<T: Value + Drop> Effect<T> {
             × ((news : List (Told T)) × (told.new.items ≡ told.old.items ++ news)
             × Hears T.is_same self.old a self.new news)) }
         ensures plans { plans_in R.plan graph.new ≡ plans_in R.plan graph.old }
+        ensures kinds { kind_in graph.new ≡ kind_in graph.old }
         ensures kept { OnErr result (self.new ≡ self.old) }
         ensures untold { OnErr result (told.new.items ≡ told.old.items) }
     {
@@ -170,6 +171,7 @@ impl<T: Value + Drop> Effects<T> {
             × AllHear T.is_same (plans_in R.plan graph.old) n self.old.effects.items self.new.effects.items news
             × (OnOk result (n ≡ length self.old.effects.items)) }
         ensures plans { plans_in R.plan graph.new ≡ plans_in R.plan graph.old }
+        ensures kinds { kind_in graph.new ≡ kind_in graph.old }
     {
         for effect in self.effects.iter_mut() {
             effect.hear(graph, told)?;

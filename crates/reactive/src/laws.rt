@@ -13,7 +13,7 @@ use crate::rule::Rule;
 /// makes of what that node means.
 pub fn nodes_mean_one_value<T>()
     ensures one { (G : Graph T) (k : Key) (v w : T) → Means G k v → Means G k w → v ≡ w }
-    ensures alike { (G : Graph T) (j k : Key) (v w : T) → G j ≡ G k → Means G j v → Means G k w → v ≡ w }
+    ensures alike { (G H : Graph T) (j k : Key) (v w : T) → H ≡ G → G j ≡ G k → Means G j v → Means H k w → v ≡ w }
     ensures source { (G : Graph T) (k : Key) (v : T) → G k ≡ Give v → Means G k v }
     ensures memo { (G : Graph T) (k j : Key) (next : T → Plan T) (a v : T) → G k ≡ Ask j next →
         Means G j a → next a ≡ Give v → Means G k v }

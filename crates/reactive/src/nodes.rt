@@ -12,7 +12,7 @@ ghost use Rattle.reactive.specs.declared.node.Node.{Node};
 ghost use Rattle.reactive.specs.Changing.{IsResetTo};
 ghost use Rattle.reactive.specs.Chains.{GoesOn};
 ghost use Rattle.reactive.specs.Ending.{HasLost};
-ghost use Rattle.reactive.specs.Graphs.{IsUnruled};
+ghost use Rattle.reactive.specs.Graphs.{IsUnruled, kinds_of};
 ghost use Rattle.reactive.specs.Looks.{Looked, Verified};
 ghost use Rattle.reactive.specs.Meaning.{Graph};
 ghost use Rattle.reactive.specs.Plans.{Asked, Ran};
@@ -98,6 +98,7 @@ impl<T: Value + Drop, R: Rule<T>, S: Storage<Node<T, R>>> Nodes<T, R, S> {
         ensures put { IfSome result (λ old. (blank : Node T R)
             × IsPut (nodes_in (S.state self.old.store)) key blank (nodes_in (S.state self.new.store))) }
         ensures none { IfNone result (nodes_in (S.state self.old.store) key ≡ None) }
+        ensures refused { IfNone result (S.state self.new.store ≡ S.state self.old.store) }
         ensures revision { self.new.revision ≡ self.old.revision }
     {
         let blank = Node {
@@ -117,6 +118,7 @@ impl<T: Value + Drop, R: Rule<T>, S: Storage<Node<T, R>>> Nodes<T, R, S> {
         ensures confirmed { (old : Node T R) → nodes_in (S.state self.old.store) key ≡ Some old →
             IsPut (nodes_in (S.state self.old.store)) key
             (record old { checked = self.old.revision }) (nodes_in (S.state self.new.store)) }
+        ensures kinds { kinds_of (nodes_in (S.state self.new.store)) ≡ kinds_of (nodes_in (S.state self.old.store)) }
         ensures revision { self.new.revision ≡ self.old.revision }
     {
         let Some(mut node) = self.take(key) else {
@@ -133,6 +135,7 @@ impl<T: Value + Drop, R: Rule<T>, S: Storage<Node<T, R>>> Nodes<T, R, S> {
         ensures kept { (old : Node T R) → nodes_in (S.state self.old.store) key ≡ Some old →
             (new : Node T R) × IsSettled old value reads self.old.revision new
             × IsPut (nodes_in (S.state self.old.store)) key new (nodes_in (S.state self.new.store)) }
+        ensures kinds { kinds_of (nodes_in (S.state self.new.store)) ≡ kinds_of (nodes_in (S.state self.old.store)) }
         ensures revision { self.new.revision ≡ self.old.revision }
     {
         let Some(node) = self.take(key) else {
@@ -275,6 +278,7 @@ impl<T: Value + Drop, R: Rule<T>, S: Storage<Node<T, R>>> Nodes<T, R, S> {
             GoesOn G self.old.revision (nodes_in (S.state self.old.store)) key place →
             IsAdvanced R.plan G self.old.revision (nodes_in (S.state self.old.store)) key result
             (nodes_in (S.state self.new.store)) }
+        ensures kinds { kinds_of (nodes_in (S.state self.new.store)) ≡ kinds_of (nodes_in (S.state self.old.store)) }
     {
         match self.look(key, place) {
             Look::Known => Step::Settled,
@@ -341,6 +345,7 @@ impl<T: Value + Drop, R: Rule<T>, S: Storage<Node<T, R>>> Nodes<T, R, S> {
             path.old.items top →
             Went R.plan G self.old.revision (nodes_in (S.state self.new.store)) start
             path.new.items result }
+        ensures kinds { kinds_of (nodes_in (S.state self.new.store)) ≡ kinds_of (nodes_in (S.state self.old.store)) }
     {
         match self.advance(top.key, top.place) {
             Step::Settled => match path.pop() {
@@ -379,6 +384,7 @@ impl<T: Value + Drop, R: Rule<T>, S: Storage<Node<T, R>>> Nodes<T, R, S> {
         ensures refreshed { (G : Graph T) →
             IsSound R.plan G self.old.revision (nodes_in (S.state self.old.store)) →
             Refreshed G self.old.revision (nodes_in (S.state self.new.store)) key result }
+        ensures kinds { kinds_of (nodes_in (S.state self.new.store)) ≡ kinds_of (nodes_in (S.state self.old.store)) }
     {
         let mut path: Vec<Frame> = Vec::new(self.alloc);
         let place = Some(0);

@@ -134,6 +134,7 @@ impl<T: Value + Drop, R: Rule<T>, S: Storage<Node<T, R>>> Reactive<T, R, S> {
             × Means (plans_in R.plan self.old) key v) }
         ensures blames { IfErr result (Blames (plans_in R.plan self.old) key) }
         ensures plans { plans_in R.plan self.new ≡ plans_in R.plan self.old }
+        ensures kinds { kind_in self.new ≡ kind_in self.old }
     {
         self.nodes.refresh(key)
     }
@@ -154,6 +155,7 @@ impl<T: Value + Drop, R: Rule<T>, S: Storage<Node<T, R>>> Reactive<T, R, S> {
     pub fn get(&mut self, key: Key) -> Result<T, Fault>
         ensures answer { Answers (plans_in R.plan self.old) key result }
         ensures plans { plans_in R.plan self.new ≡ plans_in R.plan self.old }
+        ensures kinds { kind_in self.new ≡ kind_in self.old }
         ensures shown { IfOk result (λ v. shown_in self.new key ≡ Some v) }
     {
         match self.refresh(key) {

@@ -24,6 +24,9 @@ returns-in_err-hear-clause-told g c =
 pub returns-in_err-hear-clause-plans : goal.returns-in_err-hear-clause-plans
 returns-in_err-hear-clause-plans g c = c.hear.ensures.plans ∙ c.loop-effect.invariant.0
 
+pub returns-in_err-hear-clause-kinds : goal.returns-in_err-hear-clause-kinds
+returns-in_err-hear-clause-kinds g c = c.hear.ensures.kinds ∙ c.loop-effect.invariant.2
+
 pub loop-effect-preserved : goal.loop-effect-preserved
 loop-effect-preserved g c =
     let inv = c.loop-effect.invariant in
@@ -39,6 +42,7 @@ loop-effect-preserved g c =
             (slice_get-get_or items place c.effect-item.result (omega (arith, c.loop-effect-test.true)))
             (subst (λ G. Says G (get_or items place c.effect-item.result).key heard.0) inv.0 heard.1) heard.2.2,
       ),
+      c.hear.ensures.kinds ∙ inv.2,
     )
 
 pub returns-clause-told : goal.returns-clause-told
@@ -58,3 +62,6 @@ returns-clause-told g c =
 
 pub returns-clause-plans : goal.returns-clause-plans
 returns-clause-plans g c = c.loop-effect.invariant.0
+
+pub returns-clause-kinds : goal.returns-clause-kinds
+returns-clause-kinds g c = c.loop-effect.invariant.2

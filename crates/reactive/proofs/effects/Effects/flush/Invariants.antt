@@ -1,6 +1,6 @@
 use Rattle.std.proofs.Common.{◌≡◌, ◌++◌, List}
 use Rattle.reactive.specs.declared.effects.Told.{Told}
-use Rattle.reactive.specs.Graphs.{plans_in}
+use Rattle.reactive.specs.Graphs.{kind_in, plans_in}
 use Rattle.reactive.specs.Hearing.{AllHear}
 use Rattle.reactive.proofs.effects.Effects.flush.Given as goal
 
@@ -11,3 +11,4 @@ invariant-loop-effect g l =
     × ((news : List (Told _)) × (l.told.items ≡ l.fn.told.items ++ news)
     × AllHear g.T.Value.is_same (plans_in g.R.Rule.plan l.fn.graph) l.effect-index
     l.fn.self.effects.items l.effect-items news)
+    × (kind_in l.graph ≡ kind_in l.fn.graph)

@@ -1,6 +1,8 @@
-use Rattle.std.proofs.Common.{sym, ◌∙◌, subst}
+use Rattle.std.proofs.Common.{ap, sym, ◌∙◌, subst}
 use Rattle.std.proofs.lemmas.Option.{same_Some}
 use Rattle.reactive.specs.Settling.{IsSettled}
+use Rattle.reactive.specs.Graphs.{kind_by_rule}
+use Rattle.reactive.proofs.Graphs.{put_kinds}
 use Rattle.reactive.proofs.Stores.{put_twice}
 use Rattle.reactive.proofs.nodes.Nodes.keep.Goals as goal
 
@@ -14,3 +16,9 @@ returns-clause-kept g c = λ old at.
       put_twice _ _ _ c.args.key c.in-Some.ensures.put.0 n c.replace.result c.in-Some.ensures.put.1
           c.replace.ensures.put c.replace.ensures.none,
     )
+
+pub returns-clause-kinds : goal.returns-clause-kinds
+returns-clause-kinds g c = put_kinds _ _ c.args.key c.in-Some.node c.settled-settled.result c.in-Some.ensures.old
+    (ap kind_by_rule c.settled-settled.ensures.rule)
+    (put_twice _ _ _ c.args.key c.in-Some.ensures.put.0 c.settled-settled.result c.replace.result
+    c.in-Some.ensures.put.1 c.replace.ensures.put c.replace.ensures.none)

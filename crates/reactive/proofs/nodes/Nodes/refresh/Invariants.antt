@@ -1,5 +1,6 @@
 use Rattle.std.proofs.Common.{◌≡◌}
 use Rattle.generational_sessions.specs.PlainStores.{IsSimple}
+use Rattle.reactive.specs.Graphs.{kinds_of}
 use Rattle.reactive.specs.Meaning.{Graph}
 use Rattle.reactive.specs.Refreshing.{IsOnTheWay}
 use Rattle.reactive.specs.Tables.{IsSound, nodes_in}
@@ -11,3 +12,5 @@ invariant-loop g l = IsSimple (g.S.AnyStorage.state l.self.store) × (l.self.rev
     × ((G : Graph _) → IsSound g.R.Rule.plan G l.fn.self.revision (nodes_in (g.S.AnyStorage.state l.fn.self.store))
     → IsOnTheWay g.R.Rule.plan G l.fn.self.revision (nodes_in (g.S.AnyStorage.state l.self.store)) l.fn.key
     l.path.items l.top)
+    × (kinds_of (nodes_in (g.S.AnyStorage.state l.self.store))
+    ≡ kinds_of (nodes_in (g.S.AnyStorage.state l.fn.self.store)))

@@ -13,3 +13,6 @@ returns-clause-shown g c = rw (← c.self.view_is) (refreshed_shown g.R.Rule.pla
 pub returns-clause-plans : goal.returns-clause-plans
 returns-clause-plans g c = rw (← c.self.view_is) (same_plans g.R.Rule.plan _ _ _ c.refresh.ensures.simple
     c.refresh.ensures.revision (c.refresh.ensures.sound _ c.self.invariant.sound))
+
+pub returns-clause-kinds : goal.returns-clause-kinds
+returns-clause-kinds g c = rw (← c.self.view_is) c.refresh.ensures.kinds
