@@ -5,6 +5,7 @@
 pub mod documents;
 pub mod entities;
 pub mod errors;
+pub mod memos;
 pub mod scopes;
 pub mod sessions;
 pub mod trees;
