@@ -19,7 +19,7 @@ ROOT = pathlib.Path(__file__).resolve().parent.parent
 # Those of docs/api are written from the sources (`.ci/api.py`).
 PAGES = [ROOT / "README.md", *(it for it in sorted((ROOT / "docs").rglob("*.md")) if it.parent.name != "api")]
 WITH_CODE = ["README.md", "CALLING.md"]
-USES = ["example_callers", "example_libraries"]
+USES = ["example_callers", "example_libraries", "example_memos"]
 TESTS = ["test_boxes", "test_libraries"]
 SOURCES = [
     path for crate in USES + TESTS for path in sorted((ROOT / f"crates/{crate}/src").glob("*.rt"))

@@ -1,0 +1,39 @@
+//! What a node of a sheet computes of others.
+
+ghost use Rattle.sheet.specs.Formulas.{plan_of};
+
+use reactive::{Key, Reads, Rule};
+
+/// What a node computes: nothing where a sum or a product is too large.
+#[derive(Clone, Copy, Debug)]
+pub enum Formula {
+    /// Nothing yet.
+    Blank,
+    /// What another shows.
+    Same(Key),
+    /// The sum of two.
+    Add(Key, Key),
+    /// The product of two.
+    Mul(Key, Key),
+}
+
+impl Rule<u64> for Formula {
+    ghost plan = { plan_of };
+
+    fn compute<D: Reads<u64>>(&self, reader: &mut D) -> Option<u64> {
+        match *self {
+            Formula::Blank => None,
+            Formula::Same(a) => reader.get(a),
+            Formula::Add(a, b) => {
+                let x = reader.get(a)?;
+                let y = reader.get(b)?;
+                x.checked_add(y)
+            }
+            Formula::Mul(a, b) => {
+                let x = reader.get(a)?;
+                let y = reader.get(b)?;
+                x.checked_mul(y)
+            }
+        }
+    }
+}
