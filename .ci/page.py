@@ -20,7 +20,7 @@ ROOT = pathlib.Path(__file__).resolve().parent.parent
 PAGES = [ROOT / "README.md", *(it for it in sorted((ROOT / "docs").rglob("*.md")) if it.parent.name != "api")]
 WITH_CODE = ["README.md", "CALLING.md"]
 USES = ["example_callers", "example_libraries", "example_memos"]
-TESTS = ["test_boxes", "test_libraries"]
+TESTS = ["test_boxes", "test_libraries", "test_reactive"]
 SOURCES = [
     path for crate in USES + TESTS for path in sorted((ROOT / f"crates/{crate}/src").glob("*.rt"))
 ] + [path for crate in USES for path in sorted((ROOT / f"crates/{crate}/proofs").rglob("*.antt"))]
