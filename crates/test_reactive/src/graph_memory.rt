@@ -1,5 +1,5 @@
-//! Refused memory. Each test passes whichever one allocation is refused: what is refused changes
-//! nothing, and is tried a second time.
+//! Refused memory. Each test passes whichever allocation is refused, and those after it that ask for
+//! less: what is refused changes nothing, and is tried again.
 
 use crate::fresh::{Graph, Scene, here, play};
 use example_libraries::memos::Formula;
@@ -11,6 +11,9 @@ use std::process::Abort;
 /// How many memos there are: more than the room that is found at once.
 const MANY: u64 = 12;
 
+/// How often a call is tried that is refused.
+const TRIES: u64 = 40;
+
 const REFUSED: Fault = Fault::Store(StoreError::OutOfMemory);
 
 fn source_or_again<S: Storage<Node<u64, Formula>>>(
@@ -19,10 +22,12 @@ fn source_or_again<S: Storage<Node<u64, Formula>>>(
     scope: &mut Scope,
     value: u64,
 ) -> Key {
-    match scope.source(graph, value, here()) {
-        Ok(key) => key,
-        Err(_) => scope.source(graph, value, here()).expect(rt, "a source"),
+    for _ in 0..TRIES {
+        if let Ok(key) = scope.source(graph, value, here()) {
+            return key;
+        }
     }
+    rt.abort()
 }
 
 fn memo_or_again<S: Storage<Node<u64, Formula>>>(
@@ -31,28 +36,41 @@ fn memo_or_again<S: Storage<Node<u64, Formula>>>(
     scope: &mut Scope,
     formula: Formula,
 ) -> Key {
-    match scope.memo(graph, formula, here()) {
-        Ok(key) => key,
-        Err(_) => scope.memo(graph, formula, here()).expect(rt, "a memo"),
+    for _ in 0..TRIES {
+        if let Ok(key) = scope.memo(graph, formula, here()) {
+            return key;
+        }
     }
+    rt.abort()
 }
 
-/// Asks for a node, in a second try if memory runs out in the first.
+fn watch_or_again(rt: &impl Abort, effects: &mut Effects<u64>, key: Key) {
+    for _ in 0..TRIES {
+        if effects.watch(key).is_ok() {
+            return;
+        }
+    }
+    rt.abort()
+}
+
+/// Asks for a node, again where memory runs out.
 fn expect_or_again<S: Storage<Node<u64, Formula>>>(
     rt: &impl Abort,
     graph: &mut Graph<S>,
     key: Key,
     answer: Result<u64, Fault>,
 ) {
-    let first = graph.get(key);
-    if first == Err(REFUSED) {
-        assert_eq!(rt; graph.get(key), answer);
-    } else {
-        assert_eq!(rt; first, answer);
+    for _ in 0..TRIES {
+        let given = graph.get(key);
+        if given != Err(REFUSED) {
+            assert_eq!(rt; given, answer);
+            return;
+        }
     }
+    rt.abort()
 }
 
-/// Flushes, in a second try if memory runs out in the first, and compares what is told of one node.
+/// Flushes, again where memory runs out, and compares what is told of one node, which is watched twice.
 fn expect_told_or_again<S: Storage<Node<u64, Formula>>>(
     rt: &impl Abort,
     alloc: Global,
@@ -61,8 +79,10 @@ fn expect_told_or_again<S: Storage<Node<u64, Formula>>>(
     answer: Result<u64, Fault>,
 ) {
     let mut told: Vec<Told<u64>> = Vec::new(alloc);
-    if effects.flush(graph, &mut told).is_err() {
-        assert_eq!(rt; effects.flush(graph, &mut told), Ok(()));
+    for _ in 0..TRIES {
+        if effects.flush(graph, &mut told).is_ok() {
+            break;
+        }
     }
     assert_eq!(rt; told.len(), 2);
     for change in told.iter() {
@@ -88,9 +108,7 @@ impl Scene for Shortage {
             last = memo_or_again(rt, &mut graph, &mut scope, Formula::Add(last, first));
         }
         for _ in 0..2 {
-            if effects.watch(last).is_err() {
-                assert!(rt; effects.watch(last).is_ok());
-            }
+            watch_or_again(rt, &mut effects, last);
         }
         expect_or_again(rt, &mut graph, last, Ok(MANY + 1));
         assert_eq!(rt; graph.set(first, 2), Ok(()));
