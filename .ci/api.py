@@ -6,7 +6,7 @@
 
 A page has each public item of its crate, also one that it hands on from another: its signature, the
 first paragraph of its comment, its clauses by their names, and a link to its source. A clause without
-a name stands there whole. Sources are in rt fmt's layout.
+a name stands there itself. Sources are in rt fmt's layout.
 """
 import pathlib
 import re
@@ -19,6 +19,8 @@ CRATES = ["generational_box", "generational_sync", "signals", "reactive", "entit
 ITEM = re.compile(r"pub (?:const |unsafe )?(fn|struct|enum|trait|type|const) (\w+)")
 METHOD = re.compile(r"    (?:pub )?(?:const )?fn (\w+)")
 CLAUSE = re.compile(r"(requires|ensures)\*? ?(\w+)? ?\{")
+# How much of a clause without a name a page shows.
+LONGEST = 200
 # What every type of a kind has, and no user asks for.
 PLAIN_TRAITS = {"Model", "Drop"}
 
@@ -118,12 +120,17 @@ def split_head(head):
             clauses.append([begun[1], begun[2], line.strip()[begun.end():].strip()])
         else:
             clauses[-1][2] += " " + line.strip()
-    return head[:first], [(kind, name, text.removesuffix("}").strip()) for kind, name, text in clauses]
+    return head[:first], [(kind, name, text.strip().removesuffix("}").strip()) for kind, name, text in clauses]
+
+
+def shortened(text):
+    """The text of a clause without a name, of which a long one is cut."""
+    return text if len(text) <= LONGEST else text[:LONGEST].rsplit(" ", 1)[0] + " .."
 
 
 def clause_lines(clauses):
     for kind, word in (("requires", "Requires"), ("ensures", "Ensures")):
-        said = [f"`{name}`" if name else f"`{text}`" for each, name, text in clauses if each == kind]
+        said = [f"`{name or shortened(text)}`" for each, name, text in clauses if each == kind]
         if said:
             yield f"{word}: {', '.join(said)}."
 
