@@ -1,6 +1,6 @@
 //! Proving your own code: what is taken out of a stock, and that every other item stays.
 
-ghost use Rattle.std.specs.Prelude.{◌≡◌, ◌↔◌, ℕ, None, Some, IfOk, IsErr, OnErr};
+ghost use Rattle.std.specs.Prelude.{◌≡◌, ◌↔◌, ℕ, None, Some, IfOk, IsErr, IsTrue, OnErr};
 ghost use Rattle.entity_table.specs.declared.entity.Entity.{Entity};
 ghost use Rattle.entity_table.specs.Entities.{IsOther};
 ghost use Rattle.entity_table.specs.Tables.{element_in};
@@ -21,6 +21,8 @@ fn sell<R: Print, S: Storage<u64>>(rt: &R, stock: &mut EntityTable<u64, S>) -> a
     println!(rt; "{taken} taken out, {} left", stock.get(salt)?)?;
     let is_removed = remove_unless(stock, salt, salt);
     println!(rt; "taken out: {is_removed}, {} left", stock.get(salt)?)?;
+    let is_copy = remove_copies(stock, salt, salt);
+    println!(rt; "a copy: {is_copy}, still there: {}", stock.is_alive(salt))?;
     Ok(())
 }
 
@@ -50,6 +52,18 @@ pub fn remove_unless<S: Storage<u64>>(
 ) -> bool
     ensures { element_in stock.new kept ≡ element_in stock.old kept }
 {
-    equal_entities_show_the_same::<u64>();
     item != kept && remove(stock, item).is_ok()
+}
+
+/// Takes an item out. Whether another handle is a copy of the same: then it shows nothing either.
+pub fn remove_copies<S: Storage<u64>>(
+    stock: &mut EntityTable<u64, S>,
+    item: Entity<u64>,
+    copy: Entity<u64>,
+) -> bool
+    ensures { IsTrue result → element_in stock.new copy ≡ None }
+{
+    equal_entities_show_the_same::<u64>();
+    let _ = stock.despawn(item);
+    copy == item
 }

@@ -20,7 +20,7 @@ fn visit<R: Print, S: Storage<u64>>(rt: &R, store: &mut S) -> Result<()> {
     Ok(())
 }
 
-// Keeps 7 by an owner, reads it, and writes 8 in its place.
+// Keeps 7 by an owner, reads it, and makes it 8.
 fn keep<R: Print, S: Storage<u64>>(
     rt: &R,
     store: &mut S,
@@ -34,7 +34,8 @@ fn keep<R: Print, S: Storage<u64>>(
     if let (Some(value), Err(refusal)) = (value, refused) {
         println!(rt; "{value}; {refusal}")?;
     }
-    write(store, kept, 8)?;
+    // Nobody borrows it any more, so a closure changes it in its place.
+    kept.with_mut(store, |value| *value = 8);
     if let Some(value) = kept.peek(store) {
         println!(rt; "{kept:?} is {value}")?;
     }
@@ -43,7 +44,7 @@ fn keep<R: Print, S: Storage<u64>>(
 
 // Writes a value in place. It is refused while anybody else reads or writes there.
 fn write<S: Storage<u64>>(store: &mut S, kept: GenerationalBox<u64>, value: u64) -> Result<()> {
-    let mut writer = kept.try_write(store, line(46))?;
+    let mut writer = kept.try_write(store, line(47))?;
     *writer.deref_mut() = value;
     let _ = writer.release(store);
     Ok(())
