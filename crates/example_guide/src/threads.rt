@@ -1,10 +1,9 @@
 //! Threads: sessions of a server, in a store that four workers share.
 
-ghost use Rattle.std.specs.Prelude.{◌≡◌, ◌<◌};
 ghost use Rattle.generational_sync.specs.Shared.{IsBlank};
 
 use anyhow::{Result, anyhow};
-use generational_box::{GenerationalBox, Location, Owner, StoreError};
+use generational_box::{GenerationalBox, Location, Owner};
 use generational_sync::{Count, SyncStorage, Tally};
 use std::alloc::Global;
 use std::marker::Brand;
@@ -13,9 +12,10 @@ use std::sync::ledger::Blank;
 use std::thread;
 use std::thread::Threads;
 
-// How many workers share the store, and how many clients each of them serves.
+// How many workers share the store.
 const WORKERS: usize = 4;
 
+// How many clients each of them serves.
 const CLIENTS: u64 = 25;
 
 pub fn main<H: Threads + Wait + Print + AllocGlobal + Sync>(rt: &H) -> Result<()> {
