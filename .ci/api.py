@@ -6,7 +6,7 @@
 
 A page has each public item of its crate, also one that it hands on from another: its signature, the
 first paragraph of its comment, its clauses by their names, and a link to its source. A clause without
-a name stands there whole. Sources are in rt fmt's layout.
+a name stands there itself. Sources are in rt fmt's layout.
 """
 import pathlib
 import re
@@ -16,9 +16,14 @@ ROOT = pathlib.Path(__file__).resolve().parent.parent
 FOLDER = ROOT / "docs" / "api"
 CRATES = ["generational_box", "generational_sync", "signals", "reactive", "entity_table", "session_table",
           "scene_tree", "document_tree"]
+# Crates that users take through generational_box.
+HANDED_ON = {"generational_errors", "generational_core", "generational_sessions"}
+TAKEN = "# What users take."
 ITEM = re.compile(r"pub (?:const |unsafe )?(fn|struct|enum|trait|type|const) (\w+)")
 METHOD = re.compile(r"    (?:pub )?(?:const )?fn (\w+)")
 CLAUSE = re.compile(r"(requires|ensures)\*? ?(\w+)? ?\{")
+# How much of a clause without a name a page shows.
+LONGEST = 200
 # What every type of a kind has, and no user asks for.
 PLAIN_TRAITS = {"Model", "Drop"}
 
@@ -72,7 +77,7 @@ def home(sources, crate, path, name):
 
 def comment_above(lines, at):
     """The first paragraph of an item's comment."""
-    while at > 0 and lines[at - 1].lstrip().startswith("#["):
+    while at > 0 and re.match(r" *(#\[|//(?!/))", lines[at - 1]):
         at -= 1
     end = at
     while at > 0 and lines[at - 1].lstrip().startswith("///"):
@@ -84,7 +89,7 @@ def comment_above(lines, at):
 def derived_above(lines, at):
     """The traits that an item derives."""
     found = []
-    while at > 0 and lines[at - 1].startswith(("#[", "///")):
+    while at > 0 and lines[at - 1].startswith(("#[", "//")):
         at -= 1
         inside = re.match(r"#\[derive\((.*)\)\]", lines[at])
         found += re.split(r",\s*", inside[1]) if inside else []
@@ -118,12 +123,17 @@ def split_head(head):
             clauses.append([begun[1], begun[2], line.strip()[begun.end():].strip()])
         else:
             clauses[-1][2] += " " + line.strip()
-    return head[:first], [(kind, name, text.removesuffix("}").strip()) for kind, name, text in clauses]
+    return head[:first], [(kind, name, text.strip().removesuffix("}").strip()) for kind, name, text in clauses]
+
+
+def shortened(text):
+    """The text of a clause without a name, of which a long one is cut."""
+    return text if len(text) <= LONGEST else text[:LONGEST].rsplit(" ", 1)[0] + " .."
 
 
 def clause_lines(clauses):
     for kind, word in (("requires", "Requires"), ("ensures", "Ensures")):
-        said = [f"`{name}`" if name else f"`{text}`" for each, name, text in clauses if each == kind]
+        said = [f"`{name or shortened(text)}`" for each, name, text in clauses if each == kind]
         if said:
             yield f"{word}: {', '.join(said)}."
 
@@ -254,12 +264,16 @@ def item_lines(sources, name, crate, module, mark="## "):
     raise Failure(f"crates/{crate}/src/{module}.rt has no public item {name}")
 
 
+def about(sources, crate):
+    """The first paragraph of what a crate's root says of it."""
+    lines = sources.lines(crate, "lib")
+    said = [line.removeprefix("//!").strip() for line in lines if line.startswith("//!")]
+    return " ".join(said[: said.index("")] if "" in said else said)
+
+
 def page_of(sources, crate):
     """The page of a crate."""
-    lines = sources.lines(crate, "lib")
-    about = [line.removeprefix("//!").strip() for line in lines if line.startswith("//!")]
-    text = [f"# {crate}", "", " ".join(about[: about.index("")] if "" in about else about), "",
-            "Written by `.ci/api.py` from the sources."]
+    text = [f"# {crate}", "", about(sources, crate), "", "Written by `.ci/api.py` from the sources."]
     found = exports(sources, crate)
     for name, where, module in found:
         if module is not None and not is_module(sources, where, module, name):
@@ -278,13 +292,22 @@ def index_of(sources):
     """The page that leads to the others."""
     text = ["# What users call", "", "One page for each crate, written by `.ci/api.py` from the sources.", ""]
     for crate in CRATES:
-        first = sources.lines(crate, "lib")[0].removeprefix("//!").strip()
+        first = re.split(r"(?<=[.])\s", about(sources, crate))[0]
         count = page_of(sources, crate).count("\n```rust\n")
         text.append(f"- [{crate}]({crate}.md), {count} items: {first}")
     return "\n".join(text) + "\n"
 
 
+def taken():
+    """The crates that users take, of which crates.txt has a part of its own."""
+    part = (ROOT / "crates.txt").read_text(encoding="utf-8").split(TAKEN)[1].split("\n\n")[0]
+    return {line.split(":")[0].split()[0] for line in part.splitlines() if line}
+
+
 def pages(sources):
+    left = sorted(taken() - set(CRATES) - HANDED_ON)
+    if left:
+        raise Failure(f"these crates have no page: {' '.join(left)}")
     return {"README.md": index_of(sources), **{f"{it}.md": page_of(sources, it) for it in CRATES}}
 
 

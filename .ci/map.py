@@ -8,7 +8,7 @@
 The page has the crates of crates.txt in tables, one for each kind; a crate's name tells its kind. It
 has a table of each crate's sources, but for tests, in the order in which they are read. Each source,
 definition and file of lemmas says in its first line what it is. And each test that
-docs/maintaining/planted.md names as what refuses a bug is there.
+.ci/planted.md names as what refuses a bug is there.
 """
 import os
 import re
@@ -16,7 +16,7 @@ import sys
 
 ROOT = os.path.join(os.path.dirname(os.path.abspath(__file__)), "..")
 PAGE = os.path.join(ROOT, "docs", "maintaining", "map.md")
-PLANTED = os.path.join(ROOT, "docs", "maintaining", "planted.md")
+PLANTED = os.path.join(ROOT, ".ci", "planted.md")
 SOURCES = "## In which order to read"
 # The kinds of crates, each by the heading of its table and what its names are.
 KINDS = {
@@ -212,7 +212,7 @@ def main():
             refuse(compare, page, wrong)
         refuse(compare_planted, planted, planted.replace("`pairs::", "`peers::"))
         refuse(compare_planted, planted, planted.replace("::words_that_are_no_list`", "::words_that_are_none`"))
-    print("docs/maintaining/map.md and planted.md are what the sources say")
+    print("docs/maintaining/map.md and .ci/planted.md are what the sources say")
 
 
 if __name__ == "__main__":

@@ -6,10 +6,11 @@
 
 Each block of Rattle on a page must stand in one file of the crates of callers or of tests, and each
 proof in one of callers: its pieces, which blank lines part, line for line and in order.
-Each public function of a block must be named in a crate of tests, which the gate runs. An example in
+Each public function of a block must be called in a crate that the gate runs. An example in
 the comment of a public item must stand in one of those files too, whatever its indent. Each link to a
-file or a heading must lead there, and a line of `crates.txt` on a page must be that of the file. What
-is wrong is printed, and the exit status is 1 then.
+file or a heading must lead there, a line of `crates.txt` on a page must be that of the file, and what a
+page says that its program prints must be what the guide's programs print. What is wrong is printed, and
+the exit status is 1 then.
 """
 import pathlib
 import re
@@ -17,12 +18,17 @@ import sys
 
 ROOT = pathlib.Path(__file__).resolve().parent.parent
 # Those of docs/api are written from the sources (`.ci/api.py`).
-PAGES = [ROOT / "README.md", *(it for it in sorted((ROOT / "docs").rglob("*.md")) if it.parent.name != "api")]
-WITH_CODE = ["README.md", "CALLING.md"]
-USES = ["example_callers", "example_libraries", "example_memos"]
-TESTS = ["test_boxes", "test_libraries", "test_reactive"]
+PAGES = [ROOT / "README.md", ROOT / ".ci/planted.md"]
+PAGES += [it for it in sorted((ROOT / "docs").rglob("*.md")) if it.parent.name != "api"]
+# Each page of the guide, but for the questions, begins with a program.
+WITH_CODE = ["README.md", *(it.name for it in (ROOT / "docs/guide").glob("*.md") if it.name != "faq.md")]
+USES = ["example_callers", "example_libraries", "example_memos", "example_guide"]
+# What the gate runs.
+RUN = ["test_boxes", "test_libraries", "test_reactive", "example_memos", "example_guide"]
 SOURCES = [
-    path for crate in USES + TESTS for path in sorted((ROOT / f"crates/{crate}/src").glob("*.rt"))
+    path
+    for crate in dict.fromkeys(USES + RUN)
+    for path in sorted((ROOT / f"crates/{crate}/src").glob("*.rt"))
 ] + [path for crate in USES for path in sorted((ROOT / f"crates/{crate}/proofs").rglob("*.antt"))]
 
 
@@ -81,12 +87,12 @@ def fault_of(block, sources):
     if all(missing):
         furthest = max(missing, key=lambda piece: block.index(piece[0]))
         return f"no file has the block from {block[0]!r} on, with its piece {furthest[0]!r}"
-    tests = "\n".join(
-        line for path, lines in sources.items() if path.parts[-3] in TESTS for line in lines
+    run = "\n".join(
+        line for path, lines in sources.items() if path.parts[-3] in RUN for line in lines
     )
     for name in re.findall(r"^pub fn (\w+)", "\n".join(block), re.M):
-        if not re.search(rf"\b{name}\b", tests):
-            return f"no test calls {name}"
+        if not re.search(rf"(?<!fn )\b{name}\b", run):
+            return f"nothing that is run calls {name}"
     return None
 
 
@@ -144,15 +150,29 @@ def crate_faults(text):
     ]
 
 
+def print_faults(text):
+    """What a page says that its program prints, and the guide's programs don't: `It prints` comes
+    before the lines, or before one in the same sentence."""
+    printed = lines_of(ROOT / "crates/example_guide/stdout")
+    faults = []
+    for one, block in re.findall(r"^It prints(?: `([^`]+)`|\n\n((?:    .*\n)+))", text, re.M):
+        said = [line.strip() for line in (one or block).splitlines()]
+        if missing_piece(said, printed):
+            faults.append(f"no program of the guide prints {said[0]!r} and what follows")
+    return faults
+
+
 def told_faults(page):
     text = "\n".join(lines_of(page))
-    return link_faults(page, text) + crate_faults(text)
+    return link_faults(page, text) + crate_faults(text) + print_faults(text)
 
 
 def are_wrong_tellings_found():
-    """Whether a wrong link, a wrong heading and a wrong line of crates.txt are found out."""
+    """Whether a wrong link, a wrong heading, a wrong line of crates.txt and a wrong print are found
+    out."""
     page = ROOT / "README.md"
     wrong = [link_faults(page, text) for text in ("[a](docs/none.md)", "[a](docs/maintaining/map.md#none)")]
+    wrong += [print_faults(text) for text in ("It prints `none`.\n", "It prints\n\n    none\n")]
     return all(wrong) and bool(crate_faults("    signals: generational_core"))
 
 

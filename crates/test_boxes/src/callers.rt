@@ -1,4 +1,4 @@
-//! The proved callers of the crate `example_callers`, run: docs/CALLING.md shows them.
+//! The proved callers of the crate `example_callers`, run.
 
 use crate::expected::{assert_same, leak};
 use crate::fresh::{Life, Scenario, live, play};

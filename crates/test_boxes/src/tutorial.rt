@@ -1,4 +1,4 @@
-//! The tutorial of docs/CALLING.md, run: a value, two readers, a refusal, an owner.
+//! First steps, run: a value, two readers, a refusal, an owner.
 
 use crate::expected::assert_same;
 use generational_box::{

@@ -1,0 +1,16 @@
+//! The programs with which the pages of the guide begin, run one after the other.
+#![tactic(auto)]
+
+mod memory;
+mod proving;
+mod started;
+mod threads;
+mod values;
+
+fn main(rt: HostRuntime) -> anyhow::Result<()> {
+    started::main(rt)?;
+    values::main(rt)?;
+    threads::main(&rt)?;
+    proving::main(rt)?;
+    memory::main(rt)
+}
