@@ -71,9 +71,9 @@ impl Scene<u64> for KeepAll {
         let mut table = sessions_over(rt, alloc, store);
         log_in(rt, &mut table, 1);
         for value in 0..ENTRIES {
-            put(rt, &mut table, 1, value);
+            put(rt, &mut table, (1, value), value);
         }
-        assert!(rt; table.logout(1));
+        assert!(rt; table.logout(&1));
         let _left = table.finish();
     }
 }
