@@ -1,10 +1,10 @@
 //! Sessions, and entries that outlive them.
 
 ghost use Rattle.std.specs.Prelude.{◌≡◌, ℕ, true, false, None, Some, IfOk, IfErr, IfSome, IsErr};
-ghost use Rattle.std.specs.Prelude.{nat_eq, nat_lt, count_by, length};
+ghost use Rattle.std.specs.Prelude.{◌≤◌, nat_eq};
 ghost use Rattle.session_table.specs.declared.entry.Entry.{Entry};
 ghost use Rattle.session_table.specs.Entries.{put_at};
-ghost use Rattle.session_table.specs.Sessions.{entry_in};
+ghost use Rattle.session_table.specs.Sessions.{LiveSession, entry_in};
 ghost use Rattle.session_table.specs.Tables.{keeps, session_in, shown_in, WasPut};
 
 use generational_box::{Location, Storage};
@@ -81,4 +81,34 @@ pub fn found_by_key<S: Storage<u64>>(
     table.put(&id, key, value, here).ok()?;
     let entry = table.entry(&id, &key)?;
     table.get(entry).copied().ok()
+}
+
+/// The latest time of a last use, or 0 where there is no session.
+pub fn latest_use<S: Storage<u64>>(table: &SessionTable<u64, u64, u64, S>) -> u64
+    ensures { (id : ℕ) (s : LiveSession ℕ ℕ) → session_in nat_eq table.now id ≡ Some s →
+        s.used_at ≤ result }
+{
+    let mut latest = 0;
+    'sessions: for (_, session) in table.sessions() {
+        if session.used_at() > latest {
+            latest = session.used_at();
+        }
+    }
+    latest
+}
+
+/// The greatest key of an id's entries, or 0 where it has none.
+pub fn greatest_key<S: Storage<u64>>(table: &SessionTable<u64, u64, u64, S>, id: u64) -> u64
+    ensures { (key : ℕ) (e : Entry ℕ) →
+        entry_in nat_eq (session_in nat_eq table.now id) key ≡ Some e → key ≤ result }
+{
+    let mut greatest = 0;
+    if let Some(session) = table.session(&id) {
+        'entries: for (key, _) in session.entries() {
+            if *key > greatest {
+                greatest = *key;
+            }
+        }
+    }
+    greatest
 }

@@ -76,11 +76,11 @@ no_row {I} {K} {T} eq S rows k none = at (lookup (eq k) rows) refl
     at (Some s) is = absurd (true≢false (sym (ap is_some (has_row eq S rows k is)) ∙ none))
 
 -- where the rows were the same before
-pub over : {I K T : Type 0} {eq : I → I → Bool} {old mid new : List (I × Session K T)} {k : I}
-    {w : Option (Session K T)} → mid ≡ old
+pub over : {I K T : Type 0} (eq : I → I → Bool) {old mid : List (I × Session K T)}
+    (new : List (I × Session K T)) (k : I) (w : Option (Session K T)) → mid ≡ old
     → ((q : I) → lookup (eq q) new ≡ cond (eq k q) w (lookup (eq q) mid))
     → (q : I) → lookup (eq q) new ≡ cond (eq k q) w (lookup (eq q) old)
-over {eq = eq} {k = k} {w = w} same update q = update q ∙ ap (λ es. cond (eq k q) w (lookup (eq q) es)) same
+over eq new k w same update q = update q ∙ ap (λ es. cond (eq k q) w (lookup (eq q) es)) same
 
 module _ {I K T : Type 0} {eq : I → I → Bool} (laws : IsEquivalence eq)
     (old new : List (I × Session K T)) (k : I) (w : Option (Session K T))

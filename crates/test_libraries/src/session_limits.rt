@@ -4,7 +4,9 @@ use crate::counted::{Counted, another, assert_count, new_counted};
 use crate::expected::assert_same;
 use crate::fresh::{Scene, play, play_at_ticket};
 use crate::session_acts::{put_at, sessions_over};
-use example_libraries::sessions::{one_visit, seen_beside, told_after_logout};
+use example_libraries::sessions::{
+    found_by_key, greatest_key, latest_use, one_visit, seen_beside, told_after_logout,
+};
 use generational_box::{Storage, StoreError};
 use session_table::{Entry, LoginError, SessionTable, Stale};
 use std::alloc::Global;
@@ -106,6 +108,12 @@ fn visits_leave_no_session<S: Storage<u64>>(rt: &impl Abort, table: &mut Session
     assert_same(rt, &one_visit(table, 2, 0, 7, put_at(6)), &Some(7));
     assert_same(rt, &one_visit(table, 1, 0, 7, put_at(6)), &None);
     assert_same(rt, &table.len(), &1);
+    assert_same(rt, &found_by_key(table, 1, 4, 9, put_at(6)), &Some(9));
+    assert_same(rt, &found_by_key(table, 1, 4, 9, put_at(6)), &None);
+    assert_same(rt, &greatest_key(table, 1), &4);
+    assert_same(rt, &greatest_key(table, 2), &0);
+    assert!(rt; table.touch(&1, 8));
+    assert_same(rt, &latest_use(table), &8);
 }
 
 /// Values of two sessions, of which one is logged out.

@@ -12,14 +12,18 @@ use Rattle.session_table.proofs.table.SessionTable.login.Goals as goal
 
 pub unreachable-requires : goal.unreachable-requires
 unreachable-requires g c = none-some _ (sym (c.in-Ok-Some.ensures.old
-    ∙ (ap (λ es. lookup (g.I.PartialEq.eq c.args.id) es) c.reserve.ensures.entries ∙ (no_row g.I.PartialEq.eq (g.S.AnyStorage.state c.self.inside.store) c.self.inside.rows.entries c.args.id
+    ∙ (ap (λ es. lookup (g.I.PartialEq.eq c.args.id) es) c.reserve.ensures.entries
+    ∙ (no_row g.I.PartialEq.eq (g.S.AnyStorage.state c.self.inside.store) c.self.inside.rows.entries c.args.id
     (ap (λ (t : TableState _ _ _). has_session g.I.PartialEq.eq t c.args.id) c.self.view_is
-    ∙ (sym c.has.ensures ∙ c.if-has.false))))))
+    ∙ (sym c.has.ensures ∙ c.if-has.false))))) ∙ c.in-Ok-Some.field-0-is)
 
 pub invariant_of-self-2 : goal.invariant_of-self-2
 invariant_of-self-2 g c =
     login_kept _ _ (g.met.S.AnyStorage.sound _) c.self.invariant g.met.I.Eq.laws c.args.id c.in-Ok.owner
-    (λ q. now_held g.met.I.Eq.laws c.self.inside.rows.entries _ c.args.id (Some _) (over c.reserve.ensures.entries c.in-Ok-None.ensures.updates.0) q
+    (λ q. now_held g.met.I.Eq.laws c.self.inside.rows.entries c.insert.new.self.entries c.args.id
+    (Some (record { used_at = c.args.now; owner = c.in-Ok.owner; entries = c.new.result })) (over g.I.PartialEq.eq c.insert.new.self.entries
+    c.args.id (Some (record { used_at = c.args.now; owner = c.in-Ok.owner; entries = c.new.result }))
+    c.reserve.ensures.entries c.in-Ok-None.ensures.updates.0) q
     ∙ ap (λ ns. cond (g.I.PartialEq.eq c.args.id q) (Some (record { owner = c.in-Ok.owner; names = names_of ns }))
     (held_in g.I.PartialEq.eq c.self.inside.rows.entries q)) c.new.ensures.empty)
     (λ q t. one_held g.met.I.Eq.laws c.self.inside.rows.entries c.args.id q t (no_row g.I.PartialEq.eq (g.S.AnyStorage.state c.self.inside.store) c.self.inside.rows.entries c.args.id
@@ -27,20 +31,26 @@ invariant_of-self-2 g c =
     ∙ (sym c.has.ensures ∙ c.if-has.false)))) c.in-Ok.ensures
 
 pub returns-clause-opened : goal.returns-clause-opened
-returns-clause-opened g c = own_session g.met.I.Eq.laws c.self.inside.rows.entries _ c.args.id (Some _)
-    (over c.reserve.ensures.entries c.in-Ok-None.ensures.updates.0) (g.S.AnyStorage.state c.self.inside.store)
+returns-clause-opened g c = own_session g.met.I.Eq.laws c.self.inside.rows.entries c.insert.new.self.entries c.args.id
+    (Some (record { used_at = c.args.now; owner = c.in-Ok.owner; entries = c.new.result }))
+    (over g.I.PartialEq.eq c.insert.new.self.entries
+    c.args.id (Some (record { used_at = c.args.now; owner = c.in-Ok.owner; entries = c.new.result }))
+    c.reserve.ensures.entries c.in-Ok-None.ensures.updates.0) (g.S.AnyStorage.state c.self.inside.store)
     (g.S.AnyStorage.state c.owner.new.self)
     ∙ ap (λ es. Some (record { used_at = c.args.now; entries = es })) c.new.ensures.empty
 
 pub returns-clause-others : goal.returns-clause-others
 returns-clause-others g c = rw (← c.self.view_is) (other_sessions g.met.I.Eq.laws
-    c.self.inside.rows.entries _ c.args.id (Some _) (over c.reserve.ensures.entries c.in-Ok-None.ensures.updates.0)
+    c.self.inside.rows.entries c.insert.new.self.entries c.args.id
+    (Some (record { used_at = c.args.now; owner = c.in-Ok.owner; entries = c.new.result })) (over g.I.PartialEq.eq c.insert.new.self.entries
+    c.args.id (Some (record { used_at = c.args.now; owner = c.in-Ok.owner; entries = c.new.result }))
+    c.reserve.ensures.entries c.in-Ok-None.ensures.updates.0)
     (g.S.AnyStorage.state c.self.inside.store) (g.S.AnyStorage.state c.owner.new.self))
 
 pub returns-clause-count : goal.returns-clause-count
 returns-clause-count g c = rw (← c.self.view_is) (omega (
   arith,
-  c.in-Ok-None.ensures.len,
+  rw c.in-Ok-None.field-0-is at c.in-Ok-None.ensures.len,
   ap length c.reserve.ensures.entries,
   length-map c.self.inside.rows.entries live_row,
   length-map c.insert.new.self.entries live_row,

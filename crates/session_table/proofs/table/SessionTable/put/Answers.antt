@@ -18,15 +18,15 @@ pub keep-requires : goal.keep-requires
 keep-requires g c = ap is_some (c.self.invariant.held c.args.id.now (held_of c.in-Some.session.now)
     (ap (option_map held_of) (sym c.in-Some.ensures.value)))
 
-pub invariant_of-self-3 : goal.invariant_of-self-3
-invariant_of-self-3 g c =
+pub invariant_of-self-2 : goal.invariant_of-self-2
+invariant_of-self-2 g c =
     let found = sym c.in-Some.ensures.value in
     put_rows g.met.I.Eq.laws _ _ (g.met.S.AnyStorage.sound c.self.inside.store) _ _ c.args.id.now _ _
     c.self.invariant found ((c.get_mut.follows.holds c.keep.new.self).3 (ap is_some found)).0
     c.args.key c.in-Ok.entry c.keep.ensures.owner c.in-Ok.ensures.entries _ _ c.in-Ok.ensures.step
 
-pub invariant_of-self-2 : goal.invariant_of-self-2
-invariant_of-self-2 g c =
+pub invariant_of-self-in-Err : goal.invariant_of-self-in-Err
+invariant_of-self-in-Err g c =
     let found = sym c.in-Some.ensures.value in
     subst (λ X. IsKept X g.I.PartialEq.eq (held_in g.I.PartialEq.eq
     (c.get_mut.follows.lender c.keep.new.self).entries)) (sym c.in-Err.ensures.refused)
@@ -119,3 +119,16 @@ pub returns-in_default-clause-short : goal.returns-in_default-clause-short
 returns-in_default-clause-short g c = rw (← c.self.view_is) (inl (ap is_some (has_row g.I.PartialEq.eq
     (g.S.AnyStorage.state c.self.inside.store) c.self.inside.rows.entries c.args.id.now
     (sym c.in_default.ensures.value))))
+
+pub returns-in-Err-clause-others : goal.returns-in-Err-clause-others
+returns-in-Err-clause-others g c =
+    let found = sym c.in-Some.ensures.value in
+    let S = g.S.AnyStorage.state c.self.inside.store in
+    let rows = c.self.inside.rows.entries in
+    let update = ((c.get_mut.follows.holds c.keep.new.self).3 (ap is_some found)).0 in
+    rw (← c.self.view_is) (other_sessions g.met.I.Eq.laws rows _ c.args.id.now (Some c.keep.new.self) update S
+    (g.S.AnyStorage.state c.keep.new.store))
+
+pub returns-in-Err-clause-count : goal.returns-in-Err-clause-count
+returns-in-Err-clause-count g c = rw (← c.self.view_is) (length-map _ _
+    ∙ ((c.get_mut.follows.holds c.keep.new.self).2 ∙ sym (length-map _ _)))

@@ -49,4 +49,8 @@ returns-in_default-clause-had g c = rw (← c.self.view_is) (sym (ap is_some (ha
     (sym c.in_default.ensures.value))))
 
 pub returns-in_default-clause-used : goal.returns-in_default-clause-used
-returns-in_default-clause-used g c = ?
+returns-in_default-clause-used g c =
+    let had = has_row g.I.PartialEq.eq (g.S.AnyStorage.state c.self.inside.store) c.self.inside.rows.entries
+    c.args.id.now (sym c.in_default.ensures.value) in
+    rw (← c.self.view_is, c.get_mut.follows.holds-at-none)
+    (had ∙ sym (ap (option_map (used c.args.now)) had))
