@@ -27,6 +27,18 @@ bounds_each {P} {E} key number most items pairs is low row e v at =
     by None none h = absurd (none-some _ none)
     by (Some p) same h = subst (λ n. n ≤ most) (ap (λ q. q.1) (same_Some _ _ same)) (h p refl)
 
+-- a bound on the number of each item is one on that of what it shows
+pub bounds_all : {P Y : Type 0} (view : P → Y) (number : Y → ℕ) (most : ℕ) (items : List P) (ys : List Y)
+    → map view items ≡ ys → ((k : ℕ) (p : P) → slice_get items k ≡ Some p → number (view p) ≤ most)
+    → (row : ℕ) (y : Y) → slice_get ys row ≡ Some y → number y ≤ most
+bounds_all {P} {Y} view number most items ys is low row y at =
+    by (slice_get items row) (sym (slice_get-map view items row) ∙ (ap (λ zs. slice_get zs row) is ∙ at)) (low row)
+  where
+    by : (o : Option P) → option_map view o ≡ Some y
+        → ((p : P) → o ≡ Some p → number (view p) ≤ most) → number y ≤ most
+    by None none h = absurd (none-some _ none)
+    by (Some p) same h = subst (λ z. number z ≤ most) (same_Some _ _ same) (h p refl)
+
 -- the last of an element and those that follow it
 abbrev pub last_of : {X : Type 0} → X → List X → X
 last_of x [] = x

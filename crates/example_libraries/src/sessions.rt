@@ -4,11 +4,12 @@ ghost use Rattle.std.specs.Prelude.{◌≡◌, ℕ, true, false, None, Some, IfO
 ghost use Rattle.std.specs.Prelude.{◌≤◌, nat_eq};
 ghost use Rattle.session_table.specs.declared.entry.Entry.{Entry};
 ghost use Rattle.session_table.specs.Entries.{put_at};
-ghost use Rattle.session_table.specs.Sessions.{LiveSession, entry_in};
+ghost use Rattle.session_table.specs.Sessions.{LiveSession};
+ghost use Rattle.std.specs.Map.{lookup};
 ghost use Rattle.session_table.specs.Tables.{keeps, session_in, shown_in, WasPut};
 
 use generational_box::{Location, Storage};
-use session_table::{Entry, SessionTable, Stale};
+use session_table::{Entry, Session, SessionTable, Stale};
 
 /// Logs a session out, puts a value into another, and looks at what the first kept: the answer is
 /// that its session is gone, and where it was put, whichever slot the new value took.
@@ -89,7 +90,7 @@ pub fn latest_use<S: Storage<u64>>(table: &SessionTable<u64, u64, u64, S>) -> u6
         s.used_at ≤ result }
 {
     let mut latest = 0;
-    'sessions: for (_, session) in table.sessions() {
+    'walk: for (_, session) in table.sessions() {
         if session.used_at() > latest {
             latest = session.used_at();
         }
@@ -97,17 +98,15 @@ pub fn latest_use<S: Storage<u64>>(table: &SessionTable<u64, u64, u64, S>) -> u6
     latest
 }
 
-/// The greatest key of an id's entries, or 0 where it has none.
-pub fn greatest_key<S: Storage<u64>>(table: &SessionTable<u64, u64, u64, S>, id: u64) -> u64
+/// The greatest key of a session's entries, or 0 where it has none.
+pub fn greatest_key(session: &Session<u64, u64>) -> u64
     ensures { (key : ℕ) (e : Entry ℕ) →
-        entry_in nat_eq (session_in nat_eq table.now id) key ≡ Some e → key ≤ result }
+        lookup (nat_eq key) session.now.entries.entries ≡ Some e → key ≤ result }
 {
     let mut greatest = 0;
-    if let Some(session) = table.session(&id) {
-        'entries: for (key, _) in session.entries() {
-            if *key > greatest {
-                greatest = *key;
-            }
+    'walk: for (key, _) in session.entries() {
+        if *key > greatest {
+            greatest = *key;
         }
     }
     greatest

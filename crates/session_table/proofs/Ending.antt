@@ -100,13 +100,23 @@ module _ {I K T : Type 0} {eq : I → I → Bool} {time : ℕ} where
       young = λ i x lt at. s.young i x lt (sym (slice_get-taken place b.sessions i lt)
           ∙ (ap (λ xs. slice_get xs i) (sym e.before) ∙ (slice_get-taken place c.sessions i lt ∙ at)));
       sessions = λ id. ⊎_elim
-          (λ t. inr (now id t, ap (if_young time) (sym (one laws a e.ended.0 id t) ∙ had e.ended.0 e.ended.1 e.found)
-          ∙ ap (λ y. cond y (Some e.ended.1) None) old))
+          (λ t. inr (
+            now id t,
+            ap (if_young time) (sym (one laws a e.ended.0 id t) ∙ had e.ended.0 e.ended.1 e.found)
+                ∙ ap (λ y. cond y (Some e.ended.1) None) old,
+          ))
           (λ f. ⊎_elim (λ same. inl (still id f ∙ same)) (λ none. inr (still id f ∙ none.0, none.1)) (s.sessions id))
           (cases_Bool (eq e.ended.0 id));
       left = λ x. ⊎_elim
-          (λ t. inr (e.gone x t, (e.ended.0, ap (λ o. among (names_in o) (name_of (pointer_in x)))
-          (had e.ended.0 e.ended.1 e.found) ∙ t, now e.ended.0 (laws.refl e.ended.0))))
+          (λ t. inr (
+            e.gone x t,
+            (
+              e.ended.0,
+              ap (λ o. among (names_in o) (name_of (pointer_in x)))
+                  (had e.ended.0 e.ended.1 e.found) ∙ t,
+              now e.ended.0 (laws.refl e.ended.0),
+            ),
+          ))
           (λ f. ⊎_elim (λ same. inl (e.left x f ∙ same))
           (λ none. inr (e.left x f ∙ none.0, (none.1.0, none.1.1, ended_still none.1.0 none.1.2))) (s.left x))
           (cases_Bool (among (names_of e.ended.1.entries) (name_of (pointer_in x))));

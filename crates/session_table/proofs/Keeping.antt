@@ -213,7 +213,7 @@ module _ {I T : Type 0} {eq : I → I → Bool} (S R : State T) (s : IsSound S) 
   module _ (laws : IsEquivalence eq) {after : I → Option Held} (at : I) (x : Held) (v : T) (l : Location)
       (a : GenerationalBox T)
       (update : (i : I) → after i ≡ cond (eq at i)
-          (Some (record { owner = x.owner; names = x.names ++ name_of (pointer_of a) ∷ [] })) (rows i))
+      (Some (record { owner = x.owner; names = x.names ++ name_of (pointer_of a) ∷ [] })) (rows i))
       (there : (i : I) → eq at i ≡ true → rows i ≡ Some x)
       (m : Meets S (Make (Some x.owner) v l) (Made (pointer_of a)) R) where
     abbrev grown : Held
@@ -264,17 +264,30 @@ module _ {I T : Type 0} {eq : I → I → Bool} (S R : State T) (s : IsSound S) 
           (λ b. owner_still put_call put_answer m i h b.1 (other_owner i h b.0 b.1))
           (split laws at _ update i h is);
       known = λ o r is. ⊎_elim (λ same. (at, grown, here laws at _ update at (laws.refl at), same))
-          (λ ne. let was = k.known o r (sym (keeps_record put_call put_answer m o ne tt) ∙ is) in
-          (was.0, was.1, ⊎_elim
-          (λ t. absurd (ne (ap (λ (y : Held). y.owner) (same_Some x was.1 (sym (there was.0 t) ∙ was.2)) ∙ was.3)))
-          (λ f. beside laws at _ update was.0 f ∙ was.2) (cases_Bool (eq at was.0)), was.3))
+          (λ ne. let was = k.known o r (sym (keeps_record put_call put_answer m o ne tt) ∙ is) in (
+            was.0,
+            was.1,
+            ⊎_elim
+                (λ t. absurd (ne (ap (λ (y : Held). y.owner) (same_Some x was.1 (sym (there was.0 t) ∙ was.2)) ∙ was.3)))
+                (λ f. beside laws at _ update was.0 f ∙ was.2) (cases_Bool (eq at was.0)),
+            was.3,
+          ))
           (owner_cases x.owner o);
       kept = λ b n to. ⊎_elim
-          (λ is. (at, grown, here laws at _ update at (laws.refl at),
-          ap (among grown.names) (sym is) ∙ listed_last x.names (name_of (pointer_of a))))
+          (λ is. (
+            at,
+            grown,
+            here laws at _ update at (laws.refl at),
+            ap (among grown.names) (sym is) ∙ listed_last x.names (name_of (pointer_of a)),
+          ))
           (λ ne. let was = k.kept b n (sym (same_reach S R put_call put_answer s m b tt ne) ∙ to) in ⊎_elim
-          (λ t. (at, grown, here laws at _ update at (laws.refl at), listed_still b
-          (ap (λ (y : Held). among y.names (name_of b)) (same_Some x was.1 (sym (there was.0 t) ∙ was.2)) ∙ was.3)))
+          (λ t. (
+            at,
+            grown,
+            here laws at _ update at (laws.refl at),
+            listed_still b
+                (ap (λ (y : Held). among y.names (name_of b)) (same_Some x was.1 (sym (there was.0 t) ∙ was.2)) ∙ was.3),
+          ))
           (λ f. (was.0, was.1, beside laws at _ update was.0 f ∙ was.2, was.3)) (cases_Bool (eq at was.0)))
           (name_cases (name_of (pointer_of a)) (name_of b));
       live = λ i h is b listed own. ⊎_elim
@@ -344,18 +357,26 @@ module _ {I T : Type 0} {eq : I → I → Bool} (S R : State T) (s : IsSound S) 
       held = still_held;
       known = λ o r is. ⊎_elim
           (λ same. absurd (none≢some _ r (subst (λ p. ownership R p ≡ None) same gone) is))
-          (λ ne. let was = k.known o r (sym (keeps_record (ReleaseOwner x.owner) Done m o ne tt) ∙ is) in
-          (was.0, was.1, ⊎_elim
-          (λ t. absurd (ne (ap (λ (y : Held). y.owner) (same_Some x was.1 (sym (there was.0 t) ∙ was.2)) ∙ was.3)))
-          (λ f. beside laws at _ update was.0 f ∙ was.2) (cases_Bool (eq at was.0)), was.3))
+          (λ ne. let was = k.known o r (sym (keeps_record (ReleaseOwner x.owner) Done m o ne tt) ∙ is) in (
+            was.0,
+            was.1,
+            ⊎_elim
+                (λ t. absurd (ne (ap (λ (y : Held). y.owner) (same_Some x was.1 (sym (there was.0 t) ∙ was.2)) ∙ was.3)))
+                (λ f. beside laws at _ update was.0 f ∙ was.2) (cases_Bool (eq at was.0)),
+            was.3,
+          ))
           (owner_cases x.owner o);
       kept = λ b n to. ⊎_elim
           (λ was. absurd (none≢some _ n (ended_reach b was) to))
-          (λ out. let was = k.kept b n (sym (ended_left b out).reached ∙ to) in
-          (was.0, was.1, ⊎_elim
-          (λ t. absurd (true≢false (sym was.3
-          ∙ (ap (λ (y : Held). among y.names (name_of b)) (sym (same_Some x was.1 (sym (there was.0 t) ∙ was.2))) ∙ out))))
-          (λ f. beside laws at _ update was.0 f ∙ was.2) (cases_Bool (eq at was.0)), was.3))
+          (λ out. let was = k.kept b n (sym (ended_left b out).reached ∙ to) in (
+            was.0,
+            was.1,
+            ⊎_elim
+                (λ t. absurd (true≢false (sym was.3
+                ∙ (ap (λ (y : Held). among y.names (name_of b)) (sym (same_Some x was.1 (sym (there was.0 t) ∙ was.2))) ∙ out))))
+                (λ f. beside laws at _ update was.0 f ∙ was.2) (cases_Bool (eq at was.0)),
+            was.3,
+          ))
           (cases_Bool (among x.names (name_of b)));
       live = λ i h is b listed own.
           let was = k.live i h (old_row i h is).1 b listed

@@ -168,7 +168,11 @@ fn entry_at(rt: &impl Abort, entries: &[Entry<u64>], number: usize) -> Entry<u64
 }
 
 /// Sees which sessions there are.
-fn stands<S: Storage<u64>>(rt: &impl Abort, table: &SessionTable<u64, u64, u64, S>, sessions: &[(u64, u64)]) {
+fn stands<S: Storage<u64>>(
+    rt: &impl Abort,
+    table: &SessionTable<u64, u64, u64, S>,
+    sessions: &[(u64, u64)],
+) {
     assert_same(rt, &table.len(), &sessions.len());
     for (id, used_at) in sessions {
         let found = table.session(id).map(|session| session.used_at());

@@ -252,12 +252,7 @@ fn a_key_keeps_its_entry(rt: HostRuntime) {
             &[(1, 0), (2, 0)],
             &[Some(8), Some(9)],
         ),
-        line(
-            Act::Logout(1),
-            Reply::Done,
-            &[(2, 0)],
-            &[None, Some(9)],
-        ),
+        line(Act::Logout(1), Reply::Done, &[(2, 0)], &[None, Some(9)]),
     ];
     play_lines(&rt, rt.alloc(), &lines);
 }

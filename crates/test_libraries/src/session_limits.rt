@@ -13,7 +13,11 @@ use std::alloc::Global;
 use std::process::Abort;
 
 /// Begins a session.
-pub(crate) fn log_in<T, S: Storage<T>>(rt: &impl Abort, table: &mut SessionTable<u64, u64, T, S>, id: u64) {
+pub(crate) fn log_in<T, S: Storage<T>>(
+    rt: &impl Abort,
+    table: &mut SessionTable<u64, u64, T, S>,
+    id: u64,
+) {
     assert!(rt; table.login(id, 0).is_ok());
 }
 
@@ -103,15 +107,18 @@ fn values_are_let_go_with_their_sessions(rt: HostRuntime) {
 }
 
 /// Visits of ids with sessions and without.
-fn visits_leave_no_session<S: Storage<u64>>(rt: &impl Abort, table: &mut SessionTable<u64, u64, u64, S>) {
+fn visits_leave_no_session<S: Storage<u64>>(
+    rt: &impl Abort,
+    table: &mut SessionTable<u64, u64, u64, S>,
+) {
     log_in(rt, table, 1);
     assert_same(rt, &one_visit(table, 2, 0, 7, put_at(6)), &Some(7));
     assert_same(rt, &one_visit(table, 1, 0, 7, put_at(6)), &None);
     assert_same(rt, &table.len(), &1);
     assert_same(rt, &found_by_key(table, 1, 4, 9, put_at(6)), &Some(9));
     assert_same(rt, &found_by_key(table, 1, 4, 9, put_at(6)), &None);
-    assert_same(rt, &greatest_key(table, 1), &4);
-    assert_same(rt, &greatest_key(table, 2), &0);
+    let greatest = table.session(&1).map(|session| greatest_key(session));
+    assert_same(rt, &greatest, &Some(4));
     assert!(rt; table.touch(&1, 8));
     assert_same(rt, &latest_use(table), &8);
 }

@@ -14,7 +14,11 @@ use std::process::Abort;
 const MANY: u64 = 10;
 
 /// Begins a session. A login that lacks memory leaves the table as it was.
-fn log_in_or_again<S: Storage<u64>>(rt: &impl Abort, table: &mut SessionTable<u64, u64, u64, S>, id: u64) {
+fn log_in_or_again<S: Storage<u64>>(
+    rt: &impl Abort,
+    table: &mut SessionTable<u64, u64, u64, S>,
+    id: u64,
+) {
     let before = table.len();
     if let Err(cause) = table.login(id, id) {
         assert_same(rt, &cause, &LoginError::Store(StoreError::OutOfMemory));
