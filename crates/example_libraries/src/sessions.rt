@@ -4,7 +4,7 @@ ghost use Rattle.std.specs.Prelude.{◌≡◌, ℕ, true, false, None, Some, IfO
 ghost use Rattle.std.specs.Prelude.{◌≤◌, nat_eq};
 ghost use Rattle.session_table.specs.declared.entry.Entry.{Entry};
 ghost use Rattle.session_table.specs.Entries.{put_at};
-ghost use Rattle.session_table.specs.Sessions.{LiveSession};
+ghost use Rattle.session_table.specs.Sessions.{LiveSession, entry_in};
 ghost use Rattle.std.specs.Map.{lookup};
 ghost use Rattle.session_table.specs.Tables.{keeps, session_in, shown_in, WasPut};
 
@@ -69,17 +69,16 @@ pub fn one_visit<S: Storage<u64>>(
     seen
 }
 
-/// Keeps a value under a key, and finds it by the key: it is the same value.
+/// The value that an id's session has under a key, if it has one.
 pub fn found_by_key<S: Storage<u64>>(
-    table: &mut SessionTable<u64, u64, u64, S>,
+    table: &SessionTable<u64, u64, u64, S>,
     id: u64,
     key: u64,
-    value: u64,
-    here: Location,
 ) -> Option<u64>
-    ensures { IfSome result (λ seen. seen ≡ value) }
+    ensures { IfSome result (λ seen. (e : Entry ℕ)
+        × (entry_in nat_eq (session_in nat_eq table.now id) key ≡ Some e)
+        × (shown_in table.now e ≡ Some seen)) }
 {
-    table.put(&id, key, value, here).ok()?;
     let entry = table.entry(&id, &key)?;
     table.get(entry).copied().ok()
 }

@@ -115,8 +115,9 @@ fn visits_leave_no_session<S: Storage<u64>>(
     assert_same(rt, &one_visit(table, 2, 0, 7, put_at(6)), &Some(7));
     assert_same(rt, &one_visit(table, 1, 0, 7, put_at(6)), &None);
     assert_same(rt, &table.len(), &1);
-    assert_same(rt, &found_by_key(table, 1, 4, 9, put_at(6)), &Some(9));
-    assert_same(rt, &found_by_key(table, 1, 4, 9, put_at(6)), &None);
+    put(rt, table, (1, 4), 9);
+    assert_same(rt, &found_by_key(table, 1, 4), &Some(9));
+    assert_same(rt, &found_by_key(table, 1, 5), &None);
     let greatest = table.session(&1).map(|session| greatest_key(session));
     assert_same(rt, &greatest, &Some(4));
     assert!(rt; table.touch(&1, 8));

@@ -13,4 +13,4 @@ returns c key e is =
     let at = place_from_lookup (nat_eq key) _ e is in
     subst (λ n. n ≤ c.walk.greatest) (sym (eqb-true key at.1 at.3))
     (bounds_all (λ p. (p.0.now, p.1)) (λ x. x.0) c.walk.greatest c.walk.yielded _
-    (all.0 ∙ c.entries.ensures) c.walk.invariant at.0 (at.1, e) at.2)
+    (all.0 ∙ c.entries-key-items.ensures) c.walk.invariant at.0 (at.1, e) at.2)

@@ -12,4 +12,4 @@ returns g c id s is =
     c.walk.yielded _ c.walk.yielded_by _ _ c.in-None.is c.next.ensures.steps in
     let at = place_from_lookup (nat_eq id) _ s is in
     bounds_all (λ p. (p.0.now, live p.1.now)) (λ x. x.1.used_at) c.walk.latest c.walk.yielded _
-    (all.0 ∙ c.sessions.ensures) c.walk.invariant at.0 (at.1, s) at.2
+    (all.0 ∙ c.sessions-session-items.ensures) c.walk.invariant at.0 (at.1, s) at.2
