@@ -496,6 +496,11 @@ impl<T: Drop, P: SlotPool> Storage<T> for Store<T, P> {
     }
 
     #[inline(always)]
+    fn change_value<R, F: FnOnce(&mut T) -> R>(&mut self, pointer: GenerationalPointer, f: F) -> R {
+        self.slots.change(cell_name(pointer.id), f)
+    }
+
+    #[inline(always)]
     fn release_write(&mut self, guard: GenerationalRefMut<T>) -> Result<(), T>
         ensures { Meets self.old.state (ReleaseWriter guard.guard guard.value)
             (back_answer result) self.new.state }

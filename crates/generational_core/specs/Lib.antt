@@ -2,6 +2,7 @@ pub mod Answers
 pub mod Borrowing
 pub mod Boxes
 pub mod Cells
+pub mod Changing
 pub mod Conditions
 pub mod Ending
 pub mod Keeping

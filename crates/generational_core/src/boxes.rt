@@ -259,9 +259,12 @@ impl<T> GenerationalBox<T> {
 }
 
 impl<T> GenerationalBox<T> {
-    ghost use Rattle.std.specs.Prelude.{◌≡◌, true, IfErr, None, is_some, option_copied, option_map};
+    ghost use Rattle.std.specs.Prelude.{◌≡◌, true, IfErr, IfSome, IfNone, None, Some, is_some};
+    ghost use Rattle.std.specs.Prelude.{option_copied, option_map};
+    ghost use Rattle.std.specs.Borrow.{MutBor};
     ghost use Rattle.generational_core.specs.Answers.{pointer_of};
     ghost use Rattle.generational_core.specs.Borrowing.{can_read, can_write, reach};
+    ghost use Rattle.generational_core.specs.Changing.{Changes};
     ghost use Rattle.generational_core.specs.Keeping.{box_with};
     ghost use Rattle.generational_core.specs.Seeing.{value_in};
     ghost use Rattle.generational_core.specs.Machine.Action.{Make, MakeShared, Refer, Read, Write};
@@ -607,6 +610,34 @@ impl<T> GenerationalBox<T> {
             (S.state store.new) }
     {
         store.replace_value(self.raw, value);
+    }
+
+    /// Changes the value in its place, by a closure that is called once on it, and answers what that
+    /// answers. Every box that reaches the value sees from then on what the closure left, and nothing
+    /// else changes. No ticket is used up, no location is kept, and the value isn't moved.
+    ///
+    /// None where the box's cell has ended or is of another store, or any borrow stands at the value:
+    /// the closure isn't called, and the store stays as it was. Takes no memory of its own, and is
+    /// O(1), but for the closure.
+    ///
+    /// Upstream has no such call: there a write's guard is the way to it.
+    #[inline(always)]
+    pub fn with_mut<S: Storage<T>, R, F: FnOnce(&mut T) -> R>(
+        self,
+        store: &mut S,
+        f: F,
+    ) -> Option<R>
+        requires { (value : MutBor T) →
+            value_in (S.state store.old) (pointer_of self) ≡ Some value.now → F.pre f value }
+        ensures changed { IfSome result (λ answer.
+            Changes F.FnOnce f (S.state store.old) (pointer_of self) answer (S.state store.new)) }
+        ensures free { is_some result ≡ can_write (S.state store.old) (pointer_of self) }
+        ensures none { IfNone result (S.state store.new ≡ S.state store.old) }
+    {
+        if !store.can_write(self.raw) {
+            return None;
+        }
+        Some(store.change_value(self.raw, f))
     }
 
     /// Ends the box's cell, and the value with it: every box of this id is `Dropped` from then on,

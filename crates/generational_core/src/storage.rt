@@ -1,9 +1,11 @@
 //! What every store does.
 
 ghost use Rattle.std.specs.Prelude.{◌≡◌, ◌≤◌, ◌+◌, ◌-◌, ◌↔◌, true, IsTrue, IfOk, IfErr, None};
-ghost use Rattle.std.specs.Prelude.{is_some, option_copied};
+ghost use Rattle.std.specs.Prelude.{is_some, option_copied, Some};
 ghost use Rattle.generational_core.specs.State.{State, IsSound};
 ghost use Rattle.std.specs.FinMap as map;
+ghost use Rattle.std.specs.Borrow.{MutBor};
+ghost use Rattle.generational_core.specs.Changing.{Changes};
 ghost use Rattle.generational_core.specs.Conditions.{IsBounded, IsFresh};
 ghost use Rattle.generational_core.specs.Keeping.{box_with};
 ghost use Rattle.generational_core.specs.Seeing.{value_in};
@@ -314,6 +316,15 @@ pub trait Storage<T>: AnyStorage<T> {
         requires { can_write (Self.state self.old) pointer ≡ true }
         ensures { Meets (Self.state self.old) (SetValue pointer value) (Old result)
             (Self.state self.new) };
+
+    /// Changes the value that the pointer reaches, at which no borrow stands (`can_write` is the
+    /// test), by a closure, which is called once on the value in its place. Answers what the closure
+    /// answers. No ticket is used up, and the value isn't moved. Takes no memory of its own.
+    fn change_value<R, F: FnOnce(&mut T) -> R>(&mut self, pointer: GenerationalPointer, f: F) -> R
+        requires free { can_write (Self.state self.old) pointer ≡ true }
+        requires callable { (value : MutBor T) →
+            value_in (Self.state self.old) pointer ≡ Some value.now → F.pre f value }
+        ensures { Changes F.FnOnce f (Self.state self.old) pointer result (Self.state self.new) };
 
     /// Ends a read. The answer is whether the store knew the guard; where it didn't, nothing
     /// changes. Takes no memory.

@@ -5,6 +5,8 @@ ghost use Rattle.std.specs.Prelude.{◌≡◌, ◌≢◌, ◌+◌, ◌-◌, ◌<
 ghost use Rattle.std.specs.Prelude.{length, slice_get, slice_set, Some, Err, IsTrue, IfSome, IfOk};
 ghost use Rattle.std.specs.Prelude.{IfErr, OnOk, OnErr, is_some, is_none, is_ok, option_copied};
 ghost use Rattle.std.specs.Prelude.{max, option_map, vec_capacity};
+ghost use Rattle.std.specs.Borrow.{MutBor};
+ghost use Rattle.std.specs.Fn.{FnOnceReturnsAtMut};
 ghost use Rattle.generational_core.specs.Answers.{value_of};
 ghost use Rattle.generational_core.specs.Borrowing.{leads_to, read_refusal, write_refusal};
 ghost use Rattle.generational_core.specs.Borrowing.BorrowRefusal.{BeingWritten};
@@ -619,6 +621,27 @@ impl<T: Drop> Entries<T> {
     {
         match &mut self.entries[slot].content {
             StorageEntryData::Data(_, kept) => mem::replace(kept, value),
+            _ => unreachable!(),
+        }
+    }
+
+    /// Changes the value of a cell without borrows by a closure, which is called once on it in its
+    /// place, and answers what that answers.
+    #[inline(always)]
+    pub fn change<R, F: FnOnce(&mut T) -> R>(&mut self, slot: usize, f: F) -> R
+        requires within { slot < length self.old.slots }
+        requires free { IfSome (slice_get self.old.slots slot)
+            (λ e. has_no_borrow (content_in e.kept) ≡ true) }
+        requires callable { (value : MutBor T) → IfSome (slice_get self.old.slots slot)
+            (λ e. content_in e.kept ≡ Some (Here value.now [])) → F.pre f value }
+        ensures changed { (old : T) × (new : T) × FnOnceReturnsAtMut F.FnOnce f old result new
+            × IfSome (slice_get self.old.slots slot) (λ e. content_in e.kept ≡ Some (Here old []))
+            × (self.new.slots ≡ change_entry self.old.slots slot
+            (λ e. record e { kept = with_value new e.kept })) }
+        ensures rooms { self.new.rooms ≡ self.old.rooms }
+    {
+        match &mut self.entries[slot].content {
+            StorageEntryData::Data(_, kept) => f(kept),
             _ => unreachable!(),
         }
     }

@@ -7,6 +7,8 @@ ghost use Rattle.std.specs.Prelude.{false, is_some};
 ghost use Rattle.std.specs.Prelude.{map as list_map};
 ghost use Rattle.std.specs.List.{IsDistinct, list_all};
 ghost use Rattle.std.specs.FinMap as map;
+ghost use Rattle.std.specs.Borrow.{MutBor};
+ghost use Rattle.std.specs.Fn.{FnOnceReturnsAtMut};
 ghost use Rattle.generational_core.specs.declared.boxes.GenerationalPointer.{GenerationalPointer};
 ghost use Rattle.generational_errors.specs.declared.error.StoreError.TheVariants.{OutOfMemory};
 ghost use Rattle.generational_core.specs.Answers.{refusal_of_read_error};
@@ -459,6 +461,27 @@ impl<T: Drop, P: SlotPool> Slots<T, P> {
             unreachable!();
         };
         self.entries.replace(reached.slot, value)
+    }
+
+    /// Changes the value that a box of this name reaches, and at which no borrow stands, by a closure,
+    /// which is called once on it in its place, and answers what that answers.
+    #[inline(always)]
+    pub fn change<R, F: FnOnce(&mut T) -> R>(&mut self, name: CellName, f: F) -> R
+        requires free { has_no_borrow
+            (content_reached self.old.state (reached self.old.state (name_of_cell name))) ≡ true }
+        requires callable { (value : MutBor T) →
+            IfSome (reached self.old.state (name_of_cell name))
+            (λ m. content_at self.old.state m ≡ Some (Here value.now [])) → F.pre f value }
+        ensures { (old : T) × (new : T) × FnOnceReturnsAtMut F.FnOnce f old result new
+            × IfSome (reached self.old.state (name_of_cell name))
+            (λ m. content_at self.old.state m ≡ Some (Here old []))
+            × IfSome (reached self.old.state (name_of_cell name))
+            (λ m. self.new.state ≡ fill self.old.state m (Here new [])) }
+    {
+        let Some(reached) = self.entries.reach(name) else {
+            unreachable!();
+        };
+        self.entries.change(reached.slot, f)
     }
 
     // For how many cells more there is room.

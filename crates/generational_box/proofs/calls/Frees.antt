@@ -5,7 +5,9 @@ use Common.{GenerationalPointer, has_no_borrow, Here, IfSome, inl, is_none, IsSo
 use Common.{name_of, nat_tests, no_names, None, Old, Option, Owners, reach, reached, refl}
 use Common.{refusal_at, refusal_to_write, SetValue, Some, State, sym, true}
 use Common.{with_records, write_refusal, ℕ, [], ◌∙◌, ◌≡◌}
-use Rattle.generational_box.proofs.calls.Calls.{reach_here, reach_own, reaches, write_own}
+use Rattle.generational_core.specs.Answers.{value_of}
+use Rattle.generational_core.specs.Seeing.{value_in, value_reached}
+use Rattle.generational_box.proofs.calls.Calls.{reach_here, reach_own, reaches, sees_own, write_own}
 
 module _ {T : Type 0} where
   -- a content that isn't read or lent has no borrow
@@ -37,6 +39,19 @@ module _ {T : Type 0} where
         by (Some m) to h =
             let o = reaches view sound (sym (reach_own X view b at written_own ∙ to)) in
             rw o.has (unborrowed o.content (rw o.has at h))
+
+    -- which the box sees
+    pub value_seen : IsSound S → (value : T)
+        → IfSome (reached X n) (λ m. content_at X m ≡ Some (Here value []))
+        → value_in S b ≡ Some value
+    value_seen sound value is =
+        sees_own X view b at written_own ∙ by (reached X n) (free_there sound) is
+      where
+        by : (o : Option Name) → has_no_borrow (content_reached X o) ≡ true
+            → IfSome o (λ m. content_at X m ≡ Some (Here value []))
+            → value_reached X o ≡ Some value
+        by None h is = absurd cc
+        by (Some m) h is = ap value_of is
 
     -- another value in its place
     pub value_set : IsSound S → (Y : State T) (old value : T)
