@@ -1,7 +1,7 @@
 //! Values that are set, read and written where nothing is in the way.
 
-ghost use Rattle.std.specs.Prelude.{◌≡◌, ◌≢◌, IfNone, OnSome, IfOk, IfErr, IsTrue};
-ghost use Rattle.std.specs.Prelude.{IsFalse, Some, None, if◌then◌else◌};
+ghost use Rattle.std.specs.Prelude.{◌≡◌, ◌≢◌, ◌+◌, ◌<◌, ◌^◌, IfNone, IfSome, OnSome, IfOk, IfErr};
+ghost use Rattle.std.specs.Prelude.{IsTrue, IsFalse, is_some, Some, None, if◌then◌else◌};
 ghost use Rattle.generational_core.specs.declared.boxes.GenerationalPointer.{GenerationalPointer};
 ghost use Rattle.generational_errors.specs.declared.error.StoreError.TheVariants.{NumbersExhausted};
 ghost use Rattle.generational_core.specs.Answers.{pointer_of};
@@ -34,6 +34,29 @@ pub fn set_value<S: Storage<u64>>(store: &mut S, target: GenerationalBox<u64>, v
     }
     target.set(store, value);
     true
+}
+
+/// Counts a value up in its place, where nobody borrows it, and answers the count before. None where
+/// the value has ended or is borrowed, and then nothing changes. Never refused otherwise.
+pub fn count_up<S: Storage<u64>>(store: &mut S, counter: GenerationalBox<u64>) -> Option<u64>
+    requires { IfSome (value_in (S.state store.old) (pointer_of counter)) (λ n. n + 1 < 2 ^ 64) }
+    ensures free { is_some result ≡ can_write (S.state store.old) (pointer_of counter) }
+    ensures before { IfSome result (λ n.
+        value_in (S.state store.old) (pointer_of counter) ≡ Some n) }
+    // Each box that reaches the same sees the new count, and the others are left as they were.
+    ensures counted { IfSome result (λ n. (b : GenerationalPointer) →
+        reach (S.state store.old) b ≡ reach (S.state store.old) (pointer_of counter) →
+        value_in (S.state store.new) b ≡ Some (n + 1)) }
+    ensures others { (b : GenerationalPointer) →
+        reach (S.state store.old) b ≢ reach (S.state store.old) (pointer_of counter) →
+        IsLeft (S.state store.old) b (S.state store.new) }
+    ensures unchanged { IfNone result (S.state store.new ≡ S.state store.old) }
+{
+    counter.with_mut(store, |count: &mut u64| {
+        let before = *count;
+        *count += 1;
+        before
+    })
 }
 
 /// Sets the value of a box of a store without references, where each box of another name keeps its

@@ -621,6 +621,14 @@ impl<T> GenerationalBox<T> {
     /// O(1), but for the closure.
     ///
     /// Upstream has no such call: there a write's guard is the way to it.
+    ///
+    /// ```rust
+    /// counter.with_mut(store, |count: &mut u64| {
+    ///     let before = *count;
+    ///     *count += 1;
+    ///     before
+    /// })
+    /// ```
     #[inline(always)]
     pub fn with_mut<S: Storage<T>, R, F: FnOnce(&mut T) -> R>(
         self,
