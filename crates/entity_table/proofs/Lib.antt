@@ -3,4 +3,5 @@ pub mod Keeping
 pub mod Listing
 pub mod Removals
 pub mod Sifting
+pub mod Sweeping
 pub mod Walking
