@@ -25,6 +25,7 @@
 mod copies;
 mod entities;
 mod families;
+mod linked;
 mod logins;
 mod options;
 mod parts;
@@ -35,6 +36,7 @@ mod scene;
 mod shelves;
 mod visits;
 
+use crate::linked::Linked;
 use crate::options::Options;
 use crate::plain_forest::PlainForest;
 use crate::plain_parts::PlainParts;
@@ -74,6 +76,7 @@ fn seen_in(alloc: Global, words: Words) -> Option<u64> {
         List::Entities => rounds::run(alloc, &mut EntityTable::new(alloc, store), n),
         List::Options => rounds::run(alloc, &mut Options::new(alloc), n),
         List::Scene => families::run(alloc, &mut SceneTree::new(alloc, store), n),
+        List::Linked => families::run(alloc, &mut Linked::new(alloc, store), n),
         List::Forest => families::run(alloc, &mut PlainForest::new(alloc), n),
         List::Sessions => {
             let mut table = SessionTable::new(alloc, store);
@@ -93,6 +96,7 @@ enum List {
     Entities,
     Options,
     Scene,
+    Linked,
     Forest,
     Sessions,
     Shelves,
@@ -115,6 +119,7 @@ impl Words {
             "entities" => List::Entities,
             "options" => List::Options,
             "scene" => List::Scene,
+            "linked" => List::Linked,
             "forest" => List::Forest,
             "sessions" => List::Sessions,
             "shelves" => List::Shelves,
