@@ -2,9 +2,9 @@
 
 use crate::rounds::Keeper;
 use entity_table::{Entity, EntityTable};
-use generational_box::{Location, UnsyncStorage};
+use generational_box::{Location, Storage};
 
-impl Keeper<Entity<u64>> for EntityTable<u64, UnsyncStorage<u64>> {
+impl<S: Storage<u64>> Keeper<Entity<u64>> for EntityTable<u64, S> {
     fn add(&mut self, number: u64) -> Option<Entity<u64>> {
         self.spawn(number, Location::new("entities.rt", 9, 14)).ok()
     }

@@ -1,10 +1,10 @@
 //! Sessions of a table.
 
 use crate::visits::Keeper;
-use generational_box::{Location, UnsyncStorage};
+use generational_box::{Location, Storage};
 use session_table::{Entry, SessionTable};
 
-impl Keeper<Entry<u64>> for SessionTable<u64, UnsyncStorage<u64>> {
+impl<S: Storage<u64>> Keeper<Entry<u64>> for SessionTable<u64, S> {
     fn begin(&mut self, id: u64) -> bool {
         self.login(id, 0).is_ok()
     }

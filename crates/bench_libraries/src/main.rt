@@ -41,7 +41,7 @@ use crate::plain_parts::PlainParts;
 use crate::shelves::Shelves;
 use document_tree::{Document, Part};
 use entity_table::EntityTable;
-use generational_box::{AnyStorage, Store, UnsyncStorage};
+use generational_box::{Storage, Store, UnsyncStorage};
 use scene_tree::SceneTree;
 use session_table::SessionTable;
 use std::alloc::Global;
@@ -64,27 +64,62 @@ fn main(rt: HostRuntime) -> ExitCode {
 
 /// Makes the list's calls. None where one wasn't carried out.
 fn seen_in(alloc: Global, words: Words) -> Option<u64> {
-    let store: UnsyncStorage<u64> = Store::new(alloc, 1);
-    let parts: UnsyncStorage<Part<u64>> = Store::new(alloc, 2);
-    if !store.is_fresh() || !parts.is_fresh() {
-        return None;
-    }
     let n = words.things;
     match words.list {
-        List::Entities => rounds::run(alloc, &mut EntityTable::new(alloc, store), n),
+        List::Entities => in_entities(alloc, number_store(alloc), n),
         List::Options => rounds::run(alloc, &mut Options::new(alloc), n),
-        List::Scene => families::run(alloc, &mut SceneTree::new(alloc, store), n),
+        List::Scene => in_scene(alloc, number_store(alloc), n),
         List::Forest => families::run(alloc, &mut PlainForest::new(alloc), n),
-        List::Sessions => {
-            let mut table = SessionTable::new(alloc, store);
-            let seen = visits::run(alloc, &mut table, n);
-            let _store = table.finish();
-            seen
-        }
+        List::Sessions => in_sessions(alloc, number_store(alloc), n),
         List::Shelves => visits::run(alloc, &mut Shelves::new(alloc), n),
-        List::Parts => copies::run(alloc, &mut Document::new(alloc, parts), n),
+        List::Parts => in_parts(alloc, part_store(alloc), n),
         List::Copies => copies::run(alloc, &mut PlainParts::new(alloc), n),
     }
+}
+
+/// A new store of numbers.
+fn number_store(alloc: Global) -> UnsyncStorage<u64> {
+    Store::new(alloc, 1)
+}
+
+/// A new store of parts.
+fn part_store(alloc: Global) -> UnsyncStorage<Part<u64>> {
+    Store::new(alloc, 2)
+}
+
+/// Makes the calls over the entities of an empty store.
+fn in_entities<S: Storage<u64> + Drop>(alloc: Global, store: S, n: usize) -> Option<u64> {
+    if !store.is_fresh() {
+        return None;
+    }
+    rounds::run(alloc, &mut EntityTable::new(alloc, store), n)
+}
+
+/// Makes the calls over the nodes of an empty store.
+fn in_scene<S: Storage<u64> + Drop>(alloc: Global, store: S, n: usize) -> Option<u64> {
+    if !store.is_fresh() {
+        return None;
+    }
+    families::run(alloc, &mut SceneTree::new(alloc, store), n)
+}
+
+/// Makes the calls over what sessions keep in an empty store.
+fn in_sessions<S: Storage<u64> + Drop>(alloc: Global, store: S, n: usize) -> Option<u64> {
+    if !store.is_fresh() {
+        return None;
+    }
+    let mut table = SessionTable::new(alloc, store);
+    let seen = visits::run(alloc, &mut table, n);
+    let _store = table.finish();
+    seen
+}
+
+/// Makes the calls over the parts of an empty store.
+fn in_parts<S: Storage<Part<u64>> + Drop>(alloc: Global, store: S, n: usize) -> Option<u64> {
+    if !store.is_fresh() {
+        return None;
+    }
+    copies::run(alloc, &mut Document::new(alloc, store), n)
 }
 
 /// What keeps the things.

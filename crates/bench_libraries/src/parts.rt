@@ -2,9 +2,9 @@
 
 use crate::copies::Keeper;
 use document_tree::{Document, Part, Place};
-use generational_box::{Location, UnsyncStorage};
+use generational_box::{Location, Storage};
 
-impl Keeper<Place> for Document<u64, UnsyncStorage<Part<u64>>> {
+impl<S: Storage<Part<u64>>> Keeper<Place> for Document<u64, S> {
     fn add(&mut self, number: u64) -> Option<Place> {
         Document::add(self, number, Location::new("parts.rt", 9, 9)).ok()
     }

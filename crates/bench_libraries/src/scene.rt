@@ -1,7 +1,7 @@
 //! Nodes of a scene tree.
 
 use crate::families::Forest;
-use generational_box::{Location, UnsyncStorage};
+use generational_box::{Location, Storage};
 use scene_tree::{Node, SceneTree};
 
 /// Where a node is made.
@@ -9,7 +9,7 @@ fn here() -> Location {
     Location::new("scene.rt", 9, 5)
 }
 
-impl Forest<Node<u64>> for SceneTree<u64, UnsyncStorage<u64>> {
+impl<S: Storage<u64>> Forest<Node<u64>> for SceneTree<u64, S> {
     fn plant(&mut self, number: u64) -> Option<Node<u64>> {
         self.add_root(number, here()).ok()
     }
