@@ -1,9 +1,10 @@
 //! Replies in pairs: each is the same as itself, and no two that differ in one part are.
 
+use crate::expected::assert_same;
 use boxes_parts::is_same;
 use generational_box::{
     AlreadyBorrowedError, AlreadyBorrowedMutError, BorrowMutError, GenerationalBox, Location,
-    Reply, Store, StoreError, UnsyncStorage, ValueDroppedError,
+    Reply, Storage, Store, StoreError, UnsyncStorage, ValueDroppedError,
 };
 use std::alloc::{AllocError, Global};
 use std::process::Abort;
@@ -58,11 +59,10 @@ impl Replies {
     }
 
     // A box, its id, its location and an error for it, of each place.
-    fn add_places(&mut self) -> Result<(), AllocError> {
-        let mut store: UnsyncStorage<String> = Store::new(self.alloc, 7);
+    fn add_places<S: Storage<String>>(&mut self, store: &mut S) -> Result<(), AllocError> {
         for index in 0..PLACES.len() {
             let value = String::new(self.alloc);
-            let made = GenerationalBox::leak(&mut store, value, place(index));
+            let made = GenerationalBox::leak(store, value, place(index));
             let made = made.map_err(|_| AllocError)?;
             self.add(Reply::Box(made))?;
             self.add(Reply::Created(place(index)))?;
@@ -116,49 +116,78 @@ impl Replies {
         }
     }
 
-    fn add_all(&mut self) -> Result<(), AllocError> {
+    fn add_all<S: Storage<String>>(&mut self, store: &mut S) -> Result<(), AllocError> {
         self.add_kinds()?;
-        self.add_places()?;
+        self.add_places(store)?;
         self.add_readers()?;
         self.add_values()
     }
 }
 
-/// All the replies, made anew.
-fn every_reply(rt: &impl Abort, alloc: Global) -> Vec<Reply<String>> {
+/// All the replies, made anew, with the boxes of a store that goes.
+fn every_reply<S: Storage<String> + Drop>(
+    rt: &impl Abort,
+    alloc: Global,
+    mut store: S,
+) -> Vec<Reply<String>> {
     let mut replies = Replies {
         alloc,
         list: Vec::new(alloc),
     };
-    replies.add_all().expect(rt, "memory");
+    replies.add_all(&mut store).expect(rt, "memory");
     let Replies { alloc: _, list } = replies;
     list
+}
+
+/// Asserts that two lists of replies that differ are the same at each place, and nowhere else.
+fn assert_same_in_order(rt: &impl Abort, ones: &[Reply<String>], others: &[Reply<String>]) {
+    for (index, one) in ones.iter().enumerate() {
+        for (place, other) in others.iter().enumerate() {
+            let found = (index, place, is_same(one, other));
+            assert_same(rt, &found, &(index, place, index == place));
+        }
+    }
 }
 
 // Each reply is the same as itself made anew, and as no other one.
 #[test]
 fn replies_are_the_same_in_all_parts_or_not_at_all(rt: HostRuntime) {
-    let ones = every_reply(&rt, rt.alloc());
-    let others = every_reply(&rt, rt.alloc());
-    assert_eq!(&rt; ones.len(), 53);
-    for (index, one) in ones.iter().enumerate() {
-        for (place, other) in others.iter().enumerate() {
-            assert_eq!(&rt; is_same(one, other), index == place, "{index} and {place}");
-        }
-    }
+    let store: UnsyncStorage<String> = Store::new(rt.alloc(), 7);
+    let ones = every_reply(&rt, rt.alloc(), store);
+    let store: UnsyncStorage<String> = Store::new(rt.alloc(), 7);
+    let others = every_reply(&rt, rt.alloc(), store);
+    assert_same(&rt, &ones.len(), &53);
+    assert_same_in_order(&rt, &ones, &others);
+}
+
+/// A box of an empty text.
+fn made_in<S: Storage<String>>(
+    rt: &impl Abort,
+    alloc: Global,
+    store: &mut S,
+) -> GenerationalBox<String> {
+    let made = GenerationalBox::leak(store, String::new(alloc), place(0));
+    made.map_err(|_| AllocError).expect(rt, "a box")
+}
+
+/// Asserts that two replies are the same.
+fn assert_alike(rt: &impl Abort, one: Reply<String>, other: Reply<String>) {
+    assert!(rt; is_same(&one, &other));
+}
+
+/// Asserts that replies are the same that tell of two boxes.
+fn assert_boxes_alike<S: Storage<String> + Drop>(rt: &impl Abort, alloc: Global, mut store: S) {
+    let one = made_in(rt, alloc, &mut store);
+    let other = made_in(rt, alloc, &mut store);
+    assert!(rt; !one.ptr_eq(&other));
+    assert_alike(rt, Reply::Box(one), Reply::Box(other));
+    assert_alike(rt, Reply::Id(one.id()), Reply::Id(other.id()));
+    assert_alike(rt, Reply::Slot(0), Reply::Slot(1));
 }
 
 // Ids and numbers of slots are set aside.
 #[test]
 fn replies_are_the_same_whatever_their_slots(rt: HostRuntime) {
-    let alloc = rt.alloc();
-    let mut store: UnsyncStorage<String> = Store::new(alloc, 7);
-    let one = GenerationalBox::leak(&mut store, String::new(alloc), place(0));
-    let other = GenerationalBox::leak(&mut store, String::new(alloc), place(0));
-    let one = one.map_err(|_| AllocError).expect(&rt, "a box");
-    let other = other.map_err(|_| AllocError).expect(&rt, "a box");
-    assert!(&rt; !one.ptr_eq(&other));
-    assert!(&rt; is_same(&Reply::Box(one), &Reply::Box(other)));
-    assert!(&rt; is_same(&Reply::Id(one.id()), &Reply::Id(other.id())));
-    assert!(&rt; is_same(&Reply::Slot(0), &Reply::Slot(1)));
+    let store: UnsyncStorage<String> = Store::new(rt.alloc(), 7);
+    assert_boxes_alike(&rt, rt.alloc(), store);
 }

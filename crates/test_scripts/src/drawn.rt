@@ -2,12 +2,13 @@
 
 ghost use Rattle.std.specs.Prelude.{◌≤◌};
 
+use crate::expected::assert_same;
 use crate::runs::{assert_ended, run_words};
 use boxes_parts::{Verdict, compare};
 use boxes_script::compare_stores;
 use generational_box::{
-    BoxAt, Call, GenerationalBox, Location, Numbers, OldestFirst, Reply, Store, StoreError,
-    UnsyncStorage,
+    BoxAt, Call, GenerationalBox, Location, Numbers, OldestFirst, Reply, Storage, Store,
+    StoreError, UnsyncStorage,
 };
 use std::alloc::{AllocError, Global};
 use std::process::Abort;
@@ -68,11 +69,20 @@ fn words_that_are_no_list(rt: HostRuntime) {
     assert_fuzz(&rt, alloc, &["buzz", "1", "1"], 2, "", USAGE);
 }
 
-/// A box of a new store of this number.
-fn stranger(rt: &impl Abort, alloc: Global, number: u64) -> GenerationalBox<String> {
-    let mut store: UnsyncStorage<String> = Store::new(alloc, number);
+/// A box of a store that goes.
+fn box_of<S: Storage<String> + Drop>(
+    rt: &impl Abort,
+    alloc: Global,
+    mut store: S,
+) -> GenerationalBox<String> {
     let made = GenerationalBox::leak(&mut store, String::new(alloc), Location::new("b", 1, 1));
     made.map_err(|_| AllocError).expect(rt, "a box")
+}
+
+/// A box of a new store of this number.
+fn stranger(rt: &impl Abort, alloc: Global, number: u64) -> GenerationalBox<String> {
+    let store: UnsyncStorage<String> = Store::new(alloc, number);
+    box_of(rt, alloc, store)
 }
 
 /// Three replies, of which the second is another.
@@ -103,8 +113,8 @@ fn assert_compared(
 ) {
     let ones = three(rt, alloc, one);
     let others = three(rt, alloc, other);
-    assert_eq!(rt; compare(&ones, &others), verdict);
-    assert_eq!(rt; compare(&others, &ones), verdict);
+    assert_same(rt, &compare(&ones, &others), &verdict);
+    assert_same(rt, &compare(&others, &ones), &verdict);
 }
 
 // A list that ends before the other differs from it there.
@@ -114,8 +124,8 @@ fn a_shorter_list_differs_at_its_end(rt: HostRuntime) {
     let mut shorter = three(&rt, rt.alloc(), Reply::Done);
     for end in [2, 1, 0] {
         let _last = shorter.pop();
-        assert_eq!(&rt; compare(&list, &shorter), Verdict::Differs(end));
-        assert_eq!(&rt; compare(&shorter, &list), Verdict::Differs(end));
+        assert_same(&rt, &compare(&list, &shorter), &Verdict::Differs(end));
+        assert_same(&rt, &compare(&shorter, &list), &Verdict::Differs(end));
     }
 }
 
@@ -169,6 +179,21 @@ fn calls(rt: &impl Abort, alloc: Global) -> Vec<Call<String>> {
     calls.map_err(|_| AllocError).expect(rt, "memory")
 }
 
+/// Asserts how two stores compare.
+fn assert_answered<S: Storage<String> + Drop, Z: Storage<String> + Drop>(
+    rt: &impl Abort,
+    alloc: Global,
+    one: S,
+    other: Z,
+    verdict: Verdict,
+) {
+    assert!(rt; one.is_fresh() && other.is_fresh());
+    let ones = (one, calls(rt, alloc));
+    let others = (other, calls(rt, alloc));
+    let found = compare_stores(alloc, ones, others).expect(rt, "memory");
+    assert_same(rt, &found, &verdict);
+}
+
 /// Asserts how a store of this number and these first numbers compares with one of number 1.
 fn assert_stores_compared(
     rt: &impl Abort,
@@ -181,10 +206,7 @@ fn assert_stores_compared(
 {
     let one: UnsyncStorage<String> = Store::new(alloc, 1);
     let other: Store<String, OldestFirst> = Store::new_at(alloc, number, numbers);
-    let ones = (one, calls(rt, alloc));
-    let others = (other, calls(rt, alloc));
-    let found = compare_stores(alloc, ones, others).expect(rt, "memory");
-    assert_eq!(rt; found, verdict);
+    assert_answered(rt, alloc, one, other, verdict);
 }
 
 // A store without a ticket refuses the first read, and one of the other number doesn't take the
@@ -219,6 +241,6 @@ fn too_many_slots_are_a_difference(rt: HostRuntime) {
         (Verdict::Refused(3), Some(2), Verdict::Differs(2)),
         (Verdict::Refused(3), Some(3), Verdict::Refused(3)),
     ] {
-        assert_eq!(&rt; verdict.or_breach(breach), wanted);
+        assert_same(&rt, &verdict.or_breach(breach), &wanted);
     }
 }

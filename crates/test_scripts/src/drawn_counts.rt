@@ -5,9 +5,10 @@ ghost use Rattle.std.specs.Prelude.{◌≤◌};
 use crate::drawn_words::{
     NUMBER, boxes_in, call_word, guard_in, location_in, owner_in, reply_word, words_of,
 };
+use crate::expected::assert_same;
 use crate::tables::run;
 use boxes_script::fuzz_list;
-use generational_box::{BoxAt, Call, Numbers, Reply, Session, Store, UnsyncStorage};
+use generational_box::{BoxAt, Call, Numbers, Reply, Store, UnsyncStorage};
 use std::alloc::{AllocError, Global};
 use std::process::Abort;
 
@@ -108,7 +109,7 @@ pub(crate) fn replies_from(
     requires { 1 ≤ beginning.1.generation }
 {
     let store: UnsyncStorage<String> = Store::new_at(alloc, beginning.0, beginning.1);
-    run(rt, Session::new(alloc, store), list_of(rt, alloc, seed))
+    run(rt, alloc, store, list_of(rt, alloc, seed))
 }
 
 /// Asserts that each word of a table stands in a list at least so often.
@@ -123,7 +124,7 @@ fn assert_at_least(rt: &impl Abort, list: &Vec<&str>, least: &[(&str, usize)]) {
 fn a_list_has_enough_of_everything(rt: HostRuntime) {
     let calls = list_of(&rt, rt.alloc(), 1);
     let replies = replies_from(&rt, rt.alloc(), 1, (NUMBER, FIRST));
-    assert_eq!(&rt; calls.len(), COUNT);
+    assert_same(&rt, &calls.len(), &COUNT);
     let list = words_of(&rt, rt.alloc(), &calls, &replies);
     assert_at_least(&rt, &list, &LEAST);
 }
@@ -230,7 +231,7 @@ fn others(rt: &impl Abort, calls: &[Call<String>], others: &[Call<String>]) -> u
     let mut found: usize = 0;
     for (place, (call, other)) in calls.iter().zip(others.iter()).enumerate() {
         if let Some(location) = location_in(call) {
-            assert_eq!(rt; (location.line() as usize).checked_sub(1), Some(place));
+            assert_same(rt, &(location.line() as usize).checked_sub(1), &Some(place));
         }
         if call_word(call) != call_word(other) {
             found = found.saturating_add(1);

@@ -68,22 +68,31 @@ fn assert_same_before_refusal(rt: &impl Abort, ones: &[Reply<String>], others: &
     }
 }
 
+/// Runs a drawn list over two stores of one kind.
+fn assert_runs<S: Storage<String> + Drop>(
+    rt: &impl Abort,
+    alloc: Global,
+    one: S,
+    other: S,
+    seed: u64,
+) {
+    let ones = answers(rt, alloc, one, seed);
+    let others = answers(rt, alloc, other, seed);
+    assert_same_before_refusal(rt, &ones, &others);
+}
+
 /// Runs a drawn list over two stores that take the slot that was freed last.
 fn assert_last_first(rt: &impl Abort, alloc: Global, seed: u64) {
     let one: Store<String, LastFirst> = Store::new(alloc, 1);
-    let ones = answers(rt, alloc, one, seed);
     let other: Store<String, LastFirst> = Store::new(alloc, 1);
-    let others = answers(rt, alloc, other, seed);
-    assert_same_before_refusal(rt, &ones, &others);
+    assert_runs(rt, alloc, one, other, seed);
 }
 
 /// Runs a drawn list over two stores that take the slot that has been free for the longest.
 fn assert_oldest_first(rt: &impl Abort, alloc: Global, seed: u64) {
     let one: Store<String, OldestFirst> = Store::new(alloc, 1);
-    let ones = answers(rt, alloc, one, seed);
     let other: Store<String, OldestFirst> = Store::new(alloc, 1);
-    let others = answers(rt, alloc, other, seed);
-    assert_same_before_refusal(rt, &ones, &others);
+    assert_runs(rt, alloc, one, other, seed);
 }
 
 #[test]

@@ -21,6 +21,8 @@ mod drawn_words;
 #[cfg(test)]
 mod ending;
 #[cfg(test)]
+mod expected;
+#[cfg(test)]
 mod freed;
 #[cfg(test)]
 mod lists;

@@ -6,6 +6,7 @@ ghost use Rattle.generational_core.specs.Conditions.{IsFresh};
 
 use crate::drawn_counts::{Beginning, COUNT, FEW_TICKETS, FIRST, replies_from};
 use crate::drawn_words::reply_word;
+use crate::expected::assert_same;
 use crate::runs::{Outcome, assert_ended};
 use boxes_script::{Pair, fuzz_pair, fuzz_run};
 use generational_box::{GenerationalBox, Location, Numbers, Reply, Storage, Store};
@@ -107,12 +108,16 @@ fn a_pair_that_answers_alike_is_the_same(rt: HostRuntime) {
 }
 
 /// The slot that a new store uses again, of two that were freed one after the other.
-fn slot_used_again<S: Storage<String>>(rt: &impl Abort, alloc: Global, store: &mut S) -> usize {
-    let first = made_in(rt, alloc, store);
-    let second = made_in(rt, alloc, store);
-    assert!(rt; first.manually_drop(store).is_ok());
-    assert!(rt; second.manually_drop(store).is_ok());
-    made_in(rt, alloc, store).raw_ptr()
+fn slot_used_again<S: Storage<String> + Drop>(
+    rt: &impl Abort,
+    alloc: Global,
+    mut store: S,
+) -> usize {
+    let first = made_in(rt, alloc, &mut store);
+    let second = made_in(rt, alloc, &mut store);
+    assert!(rt; first.manually_drop(&mut store).is_ok());
+    assert!(rt; second.manually_drop(&mut store).is_ok());
+    made_in(rt, alloc, &mut store).raw_ptr()
 }
 
 /// A box of a store.
@@ -128,7 +133,7 @@ fn made_in<S: Storage<String>>(
 // The program's own pair takes free slots in different orders.
 #[test]
 fn the_programs_pair_is_of_two_kinds(rt: HostRuntime) {
-    let Pair { mut one, mut other } = fuzz_pair(rt.alloc());
-    assert_eq!(&rt; slot_used_again(&rt, rt.alloc(), &mut one), 1);
-    assert_eq!(&rt; slot_used_again(&rt, rt.alloc(), &mut other), 0);
+    let Pair { one, other } = fuzz_pair(rt.alloc());
+    assert_same(&rt, &slot_used_again(&rt, rt.alloc(), one), &1);
+    assert_same(&rt, &slot_used_again(&rt, rt.alloc(), other), &0);
 }

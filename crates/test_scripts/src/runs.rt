@@ -1,5 +1,6 @@
 //! Whole runs of the program, and tables of commands with their replies.
 
+use crate::expected::assert_same;
 use boxes_script::boxes_run;
 use std::alloc::Global;
 use std::io::{Read, Write};
@@ -44,9 +45,9 @@ pub(crate) fn assert_ended(
     output: &str,
     faults: &str,
 ) {
-    assert_eq!(rt; text(&outcome.output), output);
-    assert_eq!(rt; text(&outcome.faults), faults);
-    assert_eq!(rt; outcome.status, status);
+    assert_same(rt, &text(&outcome.output), &output);
+    assert_same(rt, &text(&outcome.faults), &faults);
+    assert_same(rt, &outcome.status, &status);
 }
 
 /// The texts of errors, and the words that stand for them in a table.

@@ -1,5 +1,6 @@
 //! Whole runs of the program, over streams in memory and streams that fail.
 
+use crate::expected::assert_same;
 use crate::runs::{assert_ended, run, run_words, text};
 use boxes_script::boxes_run;
 use std::alloc::Global;
@@ -177,7 +178,7 @@ fn assert_line(rt: &impl Abort, alloc: Global, line: &str, reply: &str) {
         Some(reply),
         "at {line:?}"
     );
-    assert_eq!(rt; outcome.status, 0);
+    assert_same(rt, &outcome.status, &0);
 }
 
 #[test]
@@ -241,16 +242,25 @@ fn the_end_is_read_once(rt: HostRuntime) {
     assert_ended(&rt, &outcome, 0, "bad line\nbox 0@1\n", "");
 }
 
+/// Runs the program over an output that fails, which it tells.
+fn assert_output_fails<R: Read>(
+    rt: &impl Abort,
+    alloc: Global,
+    input: &mut R,
+    output: &mut Narrow,
+) {
+    let mut faults = Vec::new(alloc);
+    let status = boxes_run(alloc, &[], input, output, &mut faults);
+    assert_same(rt, &status, &1);
+    assert_same(rt, &text(&faults), &"boxes: output failed\n");
+}
+
 #[test]
 fn a_write_that_fails(rt: HostRuntime) {
     let whole = SIX_REPLIES.as_bytes();
     for room in 0..whole.len() {
         let mut output = Narrow::new(rt.alloc(), room, true);
-        let mut faults = Vec::new(rt.alloc());
-        let mut input = SIX_LINES.as_bytes();
-        let status = boxes_run(rt.alloc(), &[], &mut input, &mut output, &mut faults);
-        assert_eq!(rt; status, 1);
-        assert_eq!(rt; text(&faults), "boxes: output failed\n");
+        assert_output_fails(&rt, rt.alloc(), &mut SIX_LINES.as_bytes(), &mut output);
         assert!(rt; whole.starts_with(output.taken.as_slice()), "at {room}");
     }
 }
@@ -259,16 +269,7 @@ fn a_write_that_fails(rt: HostRuntime) {
 fn a_flush_that_fails(rt: HostRuntime) {
     for script in [SIX_LINES, ""] {
         let mut output = Narrow::new(rt.alloc(), 1000, false);
-        let mut faults = Vec::new(rt.alloc());
-        let status = boxes_run(
-            rt.alloc(),
-            &[],
-            &mut script.as_bytes(),
-            &mut output,
-            &mut faults,
-        );
-        assert_eq!(rt; status, 1);
-        assert_eq!(rt; text(&faults), "boxes: output failed\n");
+        assert_output_fails(&rt, rt.alloc(), &mut script.as_bytes(), &mut output);
     }
 }
 
@@ -279,10 +280,7 @@ fn the_earlier_fault_is_told(rt: HostRuntime) {
         reads_left: 2,
     };
     let mut output = Narrow::new(rt.alloc(), 0, true);
-    let mut faults = Vec::new(rt.alloc());
-    let status = boxes_run(rt.alloc(), &[], &mut input, &mut output, &mut faults);
-    assert_eq!(rt; status, 1);
-    assert_eq!(rt; text(&faults), "boxes: output failed\n");
+    assert_output_fails(&rt, rt.alloc(), &mut input, &mut output);
 }
 
 #[test]
@@ -298,22 +296,22 @@ fn faults_that_cannot_be_told(rt: HostRuntime) -> Result<(), Fail> {
         &mut output,
         &mut faults,
     );
-    assert_eq!(rt; status, 2);
+    assert_same(&rt, &status, &2);
     let mut broken = LineByLine {
         script: b"",
         reads_left: 0,
     };
     let status = boxes_run(rt.alloc(), &[], &mut broken, &mut output, &mut faults);
-    assert_eq!(rt; status, 1);
+    assert_same(&rt, &status, &1);
     Ok(())
 }
 
 #[test]
 fn a_million_lines(rt: HostRuntime) {
     let outcome = run(rt.alloc(), &mut repeat(b'\n').take(1_000_000));
-    assert_eq!(rt; outcome.status, 0);
-    assert_eq!(rt; outcome.output.len(), 9_000_000);
-    assert_eq!(rt; outcome.faults.len(), 0);
+    assert_same(&rt, &outcome.status, &0);
+    assert_same(&rt, &outcome.output.len(), &9_000_000);
+    assert_same(&rt, &outcome.faults.len(), &0);
 }
 
 #[test]
@@ -324,9 +322,9 @@ fn a_line_past_the_limit(rt: HostRuntime) {
     };
     let mut input = repeat(b'\n').take(1_000_000).chain(broken);
     let outcome = run(rt.alloc(), &mut input);
-    assert_eq!(rt; outcome.status, 2);
-    assert_eq!(rt; text(&outcome.faults), "boxes: too many lines\n");
-    assert_eq!(rt; outcome.output.len(), 9_000_000);
+    assert_same(&rt, &outcome.status, &2);
+    assert_same(&rt, &text(&outcome.faults), &"boxes: too many lines\n");
+    assert_same(&rt, &outcome.output.len(), &9_000_000);
 }
 
 #[test]
@@ -342,5 +340,5 @@ fn a_very_long_line(rt: HostRuntime) {
     let value = value.and_then(|rest| rest.strip_suffix("\nbad line\n"));
     assert!(rt; value.is_some_and(|y| y.len() == 100_000));
     assert!(rt; value.is_some_and(|y| y.bytes().all(|byte| byte == b'y')));
-    assert_eq!(rt; outcome.status, 0);
+    assert_same(&rt, &outcome.status, &0);
 }

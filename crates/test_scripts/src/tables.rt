@@ -6,7 +6,7 @@ use crate::dialect::{Dialect, write_with_value};
 use crate::naming::Strangers;
 use crate::runs::{replies_of, text};
 use generational_box::{
-    Call, Location, Numbers, OldestFirst, Reply, Session, Storage, Store, UnsyncStorage,
+    Call, LastFirst, Location, Numbers, OldestFirst, Reply, Session, SlotPool, Storage, Store,
 };
 use std::alloc::{AllocError, Global};
 use std::process::Abort;
@@ -17,14 +17,23 @@ const FIRST: Numbers = Numbers {
     ticket: 0,
 };
 
-// The stores that stand beside a session's own.
-fn strangers(alloc: Global) -> Strangers<UnsyncStorage<String>> {
-    Strangers::new(alloc, Store::new(alloc, 8), Store::new(alloc, 7))
+/// A session's own store, and those that stand beside: of number 8, and of its own number.
+#[derive(Drop)]
+struct Stores<S> {
+    own: S,
+    eight: S,
+    twin: S,
 }
 
-// The same, of the pool that takes the slot that has been free for the longest.
-fn oldest_first_strangers(alloc: Global) -> Strangers<Store<String, OldestFirst>> {
-    Strangers::new(alloc, Store::new(alloc, 8), Store::new(alloc, 7))
+/// New stores, of which the session's own begins with these numbers.
+fn new_stores<P: SlotPool>(alloc: Global, numbers: Numbers) -> Stores<Store<String, P>>
+    requires { 1 ≤ numbers.generation }
+{
+    Stores {
+        own: Store::new_at(alloc, 7, numbers),
+        eight: Store::new(alloc, 8),
+        twin: Store::new(alloc, 7),
+    }
 }
 
 /// Asserts that the lines of a table are answered by the replies beside them, over a new store.
@@ -41,25 +50,24 @@ pub(crate) fn assert_answers_from(
 )
     requires { 1 ≤ numbers.generation }
 {
-    let store: UnsyncStorage<String> = Store::new_at(alloc, 7, numbers);
-    let dialect = Dialect::new(alloc, store, strangers(alloc));
-    assert_table(rt, alloc, dialect, table);
+    assert_table(rt, alloc, new_stores::<LastFirst>(alloc, numbers), table);
 }
 
 /// Asserts the same over a new store that takes the slot that has been free for the longest.
 pub(crate) fn assert_oldest_first(rt: &impl Abort, alloc: Global, table: &[(&str, &str)]) {
-    let store: Store<String, OldestFirst> = Store::new(alloc, 7);
-    let dialect = Dialect::new(alloc, store, oldest_first_strangers(alloc));
-    assert_table(rt, alloc, dialect, table);
+    assert_table(rt, alloc, new_stores::<OldestFirst>(alloc, FIRST), table);
 }
 
 // Asserts that the lines of a table are answered by the replies beside them.
 fn assert_table<S: Storage<String> + Drop>(
     rt: &impl Abort,
     alloc: Global,
-    mut dialect: Dialect<S>,
+    stores: Stores<S>,
     table: &[(&str, &str)],
 ) {
+    let Stores { own, eight, twin } = stores;
+    assert!(rt; own.is_fresh());
+    let mut dialect = Dialect::new(alloc, own, Strangers::new(alloc, eight, twin));
     let mut answered = Vec::new(alloc);
     for ((line, _), number) in table.iter().zip(1..u32::MAX) {
         let answer = dialect.answer(number, line, &mut answered);
@@ -72,32 +80,29 @@ fn assert_table<S: Storage<String> + Drop>(
 /// Asserts that the calls of a table, handed in as one list, are answered by the replies beside
 /// them. Lines of the stores beside are no calls, and come first.
 pub(crate) fn assert_run(rt: &impl Abort, alloc: Global, table: &[(&str, &str)]) {
-    let store: UnsyncStorage<String> = Store::new(alloc, 7);
-    let session = Session::new(alloc, store);
-    assert_list(rt, alloc, session, strangers(alloc), table);
+    assert_list(rt, alloc, new_stores::<LastFirst>(alloc, FIRST), table);
 }
 
 /// Asserts the same over a store that takes the slot that has been free for the longest.
 pub(crate) fn assert_run_oldest_first(rt: &impl Abort, alloc: Global, table: &[(&str, &str)]) {
-    let store: Store<String, OldestFirst> = Store::new(alloc, 7);
-    let session = Session::new(alloc, store);
-    assert_list(rt, alloc, session, oldest_first_strangers(alloc), table);
+    assert_list(rt, alloc, new_stores::<OldestFirst>(alloc, FIRST), table);
 }
 
 // Asserts that the calls of a table are answered by the replies beside them.
 fn assert_list<S: Storage<String> + Drop>(
     rt: &impl Abort,
     alloc: Global,
-    session: Session<String, S>,
-    mut strangers: Strangers<S>,
+    stores: Stores<S>,
     table: &[(&str, &str)],
 ) {
+    let Stores { own, eight, twin } = stores;
+    let mut strangers = Strangers::new(alloc, eight, twin);
     let mut calls = Vec::new(alloc);
     let mut answered = Vec::new(alloc);
     for ((line, _), number) in table.iter().zip(1..u32::MAX) {
         add_line(rt, &mut strangers, number, line, &mut calls, &mut answered);
     }
-    for reply in run(rt, session, calls) {
+    for reply in run(rt, alloc, own, calls) {
         write_with_value(&mut answered, reply).expect(rt, "memory");
     }
     assert_eq!(rt; text(&answered), text(&replies_of(rt, alloc, table)));
@@ -123,12 +128,15 @@ fn add_line<S: Storage<String>>(
     }
 }
 
-/// Runs a list of calls, and ends the session.
+/// Runs a list of calls in a session over an empty store, and ends it.
 pub(crate) fn run<S: Storage<String> + Drop>(
     rt: &impl Abort,
-    mut session: Session<String, S>,
+    alloc: Global,
+    store: S,
     calls: Vec<Call<String>>,
 ) -> Vec<Reply<String>> {
+    assert!(rt; store.is_fresh());
+    let mut session = Session::new(alloc, store);
     let ran = session.run(calls);
     let _store = session.finish();
     ran.map_err(|_| AllocError).expect(rt, "replies")
