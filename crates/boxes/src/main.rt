@@ -62,23 +62,26 @@
 
 use boxes_script::{Fault, boxes_run, report};
 use std::env;
-use std::io::ErrorKind;
+use std::io::{ErrorKind, Read, Write};
 use std::process::ExitCode;
 use std::rt::Env;
 
 fn main(rt: HostRuntime) -> ExitCode {
-    let mut faults = rt.stderr();
-    let status = match words(&rt) {
-        Ok(words) => boxes_run(
-            rt.alloc(),
-            words.as_slice(),
-            &mut rt.stdin(),
-            &mut rt.stdout(),
-            &mut faults,
-        ),
-        Err(fault) => report(fault, &mut faults),
-    };
+    let status = run(&rt, &mut rt.stdin(), &mut rt.stdout(), &mut rt.stderr());
     ExitCode::from(status)
+}
+
+// Runs the program over its streams: the exit status.
+fn run<R: Env + AllocGlobal, I: Read, O: Write, E: Write>(
+    rt: &R,
+    input: &mut I,
+    output: &mut O,
+    faults: &mut E,
+) -> u8 {
+    match words(rt) {
+        Ok(words) => boxes_run(rt.alloc(), words.as_slice(), input, output, faults),
+        Err(fault) => report(fault, faults),
+    }
 }
 
 // The words after the program's name. One that is not UTF-8 is none that the program knows.

@@ -51,8 +51,10 @@ pub fn fuzz_pair(alloc: Global) -> Pair
 pub fn fuzz_list(alloc: Global, seed: u64, count: usize) -> Result<Vec<Call<String>>, AllocError> {
     let words = fuzz_words(alloc, seed, count.saturating_mul(WORDS)).map_err(|_| AllocError)?;
     let mut strangers = Vec::new(alloc);
-    add_strangers(alloc, NUMBER + 1, &mut strangers)?;
-    add_strangers(alloc, NUMBER, &mut strangers)?;
+    let next: UnsyncStorage<String> = Store::new(alloc, NUMBER + 1);
+    add_strangers(alloc, next, &mut strangers)?;
+    let same: UnsyncStorage<String> = Store::new(alloc, NUMBER);
+    add_strangers(alloc, same, &mut strangers)?;
     fuzz_calls(alloc, &words, &strangers)
 }
 
@@ -72,13 +74,12 @@ pub(crate) fn fuzz<S: Storage<String> + Drop, R: Storage<String> + Drop>(
     compare_stores(alloc, (one, calls), (other, again))
 }
 
-// Adds boxes of a store of this number.
-fn add_strangers(
+// Adds boxes of a store that goes.
+fn add_strangers<S: Storage<String> + Drop>(
     alloc: Global,
-    number: u64,
+    mut store: S,
     boxes: &mut Vec<GenerationalBox<String>>,
 ) -> Result<(), AllocError> {
-    let mut store: UnsyncStorage<String> = Store::new(alloc, number);
     for line in 1..=STRANGERS {
         let value = String::from_str(alloc, "a stranger")?;
         let location = Location::new("stranger", line, 1);

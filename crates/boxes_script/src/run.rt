@@ -37,7 +37,7 @@ pub fn boxes_run<R: Read, W: Write, E: Write>(
     faults: &mut E,
 ) -> u8 {
     if words.is_empty() {
-        let ended = run(alloc, input, output);
+        let ended = run(alloc, UnsyncStorage::new(alloc, 1), input, output);
         return status_of(ended, faults);
     }
     fuzz_run(alloc, words, fuzz_pair(alloc), output, faults)
@@ -74,11 +74,18 @@ pub fn report<E: Write>(fault: Fault, faults: &mut E) -> u8 {
     fault.status()
 }
 
-// Runs the script.
-fn run<R: Read, W: Write>(alloc: Global, input: &mut R, output: &mut W) -> Result<u8, Fault> {
+// Runs the script over a store in which nothing was made.
+fn run<S: Storage<String> + Drop, R: Read, W: Write>(
+    alloc: Global,
+    store: S,
+    input: &mut R,
+    output: &mut W,
+) -> Result<u8, Fault>
+    requires { IsFresh (S.state store) }
+{
     let mut lines = Lines::new(alloc, input)?;
     let mut replies = BufWriter::new(alloc, output).map_err(|_| Fault::Memory)?;
-    let mut script = Script::new(alloc, UnsyncStorage::new(alloc, 1));
+    let mut script = Script::new(alloc, store);
     let answered = answer_lines(&mut script, &mut lines, &mut replies);
     let _store = script.finish();
     end_replies(answered, replies)?;
