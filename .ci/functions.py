@@ -6,8 +6,9 @@
 The check is done from nothing: what is kept of the crate is set aside meanwhile. With --keep it isn't,
 and only what changed is told. A function's time is what the checking processes took between the line
 that tells the one before it and its own. So the first one's has all that is loaded, and what comes
-after the last one is told as the rest. `rt check` begins with what a checkout of the same text kept on
-this machine, if there is one: then change a comment first.
+after the last one is told as the rest. The prover starts a process anew for each level of callers: a
+function with a star has what such a process loads. `rt check` begins with what a checkout of the same
+text kept on this machine, if there is one: then change a comment first.
 """
 import argparse
 import contextlib
@@ -23,7 +24,8 @@ import threading
 TICKS = os.sysconf("SC_CLK_TCK")
 PAUSE = 0.05
 # What the system calls a checking process, and one that it has forked.
-CHECKING = ("(rattle", "(antt-kernel")
+KERNEL = "(antt-kernel"
+CHECKING = ("(rattle", KERNEL)
 TOLD = re.compile(r"checked (\S+), \d+ of \d+")
 
 
@@ -32,6 +34,8 @@ class Watch:
 
     def __init__(self, session):
         self.session, self.seen, self.looking = session, {}, threading.Lock()
+        # the forked ones
+        self.kernels = set()
 
     def seconds(self):
         with self.looking:
@@ -47,6 +51,8 @@ class Watch:
             key = pid, fields[19]
             seconds = (int(fields[11]) + int(fields[12])) / TICKS
             self.seen[key] = max(seconds, self.seen.get(key, 0))
+            if name.endswith(KERNEL):
+                self.kernels.add(key)
 
 
 @contextlib.contextmanager
@@ -80,13 +86,14 @@ def run(words):
 
     looking = threading.Thread(target=look, daemon=True)
     looking.start()
-    told, before, last = [], 0.0, ""
+    told, before, started, last = [], 0.0, 0, ""
     for line in running.stdout:
         found = TOLD.match(line)
         if found:
             now = watch.seconds()
-            told.append((now - before, found[1]))
-            before = now
+            is_first = len(watch.kernels) > started
+            told.append((now - before, found[1] + " *" * is_first))
+            before, started = now, len(watch.kernels)
         elif line.strip():
             last = line
     status = running.wait()
@@ -105,6 +112,8 @@ def report(told, whole, most):
     print(f"{sum(others):8.1f}  {len(others)} others")
     print(f"{whole - sum(seconds for seconds, _ in told):8.1f}  the rest")
     first = f"; the first was {told[0][1]}, with {told[0][0]:.1f}" if told else ""
+    starts = [seconds for seconds, name in told if name.endswith(" *")]
+    print(f"{sum(starts):8.1f}  of them {len(starts)} with the start of a process")
     print(f"{whole:8.1f}  in all, {len(told)} functions{first}")
 
 
