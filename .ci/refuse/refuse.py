@@ -110,7 +110,7 @@ FRUGAL_TESTS = {
 }
 # Tests that ask for room beyond what they need, and how many bytes that is: they pass with so many less than they have
 # at once, and not with more than these less.
-TIGHT_TESTS = {"tight::room_for_what_is_needed": 3_000 * 8}
+TIGHT_TESTS = {"chunks::tight::room_for_what_is_needed": 3_000 * 8}
 LITTLE_MORE = 64
 MODULES = ("memory", "scarcity", "shortage")
 WRONG = "every_command.row"
@@ -371,12 +371,12 @@ def names_of(tests):
 
 
 def of_a_thread(tests):
-    return OF_A_THREAD if os.path.basename(tests).startswith("shared_") else 0
+    return OF_A_THREAD if os.path.basename(tests).startswith("test_shared") else 0
 
 
 def kind_of(name):
     """What the module of a test is about: `memory` for entity_memory::a_test."""
-    return name.split("::")[0].split("_")[-1]
+    return name.rpartition("::")[0].split("::")[-1].split("_")[-1]
 
 
 def refuse_in_tests(tests):
