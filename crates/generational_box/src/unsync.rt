@@ -434,7 +434,8 @@ impl<T: Drop, P: SlotPool> Storage<T> for Store<T, P> {
             Err(_) => return Err(Refused::Store(StoreError::OutOfMemory)),
         };
         self.owners.list(place, name);
-        Ok(pointer_in(self.number, name, created_at))
+        // Asked of the new cell, so that nothing is kept of the place while it is made.
+        Ok(pointer_in(self.number, name, self.slots.created_at(name)))
     }
 
     fn change_reference(

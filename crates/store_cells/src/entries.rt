@@ -2,7 +2,8 @@
 #![tactic(auto, using(crate::proofs::states::Entries::entries_len))]
 
 ghost use Rattle.std.specs.Prelude.{◌≡◌, ◌≢◌, ◌+◌, ◌-◌, ◌<◌, ◌≤◌, ◌∷◌, ◌++◌, ◌↔◌, [], true, false};
-ghost use Rattle.std.specs.Prelude.{length, slice_get, slice_set, Some, Err, IsTrue, IfSome, IfOk};
+ghost use Rattle.std.specs.Prelude.{length, slice_get, slice_set, None, Some, Err, IsTrue, IfSome};
+ghost use Rattle.std.specs.Prelude.{IfOk};
 ghost use Rattle.std.specs.Prelude.{IfErr, OnOk, OnErr, is_some, is_none, is_ok, option_copied};
 ghost use Rattle.std.specs.Prelude.{max, option_map, vec_capacity};
 ghost use Rattle.std.specs.Borrow.{MutBor};
@@ -647,12 +648,12 @@ impl<T: Drop> Entries<T> {
     }
 
     /// Ends the slot's cell, with the borrows that stand there. `is_unborrowed` says that the caller
-    /// knows it as a value without borrows.
+    /// knows that none does.
     #[inline(always)]
     pub fn end(&mut self, slot: usize, is_unborrowed: bool)
         requires within { slot < length self.old.slots }
         requires alone { is_unborrowed ≡ true → IfSome (slice_get self.old.slots slot)
-            (λ e. has_no_borrow (content_in e.kept) ≡ true) }
+            (λ e. write_refusal (content_in e.kept) ≡ None) }
         ensures slots { self.new.slots ≡ change_entry self.old.slots slot
             (λ e. record e { kept = Empty }) }
         ensures rooms { self.new.rooms ≡ self.old.rooms }

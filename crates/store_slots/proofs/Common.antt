@@ -35,7 +35,7 @@ pub use proofs.machine.Closing.{borrowed_end, close_each, close_nothing, close_o
 pub use proofs.machine.Closing.{first_borrowed_end, first_hindered, one_hindered, turn_hindered}
 pub use proofs.machine.Rows.{AreApart, cell_read, contains_up_to, find_bare, get_bare_cell, put}
 pub use proofs.maps.Maps.{by_name, by_number, changed_there, contains-insert_name, get-insert_apart}
-pub use proofs.maps.Maps.{get-insert_name, get-keep, get-remove_apart, is_ref, name_exact}
+pub use proofs.maps.Maps.{get-insert_name, get-keep, get-remove_apart, get-remove_here, is_ref, name_exact}
 pub use proofs.maps.Maps.{name_apart, name_here, name_test, name_total, named_from, named_gives}
 pub use specs.{Steps.IsNew, Names.among, Names.Name, Names.name_cmp, Names.NameMap, Names.Names}
 pub use specs.{Slots.slots_of, Plain.bare_cell, Plain.bare_cells, Plain.bare_entry, Plain.Plain}
@@ -62,6 +62,7 @@ pub use Rattle.store_cells.specs.declared.entry.StorageEntryData.{StorageEntryDa
 pub use Rattle.generational_errors.specs.declared.error.{Location.Location, Refused.Refused}
 pub use Rattle.generational_errors.specs.declared.error.BorrowMutError.{BorrowMutError}
 pub use Rattle.generational_errors.specs.declared.error.StoreError.TheVariants.{OutOfMemory}
+pub use Rattle.store_slots.specs.Removal.{live_target}
 pub use Rattle.store_slots.specs.SlotRows.{all_slot_rows, entry_rows, rows_from}
 pub use SlotsState.{AreReferred, borrowed_at, Finds, HasEnded, read_refusal_of, content_reached, Count, count_less, count_more}
 pub use SlotsState.{count_of, would_end, given_from, given_in, has_other_count, HasBegun, if_borrowed}

@@ -1,2 +1,3 @@
+pub mod Removal
 pub mod SlotRows
 pub mod SlotsState

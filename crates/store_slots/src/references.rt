@@ -6,7 +6,7 @@ ghost use Rattle.generational_core.specs.Cells.{is_shared};
 ghost use Rattle.generational_core.specs.Keeping.{boxed_at};
 ghost use Rattle.store_parts.specs.CellNames.{name_of_cell};
 ghost use Rattle.store_cells.specs.Entry.{cell_at};
-ghost use Rattle.store_slots.specs.SlotsState.{count_less, count_more, shared_target};
+ghost use Rattle.store_slots.specs.SlotsState.{count_less, count_more};
 
 use store_cells::entries::Entries;
 use store_cells::entry::Kind;
@@ -37,18 +37,17 @@ pub(crate) fn refer<T: Drop>(entries: &mut Entries<T>, target: Option<CellName>)
     }
 }
 
-// The slot of what a reference names counts it no more, if that is live.
+// The slot of the shared value that a reference names counts it no more.
 #[inline(always)]
-pub(crate) fn forget<T: Drop>(entries: &mut Entries<T>, target: Option<CellName>)
-    requires some { IfSome (shared_target entries.old.slots (option_map name_of_cell target))
-        (λ m. IfSome (slice_get entries.old.slots m.slot) (λ e. 0 < e.references)) }
-    ensures slots { entries.new.slots ≡ count_less entries.old.slots
-        (shared_target entries.old.slots (option_map name_of_cell target)) }
+pub(crate) fn forget<T: Drop>(entries: &mut Entries<T>, named: Option<CellName>)
+    requires within { IfSome named (λ m. m.slot < length entries.old.slots) }
+    requires some { IfSome named (λ m. IfSome (slice_get entries.old.slots m.slot)
+        (λ e. 0 < e.references)) }
+    ensures slots { entries.new.slots
+        ≡ count_less entries.old.slots (option_map name_of_cell named) }
     ensures rooms { entries.new.rooms ≡ entries.old.rooms }
 {
-    if let Some(target) = target {
-        if let Some(Kind::Shared) = entries.kind(target) {
-            entries.count_down(target.slot);
-        }
+    if let Some(named) = named {
+        entries.count_down(named.slot);
     }
 }

@@ -41,6 +41,7 @@ ghost use Rattle.store_slots.specs.SlotsState.{refusal_to_read_at, refusal_to_re
 ghost use Rattle.store_slots.specs.SlotsState.{refusal_to_write_at};
 ghost use Rattle.store_slots.specs.SlotsState.{would_end, Finds, HasEnded, IsMade, IsReadable, IsWritable};
 ghost use Rattle.store_slots.specs.SlotsState.{IsTurned};
+ghost use Rattle.store_slots.specs.Removal.{live_target};
 ghost use Rattle.store_slots.specs.SlotRows.{all_slot_rows, ReadSlots};
 ghost use Rattle.store_slots.specs.SlotsState.{with_records};
 
@@ -613,20 +614,20 @@ impl<T: Drop, P: SlotPool> Slots<T, P> {
         name
     }
 
-    // Takes a cell away. Its slot is free from then on, unless its generation is the last. What a
-    // reference names counts it no more. The caller may know that the cell is a value without
-    // borrows.
+    // Takes a cell away. Its slot is free from then on, unless its generation is the last. The caller
+    // knows the shared value that the cell names, if that is live, whose slot counts it no more; and
+    // it may know that no borrow stands at the cell.
     #[inline(always)]
-    fn remove(&mut self, name: CellName, target: Option<CellName>, is_unborrowed: bool)
+    fn remove(&mut self, name: CellName, named: Option<CellName>, is_unborrowed: bool)
         requires there { IsSome (map.get self.old.state.cells (name_of_cell name)) }
-        requires target { option_map name_of_cell target
-            ≡ target_in (map.get self.old.state.cells (name_of_cell name)) }
+        requires named { option_map name_of_cell named ≡ live_target self.old.state.cells
+            (map.get self.old.state.cells (name_of_cell name)) }
         requires alone { is_unborrowed ≡ true
-            → has_no_borrow (content_at self.old.state (name_of_cell name)) ≡ true }
+            → write_refusal (content_at self.old.state (name_of_cell name)) ≡ None }
         ensures { self.new.state ≡ record self.old.state
             { cells = map.remove self.old.state.cells (name_of_cell name) } }
     {
-        forget(&mut self.entries, target);
+        forget(&mut self.entries, named);
         self.entries.end(name.slot, is_unborrowed);
         if name.generation < u64::MAX {
             self.pool.put(name.slot);
@@ -749,7 +750,8 @@ impl<T: Drop, P: SlotPool> Slots<T, P> {
     }
 
     // Takes the cell of a name away with the value that goes then. Where that is shared, its slot is
-    // free before the reference's. The caller knows what the cell refers to, and which value goes.
+    // free before the reference's, and what the reference named needn't be counted any more. The
+    // caller knows what the cell refers to, and which value goes.
     #[inline(always)]
     fn take_away(&mut self, name: CellName, target: Option<CellName>, ending: Option<CellName>)
         requires linked { IsLinked self.old.state.cells }
@@ -760,11 +762,15 @@ impl<T: Drop, P: SlotPool> Slots<T, P> {
             (map.get self.old.state.cells (name_of_cell name)) (name_of_cell name) }
         ensures { self.new.state ≡ close self.old.state (name_of_cell name ∷ []) }
     {
-        if let Some(value) = ending {
-            self.remove(value, None, false);
-        }
+        let named = match ending {
+            Some(value) => {
+                self.remove(value, None, false);
+                None
+            }
+            None => target,
+        };
         if target.is_some() {
-            self.remove(name, target, false);
+            self.remove(name, named, true);
         }
     }
 

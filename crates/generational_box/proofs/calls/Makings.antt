@@ -165,7 +165,20 @@ module _ {T : Type 0} where
               (λ i. (Made (box_of number n l), boxed s.state n (Value (Here v []) l) i)),
         ))
 
-    -- a reference to a shared value
+    -- a reference to a shared value stands then, and tells where that was made
+    pub reference_stands : {l : Location} {r : SlotsState T} (m n : Name) {d : StorageEntryData T}
+        → d ≡ slot.Reference m.slot m.generation → IsMade s r (cell_of (kept_data [] l d)) n
+        → map.get r.state.cells n ≡ Some (Ref m l)
+    reference_stands {l} m n content made =
+        let added = rw content at made in
+        rw added.added (get-insert_here by_name s.state.cells n (Ref m l))
+
+    pub reference_place : {l : Location} {r : SlotsState T} (m n : Name) {d : StorageEntryData T}
+        → d ≡ slot.Reference m.slot m.generation → IsMade s r (cell_of (kept_data [] l d)) n
+        → (k : Location) → location_of (map.get r.state.cells n) ≡ Some k → k ≡ l
+    reference_place m n content made k is =
+        let here = rw (reference_stands m n content made) at is in cc
+
     pub reference_made : (inner : GenerationalPointer) {l : Location} {r : SlotsState T}
         {after : Owners} (m n : Name) {b : GenerationalPointer} {d : StorageEntryData T}
         → ReachesShared S inner m

@@ -810,6 +810,23 @@ module _ {T : Type 0} {r : LastBorrow} {t : Table} {es : List (StorageEntry T)}
         hears (λ e. has_no_borrow (content_in e.kept) ≡ true) h,
       ))
 
+  -- where nothing stands in the way of a write, no borrow is noted, and none has an index
+  pub open_away : IfSome (slice_get now.slots i) (λ e. write_refusal (content_in e.kept) ≡ None)
+      → is_noted_at r i ≡ false
+  open_away h = false_from_ne_true _ (λ on.
+      let own = hears (λ e. write_refusal (content_in e.kept) ≡ None) h in
+      let no = refused e.content _ location.0.created_at (noted_some a.at on) (noted_value a.at on)
+      in cc (own, no))
+
+  pub open_index : IfSome (slice_get now.slots i) (λ e. write_refusal (content_in e.kept) ≡ None)
+      → index_of e.content ≡ no_index
+  open_index h = ⊎_elim (λ none. none)
+      (λ some. absurd (
+      let own = hears (λ e. write_refusal (content_in e.kept) ≡ None) h in
+      let no = refused e.content _ location.0.created_at (indexed_some a.at some)
+      (indexed_value a.at some) in cc (own, no)
+      )) (cases_eq (index_of e.content) no_index)
+
   -- a reference has no borrows
   pub refers_none : IfSome (slice_get now.slots i)
       (λ e. is_some (target_in (cell_of e.kept)) ≡ true)

@@ -1,6 +1,6 @@
 -- What a write to a slot, or a new slot, is in the state for which the slots stand.
 use Rattle.store_slots.proofs.Common
-use Common.{ap, AreReferred, arith, bit, Bool, by_name, cases_eq, Cell, cell_at, cell_in, cell_of}
+use Common.{shared_target, target_in, Ref, live_target, ap, AreReferred, arith, bit, Bool, by_name, cases_eq, Cell, cell_at, cell_in, cell_of}
 use Common.{cells_of, change_entry, changed_there, cond, contains-insert_at, contains-insert_name}
 use Common.{contains_own, Content, content_at, content_of, Count, count_of, Empty, Entry, EntryList}
 use Common.{eq-eqb, eqb-true, Err, false, fill, get-insert_name, given_in, given_of, HasBegun}
@@ -436,6 +436,12 @@ module _ {T : Type 0} {now : SlotsState T} {start peak spare : ℕ} (slots : Lis
     (view : record { state = state_of start peak slots; spare = spare } ≡ now) where
   pub cell_seen : (n : Name) → cell_at slots n ≡ map.get now.state.cells n
   cell_seen n = rw (← view) (sym (get_cells slots n))
+
+  -- a shared value that a cell names is live where the slots tell of it
+  pub live_seen : (c : Option (Cell T))
+      → live_target now.state.cells c ≡ shared_target slots (target_in c)
+  live_seen (Some (Ref m l)) = rw (cell_seen m) refl
+  live_seen _ = refl
 
   -- where the slots tell of no content the state sees none
   pub not_told : (n : Name) → false ≡ is_some (content_of (cell_at slots n))

@@ -1,7 +1,7 @@
 -- The counts of references where a cell comes or goes.
 use Rattle.store_slots.proofs.Common
 use Common.{ap, AreReferred, arith, bit, Bool, Cell, cell_at, cell_in, cell_of, CellName, cells_of}
-use Common.{change_entry, change_entry_if, cond, cond_same, count_less, count_more, Empty, Entry}
+use Common.{change_entry, change_entry_if, cond, cond_same, cond_some, count_less, count_more, Empty, Entry}
 use Common.{eq-eqb, Err, false, HasTargets, how_many, IfSome, IfSome_then, is_err, is_live, is_name}
 use Common.{is_named, is_shared, is_some, IsReferred, IsSlotTable, IsUnborrowed, IsWritten, Kept}
 use Common.{kept_data, length, length-set, List, Location, lt-ltb, many_some, many_within, Name}
@@ -264,6 +264,21 @@ module _ {T : Type 0} (slots : List (Entry T)) (r : AreReferred (λ m. 0) slots)
           → IsForgotten slots (Some m) (cond b (Some m) None)
       by l there true shared = one_forgotten m l there shared
       by l there false dead = none_forgotten m l there dead
+
+-- it is within the slots then, and its count may fall
+pub may_fall : {T : Type 0} {slots : List (Entry T)} (target : Option Name) (o : Option CellName)
+    → option_map name_of_cell o ≡ shared_target slots target
+    → IsForgotten slots target (shared_target slots target)
+    → IfSome o (λ m. m.slot < length slots)
+    × IfSome o (λ m. IfSome (slice_get slots m.slot) (λ e. 0 < e.references))
+may_fall target None is f = (tt, tt)
+may_fall None (Some m) is f = cc
+may_fall {slots} (Some k) (Some m) is f =
+    let both = cond_some (is_shared (cell_at slots k)) k (name_of_cell m) (sym is) in
+    let at : is_shared (map.get (cells_of slots) k) ≡ true = rw (get_cells slots k) both.0 in
+    let t = has_shared slots k at in
+    let within = found_within t.slot in
+    (rw both.1 at within, rw (← is) at f.some)
 
 -- the counts are right once the reference is gone
 pub referred_ended : {T : Type 0} {slots : List (Entry T)} {n : Name} (f : IsFound slots n)

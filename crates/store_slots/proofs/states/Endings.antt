@@ -2,9 +2,9 @@
 use Rattle.store_slots.proofs.Common
 use Common.{ap, Bool, borrowed_end, BorrowMutError, by_name, Cell, cells_after, close, close_one, cond, Content}
 use Common.{content_at, content_of, would_end, Err, false, first_hindrance, FoundBorrowed, get-remove_apart}
-use Common.{has_no_borrow, HasEnded, hindrance_to, is_named, is_none, is_some, is_unborrowed_value, IsLinked}
+use Common.{get-remove_here, HasEnded, live_target, hindrance_to, is_named, is_none, is_some, is_unborrowed_value, IsLinked}
 use Common.{List, Location, Name, NameMap, None, Ok, one_hindered, Option, Ref, refl, refusal_of, Refused, Result, Some}
-use Common.{State, target_in, true, unrefused, Value, write_refusal, [], ◌∙◌, ◌∷◌, ◌≡◌, ◌≢◌}
+use Common.{State, target_in, true, Value, write_refusal, [], ◌∙◌, ◌∷◌, ◌≡◌, ◌≢◌}
 use Rattle.std.specs.FinMap as map
 
 module _ {T : Type 0} where
@@ -69,6 +69,23 @@ module _ {T : Type 0} where
           by true = refl
           by false = get-remove_apart by_name S.cells target.0 n apart
 
+      -- what it names is live still, unless it went, and no borrow stands at it
+      pub reference_names : (o : Option Name) → o ≡ target_in (map.get S.cells n)
+          → cond (is_some d) None o
+          ≡ live_target (without S d).cells (map.get (without S d).cells n)
+      reference_names o is =
+          rw (reference_left, goes, rw target.2 at is, target.2)
+          (by (is_named (map.remove S.cells n) target.0))
+        where
+          by : (b : Bool) → cond (is_some (cond b None (Some target.0))) None (Some target.0)
+              ≡ live_target (without S (cond b None (Some target.0))).cells
+              (Some (Ref target.0 target.1))
+          by true = rw (linked.targets n target.0 target.1 target.2) refl
+          by false = rw (get-remove_here by_name S.cells target.0) refl
+
+      pub reference_free : write_refusal (content_at (without S d) n) ≡ None
+      reference_free = rw (reference_left, target.2) refl
+
       -- then it goes, and both have ended
       pub reference_closes : without (without S d) (Some n) ≡ close S (n ∷ [])
       reference_closes = rw (goes, close_one S.cells n linked _ target.2)
@@ -114,10 +131,10 @@ module _ {T : Type 0} where
     pub free_there : is_some (map.get S.cells n) ≡ true
     free_there = ap is_some own.2
 
-    pub free_alone : has_no_borrow (content_at S n) ≡ true
-    free_alone = rw own.2 (unrefused own.0 own.3)
+    pub free_alone : write_refusal (content_at S n) ≡ None
+    free_alone = rw own.2 own.3
 
-    pub free_names_none : None ≡ target_in (map.get S.cells n)
+    pub free_names_none : None ≡ live_target S.cells (map.get S.cells n)
     free_names_none = rw own.2 refl
 
     pub free_hindrance : hindrance_to S (n ∷ []) ≡ None

@@ -1,7 +1,7 @@
 -- What becomes of a reference's old target where it names another, as the machine says it.
 use Rattle.store_slots.proofs.Common
 use Rattle.store_slots.proofs.{Common.◌∙◌, Common.◌≡◌, Common.◌≢◌, states.Endings.without}
-use Common.{Bool, BorrowMutError, BorrowRefusal, by_name, Cell, cond, would_end, Err, false}
+use Common.{live_target, Bool, BorrowMutError, BorrowRefusal, by_name, Cell, cond, would_end, Err, false}
 use Common.{FoundBorrowed, get-insert_apart, hindrance_at, is_name, is_named, is_shared, is_some}
 use Common.{IsLinked, IsTurned, Location, Name, NameMap, None, Ok, Option, OutOfMemory, Ref, refl}
 use Common.{refusal_of, Refused, Shared, Some, State, subst, sweep, sym, target_in, true, turn}
@@ -56,20 +56,22 @@ module _ {T : Type 0} where
       -- it's there still when the reference has turned, and names nothing
       pub ending_left : (x : Name) → d ≡ Some x
           → (is_some (map.get (map.insert S.cells n (Ref new l)) x) ≡ true)
-          × (None ≡ target_in (map.get (map.insert S.cells n (Ref new l)) x))
+          × (None ≡ live_target (map.insert S.cells n (Ref new l))
+          (map.get (map.insert S.cells n (Ref new l)) x))
       ending_left x is = at (is_named (map.remove S.cells n) old) (sym is ∙ target_ending)
         where
           apart : old ≢ n
           apart z = let no = rw (z, there) at (linked.targets n old l there) in cc
 
-          value : (c : Option (Cell T)) → is_shared c ≡ true
-              → (is_some c ≡ true) × (None ≡ target_in c)
+          value : (c : Option (Cell T)) → is_shared c ≡ true → (is_some c ≡ true)
+              × (None ≡ live_target (map.insert S.cells n (Ref new l)) c)
           value (Some (Shared c l)) h = (refl, refl)
           value _ h = cc
 
           at : (b : Bool) → Some x ≡ cond b None (Some old)
               → (is_some (map.get (map.insert S.cells n (Ref new l)) x) ≡ true)
-              × (None ≡ target_in (map.get (map.insert S.cells n (Ref new l)) x))
+              × (None ≡ live_target (map.insert S.cells n (Ref new l))
+              (map.get (map.insert S.cells n (Ref new l)) x))
           at true is = cc
           at false is =
               let same : x ≡ old = cc in

@@ -2,7 +2,8 @@ use Rattle.generational_box.proofs.{are_linked, is_own, is_strange, made_counted
 use Rattle.generational_box.proofs.{name_of_cell}
 use Rattle.generational_box.proofs.{option_copied, reach_strange, reaches_shared, Refer, refer_gone}
 use Rattle.generational_box.proofs.{refer_hindered, refer_strange, reference_full, reference_made}
-use Rattle.generational_box.proofs.{reference_refused, refl, reserved_room, state_is, sym, ◌∙◌}
+use Rattle.generational_box.proofs.{reference_place, reference_refused, reference_stands}
+use Rattle.generational_box.proofs.{ap, is_some, refl, reserved_room, state_is, sym, ◌∙◌}
 use Rattle.generational_box.proofs.unsync.StoreStorage.new_reference.Goals as goal
 
 pub returns-then-not-knows : goal.returns-then-not-knows
@@ -62,6 +63,11 @@ invariant_of-self-2 g c =
     c.args.self.now.sound (name_of_cell c.in-Ok-make.name) _ c.in-Ok-make.ensures.ok.fits.ungiven
     (rw (← c.reserve.ensures.same) (c.list.ensures o c.in-Ok-reserve.ensures.ok))
 
+pub created_at-requires : goal.created_at-requires
+created_at-requires g c = ap is_some (reference_stands c.self.inside.slots
+    (state_is c.self.view_is) (option_copied c.args.owner) _ _ c.reference_to-content.ensures
+    c.in-Ok-make.ensures.ok)
+
 pub returns : goal.returns
 returns g c =
     let own = is_own c.self.inside.slots.state (state_is c.self.view_is) c.args.inner.id
@@ -73,7 +79,9 @@ returns g c =
     c.created_at-created_at.ensures c.reference_to-content.ensures c.in-Ok-make.ensures.ok (
       c.in-Ok-reserve.ensures.known,
       rw (← c.reserve.ensures.same) (c.list.ensures o c.in-Ok-reserve.ensures.ok),
-    ) c.pointer_in.ensures
+    ) (rw (reference_place c.self.inside.slots (state_is c.self.view_is) o _ _
+    c.reference_to-content.ensures c.in-Ok-make.ensures.ok _ c.created_at.ensures)
+    at c.pointer_in.ensures)
 
 pub invariant_of-self-inside-2 : goal.invariant_of-self-inside-2
 invariant_of-self-inside-2 g c =

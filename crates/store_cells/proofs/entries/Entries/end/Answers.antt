@@ -1,5 +1,5 @@
 -- A cell's end, with the borrows that stand there.
-use Rattle.store_cells.proofs.{alone, alone_away, away_noted, changed, forgotten, found}
+use Rattle.store_cells.proofs.{away_noted, changed, forgotten, found, open_away, open_index}
 use Rattle.store_cells.proofs.{free_indexed, given_indexed, given_lists, given_rooms}
 use Rattle.store_cells.proofs.{refl, same_forgotten, same_table, still, sym, used_x}
 use Rattle.store_cells.proofs.entries.Entries.end.Goals as goal
@@ -15,8 +15,8 @@ invariant_of-self g c =
     let a = found c.self.view_is c.self.invariant c.requires.within
     c.index_mut-entry.ensures.value in
     let free = c.requires.alone c.if-is_unborrowed.true in
-    still a c.self.invariant _ (free_indexed a.at (rw (alone a free).2) _ tt refl)
-    (away_noted a.at _ _ (alone_away a free) (λ k other. refl) tt) refl
+    still a c.self.invariant _ (free_indexed a.at (open_index a free) _ tt refl)
+    (away_noted a.at _ _ (open_away a free) (λ k other. refl) tt) refl
 
 pub invariant_of-self-2 : goal.invariant_of-self-2
 invariant_of-self-2 g c =

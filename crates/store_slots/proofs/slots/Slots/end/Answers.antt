@@ -12,7 +12,7 @@ remove-requires g c =
     c.if-has_unborrowed_value.true in
     record {
       there = free_there S n c.requires free;
-      target = free_names_none S n c.requires free;
+      named = free_names_none S n c.requires free;
       alone = λ _. free_alone S n c.requires free;
     }
 

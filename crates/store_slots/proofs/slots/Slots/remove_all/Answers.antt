@@ -27,7 +27,7 @@ remove-requires g c =
     let free = left_first left in
     record {
       there = free_there S n left.linked free;
-      target = free_names_none S n left.linked free;
+      named = free_names_none S n left.linked free;
       alone = λ is. free_alone S n left.linked free;
     }
 

@@ -39,7 +39,7 @@ remove-requires g c =
     (name_test _ _ ∙ sym c.if-eq.ensures) _ c.in-Some.ensures (name_of_cell c.in-Some.ending) refl
     in
     rw (rw r.there at c.redirect-2.ensures)
-    (record { there = left.0; target = left.1; alone = λ is. cc })
+    (record { there = left.0; named = left.1; alone = λ is. cc })
 
 pub returns : goal.returns
 returns g c =
