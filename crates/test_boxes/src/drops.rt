@@ -34,7 +34,7 @@ fn another(rt: &impl Abort, value: &Counted) -> Counted {
 
 /// Asserts how many clones of a value there are.
 fn assert_count(rt: &impl Abort, value: &Counted, count: usize) {
-    assert_same(rt, &Rc::strong_count(value), &count);
+    assert_eq!(rt; Rc::strong_count(value), count);
 }
 
 struct Ends;
@@ -255,27 +255,44 @@ fn assert_refused(
     assert_count(rt, value, 1);
 }
 
+/// Asserts that a store makes nothing by an owner of another store.
+fn assert_nothing_made<S: Storage<Counted>>(
+    rt: &impl Abort,
+    store: &mut S,
+    stranger: &Owner,
+    value: &Counted,
+) {
+    let made_here = stranger.insert(store, another(rt, value), made());
+    assert_refused(rt, made_here, value);
+    let shared_here = stranger.insert_rc(store, another(rt, value), made());
+    assert_refused(rt, shared_here, value);
+}
+
+/// Asserts that a store doesn't take what a writer of another store has.
+fn assert_not_taken<S: Storage<Counted>>(
+    rt: &impl Abort,
+    store: &mut S,
+    guard: GenerationalRefMut<Counted>,
+    value: &Counted,
+) {
+    let back = guard.release(store);
+    assert_count(rt, value, 2);
+    assert!(rt; back.is_err());
+    drop(back);
+    assert_count(rt, value, 1);
+}
+
 struct HandedBack;
 
 impl TwoStoreScenario<Counted> for HandedBack {
     fn play<R: Abort, S: Storage<Counted>>(rt: &R, alloc: Global, seven: &mut S, eight: &mut S) {
         let value = counted(rt, alloc);
         let owner = new_owner(rt, eight);
-        assert_refused(rt, owner.insert(seven, another(rt, &value), made()), &value);
-        assert_refused(
-            rt,
-            owner.insert_rc(seven, another(rt, &value), made()),
-            &value,
-        );
+        assert_nothing_made(rt, seven, &owner, &value);
         owner.leak();
-
         let own = leak(rt, seven, another(rt, &value), made());
         let guard = begin_write(rt, seven, own, written());
-        let back = guard.release(eight);
-        assert_count(rt, &value, 2);
-        assert!(rt; back.is_err());
-        drop(back);
-        assert_count(rt, &value, 1);
+        assert_not_taken(rt, eight, guard, &value);
     }
 }
 

@@ -1,14 +1,18 @@
-//! The example of the README, run.
+//! A text is kept in a store, read and ended.
 
 use crate::expected::assert_same;
-use generational_box::{GenerationalBox, Location, UnsyncStorage};
+use generational_box::{GenerationalBox, Location, Storage, UnsyncStorage};
 use std::alloc::Global;
 use std::test::Fail;
 
-/// The length of a text that is kept in a store, read and ended.
+/// The length of a text that is kept in a new store, read and ended.
 pub fn length_in_store(alloc: Global, text: String) -> Option<usize> {
-    let mut store = UnsyncStorage::new(alloc, 1);
-    let here = Location::new("example.rt", 4, 16);
+    length_in(UnsyncStorage::new(alloc, 1), text)
+}
+
+/// The length of a text that is kept in a store, read and ended. The store goes then.
+pub fn length_in<S: Storage<String> + Drop>(mut store: S, text: String) -> Option<usize> {
+    let here = Location::new("example.rt", 9, 16);
 
     // The store owns the text. The box is Copy, and owns nothing.
     let made = GenerationalBox::leak(&mut store, text, here).ok()?;

@@ -1,8 +1,8 @@
 //! A hundred thousand rounds of calls: the memory that the first hundred take is enough for all.
 
 use crate::expected::{
-    assert_kept, assert_released, assert_stays, begin, begin_write, borrowed, end, insert, leak,
-    made, made_later, new_owner, read, release, written,
+    assert_kept, assert_released, begin, begin_write, borrowed, end, insert, leak, made,
+    made_later, new_owner, read, release, written,
 };
 use crate::growth::Gauge;
 use crate::sessions::session_over;
@@ -70,8 +70,8 @@ fn read_thrice<S: Storage<String>>(
     let first = begin(rt, store, asked, read());
     let second = begin(rt, store, asked, made());
     let third = begin(rt, store, asked, made_later());
-    let places = [read(), made(), made_later()];
-    assert_stays(rt, store, asked, borrowed(rt, alloc, &places));
+    let refusal = borrowed(rt, alloc, &[read(), made(), made_later()]);
+    assert!(rt; asked.manually_drop(store) == Err(refusal));
     (first, second, third)
 }
 

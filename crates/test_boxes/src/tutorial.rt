@@ -4,7 +4,6 @@ use crate::expected::assert_same;
 use generational_box::{
     AnyStorage, BorrowMutResult, GenerationalBox, Location, Storage, UnsyncStorage,
 };
-use std::alloc::Global;
 use std::test::Fail;
 
 /// Where each call is made: a refusal tells where a borrow began, and where a value was made.
@@ -39,8 +38,7 @@ pub fn write<S: Storage<u64>>(store: &mut S, kept: GenerationalBox<u64>) -> Borr
 
 /// Keeps 7 by an owner, reads it, writes 8, looks at it in passing, and ends the owner. The box is
 /// still there then, and reaches nothing.
-pub fn first_steps(alloc: Global) -> Option<(u64, u64, bool)> {
-    let mut store = UnsyncStorage::new(alloc, 1);
+pub fn first_steps<S: Storage<u64> + Drop>(mut store: S) -> Option<(u64, u64, bool)> {
     let owner = store.owner().ok()?;
     let Ok(kept) = owner.insert(&mut store, 7, line(45)) else {
         owner.leak();
@@ -61,6 +59,7 @@ pub fn first_steps(alloc: Global) -> Option<(u64, u64, bool)> {
 
 #[test]
 fn a_value_two_readers_a_refusal_an_owner(rt: HostRuntime) -> Result<(), Fail> {
-    assert_same(&rt, &first_steps(rt.alloc()), &Some((14, 8, false)));
+    let store = UnsyncStorage::new(rt.alloc(), 1);
+    assert_same(&rt, &first_steps(store), &Some((14, 8, false)));
     Ok(())
 }
