@@ -19,7 +19,7 @@ pub use Rattle.std.specs.Prelude.{◌&&◌}
 pub use Rattle.std.specs.{Cmp.nat_cmp_total, List.list_any, Ordering.nat_cmp}
 pub use Rattle.store_parts.{proofs.lists.Lists.set_written, specs.Lists.how_many}
 pub use lists.Lists.{bit, contains-insert_at, contains-remove_at, fewer_within}
-pub use lists.Lists.{get_own, IsWritten, passes, push_written, set-own}
+pub use lists.Lists.{IsWritten, passes, push_written, set-own}
 pub use Rattle.store_parts.specs.{Borrows.AreBelow, CellNames.name_of_cell}
 pub use Rattle.store_parts.specs.Table.{IsClosed, IsUsed, IsVacant, list_at, no_index}
 pub use Rattle.store_parts.specs.Table.{put_list, Releases, Table}

@@ -94,42 +94,6 @@ module _ {A : Type 0} where
   fewer_within p (y ∷ xs) (suc i) x there fails =
       omega (arith, fewer_within p xs i x there fails, bit_most (p y))
 
--- ---- elements that are written
-
-pub set_twice : {A : Type 0} (xs : List A) (i : ℕ) (x y : A)
-    → slice_set (slice_set xs i x) i y ≡ slice_set xs i y
-set_twice (z ∷ zs) (suc i) x y = rw (set_twice zs i x y)
-set_twice xs i x y = refl
-
-pub set_apart : {A : Type 0} (xs : List A) (i j : ℕ) (x y : A) → (i ≡ j → ⊥)
-    → slice_set (slice_set xs i x) j y ≡ slice_set (slice_set xs j y) i x
-set_apart (z ∷ zs) zero zero x y other = absurd (other refl)
-set_apart (z ∷ zs) (suc i) (suc j) x y other =
-    rw (set_apart zs i j x y (λ e. other (ap suc e)))
-set_apart xs i j x y other = refl
-
-pub get_left : {A : Type 0} (xs ys : List A) (i : ℕ) (e : A) → slice_get xs i ≡ Some e
-    → slice_get (xs ++ ys) i ≡ Some e
-get_left [] ys i e there = absurd cc
-get_left (x ∷ xs) ys zero e there = there
-get_left (x ∷ xs) ys (suc i) e there = get_left xs ys i e there
-
-pub set_left : {A : Type 0} (xs ys : List A) (i : ℕ) (e y : A) → slice_get xs i ≡ Some e
-    → slice_set (xs ++ ys) i y ≡ slice_set xs i y ++ ys
-set_left [] ys i e y there = absurd cc
-set_left (x ∷ xs) ys zero e y there = refl
-set_left (x ∷ xs) ys (suc i) e y there = rw (set_left xs ys i e y there)
-
-pub get_own : {A : Type 0} (xs : List A) (i : ℕ) (x y : A) → slice_get xs i ≡ Some x
-    → slice_get (slice_set xs i y) i ≡ Some y
-get_own xs i x y there = rw ((set_written xs i y x there).at, eq-eqb i i refl)
-
-pub get_other : {A : Type 0} (xs : List A) (i j : ℕ) (x : A) → (i ≡ j → ⊥)
-    → slice_get (slice_set xs i x) j ≡ slice_get xs j
-get_other (z ∷ zs) zero zero x other = absurd (other refl)
-get_other (z ∷ zs) (suc i) (suc j) x other = get_other zs i j x (λ e. other (ap suc e))
-get_other xs i j x other = refl
-
 -- ---- how many keys a map has
 
 len_step : {X : Type 0} (m : map.FinMap nat_cmp X) (i n : ℕ) (b : Bool) → map.contains_key m i ≡ b

@@ -51,11 +51,6 @@ module _ {T : Type 0} where
   pub shared_content : (o : Option (Cell T)) → is_shared o ≡ true → is_some (content_of o) ≡ true
   shared_content o h = grind arith
 
-  -- what stands in the way of a read tells of a borrow
-  pub read_tells : (c : Option (Content T))
-      → is_none (read_refusal c) ≡ not (tells_of_borrow (read_refusal c))
-  read_tells c = grind arith
-
   module _ (S : State T) (linked : IsLinked S.cells) (n m : Name) where
     named_there : (l : Location) → map.get S.cells n ≡ Some (Ref m l)
         → is_some (content_at S m) ≡ true

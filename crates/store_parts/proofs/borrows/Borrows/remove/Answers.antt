@@ -1,6 +1,6 @@
 -- The ticket's own borrow is taken away, where another stands.
-use Rattle.std.proofs.Common.{◌≡◌, ◌∙◌, ◌∷◌, [], ap, length, List, refl, sym}
-use Rattle.store_parts.proofs.lists.Queues.{left_some, none_left, none_some}
+use Rattle.std.proofs.Common.{◌≡◌, ◌∙◌, ◌∷◌, [], ap, length, List, sym}
+use Rattle.store_parts.proofs.lists.Queues.{none_left, none_some}
 use Rattle.store_parts.proofs.lists.Queues.{only_first}
 use Rattle.generational_core.specs.declared.borrow.Borrow.{Borrow}
 use Rattle.store_parts.proofs.borrows.Borrows.remove.Goals as goal
@@ -12,22 +12,6 @@ invariant_of-self-then-not-remove c =
     let known = rw c.deref_mut.ensures.value at c.remove.ensures.known in
     let none = sym known ∙ c.if-not-remove.true in
     rw (c.remove.ensures.after, c.deref_mut.ensures.value, none_left c.args.ticket _ none) two
-
-pub returns-then-not-remove : goal.returns-then-not-remove
-returns-then-not-remove c =
-    let two = rw c.in-Several.is at c.self.invariant in
-    let known = rw c.deref_mut.ensures.value at c.remove.ensures.known in
-    let others =
-    rw (c.remove.ensures.after, c.deref_mut.ensures.value) at c.remove.ensures.others in
-    rw (
-      ← c.self.view_is,
-      c.in-Several.is,
-      c.remove.ensures.after,
-      c.deref_mut.ensures.value,
-    ) (
-      sym known ∙ c.if-not-remove.true,
-      (refl, left_some _ _ two others),
-    )
 
 pub returns-then-len-eq1 : goal.returns-then-len-eq1
 returns-then-len-eq1 c =

@@ -1,11 +1,6 @@
-use Rattle.store_parts.proofs.{arith, changed_owners, changed_placed, holds_there}
-use Rattle.store_parts.proofs.{missing_kept, one_less, owners_is, record_within}
+use Rattle.store_parts.proofs.{changed_owners, changed_placed, holds_there}
+use Rattle.store_parts.proofs.{missing_kept, one_less, owners_is}
 use Rattle.store_parts.proofs.owners.OwnerRecords.count_down.Goals as goal
-
-pub count_down_at-requires-clause-within : goal.count_down_at-requires-clause-within
-count_down_at-requires-clause-within c =
-    let within = record_within c.self.invariant _ _ c.in-Some.ensures.found in
-    omega (arith, within, c.self.inside.places.ok.0)
 
 pub count_down_at-requires-clause-above : goal.count_down_at-requires-clause-above
 count_down_at-requires-clause-above c =

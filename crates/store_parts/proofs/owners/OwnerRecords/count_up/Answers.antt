@@ -1,12 +1,6 @@
-use Rattle.store_parts.proofs.{arith, changed_owners, changed_placed, holds_there}
+use Rattle.store_parts.proofs.{changed_owners, changed_placed, holds_there}
 use Rattle.store_parts.proofs.{missing_kept, missing_none, one_more, owners_is}
-use Rattle.store_parts.proofs.{record_within}
 use Rattle.store_parts.proofs.owners.OwnerRecords.count_up.Goals as goal
-
-pub count_up_at-requires-clause-within : goal.count_up_at-requires-clause-within
-count_up_at-requires-clause-within c =
-    let within = record_within c.self.invariant _ _ c.in-Some.ensures.found in
-    omega (arith, within, c.self.inside.places.ok.0)
 
 pub count_up_at-requires-clause-below : goal.count_up_at-requires-clause-below
 count_up_at-requires-clause-below c =

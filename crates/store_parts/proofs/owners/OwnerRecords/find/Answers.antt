@@ -1,12 +1,7 @@
-use Rattle.store_parts.proofs.{ap, arith, KeyedOwnership, length, option_map, owners_is}
+use Rattle.store_parts.proofs.{ap, KeyedOwnership, length, option_map, owners_is}
 use Rattle.store_parts.proofs.{record_found, record_missing, record_within, refl}
 use Rattle.store_parts.proofs.{slice_get_read, sym, ◌∙◌}
 use Rattle.store_parts.proofs.owners.OwnerRecords.find.Goals as goal
-
-pub index-requires : goal.index-requires
-index-requires c =
-    let within = record_within c.self.invariant _ _ c.in-Some.ensures.found in
-    omega (arith, within, c.self.inside.places.ok.0)
 
 pub returns-in-Some : goal.returns-in-Some
 returns-in-Some c =

@@ -1,16 +1,7 @@
-use Rattle.store_parts.proofs.{arith, changed_placed}
+use Rattle.store_parts.proofs.{changed_placed}
 use Rattle.store_parts.proofs.{listed_owners, name_of_cell, one_listed, places_is}
-use Rattle.store_parts.proofs.{room_record, room_within, slice_get}
+use Rattle.store_parts.proofs.{room_record, slice_get}
 use Rattle.store_parts.proofs.owners.OwnerRecords.list.Goals as goal
-
-pub list_at-requires-clause-within : goal.list_at-requires-clause-within
-list_at-requires-clause-within c =
-    let room = rw (c.in-Some.is, ← places_is c.self.view_is) at c.requires in
-    let within = room_within c.self.inside.places.items c.in-Some.place room in
-    omega (arith, within, c.self.inside.places.ok.0)
-
-pub list_at-requires-clause-room : goal.list_at-requires-clause-room
-list_at-requires-clause-room c = rw (c.in-Some.is, ← places_is c.self.view_is) at c.requires
 
 pub invariant_of-self : goal.invariant_of-self
 invariant_of-self c =

@@ -1,21 +1,8 @@
-use Rattle.store_parts.proofs.{ap, arith, missing_names, missing_removed, name_of_cell}
-use Rattle.store_parts.proofs.{owners_is, record_within, sym, taken_absent, taken_names}
+use Rattle.store_parts.proofs.{ap, missing_names, missing_removed, name_of_cell}
+use Rattle.store_parts.proofs.{owners_is, sym, taken_names}
 use Rattle.store_parts.proofs.{taken_owners, taken_placed, ◌∙◌}
 use Rattle.std.proofs.Common.{map as list_map}
 use Rattle.store_parts.proofs.owners.OwnerRecords.take.Goals as goal
-
-pub take_at-boxes-requires : goal.take_at-boxes-requires
-take_at-boxes-requires c =
-    let within = record_within c.self.invariant _ _ c.in-Some.ensures.found in
-    omega (arith, within, c.self.inside.places.ok.0)
-
-pub put-requires-clause-room : goal.put-requires-clause-room
-put-requires-clause-room c =
-    let within = record_within c.self.invariant _ _ c.in-Some.ensures.found in
-    omega (arith, within, c.self.invariant.roomy)
-
-pub put-requires-clause-absent : goal.put-requires-clause-absent
-put-requires-clause-absent c = taken_absent c.self.invariant _ _ c.in-Some.ensures.found
 
 pub invariant_of-self : goal.invariant_of-self
 invariant_of-self c =
