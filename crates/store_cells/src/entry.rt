@@ -219,14 +219,11 @@ impl<T> StorageEntryData<T> {
         T: Drop,
         ensures { self.new ≡ unread_data self.old }
     {
+        if !matches!(self, StorageEntryData::Read(_, NO_INDEX, _)) {
+            return;
+        }
         *self = match mem::replace(self, StorageEntryData::Empty) {
-            StorageEntryData::Read(kind, index, value) => {
-                if index == NO_INDEX {
-                    StorageEntryData::Data(kind, value)
-                } else {
-                    StorageEntryData::Read(kind, index, value)
-                }
-            }
+            StorageEntryData::Read(kind, _, value) => StorageEntryData::Data(kind, value),
             other => other,
         };
     }
