@@ -118,7 +118,7 @@ fn run<S: Storage<u64> + Drop>(alloc: Global, store: S) -> Option<u64> {
     }
 }
 
-/// The same, a call at a time.
+/// Calls one at a time. Each names what an earlier call gave by the place of that call.
 fn call<S: Storage<u64> + Drop>(alloc: Global, store: S) -> Option<u64> {
     if !store.is_fresh() {
         return None;

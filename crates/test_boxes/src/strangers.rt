@@ -62,7 +62,8 @@ impl TwoStoreScenario<u32> for GuardHandedOver {
     }
 }
 
-// The same with the guard of the first store, which is handed to the second.
+// A guard of the first store is handed to the second, which doesn't know it: it is spent there with
+// no change, and both cells stay borrowed.
 #[test]
 fn a_guard_handed_over_is_unknown(rt: HostRuntime) {
     play_in_two_stores::<u32, GuardHandedOver>(&rt, rt.alloc());
