@@ -1,10 +1,11 @@
 -- Effects hear one after another.
-use Rattle.std.proofs.Common.{◌≡◌, ℕ, ◌+◌, ◌≤◌, suc, zero, Bool, List, [], ◌∷◌, ◌++◌, Result, Some, length, refl, ap, sym, ◌∙◌, subst, set, take, drop, append_assoc, add-one, arith}
+use Rattle.std.proofs.Common.{◌≡◌, ℕ, ◌+◌, ◌≤◌, suc, zero, Bool, List, [], ◌∷◌, ◌++◌, Result, Ok, Err, Option, None, Some, length, refl, ap, sym, ◌∙◌, subst, set, take, drop, append_assoc, add-one, arith}
 use Rattle.std.proofs.Math.Seq.{take-append_seam}
 use Rattle.std.specs.Prelude.{slice_get}
 use Rattle.reactive.specs.declared.effects.Effect.{Effect}
 use Rattle.reactive.specs.declared.effects.Told.{Told}
 use Rattle.reactive.specs.declared.fault.Fault.{Fault}
+use Rattle.reactive.specs.declared.key.Key.{Key}
 use Rattle.reactive.specs.Hearing.{AllHear, Hears, Says}
 use Rattle.reactive.specs.Meaning.{Graph}
 
@@ -89,3 +90,53 @@ module _ {T : Type 0} (same : T → T → Bool) (G : Graph T) where
       → length now ≤ k → k ≡ length old
   all_heard k old now told h past =
       let a = all_length k old now told h in let b = all_within k old now told h in omega arith
+
+  -- an effect that was never told is told
+  told_first : (k : Key) (a : Result T Fault) (f : Effect T) (one : List (Told T))
+      → Hears same (record { key = k; told = None }) a f one
+      → (f ≡ record { key = k; told = Some a }) × (one ≡ record { key = k; answer = a } ∷ [])
+  told_first k (Ok v) f [] h = let never = h.1 in cc
+  told_first k (Err g) f [] h = let never = h.1.1 in cc
+  told_first k a f (t ∷ []) h = (h.1, ap (λ x. x ∷ []) h.2)
+  told_first k a f (t ∷ u ∷ rest) h = absurd h
+
+  first_heard : (k : Key) (new : List (Effect T)) (told : List (Told T))
+      → AllHear same G (suc zero) (record { key = k; told = None } ∷ []) new told
+      → (a : Result T Fault) × Says G k a × (told ≡ record { key = k; answer = a } ∷ [])
+  first_heard k [] told h = absurd h
+  first_heard k (f ∷ new) told h =
+      let one = (told_first k h.0 f h.2.0 h.2.3).1 in let rest = h.2.4.1 in
+      (h.0, h.1, h.2.2 ∙ (ap (λ xs. xs ++ h.2.1) one ∙ ap (λ xs. record { key = k; answer = h.0 } ∷ xs) rest))
+
+  pub first_told : (n : ℕ) (k : Key) (old new : List (Effect T)) (told : List (Told T))
+      → old ≡ record { key = k; told = None } ∷ [] → n ≡ length old → AllHear same G n old new told
+      → (a : Result T Fault) × Says G k a × (told ≡ record { key = k; answer = a } ∷ [])
+  first_told n k old new told is len h =
+      first_heard k new told (subst (λ m. AllHear same G m (record { key = k; told = None } ∷ []) new told)
+      (len ∙ ap length is) (subst (λ xs. AllHear same G n xs new told) is h))
+
+  -- what an effect was last told when it has heard is what its node means
+  heard_says : (e f : Effect T) (a : Result T Fault) (one : List (Told T)) → Says G e.key a
+      → Hears same e a f one → (b : Result T Fault) × Says G f.key b × (f.told ≡ Some b)
+  heard_says e f (Ok v) [] says h =
+      (Ok v, subst (λ x. Says G x.key (Ok v)) (sym h.0) says, ap (λ x. x.told) h.0 ∙ h.1)
+  heard_says e f (Err g) [] says h =
+      (Err h.1.0, subst (λ x. Says G x.key (Err h.1.0)) (sym h.0) says, ap (λ x. x.told) h.0 ∙ h.1.1)
+  heard_says e f a (t ∷ []) says h =
+      (a, subst (λ x. Says G x.key a) (sym h.1) says, ap (λ x. x.told) h.1)
+  heard_says e f a (t ∷ u ∷ rest) says h = absurd h
+
+  pub all_say : (n : ℕ) (old new : List (Effect T)) (told : List (Told T)) (i : ℕ) (f : Effect T)
+      → n ≡ length old → AllHear same G n old new told → slice_get new i ≡ Some f
+      → (a : Result T Fault) × Says G f.key a × (f.told ≡ Some a)
+  all_say zero [] [] told i f len h there = cc
+  all_say zero [] (m ∷ new) told i f len h there = let none = h.0 in cc
+  all_say zero (o ∷ old) new told i f len h there = cc
+  all_say (suc n) [] new told i f len h there = absurd h
+  all_say (suc n) (o ∷ old) [] told i f len h there = absurd h
+  all_say (suc n) (o ∷ old) (m ∷ new) told zero f len h there =
+      let is : m ≡ f = cc in
+      subst (λ x. (a : Result T Fault) × Says G x.key a × (x.told ≡ Some a)) is
+      (heard_says o m h.0 h.2.0 h.1 h.2.3)
+  all_say (suc n) (o ∷ old) (m ∷ new) told (suc i) f len h there =
+      all_say n old new h.2.1 i f (omega (arith, len)) h.2.4 there

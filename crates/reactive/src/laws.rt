@@ -1,9 +1,13 @@
 //! What meanings are, for callers. It is the contract of a function that does nothing.
 
-ghost use Rattle.std.specs.Prelude.{◌≡◌, ◌≢◌};
+ghost use Rattle.std.specs.Prelude.{◌≡◌, ◌≢◌, ℕ, Bool, List, [], ◌∷◌, length, slice_get, None, Some, Result};
+ghost use Rattle.reactive.specs.declared.effects.Effect.{Effect};
+ghost use Rattle.reactive.specs.declared.effects.Told.{Told};
+ghost use Rattle.reactive.specs.declared.fault.Fault.{Fault};
 ghost use Rattle.reactive.specs.declared.key.Key.{Key};
 ghost use Rattle.reactive.specs.Meaning.{Graph, Means};
 ghost use Rattle.reactive.specs.Graphs.{GraphState, HasPlan, plans_in};
+ghost use Rattle.reactive.specs.Hearing.{AllHear, Says};
 ghost use Rattle.reactive.specs.Plans.{Ask, Give, Plan};
 
 use crate::rule::Rule;
@@ -24,4 +28,16 @@ pub fn sets_show_in_memos<T, R: Rule<T>>()
     ensures { (old new : GraphState T R) (source memo : Key) (next : T → Plan T) (a v w : T) →
         HasPlan R.plan old source (Give a) new → plans_in R.plan old memo ≡ Ask source next →
         memo ≢ source → next a ≡ Give v → Means (plans_in R.plan new) memo w → w ≡ v }
+{}
+
+/// What a flush tells that is Ok. An effect that was never told is told what its node means; and what
+/// each effect was last told then, by this flush or one before, is what its node means.
+pub fn flushes_tell_what_is_meant<T>()
+    ensures first { (same : T → T → Bool) (G : Graph T) (n : ℕ) (k : Key) (old new : List (Effect T))
+        (news : List (Told T)) → old ≡ record { key = k; told = None } ∷ [] → n ≡ length old →
+        AllHear same G n old new news →
+        (a : Result T Fault) × Says G k a × (news ≡ record { key = k; answer = a } ∷ []) }
+    ensures all { (same : T → T → Bool) (G : Graph T) (n : ℕ) (old new : List (Effect T))
+        (news : List (Told T)) (i : ℕ) (f : Effect T) → n ≡ length old → AllHear same G n old new news →
+        slice_get new i ≡ Some f → (a : Result T Fault) × Says G f.key a × (f.told ≡ Some a) }
 {}
