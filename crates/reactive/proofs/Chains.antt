@@ -66,10 +66,11 @@ module _ {T : Type 0} (G : Graph T) where
 
   pub cycle_mute : (start : Key) (path : List Frame) (top : Frame) (next : Key) → Chain G start path top.key
       → Needs G top.key next → (i : ℕ) (f : Frame) → slice_get (path ++ top ∷ []) i ≡ Some f → f.key ≡ next
-      → IsMute G start
+      → IsMute G start × IsMute G next
   cycle_mute start path top next c n i f is same =
-      cyclic_mute G (Leads next) (cyclic next (leads_member next start path top c n i f is same)) start
-      (leads_start next start path top c n)
+      let round = leads_member next start path top c n i f is same in
+      let mute = cyclic_mute G (Leads next) (cyclic next round) in
+      (mute start (leads_start next start path top c n), mute next round)
 
 module _ {T R : Type 0} (G : Graph T) (now : ℕ) where
   pub all_more : (nodes : Table T R) (path : List Frame) (f : Frame) → AllGoOn G now nodes path
@@ -155,6 +156,6 @@ module _ {T R : Type 0} (plan : R → Plan T) (G : Graph T) (now : ℕ) (start :
 
   pub way_round : (next : Key) (place : Option ℕ) → Needs G top.key next → (i : ℕ) (f : Frame)
       → slice_get (path ++ record { key = top.key; place = place } ∷ []) i ≡ Some f → f.key ≡ next
-      → IsMute G start
+      → IsMute G start × IsMute G next
   way_round next place needs i f is same =
       cycle_mute G start path (record { key = top.key; place = place }) next o.chain needs i f is same

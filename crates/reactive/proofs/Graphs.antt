@@ -14,7 +14,7 @@ use Rattle.reactive.specs.declared.key.Key.{Key}
 use Rattle.reactive.specs.declared.node.Node.{Node}
 use Rattle.reactive.specs.Changing.{IsReset, IsResetTo}
 use Rattle.reactive.specs.Ending.{HasLost, IsAmong}
-use Rattle.reactive.specs.Graphs.{GraphState, HasKind, HasPlan, IsKept, IsUnruled, IsUnset, kind_by, kind_by_rule, kind_in, kinds_of, plans_in, shown_in}
+use Rattle.reactive.specs.Graphs.{GraphState, HasKind, HasPlan, IsKept, IsUnruled, IsUnset, Kind, kind_by, kind_by_rule, kind_in, kinds_of, plans_in, shown_in}
 use Rattle.reactive.specs.Graphs.Kind.{NoNode, Source}
 use Rattle.reactive.specs.Meaning.{Graph, Means}
 use Rattle.reactive.specs.Plans.{Plan, Give, Stop}
@@ -131,11 +131,11 @@ module _ {T R : Type 0} (plan : R → Plan T) where
         (v, shown, known_means plan (plans_in plan old) old.revision (nodes_in new) sound k v shows)
     refreshed_shown k (Err f) h = tt
 
-    pub refreshed_blames : (k : Key) (r : Result (Unit {0}) Fault)
-        → Refreshed (plans_in plan old) old.revision (nodes_in new) k r
-        → IfErr r (Blames (plans_in plan old) k)
-    refreshed_blames k (Ok u) h = tt
-    refreshed_blames k (Err f) h = h
+    pub refreshed_blames : (kind : Key → Kind) → kinds_of (nodes_in new) ≡ kind → (k : Key)
+        (r : Result (Unit {0}) Fault) → Refreshed (plans_in plan old) old.revision (nodes_in new) k r
+        → IfErr r (Blames (plans_in plan old) kind k)
+    refreshed_blames kind is k (Ok u) h = tt
+    refreshed_blames kind is k (Err f) h = subst (λ x. Blames (plans_in plan old) x k f) is h
 
   pub peek_means : (now : GraphState T R) → IsKept plan now → (k : Key) (o : Option (Bor T))
       → option_copied o ≡ shown_in now k → IfSome o (λ v. Means (plans_in plan now) k v.now)

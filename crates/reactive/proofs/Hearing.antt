@@ -1,5 +1,5 @@
 -- Effects hear one after another.
-use Rattle.std.proofs.Common.{◌≡◌, ℕ, ◌+◌, ◌≤◌, suc, zero, Bool, List, [], ◌∷◌, ◌++◌, Result, Ok, Err, Option, None, Some, length, refl, ap, sym, ◌∙◌, subst, set, take, drop, append_assoc, add-one, arith}
+use Rattle.std.proofs.Common.{◌≡◌, ℕ, ◌+◌, ◌≤◌, suc, zero, Bool, List, [], ◌∷◌, ◌++◌, Result, Ok, Err, None, Some, length, refl, ap, sym, ◌∙◌, subst, set, take, drop, append_assoc, add-one, arith}
 use Rattle.std.proofs.Math.Seq.{take-append_seam}
 use Rattle.std.specs.Prelude.{slice_get}
 use Rattle.reactive.specs.declared.effects.Effect.{Effect}

@@ -44,7 +44,7 @@ module _ {T R : Type 0} (G : Graph T) (now : ℕ) (nodes : Table T R) (k : Key) 
       × LeadsTo n v (vec_items n.reads))
   Looked (look.New v reads) = (n : Node T R) × (nodes k ≡ Some n) × LeadsTo n v (vec_items reads)
   Looked (look.Needs j place) = Needs G k j × GoesOn G now nodes k place
-  Looked (look.Gone j) = IsMute G k
+  Looked (look.Gone j) = IsMute G k × (nodes j ≡ None)
   Looked look.NoValue = IsMute G k
   Looked look.Full = Unit {0}
 
@@ -52,6 +52,6 @@ module _ {T R : Type 0} (G : Graph T) (now : ℕ) (nodes : Table T R) (k : Key) 
   abbrev pub Stepped : Step → Type 0
   Stepped step.Settled = (v : T) × Shows nodes now k v
   Stepped (step.Needs j place) = Needs G k j × GoesOn G now nodes k place
-  Stepped (step.Gone j) = IsMute G k
+  Stepped (step.Gone j) = IsMute G k × (nodes j ≡ None)
   Stepped step.NoValue = IsMute G k
   Stepped step.Full = Unit {0}

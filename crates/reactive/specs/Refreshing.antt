@@ -1,8 +1,10 @@
 -- What the answer to a question for a node says of its meaning.
-use Rattle.std.specs.Prelude.{ℕ, List, Option, None, Some, Result, Ok, Err}
+use Rattle.std.specs.Prelude.{◌≡◌, ℕ, List, Option, None, Some, Result, Ok, Err}
 use Rattle.reactive.specs.declared.fault.Fault.{Fault}
 use Rattle.reactive.specs.declared.fault.Fault.TheVariants as fault
 use Rattle.reactive.specs.declared.key.Key.{Key}
+use Rattle.reactive.specs.Graphs.{Kind, kinds_of}
+use Rattle.reactive.specs.Graphs.Kind.{NoNode}
 use Rattle.reactive.specs.Meaning.{Graph, Means, IsMute}
 use Rattle.reactive.specs.declared.look.Frame.{Frame}
 use Rattle.reactive.specs.declared.look.Step.{Step}
@@ -12,13 +14,13 @@ use Rattle.reactive.specs.Plans.{Plan}
 use Rattle.reactive.specs.Settling.{Leaves}
 use Rattle.reactive.specs.Tables.{IsSound, Shows, Table}
 
-module _ {T : Type 0} (G : Graph T) (k : Key) where
-  -- that a node has ended, is on a cycle, or gives no value says that the node that was asked for means
-  -- nothing; a refusal of the store says nothing of it
+module _ {T : Type 0} (G : Graph T) (kind : Key → Kind) (k : Key) where
+  -- That a node has ended, is on a cycle, or gives no value is true of it, and says that the node that
+  -- was asked for means nothing. A refusal of the store says nothing of it.
   abbrev pub Blames : Fault → Type 0
-  Blames (fault.Gone j) = IsMute G k
-  Blames (fault.Cycle j) = IsMute G k
-  Blames (fault.NoValue j) = IsMute G k
+  Blames (fault.Gone j) = IsMute G k × (kind j ≡ NoNode)
+  Blames (fault.Cycle j) = IsMute G k × IsMute G j
+  Blames (fault.NoValue j) = IsMute G k × IsMute G j
   Blames (fault.NoSource j) = ⊥
   Blames (fault.Store e) = Unit {0}
 
@@ -31,7 +33,7 @@ module _ {T R : Type 0} (G : Graph T) (now : ℕ) (nodes : Table T R) (k : Key) 
   -- a node that was brought up to date is known
   abbrev pub Refreshed : {U : Type 0} → Result U Fault → Type 0
   Refreshed (Ok u) = (v : T) × Shows nodes now k v
-  Refreshed (Err f) = Blames G k f
+  Refreshed (Err f) = Blames G (kinds_of nodes) k f
 
 module _ {T R : Type 0} (plan : R → Plan T) (G : Graph T) (now : ℕ) where
   -- from one table to another a look at a node was taken, and kept
@@ -51,4 +53,4 @@ module _ {T R : Type 0} (plan : R → Plan T) (G : Graph T) (now : ℕ) where
   abbrev pub Went : Table T R → Key → List Frame → Result (Option Frame) Fault → Type 0
   Went nodes start path (Ok (Some top)) = IsOnTheWay nodes start path top
   Went nodes start path (Ok None) = IsSound plan G now nodes × ((v : T) × Shows nodes now start v)
-  Went nodes start path (Err f) = IsSound plan G now nodes × Blames G start f
+  Went nodes start path (Err f) = IsSound plan G now nodes × Blames G (kinds_of nodes) start f

@@ -132,7 +132,7 @@ impl<T: Value + Drop, R: Rule<T>, S: Storage<Node<T, R>>> Reactive<T, R, S> {
     pub fn refresh(&mut self, key: Key) -> Result<(), Fault>
         ensures shown { OnOk result ((v : T) × (shown_in self.new key ≡ Some v)
             × Means (plans_in R.plan self.old) key v) }
-        ensures blames { IfErr result (Blames (plans_in R.plan self.old) key) }
+        ensures blames { IfErr result (Blames (plans_in R.plan self.old) (kind_in self.old) key) }
         ensures plans { plans_in R.plan self.new ≡ plans_in R.plan self.old }
         ensures kinds { kind_in self.new ≡ kind_in self.old }
     {
@@ -153,7 +153,7 @@ impl<T: Value + Drop, R: Rule<T>, S: Storage<Node<T, R>>> Reactive<T, R, S> {
     ///
     /// Refused as `refresh`, and where memory runs out for the copy.
     pub fn get(&mut self, key: Key) -> Result<T, Fault>
-        ensures answer { Answers (plans_in R.plan self.old) key result }
+        ensures answer { Answers (plans_in R.plan self.old) (kind_in self.old) key result }
         ensures plans { plans_in R.plan self.new ≡ plans_in R.plan self.old }
         ensures kinds { kind_in self.new ≡ kind_in self.old }
         ensures shown { IfOk result (λ v. shown_in self.new key ≡ Some v) }

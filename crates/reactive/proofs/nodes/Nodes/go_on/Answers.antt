@@ -1,6 +1,7 @@
-use Rattle.std.proofs.Common.{rules, arith, length, sym, subst, Err, Some, ◌≡◌}
+use Rattle.std.proofs.Common.{rules, arith, length, ap, sym, subst, Err, Some, ◌≡◌}
 use Rattle.std.specs.Prelude.{slice_get}
 use Rattle.reactive.specs.declared.fault.Fault.TheVariants as fault
+use Rattle.reactive.specs.Graphs.{kind_by}
 use Rattle.reactive.specs.Refreshing.{IsOnTheWay, Went}
 use Rattle.reactive.specs.Tables.{nodes_in}
 use Rattle.reactive.proofs.Chains.{no_frames, way_back, way_known, way_mute, way_on, way_round}
@@ -55,12 +56,17 @@ pub returns-in-Gone-clause-went : goal.returns-in-Gone-clause-went
 returns-in-Gone-clause-went g c = λ G start o.
     let plan = g.R.Rule.plan in
     let now = c.args.self.now.revision in
-    let a = c.in-Gone.ensures.advanced G o.sound o.last in
-    (a.sound, way_mute plan G now start _ _ c.args.path.now.items c.args.top _ o a a.stepped)
+    let a = c.in-Gone.ensures.advanced G o.sound o.last in (
+      a.sound,
+      (
+        way_mute plan G now start _ _ c.args.path.now.items c.args.top _ o a a.stepped.0,
+        ap kind_by a.stepped.1,
+      ),
+    )
 
 pub returns-in-NoValue-clause-went : goal.returns-in-NoValue-clause-went
 returns-in-NoValue-clause-went g c = λ G start o.
     let plan = g.R.Rule.plan in
     let now = c.args.self.now.revision in
     let a = c.in-NoValue.ensures.advanced G o.sound o.last in
-    (a.sound, way_mute plan G now start _ _ c.args.path.now.items c.args.top _ o a a.stepped)
+    (a.sound, (way_mute plan G now start _ _ c.args.path.now.items c.args.top _ o a a.stepped, a.stepped))

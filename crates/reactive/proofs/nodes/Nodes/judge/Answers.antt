@@ -51,6 +51,8 @@ returns-in-Gone g c = λ G k s at goes.
     (subst (GoesOn G now nodes k) c.in-Some-place.is goes)
     (sym c.is_known.ensures ∙ c.if-is_known.false) v.0 v.1 in
     let asked = walk.0.asked ∙ sym c.deref.ensures.value in
-    let is = c.in-Gone.ensures walk.0.answers asked walk.0.stand walk.1 in
-    ended_needs plan G now nodes s k c.in-Gone.other
-    (asked_needs plan G now nodes s k n at v.0 v.1 walk.0 c.in-Gone.other is.1.0 is.1.1) is.0
+    let is = c.in-Gone.ensures walk.0.answers asked walk.0.stand walk.1 in (
+      ended_needs plan G now nodes s k c.in-Gone.other
+          (asked_needs plan G now nodes s k n at v.0 v.1 walk.0 c.in-Gone.other is.1.0 is.1.1) is.0,
+      is.0,
+    )

@@ -17,11 +17,13 @@ pub returns-in-Some : goal.returns-in-Some
 returns-in-Some g c = λ G k n s at has.
     let r = c.run-result.result in
     let run = c.run-result.ensures in
-    ended_needs g.R.Rule.plan G c.args.self.now.revision _ s k c.in-Some.other
-    (rerun_needs g.R.Rule.plan G c.args.self.now.revision _ s k n at c.args.rule.now has run.0 run.3
-    c.in-Some.other r.result
-    (subst (λ l. Ran (g.R.Rule.plan c.args.rule.now) run.0 l r.result) c.in-Some.is run.2))
-    (sym c.in-None-node_of.ensures)
+    let gone = sym c.in-None-node_of.ensures in (
+      ended_needs g.R.Rule.plan G c.args.self.now.revision _ s k c.in-Some.other
+          (rerun_needs g.R.Rule.plan G c.args.self.now.revision _ s k n at c.args.rule.now has run.0 run.3
+          c.in-Some.other r.result
+          (subst (λ l. Ran (g.R.Rule.plan c.args.rule.now) run.0 l r.result) c.in-Some.is run.2)) gone,
+      gone,
+    )
 
 pub returns-in-Some-result : goal.returns-in-Some-result
 returns-in-Some-result g c = λ G k n s at has.

@@ -1,4 +1,4 @@
-use Rattle.reactive.proofs.Graphs.{kept_refreshed, refreshed_shown, same_plans}
+use Rattle.reactive.proofs.Graphs.{kept_refreshed, refreshed_blames, refreshed_shown, same_plans}
 use Rattle.reactive.proofs.reactive.Reactive.refresh.Goals as goal
 
 pub invariant_of-self : goal.invariant_of-self
@@ -9,6 +9,11 @@ pub returns-clause-shown : goal.returns-clause-shown
 returns-clause-shown g c = rw (← c.self.view_is) (refreshed_shown g.R.Rule.plan _ _ _ c.refresh.ensures.simple
     c.refresh.ensures.revision (c.refresh.ensures.sound _ c.self.invariant.sound) c.args.key c.refresh.result
     (c.refresh.ensures.refreshed _ c.self.invariant.sound))
+
+pub returns-clause-blames : goal.returns-clause-blames
+returns-clause-blames g c = rw (← c.self.view_is) (refreshed_blames g.R.Rule.plan _ _ _ c.refresh.ensures.simple
+    c.refresh.ensures.revision (c.refresh.ensures.sound _ c.self.invariant.sound) _ c.refresh.ensures.kinds
+    c.args.key c.refresh.result (c.refresh.ensures.refreshed _ c.self.invariant.sound))
 
 pub returns-clause-plans : goal.returns-clause-plans
 returns-clause-plans g c = rw (← c.self.view_is) (same_plans g.R.Rule.plan _ _ _ c.refresh.ensures.simple
