@@ -26,13 +26,11 @@ impl Rule<u64> for Formula {
             Formula::Same(a) => reader.get(a),
             Formula::Add(a, b) => {
                 let x = reader.get(a)?;
-                let y = reader.get(b)?;
-                x.checked_add(y)
+                x.checked_add(reader.get(b)?)
             }
             Formula::Mul(a, b) => {
                 let x = reader.get(a)?;
-                let y = reader.get(b)?;
-                x.checked_mul(y)
+                x.checked_mul(reader.get(b)?)
             }
         }
     }
