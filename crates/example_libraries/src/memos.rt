@@ -1,14 +1,18 @@
 //! Sources, memos and effects.
 
-ghost use Rattle.std.specs.Prelude.{◌≡◌, ◌≢◌, ◌+◌, ◌%◌, ◌^◌, ◌<◌, IfOk};
+ghost use Rattle.std.specs.Prelude.{◌≡◌, ◌≢◌, ℕ, ◌+◌, ◌%◌, ◌^◌, ◌<◌, [], ◌∷◌, IfOk, OnOk, Result};
 ghost use Rattle.example_libraries.specs.Formulas.{plan_of};
+ghost use Rattle.reactive.specs.declared.fault.Fault.{Fault};
+ghost use Rattle.reactive.specs.Hearing.{Says};
 ghost use Rattle.reactive.specs.Graphs.{kind_in, plans_in};
 ghost use Rattle.reactive.specs.Graphs.Kind.{Source};
+ghost use Rattle.reactive.specs.Meaning.{Means};
 ghost use Rattle.reactive.specs.Plans.{Ask, Give};
 
-use generational_box::Storage;
-use reactive::laws::{nodes_mean_one_value, sets_show_in_memos};
-use reactive::{Fault, Key, Node, Reactive, Reads, Rule};
+use generational_box::{Storage, StoreError};
+use reactive::laws::{flushes_tell_what_is_meant, nodes_mean_one_value, sets_show_in_memos};
+use reactive::{Effects, Fault, Key, Node, Reactive, Reads, Rule, Told};
+use std::alloc::Global;
 
 /// What a memo computes of other nodes.
 #[derive(Clone, Copy, Debug)]
@@ -106,4 +110,51 @@ pub fn shown_by_both<S: Storage<Node<u64, Formula>>>(
         Ok(b) => Ok((a, b)),
         Err(fault) => Err(fault),
     }
+}
+
+/// Watches a node, and flushes: where that is Ok, one thing is told, which is what the node means.
+pub fn told_at_first<S: Storage<Node<u64, Formula>>>(
+    graph: &mut Reactive<u64, Formula, S>,
+    key: Key,
+    alloc: Global,
+) -> Result<Vec<Told<u64>>, StoreError>
+    ensures { IfOk result (λ told. (a : Result ℕ Fault) × Says (plans_in plan_of graph.old) key a
+        × (told.items ≡ record { key = key; answer = a } ∷ [])) }
+{
+    flushes_tell_what_is_meant::<u64>();
+    let mut effects = Effects::new(alloc);
+    let mut told = Vec::new(alloc);
+    match effects.watch(key) {
+        Ok(()) => {}
+        Err(_) => return Err(StoreError::OutOfMemory),
+    }
+    match effects.flush(graph, &mut told) {
+        Ok(()) => Ok(told),
+        Err(cause) => Err(cause),
+    }
+}
+
+/// What a node means, looked at in its place: nothing is copied for it.
+pub fn seen_in_place<S: Storage<Node<u64, Formula>>>(
+    graph: &mut Reactive<u64, Formula, S>,
+    key: Key,
+) -> Result<u64, Fault>
+    ensures { IfOk result (λ v. Means (plans_in plan_of graph.old) key v) }
+{
+    graph.refresh(key)?;
+    match graph.peek(key) {
+        Some(value) => Ok(*value),
+        None => unreachable!(),
+    }
+}
+
+/// Makes a node show what another does, whatever it was before.
+pub fn redirect<S: Storage<Node<u64, Formula>>>(
+    graph: &mut Reactive<u64, Formula, S>,
+    node: Key,
+    to: Key,
+) -> Result<(), Fault>
+    ensures { OnOk result (plans_in plan_of graph.new node ≡ Ask to (λ x. Give x)) }
+{
+    graph.set_rule(node, Formula::Same(to))
 }
