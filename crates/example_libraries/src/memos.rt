@@ -5,13 +5,14 @@ ghost use Rattle.example_libraries.specs.Formulas.{plan_of};
 ghost use Rattle.reactive.specs.declared.fault.Fault.{Fault};
 ghost use Rattle.reactive.specs.Hearing.{Says};
 ghost use Rattle.reactive.specs.Graphs.{kind_in, plans_in};
-ghost use Rattle.reactive.specs.Graphs.Kind.{Source};
+ghost use Rattle.reactive.specs.Ending.{IsAmong};
+ghost use Rattle.reactive.specs.Graphs.Kind.{NoNode, Source};
 ghost use Rattle.reactive.specs.Meaning.{Means};
 ghost use Rattle.reactive.specs.Plans.{Ask, Give};
 
-use generational_box::{Storage, StoreError};
+use generational_box::{Location, Storage, StoreError};
 use reactive::laws::{flushes_tell_what_is_meant, nodes_mean_one_value, sets_show_in_memos};
-use reactive::{Effects, Fault, Key, Node, Reactive, Reads, Rule, Told};
+use reactive::{Effects, Fault, Key, Node, Reactive, Reads, Rule, Scope, Told};
 use std::alloc::Global;
 
 /// What a memo computes of other nodes.
@@ -157,4 +158,40 @@ pub fn redirect<S: Storage<Node<u64, Formula>>>(
     ensures { OnOk result (plans_in plan_of graph.new node ≡ Ask to (λ x. Give x)) }
 {
     graph.set_rule(node, Formula::Same(to))
+}
+
+/// Twice a number, by two nodes that end with their scope. No node that lived before has another plan
+/// afterwards.
+pub fn doubled<S: Storage<Node<u64, Formula>>>(
+    graph: &mut Reactive<u64, Formula, S>,
+    alloc: Global,
+    number: u64,
+) -> Result<u64, Fault>
+    ensures { (k : Key) → kind_in graph.old k ≢ NoNode →
+        plans_in plan_of graph.new k ≡ plans_in plan_of graph.old k }
+{
+    let mut scope = Scope::new(alloc);
+    let twice = double_in(graph, &mut scope, number);
+    match scope.end(graph) {
+        Ok(()) => {}
+        Err((scope, _)) => scope.leak(),
+    }
+    twice
+}
+
+// Twice a number, by two nodes of a scope that has none.
+fn double_in<S: Storage<Node<u64, Formula>>>(
+    graph: &mut Reactive<u64, Formula, S>,
+    scope: &mut Scope,
+    number: u64,
+) -> Result<u64, Fault>
+    requires { scope.old ≡ [] }
+    ensures others { (k : Key) → kind_in graph.old k ≢ NoNode →
+        plans_in plan_of graph.new k ≡ plans_in plan_of graph.old k }
+    ensures new { (k : Key) → kind_in graph.old k ≢ NoNode → IsAmong k scope.new → ⊥ }
+{
+    let here = Location::new("memos.rt", 217, 16);
+    let source = scope.source(graph, number, here)?;
+    let twice = scope.memo(graph, Formula::Add(source, source), here)?;
+    graph.get(twice)
 }
