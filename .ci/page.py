@@ -22,9 +22,9 @@ PAGES = [ROOT / "README.md", ROOT / ".ci/planted.md"]
 PAGES += [it for it in sorted((ROOT / "docs").rglob("*.md")) if it.parent.name != "api"]
 # Each page of the guide, but for the questions, begins with a program.
 WITH_CODE = ["README.md", *(it.name for it in (ROOT / "docs/guide").glob("*.md") if it.name != "faq.md")]
-USES = ["example_callers", "example_libraries", "example_memos", "example_guide"]
+USES = ["example_callers", "example_libraries", "example_guide"]
 # What the gate runs.
-RUN = ["test_boxes", "test_libraries", "test_reactive", "example_memos", "example_guide"]
+RUN = ["test_boxes", "test_libraries", "test_reactive", "example_guide"]
 SOURCES = [
     path
     for crate in dict.fromkeys(USES + RUN)
@@ -33,7 +33,7 @@ SOURCES = [
 
 
 # The crates whose calls have examples.
-CALLS = ["generational_errors", "generational_core", "generational_box", "generational_sessions"]
+CALLS = ["generational_errors", "generational_core", "generational_box", "generational_sessions", "reactive"]
 
 
 def lines_of(path):

@@ -2,6 +2,7 @@
 #![tactic(auto)]
 
 mod memory;
+mod memos;
 mod proving;
 mod started;
 mod threads;
@@ -10,6 +11,7 @@ mod values;
 fn main(rt: HostRuntime) -> anyhow::Result<()> {
     started::main(rt)?;
     values::main(rt)?;
+    memos::main(rt)?;
     threads::main(&rt)?;
     proving::main(rt)?;
     memory::main(rt)

@@ -16,14 +16,14 @@ use generational_core::{Storage, StoreError};
 use std::alloc::{AllocError, Global};
 use std::marker::Model;
 
-/// A node that is watched, and what was last told of it: its value, or why it means nothing.
+/// A node that is watched, and what was last reported of it: its value, or why it means nothing.
 #[derive(Drop)]
 pub struct Effect<T> {
     pub(crate) key: Key,
     pub(crate) told: Option<Result<T, Fault>>,
 }
 
-/// What a flush tells: a node that is watched, and what it means now, or why it means nothing.
+/// What a flush reports: a node that is watched, and what it means now, or why it means nothing.
 #[derive(Drop)]
 pub struct Told<T> {
     pub key: Key,
@@ -113,7 +113,7 @@ impl<T: Value + Drop> Effect<T> {
 }
 
 /// Nodes that are watched, in the order in which they were. Contracts see them as effects: each a node,
-/// with what was last told of it. A node that is watched twice has two effects.
+/// with what was last reported of it. A node that is watched twice has two effects.
 #[derive(Drop)]
 pub struct Effects<T> {
     effects: Vec<Effect<T>>,
@@ -121,6 +121,10 @@ pub struct Effects<T> {
 
 impl<T: Value + Drop> Effects<T> {
     /// No effects. Takes no memory.
+    ///
+    /// ```rust
+    /// let mut effects = Effects::new(alloc);
+    /// ```
     pub fn new(alloc: Global) -> Self
         ensures { result.effects.items ≡ [] }
     {
@@ -129,9 +133,15 @@ impl<T: Value + Drop> Effects<T> {
         }
     }
 
-    /// Watches a node: the next flush tells what it means, and each later one where that has changed.
+    /// Watches a node: the next flush reports what it means, and each later one what it means if that
+    /// has changed.
     ///
-    /// Refused if memory runs out: the effects stay as they were. O(1), but for finding room.
+    /// Refused if memory runs out: the effects are unchanged. O(1), but for finding room.
+    ///
+    /// ```rust
+    /// effects.watch(total)?;
+    /// effects.flush(graph, &mut told)?;
+    /// ```
     pub fn watch(&mut self, key: Key) -> Result<(), AllocError>
         ensures watched { OnOk result (self.new.effects.items
             ≡ self.old.effects.items ++ record { key = key; told = None } ∷ []) }
@@ -144,8 +154,12 @@ impl<T: Value + Drop> Effects<T> {
         }
     }
 
-    /// Watches a node no longer: its effects go, and the others stay, in order. Takes no memory, and is
-    /// O(n).
+    /// Watches a node no longer: its effects go, and the others are unchanged, in order. Takes no memory,
+    /// and is O(n).
+    ///
+    /// ```rust
+    /// effects.unwatch(total);
+    /// ```
     pub fn unwatch(&mut self, key: Key)
         ensures { self.new.effects.items
             ≡ filter (λ e. not (⟦<Key as PartialEq>⟧.eq e.key key)) self.old.effects.items }
@@ -154,14 +168,23 @@ impl<T: Value + Drop> Effects<T> {
     }
 
     /// Brings each watched node up to date, in order, and pushes one entry for each that means another
-    /// value than was last told, or has begun to mean nothing. No node means something else afterwards.
+    /// value than was last reported, or has begun to mean nothing. No node means something else afterwards.
     ///
     /// Of a node that means nothing, since it has ended, needs itself, or its rule gives no value, the
-    /// fault is told once, and nothing more until it means something. Its effect stays until `unwatch`.
+    /// fault is reported once, and nothing more until it means something. Its effect stays until
+    /// `unwatch`.
     ///
     /// Refused as `Reactive::refresh` by the store, where memory runs out: what was pushed until then is
-    /// right, and a later flush tells the rest. Takes the time of a `refresh` of each watched node, and
-    /// memory for what is told.
+    /// right, and a later flush reports the rest. Takes the time of a `refresh` of each watched node, and
+    /// memory for what is reported.
+    ///
+    /// ```rust
+    /// graph.set(postage, 0)?;
+    /// effects.flush(graph, &mut told)?;
+    /// for change in told.iter() {
+    ///     println!(rt; "told: {:?}", change.answer)?;
+    /// }
+    /// ```
     pub fn flush<R: Rule<T>, S: Storage<Node<T, R>>>(
         &mut self,
         graph: &mut Reactive<T, R, S>,

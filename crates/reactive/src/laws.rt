@@ -30,8 +30,9 @@ pub fn sets_show_in_memos<T, R: Rule<T>>()
         memo ≢ source → next a ≡ Give v → Means (plans_in R.plan new) memo w → w ≡ v }
 {}
 
-/// What a flush tells that is Ok. An effect that was never told is told what its node means; and what
-/// each effect was last told then, by this flush or one before, is what its node means.
+/// What a flush reports that is Ok. Of an effect of which nothing was reported before, it is what its
+/// node means; and what was last reported of each effect, by this flush or one before, is what its node
+/// means.
 pub fn flushes_tell_what_is_meant<T>()
     ensures first { (same : T → T → Bool) (G : Graph T) (n : ℕ) (k : Key) (old new : List (Effect T))
         (news : List (Told T)) → old ≡ record { key = k; told = None } ∷ [] → n ≡ length old →

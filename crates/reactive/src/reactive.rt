@@ -50,6 +50,11 @@ impl<T: Value + Drop, R: Rule<T>, S: Storage<Node<T, R>>> Model for Reactive<T, 
 
 impl<T: Value + Drop, R: Rule<T>, S: Storage<Node<T, R>>> Reactive<T, R, S> {
     /// A graph without nodes, over a fresh store (`is_fresh` is the test). Takes no memory.
+    ///
+    /// ```rust
+    /// let store = UnsyncStorage::<Node<u64, Formula>>::new(rt.alloc(), 1);
+    /// let mut graph = Reactive::new(rt.alloc(), store);
+    /// ```
     pub fn new(alloc: Global, store: S) -> Self
         requires { IsFresh (S.state store) }
         ensures { (k : Key) → plans_in R.plan result k ≡ Stop }
@@ -66,14 +71,23 @@ impl<T: Value + Drop, R: Rule<T>, S: Storage<Node<T, R>>> Reactive<T, R, S> {
         }
     }
 
-    /// How often a rule has come to a value, from which a test tells what was computed. Takes no memory.
+    /// How often a rule has come to a value: from that a test knows what was computed. Takes no memory.
+    ///
+    /// ```rust
+    /// println!(rt; "total {}, {} runs", graph.get(total)?, graph.runs())?;
+    /// ```
     pub fn runs(&self) -> u64 {
         self.nodes.runs
     }
 
-    /// A source of a value. Its key is none that was ever given, and each other node's plan stays.
+    /// A source of a value. Its key was never given before, and each other node's plan is unchanged.
     ///
-    /// Refused by `OutOfMemory` alone: the graph stays as it was. O(1), but for finding room.
+    /// Refused by `OutOfMemory` alone: the graph is unchanged. O(1), but for finding room.
+    ///
+    /// ```rust
+    /// let pieces = graph.source(3, here)?;
+    /// let price = graph.source(20, here)?;
+    /// ```
     pub fn source(&mut self, value: T, here: Location) -> Result<Key, StoreError>
         ensures plan { IfOk result (λ key. HasPlan R.plan self.old key (Give value) self.new) }
         ensures kind { IfOk result (λ key. HasKind self.old key Source self.new) }
@@ -95,10 +109,15 @@ impl<T: Value + Drop, R: Rule<T>, S: Storage<Node<T, R>>> Reactive<T, R, S> {
         }
     }
 
-    /// A memo of a rule, which is run when the memo is first asked for. Its key is none that was ever
-    /// given, and each other node's plan stays.
+    /// A memo of a rule, which is run when the memo is first asked for. Its key was never given before, and
+    /// each other node's plan is unchanged.
     ///
-    /// Refused by `OutOfMemory` alone: the graph stays as it was. O(1), but for finding room.
+    /// Refused by `OutOfMemory` alone: the graph is unchanged. O(1), but for finding room.
+    ///
+    /// ```rust
+    /// let goods = graph.memo(Formula::Product(pieces, price), here)?;
+    /// let total = graph.memo(Formula::Sum(goods, postage), here)?;
+    /// ```
     pub fn memo(&mut self, rule: R, here: Location) -> Result<Key, StoreError>
         ensures plan { IfOk result (λ key. HasPlan R.plan self.old key (R.plan rule) self.new) }
         ensures kind { IfOk result (λ key. HasKind self.old key Memo self.new) }
@@ -129,6 +148,14 @@ impl<T: Value + Drop, R: Rule<T>, S: Storage<Node<T, R>>> Reactive<T, R, S> {
     ///
     /// A rule is run only where something that it read has changed since its last run. Time is linear in
     /// the questions of the nodes that are looked at, and takes memory for a path of them.
+    ///
+    /// ```rust
+    /// graph.refresh(key)?;
+    /// match graph.peek(key) {
+    ///     Some(value) => Ok(*value),
+    ///     None => unreachable!(),
+    /// }
+    /// ```
     pub fn refresh(&mut self, key: Key) -> Result<(), Fault>
         ensures shown { OnOk result ((v : T) × (shown_in self.new key ≡ Some v)
             × Means (plans_in R.plan self.old) key v) }
@@ -141,6 +168,13 @@ impl<T: Value + Drop, R: Rule<T>, S: Storage<Node<T, R>>> Reactive<T, R, S> {
 
     /// The value of a node, if that is known without a step: what the node means. A source's is always.
     /// The graph is lent meanwhile. Takes no memory, and is O(1).
+    ///
+    /// ```rust
+    /// match graph.peek(key) {
+    ///     Some(value) => Ok(*value),
+    ///     None => unreachable!(),
+    /// }
+    /// ```
     pub fn peek(&self, key: Key) -> Option<&T>
         ensures shown { option_copied result ≡ shown_in self.now key }
         ensures means { IfSome result (λ v. Means (plans_in R.plan self.now) key v.now) }
@@ -152,6 +186,11 @@ impl<T: Value + Drop, R: Rule<T>, S: Storage<Node<T, R>>> Reactive<T, R, S> {
     /// afterwards.
     ///
     /// Refused as `refresh`, and where memory runs out for the copy.
+    ///
+    /// ```rust
+    /// let twice = scope.memo(graph, Formula::Add(source, source), here)?;
+    /// graph.get(twice)
+    /// ```
     pub fn get(&mut self, key: Key) -> Result<T, Fault>
         ensures answer { Answers (plans_in R.plan self.old) (kind_in self.old) key result }
         ensures plans { plans_in R.plan self.new ≡ plans_in R.plan self.old }
@@ -174,8 +213,13 @@ impl<T: Value + Drop, R: Rule<T>, S: Storage<Node<T, R>>> Reactive<T, R, S> {
     /// Sets a source, where its value is another. Nothing is computed: several sets are a batch.
     ///
     /// Refused, in this order: `Gone`, where the node has ended, or is another graph's; `NoSource`, where
-    /// it has a rule; `NumbersExhausted`, after 2^64 sets. The graph stays as it was then. Takes no
+    /// it has a rule; `NumbersExhausted`, after 2^64 sets. The graph is unchanged then. Takes no
     /// memory, and is O(1).
+    ///
+    /// ```rust
+    /// graph.set(pieces, 4)?;
+    /// graph.set(price, 18)?;
+    /// ```
     pub fn set(&mut self, key: Key, value: T) -> Result<(), Fault>
         ensures set { OnOk result (HasPlan R.plan self.old key (Give value) self.new) }
         ensures kind { OnOk result (HasKind self.old key Source self.new) }
@@ -211,7 +255,11 @@ impl<T: Value + Drop, R: Rule<T>, S: Storage<Node<T, R>>> Reactive<T, R, S> {
     /// Gives a memo another rule, or makes a source a memo. Nothing is computed.
     ///
     /// Refused, in this order: `NumbersExhausted`, after 2^64 sets; `Gone`, where the node has ended, or
-    /// is another graph's. The graph stays as it was then. Takes no memory, and is O(1).
+    /// is another graph's. The graph is unchanged then. Takes no memory, and is O(1).
+    ///
+    /// ```rust
+    /// graph.set_rule(node, Formula::Same(to))
+    /// ```
     pub fn set_rule(&mut self, key: Key, rule: R) -> Result<(), Fault>
         ensures set { OnOk result (HasPlan R.plan self.old key (R.plan rule) self.new) }
         ensures kind { OnOk result (HasKind self.old key Memo self.new) }
@@ -223,10 +271,17 @@ impl<T: Value + Drop, R: Rule<T>, S: Storage<Node<T, R>>> Reactive<T, R, S> {
     }
 
     /// Ends the nodes of these keys, where they haven't ended, and no other. What needs one of them means
-    /// nothing from then on, and is told which is gone.
+    /// nothing from then on, and its refusals name the one that is gone.
     ///
-    /// Refused by `NumbersExhausted` alone, after 2^64 sets: the graph stays as it was. Takes no memory,
+    /// Refused by `NumbersExhausted` alone, after 2^64 sets: the graph is unchanged. Takes no memory,
     /// and is O(n).
+    ///
+    /// ```rust
+    /// graph.end_all(&[price])?;
+    /// if let Err(fault) = graph.get(total) {
+    ///     println!(rt; "{fault}")?;
+    /// }
+    /// ```
     pub fn end_all(&mut self, keys: &[Key]) -> Result<(), Fault>
         ensures ended { OnOk result ((k : Key) → IsAmong k keys.now → plans_in R.plan self.new k ≡ Stop) }
         ensures gone { OnOk result ((k : Key) → IsAmong k keys.now → kind_in self.new k ≡ NoNode) }

@@ -36,6 +36,15 @@ impl Model for Scope {
 
 impl Scope {
     /// A scope without nodes. Takes no memory.
+    ///
+    /// ```rust
+    /// let mut scope = Scope::new(alloc);
+    ///
+    /// match scope.end(graph) {
+    ///     Ok(()) => {}
+    ///     Err((scope, _)) => scope.leak(),
+    /// }
+    /// ```
     pub fn new(alloc: Global) -> Scope
         ensures { result ≡ [] }
     {
@@ -46,7 +55,11 @@ impl Scope {
 
     /// A source of a value, as `Reactive::source`, which ends with the scope.
     ///
-    /// Refused by `OutOfMemory` alone: the graph and the scope stay as they were.
+    /// Refused by `OutOfMemory` alone: the graph and the scope are unchanged.
+    ///
+    /// ```rust
+    /// let source = scope.source(graph, number, here)?;
+    /// ```
     pub fn source<T: Value + Drop, R: Rule<T>, S: Storage<Node<T, R>>>(
         &mut self,
         graph: &mut Reactive<T, R, S>,
@@ -71,7 +84,11 @@ impl Scope {
 
     /// A memo of a rule, as `Reactive::memo`, which ends with the scope.
     ///
-    /// Refused by `OutOfMemory` alone: the graph and the scope stay as they were.
+    /// Refused by `OutOfMemory` alone: the graph and the scope are unchanged.
+    ///
+    /// ```rust
+    /// let twice = scope.memo(graph, Formula::Add(source, source), here)?;
+    /// ```
     pub fn memo<T: Value + Drop, R: Rule<T>, S: Storage<Node<T, R>>>(
         &mut self,
         graph: &mut Reactive<T, R, S>,
@@ -96,8 +113,15 @@ impl Scope {
 
     /// Ends the scope: its nodes end, and no other.
     ///
-    /// Refused by `NumbersExhausted` alone, after 2^64 sets: the scope comes back, and the graph stays as
-    /// it was. Takes no memory, and is O(n).
+    /// Refused by `NumbersExhausted` alone, after 2^64 sets: the scope comes back, and the graph is
+    /// unchanged. Takes no memory, and is O(n).
+    ///
+    /// ```rust
+    /// match scope.end(graph) {
+    ///     Ok(()) => {}
+    ///     Err((scope, _)) => scope.leak(),
+    /// }
+    /// ```
     pub fn end<T: Value + Drop, R: Rule<T>, S: Storage<Node<T, R>>>(
         self,
         graph: &mut Reactive<T, R, S>,
@@ -121,6 +145,13 @@ impl Scope {
     }
 
     /// Spends the scope, and leaves its nodes as they are.
+    ///
+    /// ```rust
+    /// match scope.end(graph) {
+    ///     Ok(()) => {}
+    ///     Err((scope, _)) => scope.leak(),
+    /// }
+    /// ```
     pub fn leak(self) {
         let Scope { keys: _ } = self;
     }

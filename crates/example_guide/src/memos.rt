@@ -1,0 +1,79 @@
+//! Signals and memos: the price of an order follows from its parts.
+
+ghost use Rattle.example_guide.specs.Formulas.{plan_of};
+
+use anyhow::Result;
+use generational_box::{Location, Storage, UnsyncStorage};
+use reactive::{Effects, Key, Node, Reactive, Reads, Rule};
+use std::alloc::Global;
+
+/// What a memo computes of two nodes.
+#[derive(Clone, Copy)]
+enum Formula {
+    Sum(Key, Key),
+    Product(Key, Key),
+}
+
+impl Rule<u64> for Formula {
+    ghost plan = { plan_of };
+
+    fn compute<D: Reads<u64>>(&self, reader: &mut D) -> Option<u64> {
+        match *self {
+            Formula::Sum(a, b) => {
+                let x = reader.get(a)?;
+                let y = reader.get(b)?;
+                Some(x.wrapping_add(y))
+            }
+            Formula::Product(a, b) => {
+                let x = reader.get(a)?;
+                let y = reader.get(b)?;
+                Some(x.wrapping_mul(y))
+            }
+        }
+    }
+}
+
+pub fn main(rt: HostRuntime) -> Result<()> {
+    let store = UnsyncStorage::<Node<u64, Formula>>::new(rt.alloc(), 1);
+    let mut graph = Reactive::new(rt.alloc(), store);
+    order(&rt, rt.alloc(), &mut graph)
+}
+
+fn order<R: Print, S: Storage<Node<u64, Formula>>>(
+    rt: &R,
+    alloc: Global,
+    graph: &mut Reactive<u64, Formula, S>,
+) -> Result<()> {
+    // Sources are set, and memos follow from other nodes.
+    let here = Location::new("memos.rt", 48, 16);
+    let pieces = graph.source(3, here)?;
+    let price = graph.source(20, here)?;
+    let postage = graph.source(5, here)?;
+    let goods = graph.memo(Formula::Product(pieces, price), here)?;
+    let total = graph.memo(Formula::Sum(goods, postage), here)?;
+    println!(rt; "total {}", graph.get(total)?)?;
+
+    // Several sets are a batch: no rule is run before something is asked for.
+    graph.set(pieces, 4)?;
+    graph.set(price, 18)?;
+    println!(rt; "total {}, {} runs", graph.get(total)?, graph.runs())?;
+
+    // An effect reports where its node means something else.
+    let mut effects = Effects::new(alloc);
+    let mut told = Vec::new(alloc);
+    effects.watch(total)?;
+    effects.flush(graph, &mut told)?;
+    graph.set(postage, 0)?;
+    effects.flush(graph, &mut told)?;
+    for change in told.iter() {
+        println!(rt; "told: {:?}", change.answer)?;
+    }
+    effects.unwatch(total);
+
+    // What needs a node that has ended says so.
+    graph.end_all(&[price])?;
+    if let Err(fault) = graph.get(total) {
+        println!(rt; "{fault}")?;
+    }
+    Ok(())
+}
