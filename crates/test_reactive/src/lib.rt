@@ -1,7 +1,10 @@
 //! Tests of graphs of sources and memos: how often rules are run, what is told of cycles and of nodes
-//! that have ended, effects, a long chain, drawn graphs beside a plain recomputation, and refused memory.
+//! that have ended, effects, callers, a long chain, drawn graphs beside a plain recomputation, and
+//! refused memory.
 #![tactic(auto)]
 
+#[cfg(test)]
+mod callers;
 #[cfg(test)]
 mod chain;
 #[cfg(test)]
