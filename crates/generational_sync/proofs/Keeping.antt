@@ -32,25 +32,26 @@ use Rattle.generational_sessions.specs.History.{plain}
 use Rattle.shared_records.specs.declared.step.Step.{Step}
 use Rattle.shared_records.specs.declared.step.StepReply.{StepReply}
 use Rattle.shared_records.specs.declared.step.StepReply.TheVariants as reply
-use Rattle.shared_records.specs.Kinds.{kind_of}
+use Rattle.shared_records.specs.Kinds.{kind_of, step_of}
 use Rattle.shared_records.specs.Records.{HasRecord}
 use Rattle.generational_sync.specs.Answering.{GivesBox, MayAnswer}
 use Rattle.shared_history.specs.Counts.{Counts}
-use Rattle.shared_history.specs.Replies.{kind_in, made_reply, raised_by, recorded, reply_of, tallied}
+use Rattle.shared_history.specs.Replies.{Records, kind_in, made_reply, raised_by, reply_of, tallied}
 use Rattle.shared_history.specs.History.{Plain, start, plain_step, replay_from}
 use Rattle.shared_history.specs.Standing.{borrows, borrows_in, ends_borrow, given_by, leaves, lent_by}
 use Rattle.shared_history.specs.Standing.{lent_in}
 use Rattle.shared_history.specs.Bases.{BaseState, new_base, plain_of}
 use Rattle.generational_sync.specs.Keeping.{IsAnswered, IsKept, IsSettled, WasAnswered, shared}
-use Rattle.generational_sync.specs.Shared.{IsStep, IsUnseenStep, Replays, SharedState, with_step}
+use Rattle.generational_sync.specs.Placing.{LeadsTo}
+use Rattle.generational_sync.specs.Shared.{IsStep, IsUnseenStep, RecordsCall, Replays, SharedState}
 use Rattle.shared_history.specs.Logs.{LogState}
 use Rattle.generational_core.specs.Rows.{ReadBack, told_by}
 use Rattle.generational_sync.proofs.Trimming.{told_number, told_start}
 use Rattle.generational_sync.proofs.Answering.{opened_own}
 use Rattle.generational_sync.proofs.Counting.{meets_fine, written_stand}
+use Rattle.generational_sync.proofs.Leading.{led_as, led_nowhere, led_on, same_number, same_start}
 use Rattle.generational_sync.proofs.Making.{shared_named}
 use Rattle.generational_sync.proofs.Recording.{has_record}
-use Rattle.generational_sync.proofs.Replaying.{replays_on}
 use Rattle.generational_sync.proofs.Standings.{without_stand}
 
 no_borrows : {T : Type 0} (es : List (Name × Cell T)) → length es ≡ 0 → borrows_in es ≡ 0
@@ -95,9 +96,10 @@ record Tells {T : Type 0} (answer : Answer T) (r : Option StepReply) : Type 0 wh
   left : r ≡ None → leaves answer ≡ true
 
 -- nothing is appended where no reply is recorded
-no_step : (steps : List Step) (worker : ℕ) (c : Option StepCall) → with_step steps worker c None ≡ steps
-no_step steps worker None = refl
-no_step steps worker (Some c) = refl
+no_step : (steps after : List Step) (worker : ℕ) (c : Option StepCall) → after ≡ steps
+    → RecordsCall steps worker c None after
+no_step steps after worker None is = is
+no_step steps after worker (Some c) is = is
 
 module _ {T : Type 0} where
   tells : (answer : Answer T) (r : StepReply) → Some (kind_of r) ≡ kind_in answer
@@ -169,25 +171,38 @@ module _ {T : Type 0} where
       absurd (true≢false (sym is ∙ ap (λ x. is_some (reply_of R a x)) m.1))
   stood S R _ answer ends (inl m) is = absurd (true≢false (sym ends))
 
+  -- the state is of the store whose history's start it is, with the same first generation
+  pub kept_number : LeadTo Numbered → (number : ℕ) (S : State T) (log : LogState)
+      → IsKept number S log → S.number ≡ number
+  kept_number numbered number S log kept =
+      same_number (plain_of log.base) (plain S) log.steps kept.leads
+      ∙ (numbered (plain_of log.base) log.steps kept.leads.end kept.sound kept.leads.replays
+      ∙ (told_number log.base ∙ kept.own))
+
+  kept_start : LeadTo Started → (number : ℕ) (S : State T) (log : LogState) → IsKept number S log
+      → S.start ≡ 1
+  kept_start started number S log kept =
+      same_start (plain_of log.base) (plain S) log.steps kept.leads
+      ∙ (started (plain_of log.base) log.steps kept.leads.end kept.sound kept.leads.replays
+      ∙ told_start log.base)
+
   -- the base of a state that it tells, from which an empty history goes on
-  pub rebased : (lead : LeadTo Sound) → LeadTo Numbered → LeadTo Started → (number : ℕ)
+  pub rebased : LeadTo Numbered → LeadTo Started → (number : ℕ)
       (S : State T) (log after : LogState) → IsKept number S log
       → after.base.number ≡ number → after.base.next ≡ S.next → after.base.peak ≡ S.peak
       → ReadBack S after.base.rows → after.steps ≡ [] → after.standing ≡ log.standing
       → (plain_of after.base ≡ plain S) × IsKept number S after
-  rebased lead numbered started number S log after kept own next peak read none stay =
-      let sound = lead (plain_of log.base) log.steps (plain S) kept.sound kept.replays in
-      let same = numbered (plain_of log.base) log.steps (plain S) kept.sound kept.replays
-      ∙ (told_number log.base ∙ kept.own) in
-      let first = started (plain_of log.base) log.steps (plain S) kept.sound kept.replays
-      ∙ told_start log.base in
+  rebased numbered started number S log after kept own next peak read none stay =
+      let same = kept_number numbered number S log kept in
+      let first = kept_start started number S log kept in
       let told : plain_of after.base ≡ plain S =
       (λ i. told_by ((own ∙ sym same) i) (next i) (peak i) after.base.rows) ∙ read first in (
         told,
         record {
           own = own;
-          sound = subst IsSound (sym told) sound;
-          replays = ap (replay_from (plain_of after.base)) none ∙ ap Some told;
+          sound = subst IsSound (sym told) kept.ends;
+          leads = led_nowhere (plain_of after.base) (plain S) after.steps told none;
+          ends = kept.ends;
           room = (let had = kept.room in omega arith);
         },
       )
@@ -198,11 +213,13 @@ module _ {T : Type 0} where
   fresh_kept number S log begins sound is based none =
       let empty = no_borrows (map.entries map.empty)
       (sym (map.len-entries map.empty) ∙ map.len-empty name_cmp (Cell T)) in
-      let few = ap borrows is in record {
+      let few = ap borrows is in
+      let told : plain_of log.base ≡ plain S = ap plain_of based ∙ (begins ∙ ap plain (sym is)) in
+      record {
         own = ap (λ (b : BaseState). b.number) based;
         sound = subst (λ b. IsSound (plain_of b)) (sym based) sound;
-        replays = ap (λ b. replay_from (plain_of b) log.steps) based
-            ∙ (ap (replay_from (start number)) none ∙ ap Some (begins ∙ ap plain (sym is)));
+        leads = led_nowhere (plain_of log.base) (plain S) log.steps told none;
+        ends = subst IsSound (begins ∙ ap plain (sym is)) sound;
         room = omega arith;
       }
 
@@ -213,7 +230,8 @@ module _ {T : Type 0} where
   room_kept {S = S} {log = log} {room = room} kept base steps stay = record {
     own = ap (λ (b : BaseState). b.number) base ∙ kept.own;
     sound = subst (λ b. IsSound (plain_of b)) (sym base) kept.sound;
-    replays = (λ i. replay_from (plain_of (base i)) (steps i)) ∙ kept.replays;
+    leads = led_as (λ i. plain_of (sym base i)) (sym steps) refl kept.leads;
+    ends = kept.ends;
     room = (let had = kept.room in omega arith);
   }
 
@@ -249,7 +267,7 @@ module _ {T : Type 0} where
       subst (λ old. IsStep number old counts a (Refused OutOfMemory) (shared S room) counts) view
       (record {
         state = inr (refl, refl);
-        history = steps ∙ sym (no_step log.steps counts.worker (recorded_as a));
+        history = no_step log.steps room.steps counts.worker (recorded_as a) steps;
         base = base;
         tally = refl;
         reply = tt;
@@ -293,7 +311,8 @@ module _ {T : Type 0} where
       → Replays number s → g.store ≡ number
   opened_by lead number s g v e replays =
       opened_own s.state g v e
-      ∙ (lead s.base s.history (plain s.state) replays.1 replays.2 ∙ replays.0)
+      ∙ (same_number (plain_of s.base) (plain s.state) s.history replays.2
+      ∙ (lead s.base s.history replays.2.end replays.1 replays.2.replays ∙ replays.0))
 
 -- ---- a call that the store has answered
 
@@ -301,8 +320,7 @@ module _ {T : Type 0} (lawful : AreLawful T) (sound : LeadTo Sound) (numbered : 
     (same : KeepNumber T) (answers : FreeAnswers T) (number : ℕ) where
   -- the store has the number of its history's start
   own_number : (S : State T) (log : LogState) → IsKept number S log → S.number ≡ number
-  own_number S log kept = numbered (plain_of log.base) log.steps (plain S) kept.sound kept.replays
-      ∙ told_number log.base ∙ kept.own
+  own_number S log kept = kept_number numbered number S log kept
 
   module _ (S R : State T) (log : LogState) (a : Action T) (c : StepCall) (answer : Answer T)
       (r : Option StepReply) (it : IsAnswered number S log a c answer r R) where
@@ -324,39 +342,42 @@ module _ {T : Type 0} (lawful : AreLawful T) (sound : LeadTo Sound) (numbered : 
     ended ends is = stood S R a answer ends it.met (ap is_some (sym it.replied) ∙ is)
 
     module _ (after : LogState) (counts : Counts) (based : after.base ≡ log.base)
-        (more : after.steps ≡ recorded log.steps counts.worker c r) where
+        (more : Records log.steps counts.worker c r after.steps) where
       stepped : (raised : Counts) → raised ≡ tallied r counts
           → IsStep number (shared S log) counts a answer (shared R after) raised
       stepped raised count = record {
         state = inl it.met;
-        history = more
-            ∙ (λ i. with_step log.steps counts.worker (sym it.asked i) (it.replied i));
+        history = subst (λ (p : Option StepCall × Option StepReply).
+            RecordsCall log.steps counts.worker p.0 p.1 after.steps)
+            (λ i. (sym it.asked i, it.replied i)) more;
         base = based;
         tally = count ∙ ap (λ k. raised_by k counts) tell.kind;
         reply = may;
       }
 
-      -- the history replays to the state after it
-      replays : (x : Option StepReply) → r ≡ x
-          → replay_from (plain_of after.base) after.steps ≡ Some (plain R)
-      replays (Some x) is =
-          ap (λ b. replay_from (plain_of b) after.steps) based
-          ∙ replays_on (plain_of log.base) log.steps after.steps S R _ it.kept.replays
-          (more ∙ ap (recorded log.steps counts.worker c) is)
-          (lawful S R a c answer x
-          (sound (plain_of log.base) log.steps (plain S) it.kept.sound it.kept.replays) it.asked it.met
-          (sym it.replied ∙ is))
-      replays None is =
-          ap (λ b. replay_from (plain_of b) after.steps) based
-          ∙ (ap (replay_from (plain_of log.base)) (more ∙ ap (recorded log.steps counts.worker c) is)
-          ∙ (it.kept.replays
-          ∙ ap (λ s. Some (plain s)) (sym ((meets_fine S R a answer it.met).1 (tell.left is)))))
+      -- the history leads to the state after it, which is sound
+      leads : (x : Option StepReply) → r ≡ x
+          → LeadsTo (plain_of log.base) after.steps (plain R) × IsSound (plain R)
+      leads (Some x) is =
+          let step = lawful S R a c answer x it.kept.ends it.asked it.met (sym it.replied ∙ is) in (
+            led_on (plain_of log.base) (plain S) (plain R) log.steps after.steps
+                (step_of counts.worker c x) it.kept.leads
+                (subst (λ y. Records log.steps counts.worker c y after.steps) is more) step,
+            sound (plain S) (step_of counts.worker c x ∷ []) (plain R) it.kept.ends step,
+          )
+      leads None is =
+          let stay = ap plain (sym ((meets_fine S R a answer it.met).1 (tell.left is))) in (
+            led_as refl (sym (subst (λ y. Records log.steps counts.worker c y after.steps) is more)) stay
+                it.kept.leads,
+            subst IsSound stay it.kept.ends,
+          )
 
       kept_on : borrows R ≤ after.standing → IsKept number R after
       kept_on few = record {
         own = ap (λ (b : BaseState). b.number) based ∙ it.kept.own;
         sound = subst (λ b. IsSound (plain_of b)) (sym based) it.kept.sound;
-        replays = replays r refl;
+        leads = led_as (λ i. plain_of (sym based i)) refl refl (leads r refl).0;
+        ends = (leads r refl).1;
         room = few;
       }
 
@@ -392,7 +413,7 @@ module _ {T : Type 0} (lawful : AreLawful T) (sound : LeadTo Sound) (numbered : 
   -- what a log and a tally come to that record it
   module _ (R : State T) (log after : LogState) (c : StepCall) (r : Option StepReply)
       (counts raised : Counts) (based : after.base ≡ log.base)
-      (more : after.steps ≡ recorded log.steps counts.worker c r)
+      (more : Records log.steps counts.worker c r after.steps)
       (count : raised ≡ tallied r counts) (it : WasAnswered number log c r R) where
     pub settled : after.standing ≡ log.standing + lent_in r
         → IsSettled number log counts c r R after raised

@@ -181,18 +181,9 @@ module _ (sound : KeepsSound) (numbered : KeepsNumber) (started : KeepsStart) wh
       subst (Good P.number P.start) same (begins, refl, refl)) e
 
 -- one lawful step more
-replay_more : (steps : List Step) (o : Option Plain) (P Q : Plain) (x : Step)
+pub replay_more : (steps : List Step) (o : Option Plain) (P Q : Plain) (x : Step)
     → replay_on steps o ≡ Some P → plain_step P x.call x.reply ≡ Some Q
     → replay_on (steps ++ x ∷ []) o ≡ Some Q
 replay_more [] o P Q x e k = ap (replay_on (x ∷ [])) e ∙ k
 replay_more (y ∷ ys) None P Q x e k = absurd cc
 replay_more (y ∷ ys) (Some R) P Q x e k = replay_more ys (plain_step R y.call y.reply) P Q x e k
-
-module _ {T : Type 0} where
-  -- the history after a step more replays to the state after it
-  pub replays_on : (P : Plain) (steps after : List Step) (S R : State T) (x : Step)
-      → replay_from P steps ≡ Some (plain S) → after ≡ steps ++ x ∷ []
-      → plain_step (plain S) x.call x.reply ≡ Some (plain R)
-      → replay_from P after ≡ Some (plain R)
-  replays_on P steps after S R x e more k =
-      ap (replay_from P) more ∙ replay_more steps (Some P) (plain S) (plain R) x e k

@@ -10,18 +10,19 @@ use Rattle.shared_records.specs.declared.step.StepReply.{StepReply}
 use Rattle.shared_history.specs.Bases.{plain_of}
 use Rattle.shared_history.specs.Counts.{Counts}
 use Rattle.shared_history.specs.Replies.{reply_of}
-use Rattle.shared_history.specs.History.{replay_from}
 use Rattle.shared_history.specs.Logs.{LogState}
 use Rattle.shared_history.specs.Standing.{borrows, ends_borrow}
+use Rattle.generational_sync.specs.Placing.{LeadsTo}
 use Rattle.generational_sync.specs.Shared.{IsStep, SharedState}
 
 -- What holds whenever the lock is free.
 pub record IsKept {T : Type 0} (number : ℕ) (S : State T) (log : LogState) : Type 0 where
-  -- the base tells a sound state of this store, from which the history replays to the state without
-  -- its values
+  -- the base tells a sound state of this store, from which the history leads to the state without
+  -- its values, which is sound too
   pub own : log.base.number ≡ number
   pub sound : IsSound (plain_of log.base)
-  pub replays : replay_from (plain_of log.base) log.steps ≡ Some (plain S)
+  pub leads : LeadsTo (plain_of log.base) log.steps (plain S)
+  pub ends : IsSound (plain S)
   -- there is room for the release of each borrow that stands
   pub room : borrows S ≤ log.standing
 

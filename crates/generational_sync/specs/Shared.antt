@@ -18,9 +18,10 @@ use Rattle.shared_records.specs.declared.step.Step.{Step}
 use Rattle.shared_records.specs.declared.step.StepReply.{StepReply}
 use Rattle.shared_history.specs.Bases.{BaseState, Trims, all_trimmed, plain_of}
 use Rattle.shared_history.specs.Counts.{Counts}
-use Rattle.shared_history.specs.Replies.{kind_in, raised_by, recorded, reply_of}
+use Rattle.shared_history.specs.Replies.{Records, kind_in, raised_by, reply_of}
 use Rattle.shared_history.specs.History.{replay_from}
 use Rattle.generational_sync.specs.Answering.{MayAnswer}
+use Rattle.generational_sync.specs.Placing.{LeadsTo}
 
 -- A shared state: the machine's state, a base, and the steps that led on from there.
 pub record SharedState (T : Type 0) : Type 0 where
@@ -29,16 +30,17 @@ pub record SharedState (T : Type 0) : Type 0 where
   pub history : List Step
 
 -- the history replays, from the sound state that its base tells of this store, to the state without
--- its values
+-- its values, by the letters of locations
 abbrev pub Replays : {T : Type 0} → ℕ → SharedState T → Type 0
 Replays number s =
     (s.base.number ≡ number) × IsSound (plain_of s.base)
-    × (replay_from (plain_of s.base) s.history ≡ Some (plain s.state))
+    × LeadsTo (plain_of s.base) s.history (plain s.state)
 
--- the history after a worker's call, if it and its reply are recorded
-abbrev pub with_step : List Step → ℕ → Option StepCall → Option StepReply → List Step
-with_step steps worker None reply = steps
-with_step steps worker (Some call) reply = recorded steps worker call reply
+-- a history after a worker's call: one step more, by the letters of its locations, if the call and
+-- its reply are recorded
+abbrev pub RecordsCall : List Step → ℕ → Option StepCall → Option StepReply → List Step → Type 0
+RecordsCall steps worker None reply after = after ≡ steps
+RecordsCall steps worker (Some call) reply after = Records steps worker call reply after
 
 -- A call of the store with this number, made with a tally: what it asked of the machine, what it
 -- answered, and what became of the shared state and of the tally.
@@ -49,8 +51,8 @@ pub record IsStep {T : Type 0} (number : ℕ) (old : SharedState T) (counts : Co
   pub state : Meets old.state action answer new.state
       ⊎ ((answer ≡ refuses OutOfMemory) × (new.state ≡ old.state))
   -- the step of the tally's worker is appended, if its reply is recorded, on the same base
-  pub history : new.history ≡ with_step old.history counts.worker (recorded_as action)
-      (reply_of new.state action answer)
+  pub history : RecordsCall old.history counts.worker (recorded_as action)
+      (reply_of new.state action answer) new.history
   pub base : new.base ≡ old.base
   -- and the count of its kind is raised by one
   pub tally : raised ≡ raised_by (kind_in answer) counts

@@ -36,17 +36,18 @@ use std::sync::ledger::Blank;
 ///
 /// It is what lies under the lock of a [`SyncStorage`](crate::SyncStorage), and needs no threads.
 /// Whatever is called, the history replays from the base, which is a sound state of this number, to
-/// the state; each kind's book has as many steps as were trimmed and as the history has; and the
-/// history has room for one more step for each borrow that stands. The base is that of an empty
-/// store until a checkpoint.
+/// the state, by the letters of locations; each kind's book has as many steps as were trimmed and
+/// as the history has; and the history has room for one more step for each borrow that stands. The
+/// base is that of an empty store until a checkpoint.
 ///
-/// Each call that is answered is a step of the machine, and of the tally's worker: exactly that
-/// step is appended, and exactly the count of its kind is raised by one; the call goes by what is
-/// of this store alone, gives what is of it, and is refused only as it may be. One word, `IsStep`,
-/// says all of this in the contract of each call. A call that is answered `OutOfMemory` is no step
-/// and changes nothing, and neither does the release of a guard that the store doesn't know. A step
-/// takes memory for its place in the history, so a call may also find none where the sequential
-/// store's would; `OutOfMemory` then comes in the place of any answer.
+/// Each call that is answered is a step of the machine, and of the tally's worker: that step is
+/// appended, by the letters of its locations, and no other, and the count of its kind alone is
+/// raised by one; the call goes by what is of this store alone, gives what is of it, and is refused
+/// only as it may be. One word, `IsStep`, says all of this in the contract of each call. A call
+/// that is answered `OutOfMemory` is no step and changes nothing, and neither does the release of a
+/// guard that the store doesn't know. A step takes memory for its place in the history, so a call
+/// may also find none where the sequential store's would; `OutOfMemory` then comes in the place of
+/// any answer.
 #[derive(Drop)]
 pub struct SyncState<T, const NUMBER: u64, M: Count, L: Count, C: Count, R: Count> {
     store: UnsyncStorage<T>,

@@ -219,6 +219,8 @@ impl<T: Drop + Send, const NUMBER: u64, M: Count, L: Count, C: Count, R: Count> 
     /// The base and the history, asked for with a whole tally (`is_whole` is the test). The list
     /// that comes back replays from the base, a sound state of this number; and of each kind the
     /// base and the list together count exactly as many steps as the tally counts. It isn't a step.
+    /// The files of the list's locations have the letters of those that were handed in, which may
+    /// stand elsewhere in memory.
     ///
     /// Refused by `OutOfMemory` at most: nothing changes.
     pub fn audit(

@@ -1,7 +1,7 @@
 //! The list.
 
-ghost use Rattle.std.specs.Prelude.{◌≡◌, ◌+◌, ◌<◌, ◌≤◌, ◌^◌, [], ◌∷◌, ◌++◌, IfOk, OnOk, OnErr};
-ghost use Rattle.std.specs.Prelude.{length, vec_len, vec_capacity, map};
+ghost use Rattle.std.specs.Prelude.{◌≡◌, ◌+◌, ◌<◌, ◌≤◌, ◌^◌, [], ◌∷◌, ◌++◌, IfOk, IfSome, OnOk};
+ghost use Rattle.std.specs.Prelude.{OnErr, length, vec_len, vec_capacity, map};
 
 use crate::packed::{Packed, unpack_all};
 use std::alloc::{AllocError, Global};
@@ -14,18 +14,23 @@ const LEAST: usize = 16;
 
 const MOST: usize = 1024;
 
+// How many chunks that are emptied are kept for later at most.
+const FREE: usize = 128;
+
 /// A list in chunks. Contracts see its items, and for how many more there is room.
 ///
 /// The items stand in chunks that are full, and after these in the last one. Behind it there may be
 /// a spare one, which is empty: when the last chunk is full, the spare one takes its place. Each
 /// chunk has twice the room of the one before, up to 1024 items; of items with 112 bytes that is
-/// still less than what the C library gets from the system block by block.
+/// still less than what the C library gets from the system block by block. Up to 128 chunks of that
+/// size that `empty` frees are kept, and become spare ones again.
 #[derive(Drop)]
 pub struct Chunks<X> {
     alloc: Global,
     full: Vec<Vec<X>>,
     last: Vec<X>,
     spare: Vec<X>,
+    free: Vec<Vec<X>>,
     len: usize,
 }
 
@@ -57,6 +62,7 @@ impl<X: Copy> Chunks<X> {
             full: Vec::new(alloc),
             last: Vec::new(alloc),
             spare: Vec::new(alloc),
+            free: Vec::new(alloc),
             len: 0,
         }
     }
@@ -78,7 +84,7 @@ impl<X: Copy> Chunks<X> {
     }
 
     // Makes room for so many items more, which the last chunk doesn't have: a larger spare chunk, if
-    // that is needed.
+    // that is needed, which is a free one if there is one that is large enough.
     #[cold]
     #[inline(never)]
     fn grow(&mut self, more: usize) -> Result<(), AllocError>
@@ -99,6 +105,10 @@ impl<X: Copy> Chunks<X> {
         let usual = self.last.capacity().saturating_mul(2).clamp(LEAST, MOST);
         let wanted = usual.max(more.saturating_mul(2)).min(most);
         reserve_more(&mut self.full, 1)?;
+        if let Some(chunk) = take_free(&mut self.free, needed, most) {
+            self.spare = chunk;
+            return Ok(());
+        }
         self.spare = new_chunk(self.alloc, needed, wanted - needed)?;
         Ok(())
     }
@@ -128,19 +138,47 @@ impl<X: Copy> Chunks<X> {
         self.len
     }
 
-    /// Takes all items away, and keeps the room. The full chunks are answered, so that who holds a
-    /// lock can let them go when it is open. Where memory is refused nothing changes.
-    pub fn empty(&mut self) -> Result<Vec<Vec<X>>, AllocError>
-        ensures items { OnOk result (self.new.items ≡ []) }
-        ensures room { OnOk result (self.old.room ≤ self.new.room) }
-        ensures err { OnErr result (self.new ≡ self.old) }
+    /// Takes all items away, and keeps the room and up to 128 of the full chunks for later. The other
+    /// ones are answered, so that who holds a lock can let them go when it is open. The full chunks
+    /// to come stand in `anew`, which is empty and has room for one.
+    pub fn empty(&mut self, anew: Vec<Vec<X>>) -> Vec<Vec<X>>
+        requires none { anew.items ≡ [] }
+        requires room { 0 < vec_capacity anew }
+        ensures items { self.new.items ≡ [] }
+        ensures room { self.old.room ≤ self.new.room }
     {
-        let mut none = Vec::new(self.alloc);
-        none.reserve(1)?;
-        let full = mem::replace(&mut self.full, none);
+        let mut full = mem::replace(&mut self.full, anew);
         self.last.clear();
         self.len = 0;
-        Ok(full)
+        keep_free(&mut self.free, &mut full);
+        full
+    }
+}
+
+// A chunk among the free ones, with this much room at least and at most, emptied.
+fn take_free<X: Copy>(free: &mut Vec<Vec<X>>, least: usize, most: usize) -> Option<Vec<X>>
+    ensures items { IfSome result (λ chunk. chunk.items ≡ []) }
+    ensures least { IfSome result (λ chunk. least ≤ vec_capacity chunk) }
+    ensures most { IfSome result (λ chunk. vec_capacity chunk ≤ most) }
+{
+    let mut chunk = free.pop()?;
+    chunk.clear();
+    if least <= chunk.capacity() && chunk.capacity() <= most {
+        Some(chunk)
+    } else {
+        None
+    }
+}
+
+// Puts the largest chunks to the free ones, as long as these aren't too many and memory isn't refused.
+fn keep_free<X: Copy>(free: &mut Vec<Vec<X>>, chunks: &mut Vec<Vec<X>>) {
+    for _ in free.len()..FREE {
+        let Some(chunk) = chunks.pop() else {
+            return;
+        };
+        if chunk.capacity() < MOST || free.push(chunk).is_err() {
+            return;
+        }
     }
 }
 

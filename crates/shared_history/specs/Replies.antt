@@ -1,5 +1,5 @@
 -- Which reply of a call is recorded, and what is recorded and counted of it.
-use Rattle.std.specs.Prelude.{ℕ, Bool, true, false, ◌&&◌, nat_eq, List, ◌∷◌, [], ◌++◌, Option, Some}
+use Rattle.std.specs.Prelude.{◌≡◌, ℕ, Bool, true, false, ◌&&◌, nat_eq, List, Option, Some}
 use Rattle.std.specs.Prelude.{None, option_map, Result, Ok, Err}
 use Rattle.generational_errors.specs.declared.error.BorrowMutError.{BorrowMutError}
 use Rattle.generational_errors.specs.declared.error.Refused.{Refused as IsRefused}
@@ -28,6 +28,7 @@ use Rattle.shared_records.specs.declared.step.Kind.{Kind}
 use Rattle.shared_records.specs.declared.step.Kind.TheVariants as kind
 use Rattle.shared_history.specs.Counts.{Counts, raised}
 use Rattle.shared_records.specs.Kinds.{kind_of, step_of}
+use Rattle.shared_records.specs.Letters.{Appends}
 
 module _ {T : Type 0} where
   -- how a box that was made is recorded: a shared value's with the cell that it names
@@ -53,10 +54,10 @@ module _ {T : Type 0} where
   reply_of R call (Refused UnknownOwner) = Some (reply.Store UnknownOwner)
   reply_of R call _ = None
 
--- the history after a call of this worker, if its reply is recorded
-abbrev pub recorded : List Step → ℕ → StepCall → Option StepReply → List Step
-recorded steps worker call None = steps
-recorded steps worker call (Some r) = steps ++ step_of worker call r ∷ []
+-- the history after a call of this worker: one step more, if its reply is recorded
+abbrev pub Records : List Step → ℕ → StepCall → Option StepReply → List Step → Type 0
+Records steps worker call None after = after ≡ steps
+Records steps worker call (Some r) after = Appends steps (step_of worker call r) after
 
 -- the kind of an answer's step, if it is one
 abbrev pub kind_in : {T : Type 0} → Answer T → Option Kind

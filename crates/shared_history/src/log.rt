@@ -1,20 +1,20 @@
 //! The history of a store, with its books.
 
-ghost use Rattle.std.specs.Prelude.{◌≡◌, ◌+◌, ◌^◌, ◌<◌, ◌≤◌, [], ◌∷◌, ◌++◌, IfOk, IfSome, OnOk};
+ghost use Rattle.std.specs.Prelude.{◌≡◌, ◌+◌, ◌^◌, ◌<◌, ◌≤◌, [], IfOk, IfSome, OnOk};
 ghost use Rattle.std.specs.Prelude.{OnErr, OnSome, IfNone, length, option_to_list};
 ghost use Rattle.shared_history.specs.Bases.{IsCounted, Trims, all_trimmed, counts_of, new_base};
 ghost use Rattle.shared_history.specs.Counts.{raised};
 ghost use Rattle.shared_records.specs.Kinds.{count, kind_of, step_of};
 ghost use Rattle.shared_records.specs.declared.step.Kind.TheVariants.{Made, Lent, Changed, Refused};
+ghost use Rattle.shared_records.specs.Letters.{Appends};
 ghost use Rattle.shared_records.specs.Records.{HasRecord};
-ghost use Rattle.shared_history.specs.Replies.{recorded, tallied};
+ghost use Rattle.shared_history.specs.Replies.{Records, tallied};
 ghost use Rattle.shared_history.specs.Standing.{lent_in};
 
 use crate::base::{Base, TrimmedSteps};
 use crate::tally::{Count, Tally};
 use generational_core::StepCall;
-use shared_chunks::Chunks;
-use shared_records::{Kind, Record, Step, StepReply};
+use shared_records::{Kind, OldSteps, Step, StepList, StepReply};
 use std::alloc::{AllocError, Global};
 use std::marker::Model;
 use std::mem;
@@ -23,12 +23,12 @@ use std::sync::ledger::Book;
 /// A base and the steps from there in order, room for a release of each borrow that stands, and for
 /// each kind how many steps there are and a book. Contracts see the base, the steps and the room.
 ///
-/// The steps are kept as records of the store with this number.
+/// The steps are those of the store with this number.
 #[derive(Drop)]
 pub struct Log<const NUMBER: u64, M: Count, L: Count, C: Count, R: Count> {
     alloc: Global,
     base: Base,
-    history: Chunks<Record>,
+    history: StepList<NUMBER>,
     standing: usize,
     made_steps: u64,
     lent_steps: u64,
@@ -41,11 +41,10 @@ pub struct Log<const NUMBER: u64, M: Count, L: Count, C: Count, R: Count> {
 }
 
 impl<const NUMBER: u64, M: Count, L: Count, C: Count, R: Count> Model for Log<NUMBER, M, L, C, R> {
-    ghost use Rattle.std.specs.Prelude.{◌≡◌, ◌+◌, ◌-◌, ◌≤◌, map};
+    ghost use Rattle.std.specs.Prelude.{◌≡◌, ◌+◌, ◌-◌, ◌≤◌};
     ghost use Rattle.std.specs.Coded.{codes};
     ghost use Rattle.std.specs.FinMap as finite;
     ghost use Rattle.shared_records.specs.Kinds.{count};
-    ghost use Rattle.shared_records.specs.Records.{unpack};
     ghost use Rattle.shared_history.specs.Logs.{LogState};
     ghost use Rattle.shared_records.specs.declared.step.Kind.TheVariants.{Made, Lent, Changed};
     ghost use Rattle.shared_records.specs.declared.step.Kind.TheVariants.{Refused};
@@ -56,15 +55,15 @@ impl<const NUMBER: u64, M: Count, L: Count, C: Count, R: Count> Model for Log<NU
 
     ghost view = { λ l. record {
       base = l.base;
-      steps = map (unpack NUMBER) l.history.items;
+      steps = l.history.steps;
       standing = l.standing;
       room = l.history.room - l.standing;
     } };
 
-    ghost invariant = { λ l. (l.made_steps ≡ count Made (map (unpack NUMBER) l.history.items))
-        × (l.lent_steps ≡ count Lent (map (unpack NUMBER) l.history.items))
-        × (l.changed_steps ≡ count Changed (map (unpack NUMBER) l.history.items))
-        × (l.refused_steps ≡ count Refused (map (unpack NUMBER) l.history.items))
+    ghost invariant = { λ l. (l.made_steps ≡ count Made l.history.steps)
+        × (l.lent_steps ≡ count Lent l.history.steps)
+        × (l.changed_steps ≡ count Changed l.history.steps)
+        × (l.refused_steps ≡ count Refused l.history.steps)
         × (l.made.total ≡ l.base.made + l.made_steps)
         × (l.lent.total ≡ l.base.lent + l.lent_steps)
         × (l.changed.total ≡ l.base.changed + l.changed_steps)
@@ -88,7 +87,7 @@ impl<const NUMBER: u64, M: Count, L: Count, C: Count, R: Count> Log<NUMBER, M, L
         Log {
             alloc,
             base: Base::new(alloc, NUMBER),
-            history: Chunks::new(alloc),
+            history: StepList::new(alloc),
             standing: 0,
             made_steps: 0,
             lent_steps: 0,
@@ -117,20 +116,20 @@ impl<const NUMBER: u64, M: Count, L: Count, C: Count, R: Count> Log<NUMBER, M, L
     }
 
     // Appends a step of the tally's worker, for which there is room.
+    #[tactic(auto, using(crate::proofs::Appending::one_more))]
     #[inline(always)]
     fn append(&mut self, call: StepCall, reply: StepReply, tally: &mut Tally<M, L, C, R>)
         requires room { 0 < self.old.room }
         requires record { HasRecord NUMBER call reply }
         ensures base { self.new.base ≡ self.old.base }
-        ensures steps { self.new.steps ≡
-            self.old.steps ++ step_of tally.old.worker call reply ∷ [] }
+        ensures steps { Appends self.old.steps (step_of tally.old.worker call reply)
+            self.new.steps }
         ensures standing { self.new.standing ≡ self.old.standing }
-        ensures room { self.new.room + 1 ≡ self.old.room }
+        ensures room { self.old.room ≤ self.new.room + 1 }
         ensures bounded { self.new.standing + self.new.room < 2 ^ 64 }
         ensures tally { tally.new ≡ raised (kind_of reply) tally.old }
     {
-        let record = tally.record(NUMBER, call, reply);
-        self.history.push(record);
+        self.history.append(tally.number(), call, reply);
         match reply.kind() {
             Kind::Made => {
                 self.made.add(&mut tally.made, 1);
@@ -163,7 +162,7 @@ impl<const NUMBER: u64, M: Count, L: Count, C: Count, R: Count> Log<NUMBER, M, L
         requires room { 1 < self.old.room }
         requires record { IfSome reply (HasRecord NUMBER call) }
         ensures base { self.new.base ≡ self.old.base }
-        ensures steps { self.new.steps ≡ recorded self.old.steps tally.old.worker call reply }
+        ensures steps { Records self.old.steps tally.old.worker call reply self.new.steps }
         ensures standing { self.new.standing ≡ self.old.standing + lent_in reply }
         ensures tally { tally.new ≡ tallied reply tally.old }
     {
@@ -188,7 +187,7 @@ impl<const NUMBER: u64, M: Count, L: Count, C: Count, R: Count> Log<NUMBER, M, L
         requires standing { IfSome reply (λ r. 0 < self.old.standing) }
         requires record { IfSome reply (HasRecord NUMBER call) }
         ensures base { self.new.base ≡ self.old.base }
-        ensures steps { self.new.steps ≡ recorded self.old.steps tally.old.worker call reply }
+        ensures steps { Records self.old.steps tally.old.worker call reply self.new.steps }
         ensures standing { self.new.standing + length (option_to_list reply) ≡ self.old.standing }
         ensures tally { tally.new ≡ tallied reply tally.old }
     {
@@ -215,8 +214,8 @@ impl<const NUMBER: u64, M: Count, L: Count, C: Count, R: Count> Log<NUMBER, M, L
         requires standing { 0 < self.old.standing }
         requires record { HasRecord NUMBER call reply }
         ensures base { self.new.base ≡ self.old.base }
-        ensures steps { self.new.steps ≡ self.old.steps ++ step_of tally.old.worker call reply
-            ∷ [] }
+        ensures steps { Appends self.old.steps (step_of tally.old.worker call reply)
+            self.new.steps }
         ensures standing { self.new.standing + 1 ≡ self.old.standing }
         ensures tally { tally.new ≡ raised (kind_of reply) tally.old }
     {
@@ -259,13 +258,13 @@ impl<const NUMBER: u64, M: Count, L: Count, C: Count, R: Count> Log<NUMBER, M, L
         ensures room { self.old.room ≤ self.new.room }
         ensures err { OnErr result (self.new ≡ self.old) }
     {
-        let chunks = self.history.empty()?;
+        let steps = self.history.empty(base.next())?;
         let base = mem::replace(&mut self.base, base);
         self.made_steps = 0;
         self.lent_steps = 0;
         self.changed_steps = 0;
         self.refused_steps = 0;
-        Ok(Outdated { chunks, base })
+        Ok(Outdated { steps, base })
     }
 
     // A copy of the base and of the steps, which a whole tally has counted by their kinds.
@@ -293,15 +292,15 @@ impl<const NUMBER: u64, M: Count, L: Count, C: Count, R: Count> Log<NUMBER, M, L
         ensures base { IfOk result (λ r. r.0 ≡ self.now.base) }
         ensures steps { IfOk result (λ r. r.1.items ≡ self.now.steps) }
     {
-        let steps = self.history.unpacked(NUMBER)?;
+        let steps = self.history.to_vec()?;
         let base = self.base.copy(self.alloc)?;
         Ok((base, steps))
     }
 }
 
-/// A base and a history's chunks that are kept no more.
+/// A base and steps that are kept no more.
 #[derive(Drop)]
 pub struct Outdated {
-    chunks: Vec<Vec<Record>>,
+    steps: OldSteps,
     base: Base,
 }

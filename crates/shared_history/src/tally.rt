@@ -3,11 +3,8 @@
 ghost use Rattle.std.specs.Prelude.{◌≡◌, ◌+◌, ◌↔◌, ◌<◌, ◌≤◌, IsTrue, MatchResult, IfOk, IfErr};
 ghost use Rattle.generational_errors.specs.declared.error.StoreError.TheVariants.{OutOfMemory};
 ghost use Rattle.shared_history.specs.Counts.{Counts, raised, merged, new_tallies};
-ghost use Rattle.shared_records.specs.Kinds.{step_of};
-ghost use Rattle.shared_records.specs.Records.{HasRecord, unpack};
 
-use generational_core::{StepCall, StoreError};
-use shared_records::{Record, StepReply, pack};
+use generational_core::StoreError;
 use std::alloc::Global;
 use std::marker::{Brand, Model, PhantomData};
 use std::sync::ledger::{Ledger, Share};
@@ -100,14 +97,12 @@ impl<M: Count, L: Count, C: Count, R: Count> Tally<M, L, C, R> {
         self.worker as usize
     }
 
-    // How the step of the tally's worker is kept that has this call and this reply.
+    // The worker's number in 32 bits, which it fits.
     #[inline(always)]
-    pub fn record(&self, number: u64, call: StepCall, reply: StepReply) -> Record
-        requires { HasRecord number call reply }
-        ensures { unpack number result ≡ step_of self.now.worker call reply }
+    pub fn number(&self) -> u32
+        ensures { result ≡ self.now.worker }
     {
-        let worker = self.worker;
-        pack(number, worker, call, reply)
+        self.worker
     }
 
     /// Whether the tallies of all workers are merged in it. Takes no memory.

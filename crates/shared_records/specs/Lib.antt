@@ -1,2 +1,5 @@
+pub mod Decoding
 pub mod Kinds
+pub mod Letters
+pub mod Lists
 pub mod Records

@@ -1,13 +1,19 @@
-//! The steps of a shared store, and the records in which its history keeps them.
+//! The steps of a shared store, and how its history keeps them.
 //!
-//! A [`Step`] is a worker, its call and the reply, without values. A [`Record`] leaves out what the
-//! call or the store says anyway. It is a part of `generational_sync`, which exports what users
+//! A [`Step`] is a worker, its call and the reply, without values. A [`StepList`] keeps most steps in
+//! 16 bytes, with a number for each location, and any other as a [`Record`], which leaves out what
+//! the call or the store says anyway. It is a part of `generational_sync`, which exports what users
 //! need.
 #![tactic(auto)]
 
+mod places;
 mod record;
+mod short;
 mod short_call;
+mod shorten;
 mod step;
+mod step_list;
 
 pub use crate::record::{Record, pack};
 pub use crate::step::{Kind, Step, StepReply};
+pub use crate::step_list::{OldSteps, StepList};

@@ -180,7 +180,7 @@ impl Packed for Record {
 }
 
 // A worker's step.
-fn step(worker: u32, call: StepCall, reply: StepReply) -> Step
+pub(crate) fn step(worker: u32, call: StepCall, reply: StepReply) -> Step
     ensures { result ≡ step_of worker call reply }
 {
     let worker = worker as usize;

@@ -22,8 +22,7 @@ rebase-requires g c = (
 pub invariant_of-self-2 : goal.invariant_of-self-2
 invariant_of-self-2 g c =
     let base = c.in_ok-outdated.ensures.base ∙ c.of-base.ensures in
-    (rebased c.histories_lead_to_sound_states.ensures.sound
-    c.histories_lead_to_sound_states.ensures.number
+    (rebased c.histories_lead_to_sound_states.ensures.number
     c.histories_lead_to_sound_states.ensures.generation g.row.NUMBER c.self.inside.store.state
     c.self.inside.log c.rebase.new.self c.self.invariant
     (ap (λ (b : BaseState). b.number) base) (ap (λ (b : BaseState). b.next) base
@@ -35,8 +34,7 @@ invariant_of-self-2 g c =
 pub returns-clause-ok : goal.returns-clause-ok
 returns-clause-ok g c =
     let base = c.in_ok-outdated.ensures.base ∙ c.of-base.ensures in
-    let kept = rebased c.histories_lead_to_sound_states.ensures.sound
-    c.histories_lead_to_sound_states.ensures.number
+    let kept = rebased c.histories_lead_to_sound_states.ensures.number
     c.histories_lead_to_sound_states.ensures.generation g.row.NUMBER c.self.inside.store.state
     c.self.inside.log c.rebase.new.self c.self.invariant
     (ap (λ (b : BaseState). b.number) base) (ap (λ (b : BaseState). b.next) base

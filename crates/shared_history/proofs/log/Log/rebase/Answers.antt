@@ -1,29 +1,27 @@
 -- The history is empty after it, and the books are right on the new base.
-use Rattle.std.proofs.Common.{◌≡◌, ℕ, List, [], ap, arith, map, refl}
+use Rattle.std.proofs.Common.{◌≡◌, List, [], ap, arith, refl}
 use Rattle.shared_history.specs.Bases.{trimmed_of}
 use Rattle.shared_history.specs.Logs.{LogState}
 use Rattle.shared_records.specs.Kinds.{count}
-use Rattle.shared_records.specs.Records.{unpack}
-use Rattle.shared_records.specs.declared.record.Record.{Record}
+use Rattle.shared_records.specs.declared.step.Step.{Step}
 use Rattle.shared_records.specs.declared.step.Kind.{Kind}
 use Rattle.shared_records.specs.declared.step.Kind.TheVariants.{Made, Lent, Changed, Refused}
 use Rattle.shared_history.proofs.log.Log.rebase.Goals as goal
 
-nothing_counted : (kind : Kind) (number : ℕ) (items : List Record) → items ≡ []
-    → 0 ≡ count kind (map (unpack number) items)
-nothing_counted kind number items none = rw none refl
+nothing_counted : (kind : Kind) (steps : List Step) → steps ≡ [] → 0 ≡ count kind steps
+nothing_counted kind steps none = rw none refl
 
 pub invariant_of-self-2 : goal.invariant_of-self-2
 invariant_of-self-2 g c =
-    let items = c.in_ok-chunks.ensures.items in
+    let none = c.in_ok-steps.ensures.steps in
     let steps = ap (λ (l : LogState). l.steps) c.self.view_is in
     let base = ap (λ (l : LogState). l.base) c.self.view_is in
     let books = c.self.invariant in
     let after = c.replace-base.ensures.after in (
-      nothing_counted Made g.row.NUMBER c.empty.new.self.items items,
-      nothing_counted Lent g.row.NUMBER c.empty.new.self.items items,
-      nothing_counted Changed g.row.NUMBER c.empty.new.self.items items,
-      nothing_counted Refused g.row.NUMBER c.empty.new.self.items items,
+      nothing_counted Made c.empty.new.self.steps none,
+      nothing_counted Lent c.empty.new.self.steps none,
+      nothing_counted Changed c.empty.new.self.steps none,
+      nothing_counted Refused c.empty.new.self.steps none,
       omega (
         arith,
         ap (trimmed_of Made) after,
@@ -60,5 +58,5 @@ invariant_of-self-2 g c =
         books.3,
         books.7,
       ),
-      omega (arith, c.in_ok-chunks.ensures.room, books.8),
+      omega (arith, c.in_ok-steps.ensures.room, books.8),
     )

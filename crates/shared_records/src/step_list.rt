@@ -1,0 +1,199 @@
+//! The list of a history's steps.
+
+ghost use Rattle.std.specs.Prelude.{◌≡◌, ◌+◌, ◌<◌, ◌≤◌, ◌^◌, [], IfOk, OnOk, OnErr, length, map};
+ghost use Rattle.shared_records.specs.Decoding.{AreWithin, decode, next_after, next_of};
+ghost use Rattle.shared_records.specs.Kinds.{step_of};
+ghost use Rattle.shared_records.specs.Letters.{Appends};
+ghost use Rattle.shared_records.specs.Records.{HasRecord, unpack};
+
+use crate::places::Places;
+use crate::record::{Record, pack};
+use crate::short::{Short, decode_all, next_after};
+use crate::shorten::{Taken, shorten};
+use crate::step::{Step, StepReply};
+use generational_core::StepCall;
+use shared_chunks::Chunks;
+use std::alloc::{AllocError, Global};
+use std::marker::Model;
+
+/// Steps of the store with this number, in 16 bytes each where they have a short form, and in 128
+/// else. Contracts see the steps, and for how many more there is room.
+///
+/// A location's text is kept once: a step comes back with the same letters, which may stand
+/// elsewhere in memory.
+#[derive(Drop)]
+pub struct StepList<const NUMBER: u64> {
+    alloc: Global,
+    // the next ticket at the first step, and after the last
+    start: u64,
+    next: u64,
+    places: Places,
+    short: Chunks<Short>,
+    long: Chunks<Record>,
+}
+
+impl<const NUMBER: u64> Model for StepList<NUMBER> {
+    ghost use Rattle.std.specs.Prelude.{◌≡◌, length, map, min};
+    ghost use Rattle.shared_records.specs.Decoding.{AreWithin, decode, next_of};
+    ghost use Rattle.shared_records.specs.Lists.{StepsState};
+    ghost use Rattle.shared_records.specs.Records.{unpack};
+
+    ghost Value = { StepsState };
+
+    ghost view = { λ l. record {
+      steps = decode NUMBER l.places (map (unpack NUMBER) l.long.items) l.start l.short.items;
+      room = min l.short.room l.long.room;
+    } };
+
+    ghost invariant = { λ l.
+        (AreWithin (length l.places) (length (map (unpack NUMBER) l.long.items)) l.short.items)
+        × (l.next ≡
+        next_of NUMBER l.places (map (unpack NUMBER) l.long.items) l.start l.short.items) };
+}
+
+impl<const NUMBER: u64> StepList<NUMBER> {
+    /// A list of no steps. Takes no memory.
+    pub fn new(alloc: Global) -> Self
+        ensures { result ≡ record { steps = []; room = 0 } }
+    {
+        StepList {
+            alloc,
+            start: 0,
+            next: 0,
+            places: Places::new(alloc),
+            short: Chunks::new(alloc),
+            long: Chunks::new(alloc),
+        }
+    }
+
+    /// Makes room for so many steps more.
+    #[inline(always)]
+    pub fn reserve(&mut self, more: usize) -> Result<(), AllocError>
+        ensures steps { self.new.steps ≡ self.old.steps }
+        ensures room { self.old.room ≤ self.new.room }
+        ensures ok { OnOk result (more ≤ self.new.room) }
+    {
+        self.short.reserve(more)?;
+        self.long.reserve(more)
+    }
+
+    /// Appends a worker's step, for which there is room. Takes no memory but for a location that
+    /// isn't kept yet, and where there is none, the step is kept in more bytes.
+    #[inline(always)]
+    pub fn append(&mut self, worker: u32, call: StepCall, reply: StepReply)
+        requires room { 0 < self.old.room }
+        requires record { HasRecord NUMBER call reply }
+        ensures steps { Appends self.old.steps (step_of worker call reply) self.new.steps }
+        ensures room { self.old.room ≤ self.new.room + 1 }
+        ensures bounded { length self.new.steps + self.new.room < 2 ^ 64 }
+    {
+        let taken = Taken {
+            number: NUMBER,
+            next: self.next,
+            worker,
+        };
+        keep(
+            taken,
+            self.start,
+            &mut self.places,
+            &mut self.short,
+            &mut self.long,
+            call,
+            reply,
+        );
+        self.next = next_after(self.next, reply);
+    }
+
+    /// How many steps there are. Takes no memory, and is O(1).
+    pub fn len(&self) -> usize
+        ensures { result ≡ length self.now.steps }
+    {
+        self.short.len()
+    }
+
+    /// The steps in order.
+    pub fn to_vec(&self) -> Result<Vec<Step>, AllocError>
+        ensures { IfOk result (λ all. all.items ≡ self.now.steps) }
+    {
+        let long = self.long.unpacked(NUMBER)?;
+        let short = self.short.unpacked(NUMBER)?;
+        let mut all = Vec::with_capacity(self.alloc, short.len())?;
+        decode_all(
+            &mut all,
+            NUMBER,
+            self.places.as_slice(),
+            long.as_slice(),
+            self.start,
+            short.as_slice(),
+        )?;
+        Ok(all)
+    }
+
+    /// Takes all steps away, where `next` is the next ticket, and keeps the room and the locations.
+    /// What is kept no more is answered, so that who holds a lock can let it go when it is open.
+    /// Where memory is refused nothing changes.
+    pub fn empty(&mut self, next: u64) -> Result<OldSteps, AllocError>
+        ensures steps { OnOk result (self.new.steps ≡ []) }
+        ensures room { OnOk result (self.old.room ≤ self.new.room) }
+        ensures err { OnErr result (self.new ≡ self.old) }
+    {
+        let no_short = Vec::with_capacity(self.alloc, 1)?;
+        let no_long = Vec::with_capacity(self.alloc, 1)?;
+        let short = self.short.empty(no_short);
+        let long = self.long.empty(no_long);
+        self.start = next;
+        self.next = next;
+        Ok(OldSteps { short, long })
+    }
+}
+
+/// Steps that are kept no more.
+#[derive(Drop)]
+pub struct OldSteps {
+    short: Vec<Vec<Short>>,
+    long: Vec<Vec<Record>>,
+}
+
+// Appends a step to the short steps, whose next ticket was at first `start` and is now the one at
+// which the step is taken.
+#[inline(always)]
+fn keep(
+    taken: Taken,
+    start: u64,
+    places: &mut Places,
+    list: &mut Chunks<Short>,
+    long: &mut Chunks<Record>,
+    call: StepCall,
+    reply: StepReply,
+)
+    requires within { AreWithin (length places.old)
+        (length (map (unpack taken.number) long.old.items)) list.old.items }
+    requires next { taken.next ≡
+        next_of taken.number places.old (map (unpack taken.number) long.old.items) start
+        list.old.items }
+    requires room { (0 < list.old.room) × (0 < long.old.room) }
+    requires record { HasRecord taken.number call reply }
+    ensures within { AreWithin (length places.new)
+        (length (map (unpack taken.number) long.new.items)) list.new.items }
+    ensures next { next_after taken.next reply ≡
+        next_of taken.number places.new (map (unpack taken.number) long.new.items) start
+        list.new.items }
+    ensures steps { Appends
+        (decode taken.number places.old (map (unpack taken.number) long.old.items) start
+        list.old.items)
+        (step_of taken.worker call reply)
+        (decode taken.number places.new (map (unpack taken.number) long.new.items) start
+        list.new.items) }
+    ensures room { list.new.room + 1 ≡ list.old.room }
+    ensures bounded { length (decode taken.number places.new
+        (map (unpack taken.number) long.new.items) start list.new.items) + list.new.room < 2 ^ 64 }
+    ensures long { long.old.room ≤ long.new.room + 1 }
+{
+    if let Some(short) = shorten(taken, places, call, reply) {
+        list.push(short);
+        return;
+    }
+    let at = long.len() as u64;
+    long.push(pack(taken.number, taken.worker, call, reply));
+    list.push(Short::Long(at));
+}
