@@ -138,6 +138,13 @@ impl<X: Copy> Chunks<X> {
         self.len
     }
 
+    /// For how many items more there is room. Takes no memory, and is O(1).
+    pub fn room(&self) -> usize
+        ensures { result ≡ self.now.room }
+    {
+        self.last.capacity() - self.last.len() + self.spare.capacity()
+    }
+
     /// Takes all items away, and keeps the room and up to 128 of the full chunks for later. The other
     /// ones are answered, so that who holds a lock can let them go when it is open. The full chunks
     /// to come stand in `anew`, which is empty and has room for one.

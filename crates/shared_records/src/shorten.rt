@@ -1,37 +1,55 @@
 //! How steps are kept in 16 bytes.
 
-ghost use Rattle.std.specs.Prelude.{◌≡◌, ◌<◌, List, IfSome};
+ghost use Rattle.std.specs.Prelude.{◌≡◌, ◌-◌, ◌<◌, ◌≤◌, IfSome, OnSome};
 ghost use Rattle.std.specs.Bool.{OnTrue};
-ghost use Rattle.generational_errors.specs.declared.error.Location.{Location};
 ghost use Rattle.generational_core.specs.declared.steps.StepCall.TheVariants as call;
 ghost use Rattle.shared_records.specs.declared.step.StepReply.TheVariants as reply;
-ghost use Rattle.shared_records.specs.Decoding.{Extends, IsAt, StandsFor};
+ghost use Rattle.shared_records.specs.declared.shorten.Form.TheVariants.{Two};
+ghost use Rattle.shared_records.specs.Decoding.{Extends, IsAt, IsForm};
 ghost use Rattle.shared_records.specs.Kinds.{step_of};
 
 use crate::places::Places;
-use crate::short::Short;
+use crate::short::{Reached, Short};
 use crate::step::StepReply;
-use generational_core::{GenerationalPointer, Location, OwnerId, StepCall};
+use generational_core::{GenerationalBoxId, GenerationalPointer, Location, OwnerId, StepCall};
 
-/// Where a step is taken: the store's number, its next ticket, and the worker.
+/// Where a step is taken: the store's number, what decoding comes to before it, and the worker.
 #[derive(Clone, Copy)]
 pub struct Taken {
     pub number: u64,
-    pub next: u64,
+    pub reached: Reached,
     pub worker: u32,
 }
 
-/// How a step is kept in 16 bytes; None where it has no form or a number doesn't fit.
+/// How a step is kept: in one item; or in two, of which the first names a cell by its slot and
+/// generation.
+#[derive(Clone, Copy)]
+pub enum Form {
+    One(Short),
+    Two(u32, u32, Short),
+}
+
+/// How a step is kept in 16 bytes, or in twice as many; None where it has no form or a number
+/// doesn't fit.
 #[inline(always)]
-pub fn shorten(taken: Taken, places: &mut Places, call: StepCall, reply: StepReply) -> Option<Short>
+pub fn shorten(taken: Taken, places: &mut Places, call: StepCall, reply: StepReply) -> Option<Form>
     ensures extends { Extends places.old places.new }
-    ensures short { IfSome result
-        (StandsFor taken.number places.new taken.next (step_of taken.worker call reply)) }
+    ensures form { IfSome result
+        (IsForm taken.number places.new taken.reached (step_of taken.worker call reply)) }
 {
     match (call, reply) {
         (StepCall::Leak(at), StepReply::Made(made)) => leak(taken, places, at, made),
+        (StepCall::LeakRc(at), StepReply::MadeShared(cell, made)) => {
+            leak_rc(taken, places, at, cell, made)
+        }
+        (StepCall::LeakReference(asked), StepReply::Made(made)) => {
+            leak_reference(taken, places, asked, made)
+        }
         (StepCall::Insert(owner, at), StepReply::Made(made)) => {
             insert(taken, places, owner, at, made)
+        }
+        (StepCall::InsertRc(owner, at), StepReply::MadeShared(cell, made)) => {
+            insert_rc(taken, places, owner, at, cell, made)
         }
         (StepCall::Read(asked, at), StepReply::Reader(ticket)) => {
             read(taken, places, asked, at, ticket)
@@ -42,7 +60,10 @@ pub fn shorten(taken: Taken, places: &mut Places, call: StepCall, reply: StepRep
         (StepCall::Write(asked, at), StepReply::Writer(ticket)) => {
             write(taken, places, asked, at, ticket)
         }
-        (StepCall::Owner, StepReply::Owner(owner)) => new_owner(taken, owner),
+        (StepCall::Owner, StepReply::Owner(owner))
+            if owner.store == taken.number && owner.key == taken.reached.next => {
+            Some(Form::One(Short::Owner(taken.worker)))
+        }
         (call, StepReply::Done) => shorten_done(taken, places, call),
         _ => None,
     }
@@ -50,17 +71,23 @@ pub fn shorten(taken: Taken, places: &mut Places, call: StepCall, reply: StepRep
 
 // How a step is kept that was carried out and gives nothing.
 #[inline(always)]
-fn shorten_done(taken: Taken, places: &mut Places, call: StepCall) -> Option<Short>
+fn shorten_done(taken: Taken, places: &mut Places, call: StepCall) -> Option<Form>
     ensures extends { Extends places.old places.new }
-    ensures short { IfSome result
-        (StandsFor taken.number places.new taken.next (step_of taken.worker call reply.Done)) }
+    ensures form { IfSome result
+        (IsForm taken.number places.new taken.reached (step_of taken.worker call reply.Done)) }
 {
     match call {
-        StepCall::ReleaseRead(ticket) => Some(Short::ReleaseRead(taken.worker, ticket)),
-        StepCall::ReleaseWrite(ticket) => Some(Short::ReleaseWrite(taken.worker, ticket)),
+        StepCall::ReleaseRead(ticket) => Some(Form::One(Short::ReleaseRead(taken.worker, ticket))),
+        StepCall::ReleaseWrite(ticket) => Some(Form::One(Short::ReleaseWrite(
+            taken.worker,
+            ticket,
+        ))),
         StepCall::Set(asked) => set(taken, places, asked),
         StepCall::ManuallyDrop(asked) => end(taken, places, asked),
-        StepCall::ReleaseOwner(owner) => release_owner(taken, owner),
+        StepCall::PointTo(asked, other) => point_to(taken, places, asked, other),
+        StepCall::ReleaseOwner(owner) if owner.store == taken.number => {
+            Some(Form::One(Short::ReleaseOwner(taken.worker, owner.key)))
+        }
         _ => None,
     }
 }
@@ -78,21 +105,22 @@ fn fits(taken: Taken, asked: GenerationalPointer) -> bool
 }
 
 #[inline(always)]
-fn leak(taken: Taken, places: &mut Places, at: Location, made: GenerationalPointer) -> Option<Short>
+fn leak(taken: Taken, places: &mut Places, at: Location, made: GenerationalPointer) -> Option<Form>
     ensures extends { Extends places.old places.new }
-    ensures short { IfSome result (StandsFor taken.number places.new taken.next
+    ensures form { IfSome result (IsForm taken.number places.new taken.reached
         (step_of taken.worker (call.Leak at) (reply.Made made))) }
 {
     if !fits(taken, made) || made.created_at != at {
         return None;
     }
     let place = places.find_or_add(at)?;
-    Some(Short::Leak(
+    let short = Short::Leak(
         taken.worker as u16,
         place,
         made.id.slot as u32,
         made.id.generation as u32,
-    ))
+    );
+    Some(Form::One(short))
 }
 
 #[inline(always)]
@@ -102,26 +130,24 @@ fn insert(
     owner: OwnerId,
     at: Location,
     made: GenerationalPointer,
-) -> Option<Short>
+) -> Option<Form>
     ensures extends { Extends places.old places.new }
-    ensures short { IfSome result (StandsFor taken.number places.new taken.next
+    ensures form { IfSome result (IsForm taken.number places.new taken.reached
         (step_of taken.worker (call.Insert owner at) (reply.Made made))) }
 {
-    if !fits(taken, made) || made.created_at != at || owner.store != taken.number {
+    if !fits(taken, made) || made.created_at != at {
         return None;
     }
-    let back = taken.next.checked_sub(owner.key)?;
-    if back >= 65536 {
-        return None;
-    }
+    let back = back_to(taken, owner)?;
     let place = places.find_or_add(at)?;
-    Some(Short::Insert(
+    let short = Short::Insert(
         taken.worker as u16,
         place,
-        back as u16,
+        back,
         made.id.slot as u32,
         made.id.generation as u32,
-    ))
+    );
+    Some(Form::One(short))
 }
 
 #[inline(always)]
@@ -131,22 +157,23 @@ fn read(
     asked: GenerationalPointer,
     at: Location,
     ticket: u64,
-) -> Option<Short>
+) -> Option<Form>
     ensures extends { Extends places.old places.new }
-    ensures short { IfSome result (StandsFor taken.number places.new taken.next
+    ensures form { IfSome result (IsForm taken.number places.new taken.reached
         (step_of taken.worker (call.Read asked at) (reply.Reader ticket))) }
 {
-    if !fits(taken, asked) || ticket != taken.next {
+    if !fits(taken, asked) || ticket != taken.reached.next {
         return None;
     }
     let (made, read) = find_two(places, asked.created_at, at)?;
-    Some(Short::Read(
+    let short = Short::Read(
         taken.worker as u16,
         made,
         read,
         asked.id.slot as u32,
         asked.id.generation as u32,
-    ))
+    );
+    Some(Form::One(short))
 }
 
 #[inline(always)]
@@ -156,22 +183,23 @@ fn read_dropped(
     asked: GenerationalPointer,
     at: Location,
     told: Location,
-) -> Option<Short>
+) -> Option<Form>
     ensures extends { Extends places.old places.new }
-    ensures short { IfSome result (StandsFor taken.number places.new taken.next
+    ensures form { IfSome result (IsForm taken.number places.new taken.reached
         (step_of taken.worker (call.Read asked at) (reply.Dropped told))) }
 {
     if !fits(taken, asked) || told != asked.created_at {
         return None;
     }
     let (made, read) = find_two(places, asked.created_at, at)?;
-    Some(Short::ReadDropped(
+    let short = Short::ReadDropped(
         taken.worker as u16,
         made,
         read,
         asked.id.slot as u32,
         asked.id.generation as u32,
-    ))
+    );
+    Some(Form::One(short))
 }
 
 #[inline(always)]
@@ -181,78 +209,61 @@ fn write(
     asked: GenerationalPointer,
     at: Location,
     ticket: u64,
-) -> Option<Short>
+) -> Option<Form>
     ensures extends { Extends places.old places.new }
-    ensures short { IfSome result (StandsFor taken.number places.new taken.next
+    ensures form { IfSome result (IsForm taken.number places.new taken.reached
         (step_of taken.worker (call.Write asked at) (reply.Writer ticket))) }
 {
-    if ticket != taken.next || !fits(taken, asked) {
+    if ticket != taken.reached.next || !fits(taken, asked) {
         return None;
     }
     let (made, written) = find_two(places, asked.created_at, at)?;
-    Some(Short::Write(
+    let short = Short::Write(
         taken.worker as u16,
         made,
         written,
         asked.id.slot as u32,
         asked.id.generation as u32,
-    ))
+    );
+    Some(Form::One(short))
 }
 
 #[inline(always)]
-fn set(taken: Taken, places: &mut Places, asked: GenerationalPointer) -> Option<Short>
+fn set(taken: Taken, places: &mut Places, asked: GenerationalPointer) -> Option<Form>
     ensures extends { Extends places.old places.new }
-    ensures short { IfSome result (StandsFor taken.number places.new taken.next
+    ensures form { IfSome result (IsForm taken.number places.new taken.reached
         (step_of taken.worker (call.Set asked) reply.Done)) }
 {
     if !fits(taken, asked) {
         return None;
     }
     let made = places.find_or_add(asked.created_at)?;
-    Some(Short::Set(
+    let short = Short::Set(
         taken.worker as u16,
         made,
         asked.id.slot as u32,
         asked.id.generation as u32,
-    ))
+    );
+    Some(Form::One(short))
 }
 
 #[inline(always)]
-fn end(taken: Taken, places: &mut Places, asked: GenerationalPointer) -> Option<Short>
+fn end(taken: Taken, places: &mut Places, asked: GenerationalPointer) -> Option<Form>
     ensures extends { Extends places.old places.new }
-    ensures short { IfSome result (StandsFor taken.number places.new taken.next
+    ensures form { IfSome result (IsForm taken.number places.new taken.reached
         (step_of taken.worker (call.ManuallyDrop asked) reply.Done)) }
 {
     if !fits(taken, asked) {
         return None;
     }
     let made = places.find_or_add(asked.created_at)?;
-    Some(Short::End(
+    let short = Short::End(
         taken.worker as u16,
         made,
         asked.id.slot as u32,
         asked.id.generation as u32,
-    ))
-}
-
-fn new_owner(taken: Taken, owner: OwnerId) -> Option<Short>
-    ensures { (places : List Location) → IfSome result (StandsFor taken.number places taken.next
-        (step_of taken.worker call.Owner (reply.Owner owner))) }
-{
-    if owner.store != taken.number || owner.key != taken.next {
-        return None;
-    }
-    Some(Short::Owner(taken.worker))
-}
-
-fn release_owner(taken: Taken, owner: OwnerId) -> Option<Short>
-    ensures { (places : List Location) → IfSome result (StandsFor taken.number places taken.next
-        (step_of taken.worker (call.ReleaseOwner owner) reply.Done)) }
-{
-    if owner.store != taken.number {
-        return None;
-    }
-    Some(Short::ReleaseOwner(taken.worker, owner.key))
+    );
+    Some(Form::One(short))
 }
 
 // The numbers of two locations.
@@ -264,4 +275,134 @@ fn find_two(places: &mut Places, one: Location, two: Location) -> Option<(u16, u
     let first = places.find_or_add(one)?;
     let second = places.find_or_add(two)?;
     Some((first, second))
+}
+
+// The two items of a step, of which the first names the cell with this id, where it is of the store
+// and its numbers fit.
+#[inline(always)]
+fn two(taken: Taken, first: GenerationalBoxId, short: Short) -> Option<Form>
+    ensures own { OnSome result (first.store ≡ taken.number) }
+    ensures form { IfSome result (λ f. f ≡ Two first.slot first.generation short) }
+{
+    if first.store != taken.number || first.slot >= 4294967296 || first.generation >= 4294967296 {
+        return None;
+    }
+    Some(Form::Two(first.slot as u32, first.generation as u32, short))
+}
+
+#[inline(always)]
+fn leak_rc(
+    taken: Taken,
+    places: &mut Places,
+    at: Location,
+    cell: GenerationalBoxId,
+    made: GenerationalPointer,
+) -> Option<Form>
+    ensures extends { Extends places.old places.new }
+    ensures form { IfSome result (IsForm taken.number places.new taken.reached
+        (step_of taken.worker (call.LeakRc at) (reply.MadeShared cell made))) }
+{
+    if !fits(taken, made) || made.created_at != at {
+        return None;
+    }
+    let place = places.find_or_add(at)?;
+    let short = Short::LeakRc(
+        taken.worker as u16,
+        place,
+        made.id.slot as u32,
+        made.id.generation as u32,
+    );
+    two(taken, cell, short)
+}
+
+#[inline(always)]
+fn insert_rc(
+    taken: Taken,
+    places: &mut Places,
+    owner: OwnerId,
+    at: Location,
+    cell: GenerationalBoxId,
+    made: GenerationalPointer,
+) -> Option<Form>
+    ensures extends { Extends places.old places.new }
+    ensures form { IfSome result (IsForm taken.number places.new taken.reached
+        (step_of taken.worker (call.InsertRc owner at) (reply.MadeShared cell made))) }
+{
+    if !fits(taken, made) || made.created_at != at {
+        return None;
+    }
+    let back = back_to(taken, owner)?;
+    let place = places.find_or_add(at)?;
+    let short = Short::InsertRc(
+        taken.worker as u16,
+        place,
+        back,
+        made.id.slot as u32,
+        made.id.generation as u32,
+    );
+    two(taken, cell, short)
+}
+
+#[inline(always)]
+fn leak_reference(
+    taken: Taken,
+    places: &mut Places,
+    asked: GenerationalPointer,
+    made: GenerationalPointer,
+) -> Option<Form>
+    ensures extends { Extends places.old places.new }
+    ensures form { IfSome result (IsForm taken.number places.new taken.reached
+        (step_of taken.worker (call.LeakReference asked) (reply.Made made))) }
+{
+    if !fits(taken, made) {
+        return None;
+    }
+    let (at, place) = find_two(places, asked.created_at, made.created_at)?;
+    let short = Short::LeakReference(
+        taken.worker as u16,
+        at,
+        place,
+        made.id.slot as u32,
+        made.id.generation as u32,
+    );
+    two(taken, asked.id, short)
+}
+
+#[inline(always)]
+fn point_to(
+    taken: Taken,
+    places: &mut Places,
+    asked: GenerationalPointer,
+    other: GenerationalPointer,
+) -> Option<Form>
+    ensures extends { Extends places.old places.new }
+    ensures form { IfSome result (IsForm taken.number places.new taken.reached
+        (step_of taken.worker (call.PointTo asked other) reply.Done)) }
+{
+    if !fits(taken, other) {
+        return None;
+    }
+    let (made, target) = find_two(places, asked.created_at, other.created_at)?;
+    let short = Short::PointTo(
+        taken.worker as u16,
+        made,
+        target,
+        other.id.slot as u32,
+        other.id.generation as u32,
+    );
+    two(taken, asked.id, short)
+}
+
+// By how much an owner's key is less than the next ticket, where the owner is of the store and that
+// fits.
+#[inline(always)]
+fn back_to(taken: Taken, owner: OwnerId) -> Option<u16>
+    ensures { IfSome result (λ back. (owner.store ≡ taken.number)
+        × (owner.key ≡ taken.reached.next - back) × (back ≤ taken.reached.next)) }
+{
+    if owner.store != taken.number {
+        return None;
+    }
+    let back = taken.reached.next.checked_sub(owner.key)?;
+    u16::try_from(back).ok()
 }

@@ -1,54 +1,63 @@
 //! The list of a history's steps.
 
-ghost use Rattle.std.specs.Prelude.{◌≡◌, ◌+◌, ◌<◌, ◌≤◌, ◌^◌, [], IfOk, OnOk, OnErr, length, map};
-ghost use Rattle.shared_records.specs.Decoding.{AreWithin, decode, next_after, next_of};
+ghost use Rattle.std.specs.Prelude.{◌≡◌, ◌+◌, ◌<◌, ◌≤◌, ◌^◌, [], IfOk, OnOk, OnErr, Some, length};
+ghost use Rattle.std.specs.Prelude.{map};
+ghost use Rattle.shared_records.specs.Decoding.{AreWithin, advanced, decode, reached_by};
+ghost use Rattle.shared_records.specs.Decoding.{reached_first};
 ghost use Rattle.shared_records.specs.Kinds.{step_of};
 ghost use Rattle.shared_records.specs.Letters.{Appends};
 ghost use Rattle.shared_records.specs.Records.{HasRecord, unpack};
 
 use crate::places::Places;
 use crate::record::{Record, pack};
-use crate::short::{Short, decode_all, next_after};
-use crate::shorten::{Taken, shorten};
+use crate::short::{Reached, Short, decode_all};
+use crate::shorten::{Form, Taken, shorten};
 use crate::step::{Step, StepReply};
 use generational_core::StepCall;
 use shared_chunks::Chunks;
 use std::alloc::{AllocError, Global};
 use std::marker::Model;
 
-/// Steps of the store with this number, in 16 bytes each where they have a short form, and in 128
-/// else. Contracts see the steps, and for how many more there is room.
+/// Steps of the store with this number, in 16 or 32 bytes each where they have a short form, and in
+/// 128 else. Contracts see the steps, and for how many more there is room.
 ///
 /// A location's text is kept once: a step comes back with the same letters, which may stand
 /// elsewhere in memory.
 #[derive(Drop)]
 pub struct StepList<const NUMBER: u64> {
     alloc: Global,
-    // the next ticket at the first step, and after the last
+    // how many steps there are, and for how many more there is room
+    len: usize,
+    room: usize,
+    // the next ticket at the first step, and what decoding comes to after the last
     start: u64,
-    next: u64,
+    reached: Reached,
     places: Places,
     short: Chunks<Short>,
     long: Chunks<Record>,
 }
 
 impl<const NUMBER: u64> Model for StepList<NUMBER> {
-    ghost use Rattle.std.specs.Prelude.{◌≡◌, length, map, min};
-    ghost use Rattle.shared_records.specs.Decoding.{AreWithin, decode, next_of};
+    ghost use Rattle.std.specs.Prelude.{◌≡◌, ◌+◌, ◌≤◌, length, map};
+    ghost use Rattle.shared_records.specs.Decoding.{AreWithin, decode, reached_by, reached_first};
     ghost use Rattle.shared_records.specs.Lists.{StepsState};
     ghost use Rattle.shared_records.specs.Records.{unpack};
 
     ghost Value = { StepsState };
 
     ghost view = { λ l. record {
-      steps = decode NUMBER l.places (map (unpack NUMBER) l.long.items) l.start l.short.items;
-      room = min l.short.room l.long.room;
+      steps = decode NUMBER l.places (map (unpack NUMBER) l.long.items) (reached_first l.start)
+          l.short.items;
+      room = l.room;
     } };
 
     ghost invariant = { λ l.
         (AreWithin (length l.places) (length (map (unpack NUMBER) l.long.items)) l.short.items)
-        × (l.next ≡
-        next_of NUMBER l.places (map (unpack NUMBER) l.long.items) l.start l.short.items) };
+        × (l.reached ≡ reached_by NUMBER l.places (map (unpack NUMBER) l.long.items)
+        (reached_first l.start) l.short.items)
+        × (l.len ≡ length (decode NUMBER l.places (map (unpack NUMBER) l.long.items)
+        (reached_first l.start) l.short.items))
+        × (l.room + l.room ≤ l.short.room) × (l.room ≤ l.long.room) };
 }
 
 impl<const NUMBER: u64> StepList<NUMBER> {
@@ -58,8 +67,10 @@ impl<const NUMBER: u64> StepList<NUMBER> {
     {
         StepList {
             alloc,
+            len: 0,
+            room: 0,
             start: 0,
-            next: 0,
+            reached: Reached::first(0),
             places: Places::new(alloc),
             short: Chunks::new(alloc),
             long: Chunks::new(alloc),
@@ -73,26 +84,49 @@ impl<const NUMBER: u64> StepList<NUMBER> {
         ensures room { self.old.room ≤ self.new.room }
         ensures ok { OnOk result (more ≤ self.new.room) }
     {
-        self.short.reserve(more)?;
-        self.long.reserve(more)
+        if more <= self.room {
+            return Ok(());
+        }
+        self.grow(more)
+    }
+
+    // Makes room for so many steps more, for which there wasn't yet: two short ones and a long one
+    // for each.
+    #[cold]
+    #[inline(never)]
+    fn grow(&mut self, more: usize) -> Result<(), AllocError>
+        requires { self.old.room ≤ more }
+        ensures steps { self.new.steps ≡ self.old.steps }
+        ensures room { self.old.room ≤ self.new.room }
+        ensures ok { OnOk result (more ≤ self.new.room) }
+    {
+        let Some(items) = more.checked_mul(2) else {
+            return Err(AllocError);
+        };
+        self.short.reserve(items)?;
+        self.long.reserve(more)?;
+        self.room = self.long.room().min(self.short.room() / 2);
+        Ok(())
     }
 
     /// Appends a worker's step, for which there is room. Takes no memory but for a location that
     /// isn't kept yet, and where there is none, the step is kept in more bytes.
+    #[tactic(auto, using(crate::proofs::Decodes::decode_length))]
     #[inline(always)]
     pub fn append(&mut self, worker: u32, call: StepCall, reply: StepReply)
         requires room { 0 < self.old.room }
         requires record { HasRecord NUMBER call reply }
         ensures steps { Appends self.old.steps (step_of worker call reply) self.new.steps }
-        ensures room { self.old.room ≤ self.new.room + 1 }
+        ensures room { self.new.room + 1 ≡ self.old.room }
         ensures bounded { length self.new.steps + self.new.room < 2 ^ 64 }
     {
         let taken = Taken {
             number: NUMBER,
-            next: self.next,
+            reached: self.reached,
             worker,
         };
-        keep(
+        self.room -= 1;
+        self.reached = keep(
             taken,
             self.start,
             &mut self.places,
@@ -101,14 +135,14 @@ impl<const NUMBER: u64> StepList<NUMBER> {
             call,
             reply,
         );
-        self.next = next_after(self.next, reply);
+        self.len += 1;
     }
 
     /// How many steps there are. Takes no memory, and is O(1).
     pub fn len(&self) -> usize
         ensures { result ≡ length self.now.steps }
     {
-        self.short.len()
+        self.len
     }
 
     /// The steps in order.
@@ -117,13 +151,13 @@ impl<const NUMBER: u64> StepList<NUMBER> {
     {
         let long = self.long.unpacked(NUMBER)?;
         let short = self.short.unpacked(NUMBER)?;
-        let mut all = Vec::with_capacity(self.alloc, short.len())?;
+        let mut all = Vec::with_capacity(self.alloc, self.len)?;
         decode_all(
             &mut all,
             NUMBER,
             self.places.as_slice(),
             long.as_slice(),
-            self.start,
+            Reached::first(self.start),
             short.as_slice(),
         )?;
         Ok(all)
@@ -141,8 +175,9 @@ impl<const NUMBER: u64> StepList<NUMBER> {
         let no_long = Vec::with_capacity(self.alloc, 1)?;
         let short = self.short.empty(no_short);
         let long = self.long.empty(no_long);
+        self.len = 0;
         self.start = next;
-        self.next = next;
+        self.reached = Reached::first(next);
         Ok(OldSteps { short, long })
     }
 }
@@ -154,8 +189,8 @@ pub struct OldSteps {
     long: Vec<Vec<Record>>,
 }
 
-// Appends a step to the short steps, whose next ticket was at first `start` and is now the one at
-// which the step is taken.
+// Appends a step to the short steps, where decoding begins at `start`. The answer is what it comes to
+// after the step.
 #[inline(always)]
 fn keep(
     taken: Taken,
@@ -165,35 +200,44 @@ fn keep(
     long: &mut Chunks<Record>,
     call: StepCall,
     reply: StepReply,
-)
+) -> Reached
     requires within { AreWithin (length places.old)
         (length (map (unpack taken.number) long.old.items)) list.old.items }
-    requires next { taken.next ≡
-        next_of taken.number places.old (map (unpack taken.number) long.old.items) start
-        list.old.items }
-    requires room { (0 < list.old.room) × (0 < long.old.room) }
+    requires reached { taken.reached ≡
+        reached_by taken.number places.old (map (unpack taken.number) long.old.items)
+        (reached_first start) list.old.items }
+    requires room { (1 < list.old.room) × (0 < long.old.room) }
     requires record { HasRecord taken.number call reply }
     ensures within { AreWithin (length places.new)
         (length (map (unpack taken.number) long.new.items)) list.new.items }
-    ensures next { next_after taken.next reply ≡
-        next_of taken.number places.new (map (unpack taken.number) long.new.items) start
-        list.new.items }
+    ensures reached { result ≡
+        reached_by taken.number places.new (map (unpack taken.number) long.new.items)
+        (reached_first start) list.new.items }
     ensures steps { Appends
-        (decode taken.number places.old (map (unpack taken.number) long.old.items) start
-        list.old.items)
+        (decode taken.number places.old (map (unpack taken.number) long.old.items)
+        (reached_first start) list.old.items)
         (step_of taken.worker call reply)
-        (decode taken.number places.new (map (unpack taken.number) long.new.items) start
-        list.new.items) }
-    ensures room { list.new.room + 1 ≡ list.old.room }
-    ensures bounded { length (decode taken.number places.new
-        (map (unpack taken.number) long.new.items) start list.new.items) + list.new.room < 2 ^ 64 }
+        (decode taken.number places.new (map (unpack taken.number) long.new.items)
+        (reached_first start) list.new.items) }
+    ensures room { list.old.room ≤ list.new.room + 2 }
+    ensures bounded { length list.new.items + list.new.room < 2 ^ 64 }
     ensures long { long.old.room ≤ long.new.room + 1 }
 {
-    if let Some(short) = shorten(taken, places, call, reply) {
-        list.push(short);
-        return;
+    match shorten(taken, places, call, reply) {
+        Some(Form::One(short)) => {
+            list.push(short);
+            taken.reached.after(reply)
+        }
+        Some(Form::Two(slot, generation, short)) => {
+            list.push(Short::Name(slot, generation));
+            list.push(short);
+            taken.reached.named(slot, generation).after(reply)
+        }
+        None => {
+            let at = long.len() as u64;
+            long.push(pack(taken.number, taken.worker, call, reply));
+            list.push(Short::Long(at));
+            taken.reached.after(reply)
+        }
     }
-    let at = long.len() as u64;
-    long.push(pack(taken.number, taken.worker, call, reply));
-    list.push(Short::Long(at));
 }

@@ -1,10 +1,10 @@
 use Rattle.std.proofs.Common.{◌≡◌, ◌++◌, take}
-use Rattle.shared_records.specs.Decoding.{decode, next_of}
+use Rattle.shared_records.specs.Decoding.{decode, reached_by}
 use Rattle.shared_records.proofs.short.decode_all.Given as goal
 
 abbrev pub invariant-loop-item : goal.invariant-loop-item
 invariant-loop-item l = record {
   steps : l.all.items
-      ≡ l.initial.all.items ++ decode l.number l.places l.long l.start (take l.item-index l.short);
-  next : l.next ≡ next_of l.number l.places l.long l.start (take l.item-index l.short);
+      ≡ l.initial.all.items ++ decode l.number l.places l.long l.fn.start (take l.item-index l.short);
+  reached : l.reached ≡ reached_by l.number l.places l.long l.fn.start (take l.item-index l.short);
 }

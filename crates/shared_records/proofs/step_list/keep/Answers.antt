@@ -1,101 +1,188 @@
-use Rattle.std.proofs.Common.{◌≡◌, ◌≤◌, ◌∷◌, [], ◌++◌, length, length-append, map, get_or, ap, sym, ◌∙◌, refl, arith}
+use Rattle.std.proofs.Common.{◌≡◌, ◌≤◌, ◌∷◌, [], ◌++◌, Some, List, length, length-append, map, option_to_list, get_or, ap, sym, subst, ◌∙◌, refl, arith}
 use Rattle.std.proofs.lemmas.List.{append-nil, length-map, map-append}
+use Rattle.generational_errors.specs.declared.error.Location.{Location}
+use Rattle.shared_records.specs.declared.short.Reached.{Reached}
+use Rattle.shared_records.specs.declared.short.Short.{Short}
+use Rattle.shared_records.specs.declared.short.Short.TheVariants as short
+use Rattle.shared_records.specs.declared.shorten.Form.{Form}
+use Rattle.shared_records.specs.declared.shorten.Form.TheVariants.{One, Two}
 use Rattle.shared_records.specs.declared.step.Step.{Step}
 use Rattle.shared_records.specs.Kinds.{step_of}
 use Rattle.shared_records.specs.Records.{unpack}
-use Rattle.shared_records.specs.declared.short.Short.TheVariants as short
 use Rattle.shared_records.specs.Letters.{lettered_step}
-use Rattle.shared_records.specs.Decoding.{next_after, no_step}
-use Rattle.shared_records.proofs.Decodes.{decode_length, grown_within, appended, kept_next_after, long_at, within_grows}
+use Rattle.shared_records.specs.Decoding.{Extends, IsForm, StandsFor, advanced, decode, named, no_step, reached_by, reached_first, step_at}
+use Rattle.shared_records.proofs.Decodes.{appends_one, grown_reached, grown_steps, grown_within, long_at, within_grows}
 use Rattle.shared_records.proofs.step_list.keep.Goals as goal
 
-pub returns-in-Some-clause-within : goal.returns-in-Some-clause-within
-returns-in-Some-clause-within c =
+stay : (places : List Location) → Extends places places
+stay places = record { more = []; is = sym (append-nil places) }
+
+pub returns-in-Some-One-clause-within : goal.returns-in-Some-One-clause-within
+returns-in-Some-One-clause-within c =
+    let arm = c.in-Some-One in
     let ls = map (unpack c.args.taken.number) c.args.long.now.items in
-    let stands = c.in-Some.ensures.short in
-    grown_within c.args.taken.number c.args.start c.args.places.now c.shorten.new.places ls ls
-    c.args.list.now.items c.push.new.self.items c.in-Some.short c.shorten.ensures.extends []
+    let wider = c.shorten.new.places in
+    let stands = subst (λ f. IsForm c.args.taken.number wider c.args.taken.reached
+    (step_of c.args.taken.worker c.args.call c.args.reply) f) arm.field-0-is arm.ensures.form in
+    grown_within c.args.taken.number (reached_first c.args.start) c.args.places.now wider ls ls
+    c.args.list.now.items c.push.new.self.items arm.short c.shorten.ensures.extends []
     (sym (append-nil ls)) c.push.ensures.items c.requires.within
-    (within_grows (length c.shorten.new.places) 0 (length c.shorten.new.places)
-    (length ls) c.in-Some.short (omega arith) (omega arith) stands.within)
+    (within_grows (length wider) 0 (length wider) (length ls) arm.short (omega arith) (omega arith)
+    stands.within)
 
-pub returns-in-Some-clause-next : goal.returns-in-Some-clause-next
-returns-in-Some-clause-next c =
+pub returns-in-Some-One-clause-reached : goal.returns-in-Some-One-clause-reached
+returns-in-Some-One-clause-reached c =
+    let arm = c.in-Some-One in
     let ls = map (unpack c.args.taken.number) c.args.long.now.items in
-    let stands = c.in-Some.ensures.short in
-    kept_next_after c.args.taken.number c.args.start c.args.places.now c.shorten.new.places ls
-    ls c.args.list.now.items c.push.new.self.items c.in-Some.short c.shorten.ensures.extends []
-    (sym (append-nil ls)) c.push.ensures.items c.requires.within c.args.taken.next
-    (step_of c.args.taken.worker c.args.call c.args.reply) c.requires.next (stands.same ls)
-    (stands.reply ls)
+    let wider = c.shorten.new.places in
+    let stands = subst (λ f. IsForm c.args.taken.number wider c.args.taken.reached
+    (step_of c.args.taken.worker c.args.call c.args.reply) f) arm.field-0-is arm.ensures.form in
+    c.after.ensures
+    ∙ sym (stands.goes_on ls)
+    ∙ grown_reached c.args.taken.number (reached_first c.args.start) c.args.places.now wider ls ls
+    c.args.list.now.items c.push.new.self.items arm.short c.shorten.ensures.extends []
+    (sym (append-nil ls)) c.push.ensures.items c.requires.within c.args.taken.reached
+    c.requires.reached
 
-pub returns-in-Some-clause-steps : goal.returns-in-Some-clause-steps
-returns-in-Some-clause-steps c =
-    let ls = map (unpack c.args.taken.number) c.args.long.now.items in
-    let stands = c.in-Some.ensures.short in
-    appended c.args.taken.number c.args.start c.args.places.now c.shorten.new.places ls ls
-    c.args.list.now.items c.push.new.self.items c.in-Some.short c.shorten.ensures.extends []
-    (sym (append-nil ls)) c.push.ensures.items c.requires.within c.args.taken.next
-    (step_of c.args.taken.worker c.args.call c.args.reply) c.requires.next (stands.same ls)
-    (stands.reply ls)
+pub returns-in-Some-One-clause-steps : goal.returns-in-Some-One-clause-steps
+returns-in-Some-One-clause-steps c =
+    let arm = c.in-Some-One in
+    let n = c.args.taken.number in
+    let start = reached_first c.args.start in
+    let ls = map (unpack n) c.args.long.now.items in
+    let wider = c.shorten.new.places in
+    let step = step_of c.args.taken.worker c.args.call c.args.reply in
+    let stands = subst (λ f. IsForm n wider c.args.taken.reached step f) arm.field-0-is
+    arm.ensures.form in
+    appends_one (decode n c.args.places.now ls start c.args.list.now.items)
+    (decode n wider ls start c.push.new.self.items)
+    (step_at n wider ls c.args.taken.reached arm.short) step
+    (grown_steps n start c.args.places.now wider ls ls c.args.list.now.items c.push.new.self.items
+    arm.short c.shorten.ensures.extends [] (sym (append-nil ls)) c.push.ensures.items
+    c.requires.within c.args.taken.reached c.requires.reached) (stands.same ls)
 
-pub returns-clause-within : goal.returns-clause-within
-returns-clause-within c =
+pub returns-in-Some-Two-clause-within : goal.returns-in-Some-Two-clause-within
+returns-in-Some-Two-clause-within c =
+    let arm = c.in-Some-Two in
+    let n = c.args.taken.number in
+    let start = reached_first c.args.start in
+    let places = c.args.places.now in
+    let ls = map (unpack n) c.args.long.now.items in
+    let wider = c.shorten.new.places in
+    let step = step_of c.args.taken.worker c.args.call c.args.reply in
+    let stands = subst (λ f. IsForm n wider c.args.taken.reached step f) arm.field-0-is
+    arm.ensures.form in
+    let one = grown_within n start places places ls ls c.args.list.now.items c.push-in-Some-Two.new.self.items
+    (short.Name arm.slot arm.generation) (stay places) [] (sym (append-nil ls)) c.push-in-Some-Two.ensures.items
+    c.requires.within tt in
+    grown_within n start places wider ls ls c.push-in-Some-Two.new.self.items c.push-in-Some-Two-2.new.self.items arm.short
+    c.shorten.ensures.extends [] (sym (append-nil ls)) c.push-in-Some-Two-2.ensures.items one
+    (within_grows (length wider) 0 (length wider) (length ls) arm.short (omega arith) (omega arith)
+    stands.within)
+
+pub returns-in-Some-Two-clause-reached : goal.returns-in-Some-Two-clause-reached
+returns-in-Some-Two-clause-reached c =
+    let arm = c.in-Some-Two in
+    let n = c.args.taken.number in
+    let start = reached_first c.args.start in
+    let places = c.args.places.now in
+    let ls = map (unpack n) c.args.long.now.items in
+    let wider = c.shorten.new.places in
+    let reply = c.args.reply in
+    let step = step_of c.args.taken.worker c.args.call reply in
+    let name = short.Name arm.slot arm.generation in
+    let now = named c.args.taken.reached name in
+    let stands = subst (λ f. IsForm n wider c.args.taken.reached step f) arm.field-0-is
+    arm.ensures.form in
+    let one = grown_within n start places places ls ls c.args.list.now.items c.push-in-Some-Two.new.self.items
+    name (stay places) [] (sym (append-nil ls)) c.push-in-Some-Two.ensures.items c.requires.within tt in
+    let come = grown_reached n start places places ls ls c.args.list.now.items
+    c.push-in-Some-Two.new.self.items name (stay places) [] (sym (append-nil ls)) c.push-in-Some-Two.ensures.items
+    c.requires.within c.args.taken.reached c.requires.reached in
+    c.after-in-Some-Two.ensures
+    ∙ ap (λ (r : Reached). advanced r (Some step)) c.named.ensures
+    ∙ sym (stands.goes_on ls)
+    ∙ grown_reached n start places wider ls ls c.push-in-Some-Two.new.self.items c.push-in-Some-Two-2.new.self.items arm.short
+    c.shorten.ensures.extends [] (sym (append-nil ls)) c.push-in-Some-Two-2.ensures.items one now come
+
+pub returns-in-Some-Two-clause-steps : goal.returns-in-Some-Two-clause-steps
+returns-in-Some-Two-clause-steps c =
+    let arm = c.in-Some-Two in
+    let n = c.args.taken.number in
+    let start = reached_first c.args.start in
+    let places = c.args.places.now in
+    let ls = map (unpack n) c.args.long.now.items in
+    let wider = c.shorten.new.places in
+    let step = step_of c.args.taken.worker c.args.call c.args.reply in
+    let name = short.Name arm.slot arm.generation in
+    let now = named c.args.taken.reached name in
+    let stands = subst (λ f. IsForm n wider c.args.taken.reached step f) arm.field-0-is
+    arm.ensures.form in
+    let one = grown_within n start places places ls ls c.args.list.now.items c.push-in-Some-Two.new.self.items
+    name (stay places) [] (sym (append-nil ls)) c.push-in-Some-Two.ensures.items c.requires.within tt in
+    let come = grown_reached n start places places ls ls c.args.list.now.items
+    c.push-in-Some-Two.new.self.items name (stay places) [] (sym (append-nil ls)) c.push-in-Some-Two.ensures.items
+    c.requires.within c.args.taken.reached c.requires.reached in
+    let same = grown_steps n start places places ls ls c.args.list.now.items c.push-in-Some-Two.new.self.items
+    name (stay places) [] (sym (append-nil ls)) c.push-in-Some-Two.ensures.items c.requires.within
+    c.args.taken.reached c.requires.reached
+    ∙ append-nil (decode n places ls start c.args.list.now.items) in
+    let last = option_to_list (step_at n wider ls now arm.short) in
+    appends_one (decode n places ls start c.args.list.now.items)
+    (decode n wider ls start c.push-in-Some-Two-2.new.self.items) (step_at n wider ls now arm.short) step
+    (grown_steps n start places wider ls ls c.push-in-Some-Two.new.self.items c.push-in-Some-Two-2.new.self.items arm.short
+    c.shorten.ensures.extends [] (sym (append-nil ls)) c.push-in-Some-Two-2.ensures.items one now come
+    ∙ ap (λ steps. steps ++ last) same) (stands.same ls)
+
+pub returns-in-None-clause-within : goal.returns-in-None-clause-within
+returns-in-None-clause-within c =
     let f = unpack c.args.taken.number in
     let ls = map f c.args.long.now.items in
-    let more = map f c.push-2.new.self.items in
-    let longer = ap (map f) c.push-2.ensures.items
+    let more = map f c.push-in-None.new.self.items in
+    let longer = ap (map f) c.push-in-None.ensures.items
     ∙ map-append f c.args.long.now.items (c.pack.result ∷ []) in
     let lengths = ap length longer ∙ length-append ls (f c.pack.result ∷ []) in
     let old = length-map c.args.long.now.items f in
     let len = c.len-at.ensures in
-    grown_within c.args.taken.number c.args.start c.args.places.now c.shorten.new.places ls
-    more c.args.list.now.items c.push-3.new.self.items (short.Long c.len-at.result)
-    c.shorten.ensures.extends (f c.pack.result ∷ []) longer c.push-3.ensures.items
-    c.requires.within (omega arith)
+    grown_within c.args.taken.number (reached_first c.args.start) c.args.places.now
+    c.shorten.new.places ls more c.args.list.now.items c.push-in-None-2.new.self.items
+    (short.Long c.len-at.result) c.shorten.ensures.extends (f c.pack.result ∷ []) longer
+    c.push-in-None-2.ensures.items c.requires.within (omega arith)
 
-pub returns-clause-next : goal.returns-clause-next
-returns-clause-next c =
+pub returns-in-None-clause-reached : goal.returns-in-None-clause-reached
+returns-in-None-clause-reached c =
     let f = unpack c.args.taken.number in
     let ls = map f c.args.long.now.items in
-    let more = map f c.push-2.new.self.items in
-    let longer = ap (map f) c.push-2.ensures.items
+    let more = map f c.push-in-None.new.self.items in
+    let longer = ap (map f) c.push-in-None.ensures.items
     ∙ map-append f c.args.long.now.items (c.pack.result ∷ []) in
     let is = ap (λ n. get_or more n no_step) c.len-at.ensures
-    ∙ long_at f c.args.long.now.items c.push-2.new.self.items c.pack.result c.push-2.ensures.items
+    ∙ long_at f c.args.long.now.items c.push-in-None.new.self.items c.pack.result c.push-in-None.ensures.items
     ∙ c.pack.ensures in
-    kept_next_after c.args.taken.number c.args.start c.args.places.now c.shorten.new.places
-    ls more c.args.list.now.items c.push-3.new.self.items (short.Long c.len-at.result)
-    c.shorten.ensures.extends (f c.pack.result ∷ []) longer c.push-3.ensures.items
-    c.requires.within c.args.taken.next (step_of c.args.taken.worker c.args.call c.args.reply) c.requires.next
-    (ap lettered_step is) (ap (λ (s : Step). next_after c.args.taken.next s.reply) is)
+    c.after-in-None.ensures
+    ∙ sym (ap (λ (s : Step). advanced c.args.taken.reached (Some s)) is)
+    ∙ grown_reached c.args.taken.number (reached_first c.args.start) c.args.places.now
+    c.shorten.new.places ls more c.args.list.now.items c.push-in-None-2.new.self.items
+    (short.Long c.len-at.result) c.shorten.ensures.extends (f c.pack.result ∷ []) longer
+    c.push-in-None-2.ensures.items c.requires.within c.args.taken.reached c.requires.reached
 
-pub returns-clause-steps : goal.returns-clause-steps
-returns-clause-steps c =
-    let f = unpack c.args.taken.number in
+pub returns-in-None-clause-steps : goal.returns-in-None-clause-steps
+returns-in-None-clause-steps c =
+    let n = c.args.taken.number in
+    let f = unpack n in
+    let start = reached_first c.args.start in
     let ls = map f c.args.long.now.items in
-    let more = map f c.push-2.new.self.items in
-    let longer = ap (map f) c.push-2.ensures.items
+    let more = map f c.push-in-None.new.self.items in
+    let longer = ap (map f) c.push-in-None.ensures.items
     ∙ map-append f c.args.long.now.items (c.pack.result ∷ []) in
-    let is = ap (λ n. get_or more n no_step) c.len-at.ensures
-    ∙ long_at f c.args.long.now.items c.push-2.new.self.items c.pack.result c.push-2.ensures.items
+    let is = ap (λ i. get_or more i no_step) c.len-at.ensures
+    ∙ long_at f c.args.long.now.items c.push-in-None.new.self.items c.pack.result c.push-in-None.ensures.items
     ∙ c.pack.ensures in
-    appended c.args.taken.number c.args.start c.args.places.now c.shorten.new.places ls more
-    c.args.list.now.items c.push-3.new.self.items (short.Long c.len-at.result)
-    c.shorten.ensures.extends (f c.pack.result ∷ []) longer c.push-3.ensures.items
-    c.requires.within c.args.taken.next (step_of c.args.taken.worker c.args.call c.args.reply) c.requires.next
-    (ap lettered_step is) (ap (λ (s : Step). next_after c.args.taken.next s.reply) is)
-
-pub returns-in-Some-clause-bounded : goal.returns-in-Some-clause-bounded
-returns-in-Some-clause-bounded c =
-    let all = decode_length c.args.taken.number c.shorten.new.places
-    (map (unpack c.args.taken.number) c.args.long.now.items) c.args.start c.push.new.self.items in
-    let few = c.push.ensures.bounded in
-    omega arith
-
-pub returns-clause-bounded : goal.returns-clause-bounded
-returns-clause-bounded c =
-    let all = decode_length c.args.taken.number c.shorten.new.places
-    (map (unpack c.args.taken.number) c.push-2.new.self.items) c.args.start c.push-3.new.self.items in
-    let few = c.push-3.ensures.bounded in
-    omega arith
+    appends_one (decode n c.args.places.now ls start c.args.list.now.items)
+    (decode n c.shorten.new.places more start c.push-in-None-2.new.self.items)
+    (step_at n c.shorten.new.places more c.args.taken.reached (short.Long c.len-at.result))
+    (step_of c.args.taken.worker c.args.call c.args.reply)
+    (grown_steps n start c.args.places.now c.shorten.new.places ls more c.args.list.now.items
+    c.push-in-None-2.new.self.items (short.Long c.len-at.result) c.shorten.ensures.extends
+    (f c.pack.result ∷ []) longer c.push-in-None-2.ensures.items c.requires.within c.args.taken.reached
+    c.requires.reached) (ap (λ (s : Step). Some (lettered_step s)) is)
