@@ -15,8 +15,10 @@ pub mod laws;
 pub mod parts;
 mod state;
 mod storage;
+mod together;
 
 pub use crate::state::SyncState;
 pub use crate::storage::SyncStorage;
+pub use crate::together::Together;
 pub use shared_history::{Base, Count, Tally};
 pub use shared_records::{Kind, Step, StepReply};

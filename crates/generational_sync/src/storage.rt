@@ -15,28 +15,13 @@ mod making;
 
 use crate::laws::histories_lead_to_sound_states;
 use crate::state::SyncState;
+use crate::together::{Held, Shared, Together};
 use generational_box::{GenerationalRef, Owner, StepCall, StoreError};
 use shared_history::{Base, Count, Tally};
 use shared_records::Step;
 use std::alloc::Global;
 use std::sync::ledger::Blank;
 use std::sync::{Arc, Condvar, Mutex, MutexGuard, Wait};
-
-/// What lies under the lock.
-#[derive(Drop)]
-struct Held<T, const NUMBER: u64, M: Count, L: Count, C: Count, R: Count> {
-    state: SyncState<T, NUMBER, M, L, C, R>,
-    // how many calls sleep, or are so far that a wake reaches them
-    waiting: usize,
-}
-
-/// What the handles of one store share.
-#[derive(Drop)]
-struct Shared<T, const NUMBER: u64, M: Count, L: Count, C: Count, R: Count> {
-    held: Mutex<Held<T, NUMBER, M, L, C, R>>,
-    // told after each step that may have freed a call that waits
-    freed: Condvar,
-}
 
 /// A store that threads share: one [`SyncState`] under one lock.
 ///
@@ -52,7 +37,7 @@ struct Shared<T, const NUMBER: u64, M: Count, L: Count, C: Count, R: Count> {
 /// audit is a copy of the history, no clause says.
 #[derive(Drop)]
 pub struct SyncStorage<T, const NUMBER: u64, M: Count, L: Count, C: Count, R: Count> {
-    shared: Arc<Shared<T, NUMBER, M, L, C, R>, Global>,
+    shared: Arc<Shared<SyncState<T, NUMBER, M, L, C, R>>, Global>,
 }
 
 impl<T: Drop + Send, const NUMBER: u64, M: Count, L: Count, C: Count, R: Count> SyncStorage<
@@ -116,7 +101,7 @@ impl<T: Drop + Send, const NUMBER: u64, M: Count, L: Count, C: Count, R: Count> 
         &'a self,
         rt: &impl Wait,
         call: StepCall,
-    ) -> MutexGuard<'a, Held<T, NUMBER, M, L, C, R>>
+    ) -> MutexGuard<'a, Held<SyncState<T, NUMBER, M, L, C, R>>>
         ensures { is_ready (mutex_guard_value result).state.state call ≡ true }
     {
         let mut held = self.shared.held.lock(rt);
@@ -134,7 +119,7 @@ impl<T: Drop + Send, const NUMBER: u64, M: Count, L: Count, C: Count, R: Count> 
         &'a self,
         rt: &impl Wait,
         owner: &Owner,
-    ) -> MutexGuard<'a, Held<T, NUMBER, M, L, C, R>>
+    ) -> MutexGuard<'a, Held<SyncState<T, NUMBER, M, L, C, R>>>
         ensures { is_ready (mutex_guard_value result).state.state
             (call.ReleaseOwner (id_of_owner owner.now)) ≡ true }
     {
@@ -152,8 +137,8 @@ impl<T: Drop + Send, const NUMBER: u64, M: Count, L: Count, C: Count, R: Count> 
     fn sleep<'a>(
         &'a self,
         rt: &impl Wait,
-        mut held: MutexGuard<'a, Held<T, NUMBER, M, L, C, R>>,
-    ) -> MutexGuard<'a, Held<T, NUMBER, M, L, C, R>> {
+        mut held: MutexGuard<'a, Held<SyncState<T, NUMBER, M, L, C, R>>>,
+    ) -> MutexGuard<'a, Held<SyncState<T, NUMBER, M, L, C, R>>> {
         held.waiting = held.waiting.wrapping_add(1);
         let mut held = self.shared.freed.wait(rt, held);
         held.waiting = held.waiting.wrapping_sub(1);
@@ -161,12 +146,14 @@ impl<T: Drop + Send, const NUMBER: u64, M: Count, L: Count, C: Count, R: Count> 
     }
 
     // Lets the lock go, and wakes all calls that wait where this one may have freed some.
-    fn unlock(&self, held: MutexGuard<'_, Held<T, NUMBER, M, L, C, R>>, frees: bool) {
-        let wakes = frees && held.waiting != 0;
-        drop(held);
-        if wakes {
-            self.shared.freed.notify_all();
-        }
+    fn unlock(&self, held: MutexGuard<'_, Held<SyncState<T, NUMBER, M, L, C, R>>>, frees: bool) {
+        self.shared.unlock(held, frees);
+    }
+
+    /// The store's lock, under which a closure makes several calls at once. Takes no memory and
+    /// doesn't wait.
+    pub fn together(&self) -> Together<'_, SyncState<T, NUMBER, M, L, C, R>> {
+        Together::of(&self.shared)
     }
 
     /// Runs `f` on the value that a reader's guard opens, under the lock, and answers what it
