@@ -68,6 +68,9 @@ pub(crate) trait Calls {
     /// Ends a box.
     fn end(&mut self, rt: &impl Wait, asked: GenerationalBox<u64>) -> bool;
 
+    /// Makes a box, reads it twice, ends it, and reads it once more: 9 calls, under one lock.
+    fn reads_together(&mut self, rt: &impl Wait, value: u64) -> Option<u64>;
+
     /// Lets the history go. True where there is none.
     fn checkpoint(&mut self, rt: &impl Wait) -> bool;
 }

@@ -1,8 +1,8 @@
 //! The workload's calls over the store that threads share.
 
 use crate::calls::{Calls, place};
-use generational_box::{GenerationalBox, GenerationalRef, GenerationalRefMut, Owner};
-use generational_sync::{Count, SyncStorage, Tally};
+use generational_box::{GenerationalBox, GenerationalRef, GenerationalRefMut, Owner, StepCall};
+use generational_sync::{Count, SyncState, SyncStorage, Tally};
 use std::sync::Wait;
 
 /// A worker: a handle of the store, and a tally.
@@ -116,7 +116,54 @@ impl<A: Count, B: Count, C: Count, D: Count> Calls for Worker<A, B, C, D> {
         self.store.manually_drop(rt, asked, &mut self.tally).is_ok()
     }
 
+    fn reads_together(&mut self, rt: &impl Wait, value: u64) -> Option<u64> {
+        let Worker { store, tally } = self;
+        store
+            .together()
+            .run(rt, |state| read_at_once(state, tally, value))
+    }
+
     fn checkpoint(&mut self, rt: &impl Wait) -> bool {
         self.store.checkpoint(rt, &mut self.tally).is_ok()
     }
+}
+
+// Makes a box, reads it twice, ends it, and reads it once more. None where a call isn't carried out.
+fn read_at_once<A: Count, B: Count, C: Count, D: Count>(
+    state: &mut SyncState<u64, 7, A, B, C, D>,
+    tally: &mut Tally<A, B, C, D>,
+    value: u64,
+) -> Option<u64> {
+    let made = state.leak(value, place(), tally).ok()?;
+    for _ in 0..2u64 {
+        let guard = read_now(state, tally, made)?;
+        let same = state.open(&guard).copied() == Some(value);
+        let known = state.release_read(guard, tally);
+        if !(same && known) {
+            return None;
+        }
+    }
+    if !state.ready(&StepCall::ManuallyDrop(made.pointer())) {
+        return None;
+    }
+    state.manually_drop(made, tally).ok()?;
+    match read_now(state, tally, made) {
+        Some(guard) => {
+            state.release_read(guard, tally);
+            None
+        }
+        None => Some(9),
+    }
+}
+
+// Begins a read, unless a writer stands in its way or the store refuses it.
+fn read_now<A: Count, B: Count, C: Count, D: Count>(
+    state: &mut SyncState<u64, 7, A, B, C, D>,
+    tally: &mut Tally<A, B, C, D>,
+    asked: GenerationalBox<u64>,
+) -> Option<GenerationalRef<u64>> {
+    if !state.ready(&StepCall::Read(asked.pointer(), place())) {
+        return None;
+    }
+    state.try_read(asked, place(), tally).ok()
 }

@@ -13,6 +13,7 @@
 //! | LIST     | the calls of a round                                                  |
 //! |----------|-----------------------------------------------------------------------|
 //! | `reads`  | a box is made, read twice, ended, and read once more: 9 calls         |
+//! | `together` | the same, under one lock |
 //! | `writes` | an owner's boxes are made, written and pointed elsewhere, and end with the owner: 12 calls |
 //! | `keeps`  | a box is made, and stays: 1 call                                       |
 //!
@@ -106,6 +107,7 @@ impl Words {
         };
         let list = match words.next()?.as_str() {
             "reads" => List::Reads,
+            "together" => List::Together,
             "writes" => List::Writes,
             "keeps" => List::Keeps,
             _ => return None,

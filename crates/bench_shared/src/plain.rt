@@ -128,6 +128,27 @@ impl Calls for Plain {
         asked.manually_drop(&mut *store).is_ok()
     }
 
+    fn reads_together(&mut self, rt: &impl Wait, value: u64) -> Option<u64> {
+        let mut store = self.store.lock(rt);
+        let made = GenerationalBox::leak(&mut *store, value, place()).ok()?;
+        for _ in 0..2u64 {
+            let guard = made.try_read(&mut *store, place()).ok()?;
+            let same = store.open(&guard).copied() == Some(value);
+            let known = guard.release(&mut *store);
+            if !(same && known) {
+                return None;
+            }
+        }
+        made.manually_drop(&mut *store).ok()?;
+        match made.try_read(&mut *store, place()) {
+            Ok(guard) => {
+                guard.release(&mut *store);
+                None
+            }
+            Err(_) => Some(9),
+        }
+    }
+
     fn checkpoint(&mut self, _rt: &impl Wait) -> bool {
         true
     }

@@ -25,6 +25,7 @@ pub(crate) fn run<S: Calls>(
         since = since.wrapping_add(1);
         let made = match list {
             List::Reads => reading_round(store, rt, value)?,
+            List::Together => store.reads_together(rt, value)?,
             List::Writes => writing_round(store, rt, value)?,
             List::Keeps => keeping_round(store, rt, value)?,
         };
@@ -38,6 +39,8 @@ pub(crate) fn run<S: Calls>(
 pub(crate) enum List {
     /// A box is made, read twice and ended, and read once more.
     Reads,
+    /// The same, under one lock.
+    Together,
     /// An owner's boxes are made, written and pointed elsewhere, and end with the owner.
     Writes,
     /// A box is made, and stays.

@@ -20,6 +20,8 @@ mod sending;
 #[cfg(test)]
 mod stages;
 #[cfg(test)]
+mod together;
+#[cfg(test)]
 mod unshared;
 #[cfg(test)]
 mod waking;
