@@ -185,7 +185,7 @@ SCRIPTS = [
 # Tests of the libraries, with the same.
 TESTS = [
     ("growth::entities", 1),
-    ("growth::logins", 2),
+    ("growth::logins", 1),
     ("growth::entries", 1),
     ("growth::children", 1),
     ("growth::parts", 1),

@@ -4,13 +4,13 @@ use crate::visits::Keeper;
 use generational_box::{Location, Storage};
 use session_table::{Entry, SessionTable};
 
-impl<S: Storage<u64>> Keeper<Entry<u64>> for SessionTable<u64, S> {
+impl<S: Storage<u64>> Keeper<Entry<u64>> for SessionTable<u64, u64, u64, S> {
     fn begin(&mut self, id: u64) -> bool {
         self.login(id, 0).is_ok()
     }
 
     fn keep(&mut self, id: u64, number: u64) -> Option<Entry<u64>> {
-        self.put(id, number, Location::new("logins.rt", 13, 14))
+        self.put(&id, number, number, Location::new("logins.rt", 13, 14))
             .ok()
     }
 
@@ -19,6 +19,6 @@ impl<S: Storage<u64>> Keeper<Entry<u64>> for SessionTable<u64, S> {
     }
 
     fn end(&mut self, id: u64) -> bool {
-        self.logout(id)
+        self.logout(&id)
     }
 }

@@ -14,11 +14,14 @@ pub fn main(rt: HostRuntime) -> Result<()> {
 }
 
 // The table is only lent here, so each `?` may end the function.
-fn visit<R: Print, S: Storage<u64>>(rt: &R, table: &mut SessionTable<u64, S>) -> Result<()> {
+fn visit<R: Print, S: Storage<u64>>(
+    rt: &R,
+    table: &mut SessionTable<u64, &'static str, u64, S>,
+) -> Result<()> {
     table.login(7, 1000)?;
-    let basket = table.put(7, 42, Location::new("started.rt", 19, 24))?;
+    let basket = table.put(&7, "basket", 42, Location::new("started.rt", 22, 24))?;
     println!(rt; "session 7 keeps {}", table.get(basket)?)?;
-    table.logout(7);
+    table.logout(&7);
     match table.get(basket) {
         Ok(_) => println!(rt; "it is still there")?,
         Err(stale) => println!(rt; "{stale}")?,

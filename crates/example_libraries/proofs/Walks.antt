@@ -27,6 +27,17 @@ bounds_each {P} {E} key number most items pairs is low row e v at =
     by None none h = absurd (none-some _ none)
     by (Some p) same h = subst (λ n. n ≤ most) (ap (λ q. q.1) (same_Some _ _ same)) (h p refl)
 
+-- what holds of each item as it is seen holds of all that is seen
+pub holds_all : {P Y : Type 0} (view : P → Y) (Q : Y → Type 0) (items : List P) (ys : List Y)
+    → map view items ≡ ys → ((k : ℕ) (p : P) → slice_get items k ≡ Some p → Q (view p))
+    → (row : ℕ) (y : Y) → slice_get ys row ≡ Some y → Q y
+holds_all {P} {Y} view Q items ys is each row y at =
+    by (slice_get items row) (sym (slice_get-map view items row) ∙ (ap (λ zs. slice_get zs row) is ∙ at)) (each row)
+  where
+    by : (o : Option P) → option_map view o ≡ Some y → ((p : P) → o ≡ Some p → Q (view p)) → Q y
+    by None none h = absurd (none-some _ none)
+    by (Some p) same h = subst Q (same_Some _ _ same) (h p refl)
+
 -- the last of an element and those that follow it
 abbrev pub last_of : {X : Type 0} → X → List X → X
 last_of x [] = x

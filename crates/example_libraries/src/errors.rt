@@ -26,7 +26,7 @@ pub fn element_or_text<S: Storage<u64>>(
 
 /// Logs an id in, keeps a value in its session, and looks at it: it is the same value.
 pub fn first_visit<S: Storage<u64>>(
-    table: &mut SessionTable<u64, S>,
+    table: &mut SessionTable<u64, u64, u64, S>,
     id: u64,
     now: u64,
     value: u64,
@@ -35,7 +35,7 @@ pub fn first_visit<S: Storage<u64>>(
     ensures { IfOk result (λ seen. seen ≡ value) }
 {
     table.login(id, now)?;
-    let entry = table.put(id, value, here)?;
+    let entry = table.put(&id, 1, value, here)?;
     Ok(*table.get(entry)?)
 }
 

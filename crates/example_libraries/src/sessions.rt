@@ -1,18 +1,20 @@
 //! Sessions, and entries that outlive them.
 
-ghost use Rattle.std.specs.Prelude.{◌≡◌, ◌≢◌, ℕ, true, false, None, Some, IfOk, IfErr, IfSome, IsErr};
+ghost use Rattle.std.specs.Prelude.{◌≡◌, ℕ, true, false, None, Some, IfOk, IfErr, IfSome, IsErr};
+ghost use Rattle.std.specs.Prelude.{◌≤◌, ◌<◌, ◌+◌, ◌^◌, nat_eq, OnErr};
 ghost use Rattle.session_table.specs.declared.entry.Entry.{Entry};
-ghost use Rattle.session_table.specs.Entries.{put_at};
-ghost use Rattle.session_table.specs.Sessions.{session_in};
-ghost use Rattle.session_table.specs.Tables.{keeps, shown_in, WasPut};
+ghost use Rattle.session_table.specs.Entries.{put_at, IsOther};
+ghost use Rattle.session_table.specs.Sessions.{LiveSession, entry_in};
+ghost use Rattle.std.specs.Map.{lookup};
+ghost use Rattle.session_table.specs.Tables.{keeps, session_in, shown_in, WasPut};
 
 use generational_box::{Location, Storage};
-use session_table::{Entry, SessionTable, Stale};
+use session_table::{Entry, Session, SessionTable, Stale};
 
 /// Logs a session out, puts a value into another, and looks at what the first kept: the answer is
 /// that its session is gone, and where it was put, whichever slot the new value took.
 pub fn told_after_logout<S: Storage<u64>>(
-    table: &mut SessionTable<u64, S>,
+    table: &mut SessionTable<u64, u64, u64, S>,
     id: u64,
     entry: Entry<u64>,
     other: u64,
@@ -20,29 +22,29 @@ pub fn told_after_logout<S: Storage<u64>>(
     here: Location,
 ) -> Result<u64, Stale>
     requires put { WasPut table.old entry }
-    requires kept { keeps table.old id entry ≡ true }
+    requires kept { keeps nat_eq table.old id entry ≡ true }
     ensures gone { IsErr result }
     ensures told { IfErr result (λ stale. stale.put_at ≡ put_at entry) }
 {
-    let _ = table.logout(id);
-    let _ = table.put(other, next, here);
+    let _ = table.logout(&id);
+    let _ = table.put(&other, 1, next, here);
     table.get(entry).copied()
 }
 
 /// Logs a session out, and looks at what another keeps: it is what it was. Refused only where it
 /// showed nothing.
 pub fn seen_beside<S: Storage<u64>>(
-    table: &mut SessionTable<u64, S>,
+    table: &mut SessionTable<u64, u64, u64, S>,
     id: u64,
     other: u64,
     entry: Entry<u64>,
 ) -> Result<u64, Stale>
-    requires apart { id ≢ other }
-    requires kept { keeps table.old other entry ≡ true }
+    requires apart { nat_eq id other ≡ false }
+    requires kept { keeps nat_eq table.old other entry ≡ true }
     ensures same { IfOk result (λ seen. shown_in table.old entry ≡ Some seen) }
     ensures none { IfErr result (λ _. shown_in table.old entry ≡ None) }
 {
-    let _ = table.logout(id);
+    let _ = table.logout(&id);
     table.get(entry).copied()
 }
 
@@ -50,42 +52,80 @@ pub fn seen_beside<S: Storage<u64>>(
 /// Every other session is as it was, and every entry that was put before shows what it showed, whatever
 /// the answer.
 pub fn one_visit<S: Storage<u64>>(
-    table: &mut SessionTable<u64, S>,
+    table: &mut SessionTable<u64, u64, u64, S>,
     id: u64,
     now: u64,
     value: u64,
     here: Location,
 ) -> Option<u64>
     ensures same { IfSome result (λ seen. seen ≡ value) }
-    ensures others { (other : ℕ) → id ≢ other →
-        session_in table.new.sessions other ≡ session_in table.old.sessions other }
-    ensures left { (e : Entry ℕ) → WasPut table.old e →
-        shown_in table.new e ≡ shown_in table.old e }
+    ensures others { (other : ℕ) → nat_eq id other ≡ false →
+        session_in nat_eq table.new other ≡ session_in nat_eq table.old other }
 {
     table.login(id, now).ok()?;
-    let seen = put_and_look(table, id, value, here);
-    let _ = table.logout(id);
+    let entry = table.put(&id, 1, value, here).ok();
+    let seen = entry.and_then(|entry| table.get(entry).copied().ok());
+    let _ = table.logout(&id);
     seen
 }
 
-// Puts a value into an id's session, and looks at it.
-fn put_and_look<S: Storage<u64>>(
-    table: &mut SessionTable<u64, S>,
-    id: u64,
-    value: u64,
-    here: Location,
-) -> Option<u64>
-    ensures same { IfSome result (λ seen. seen ≡ value) }
-    ensures others { (other : ℕ) → id ≢ other →
-        session_in table.new.sessions other ≡ session_in table.old.sessions other }
-    ensures left { (e : Entry ℕ) → WasPut table.old e →
-        shown_in table.new e ≡ shown_in table.old e }
-    ensures unkept { (e : Entry ℕ) → WasPut table.old e →
-        keeps table.old id e ≡ false → keeps table.new id e ≡ false }
+/// Adds to an entry's value in its place, and answers what it is then.
+pub fn added<S: Storage<u64>>(
+    table: &mut SessionTable<u64, u64, u64, S>,
+    entry: Entry<u64>,
+    more: u64,
+) -> Result<u64, Stale>
+    requires { IfSome (shown_in table.old entry) (λ v. v + more < 2 ^ 64) }
+    ensures added { IfOk result (λ now. (before : ℕ)
+        × (shown_in table.old entry ≡ Some before) × (now ≡ before + more)
+        × (shown_in table.new entry ≡ Some now)) }
+    ensures others { (e : Entry ℕ) → IsOther entry e → shown_in table.new e ≡ shown_in table.old e }
+    ensures refused { OnErr result (table.new ≡ table.old) }
 {
-    let entry = table
-        .put(id, value, here)
-        .map_err(|refusal| refusal.cause)
-        .ok()?;
+    table.update(entry, |value: &mut u64| {
+        *value += more;
+        *value
+    })
+}
+
+/// The value that an id's session has under a key, if it has one.
+pub fn found_by_key<S: Storage<u64>>(
+    table: &SessionTable<u64, u64, u64, S>,
+    id: u64,
+    key: u64,
+) -> Option<u64>
+    ensures { IfSome result (λ seen. (e : Entry ℕ)
+        × (entry_in nat_eq (session_in nat_eq table.now id) key ≡ Some e)
+        × (shown_in table.now e ≡ Some seen)) }
+{
+    let entry = table.entry(&id, &key)?;
     table.get(entry).copied().ok()
+}
+
+/// The latest time of a last use, or 0 where there is no session.
+pub fn latest_use<S: Storage<u64>>(table: &SessionTable<u64, u64, u64, S>) -> u64
+    ensures { (id : ℕ) (s : LiveSession ℕ ℕ) → session_in nat_eq table.now id ≡ Some s →
+        s.used_at ≤ result }
+{
+    let mut latest = 0;
+    'walk: for (_, session) in table.sessions() {
+        if session.used_at() > latest {
+            latest = session.used_at();
+        }
+    }
+    latest
+}
+
+/// The greatest key of a session's entries, or 0 where it has none.
+pub fn greatest_key(session: &Session<u64, u64>) -> u64
+    ensures { (key : ℕ) (e : Entry ℕ) →
+        lookup (nat_eq key) session.now.entries.entries ≡ Some e → key ≤ result }
+{
+    let mut greatest = 0;
+    'walk: for (key, _) in session.entries() {
+        if *key > greatest {
+            greatest = *key;
+        }
+    }
+    greatest
 }

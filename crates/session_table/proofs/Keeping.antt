@@ -1,11 +1,13 @@
--- A table's store and the keys of its rows after each call.
+-- A table's store and its rows after each call.
 use Rattle.std.proofs.Common.{◌≡◌, ◌≢◌, ℕ, Bool, true, false, cond, List, [], ◌∷◌, ◌++◌, ◌||◌}
 use Rattle.std.proofs.Common.{Option, None, Some, Ok, refl, sym, ap, subst, ◌∙◌, ⊎_elim, inl, inr, arith}
-use Rattle.std.specs.Prelude.{◌⊎◌, nat_eq, slice_get, remove}
+use Rattle.std.specs.Prelude.{◌⊎◌, nat_eq}
+use Rattle.std.specs.Cmp.{IsEquivalence}
 use Rattle.std.specs.FinMap as map
 use Rattle.std.specs.Ordering.{nat_cmp}
 use Rattle.std.proofs.lemmas.Bool.{true≢false, cases_Bool, or_cases}
 use Rattle.std.proofs.lemmas.List.Folds.{list_any-append}
+use Rattle.std.proofs.lemmas.Option.{none-some, same_Some}
 use Rattle.generational_core.specs.Answers.{pointer_of}
 use Rattle.generational_core.specs.Borrowing.{reach, leads_to}
 use Rattle.generational_core.specs.Boxes.{name_of}
@@ -32,10 +34,7 @@ use Rattle.generational_core.proofs.machine.Unborrowed.{quiet_fresh, quiet_stays
 use Rattle.generational_core.proofs.maps.Maps.{by_number, key_cases, name_cases, name_same}
 use Rattle.generational_sessions.proofs.callers.ListedOnce.{fresh_listed, stays_listed}
 use Rattle.generational_sessions.proofs.callers.PlainStores.{fresh_plain, stays_plain}
-use Rattle.session_table.specs.Keeping.{Key, StandsIn, Lists, IsHeld, IsKept}
-use Rattle.session_table.proofs.Keys.{apart_pushed, apart_removed, one_or_two, removed_two}
-use Rattle.session_table.proofs.Lists.{removed_old, removed_rest}
-use Rattle.session_table.proofs.Lists.{stands_at, stands_old, stands_pushed, stands_new}
+use Rattle.session_table.specs.Keeping.{Held, IsKept}
 
 -- ---- a fresh store
 
@@ -60,291 +59,327 @@ owner_cases a o = ⊎_elim
     (λ ne. inr (λ e. ne (ap (λ (x : OwnerName). x.key) e))) (key_cases by_number a.key o.key))
     (λ ne. inr (λ e. ne (ap (λ (x : OwnerName). x.store) e))) (key_cases by_number a.store o.store)
 
-module _ {T : Type 0} where
-  pub fresh_kept : (number start next : ℕ) → IsKept (fresh {T = T} number start next) []
+-- no rows
+abbrev pub no_rows : {I : Type 0} → I → Option Held
+no_rows _ = None
+
+module _ {I T : Type 0} (eq : I → I → Bool) where
+  pub fresh_kept : (number start next : ℕ) → IsKept (fresh {T = T} number start next) eq no_rows
   fresh_kept number start next = record {
     unborrowed = quiet_fresh number start next;
     plain = fresh_plain number start next;
     listed = fresh_listed number start next;
-    apart = tt;
-    held = λ k none. absurd none;
-    known = λ o h is. absurd (none≢some _ h (fresh_owner T number start next o) is);
+    apart = λ i j h g is. absurd (none-some h is);
+    held = λ i h is. absurd (none-some h is);
+    known = λ o r is. absurd (none≢some _ r (fresh_owner T number start next o) is);
     kept = λ b m to. absurd (fresh_reach T number start next b m to);
-    live = λ k none. absurd none;
+    live = λ i h is. absurd (none-some h is);
   }
 
-  -- where there are no sessions a box shows nothing
-  pub empty_shows : (S : State T) → IsKept S [] → (b : GenerationalPointer) → value_in S b ≡ None
+  -- where there are no rows a box shows nothing
+  pub empty_shows : (S : State T) → IsKept S eq no_rows → (b : GenerationalPointer) → value_in S b ≡ None
   empty_shows S k b = at (reach S b) refl
     where
       at : (to : Option Name) → reach S b ≡ to → value_in S b ≡ None
       at None is = unseen S b is
-      at (Some m) is = absurd (k.kept b m is).1
+      at (Some m) is = let was = k.kept b m is in absurd (none-some was.1 was.2)
 
   -- and the store has no record of an owner
-  pub empty_owns : (S : State T) → IsKept S [] → (o : OwnerName) → ownership S o ≡ None
+  pub empty_owns : (S : State T) → IsKept S eq no_rows → (o : OwnerName) → ownership S o ≡ None
   empty_owns S k o = at (ownership S o) refl
     where
       at : (h : Option Ownership) → ownership S o ≡ h → ownership S o ≡ None
       at None is = is
-      at (Some h) is = absurd (k.known o h is).1
+      at (Some r) is = let was = k.known o r is in absurd (none-some was.1 was.2)
 
-  -- boxes of one store and name reach the same
-  reach_alike : (S : State T) (a b : GenerationalPointer) → a.id.store ≡ b.id.store
-      → name_of a ≡ name_of b → reach S a ≡ reach S b
-  unfolding reach
-  reach_alike S a b store name =
-      ap (λ n. cond (nat_eq n S.number) (leads_to (map.get S.cells (name_of a)) (name_of a)) None) store
-      ∙ ap (λ n. cond (nat_eq b.id.store S.number) (leads_to (map.get S.cells n) n) None) name
+-- boxes of one store and name reach the same
+reach_alike : {T : Type 0} (S : State T) (a b : GenerationalPointer) → a.id.store ≡ b.id.store
+    → name_of a ≡ name_of b → reach S a ≡ reach S b
+unfolding reach
+reach_alike S a b store name =
+    ap (λ n. cond (nat_eq n S.number) (leads_to (map.get S.cells (name_of a)) (name_of a)) None) store
+    ∙ ap (λ n. cond (nat_eq b.id.store S.number) (leads_to (map.get S.cells n) n) None) name
 
-  -- ---- what an owner lists
+-- rows that are the same
+pub same_kept : {I T : Type 0} {eq : I → I → Bool} {S : State T} {rows after : I → Option Held}
+    → IsKept S eq rows → ((i : I) → after i ≡ rows i) → IsKept S eq after
+same_kept {I} {T} {eq} {S} k same = subst (IsKept S eq) (λ j i. sym (same i) j) k
 
-  lists_same : (S R : State T) (o : OwnerName) (b : GenerationalPointer)
-      → ownership R o ≡ ownership S o → Lists S o b → Lists R o b
-  lists_same S R o b same there =
-      subst (λ h. among (names_in h) (name_of b) ≡ true) (sym same) there
+-- ---- what a call leaves of the rows
 
-  module _ (S R : State T) (s : IsSound S) {keys : List Key} (k : IsKept S keys) where
-    -- the owner of a key keeps its record, unless a call goes by it
-    pub owner_still : (call : Action T) (answer : Answer T) → Meets S call answer R → (x : Key)
-        → StandsIn x keys → LeavesOwner call x.owner
-        → ownership R x.owner ≡ ownership S x.owner
-    owner_still call answer m x there leaves =
-        let held = k.held x there in
-        keeps_known call answer s m x.owner _ leaves held.1 ∙ sym held.1
+module _ {I T : Type 0} {eq : I → I → Bool} (S R : State T) (s : IsSound S) {rows : I → Option Held}
+    (k : IsKept S eq rows) where
+  -- the owner of a row keeps its record, unless a call goes by it
+  owner_still : (call : Action T) (answer : Answer T) → Meets S call answer R → (i : I) (h : Held)
+      → rows i ≡ Some h → LeavesOwner call h.owner
+      → ownership R h.owner ≡ Some (record { names = h.names; count = 1 })
+  owner_still call answer m i h is leaves =
+      keeps_known call answer s m h.owner _ leaves (k.held i h is)
 
-    -- what it listed before is left where the call leaves it
-    still_live : (call : Action T) (answer : Answer T) → Meets S call answer R → (x : Key)
-        → StandsIn x keys → (b : GenerationalPointer) → LeavesBox S call b → GivesOther call answer b
-        → Lists S x.owner b → b.id.store ≡ R.number → (n : Name) × (reach R b ≡ Some n)
-    still_live call answer m x there b leaves other listed own =
-        let was = k.live x there b listed (own ∙ meets_number S R call answer m) in
-        (was.0, same_reach S R call answer s m b leaves other ∙ was.1)
+  -- what it listed before is left where the call leaves it
+  still_live : (call : Action T) (answer : Answer T) → Meets S call answer R → (i : I) (h : Held)
+      → rows i ≡ Some h → (b : GenerationalPointer) → LeavesBox S call b → GivesOther call answer b
+      → among h.names (name_of b) ≡ true → b.id.store ≡ R.number → (n : Name) × (reach R b ≡ Some n)
+  still_live call answer m i h is b leaves other listed own =
+      let was = k.live i h is b listed (own ∙ meets_number S R call answer m) in
+      (was.0, same_reach S R call answer s m b leaves other ∙ was.1)
 
-    held_still : (x : Key) → StandsIn x keys → ownership R x.owner ≡ ownership S x.owner
-        → IsHeld R x.owner
-    held_still x there same = let held = k.held x there in (held.0, same ∙ held.1)
+  -- ---- a value that is set
 
-    -- ---- a login
+  pub set_kept : (b : GenerationalPointer) (v old : T) → Meets S (SetValue b v) (Old old) R
+      → IsKept R eq rows
+  set_kept a v old m = record {
+    unborrowed = quiet_stays call answer m tt k.unborrowed;
+    plain = stays_plain call answer m tt k.plain;
+    listed = stays_listed call answer s m k.listed;
+    apart = k.apart;
+    held = λ i h is. owner_still call answer m i h is tt;
+    known = λ o r is. k.known o r (sym (keeps_record call answer m o tt tt) ∙ is);
+    kept = λ b n to. k.kept b n (sym (same_reach S R call answer s m b tt tt) ∙ to);
+    live = λ i h is b listed own. still_live call answer m i h is b tt tt listed own;
+  }
+    where
+      call : Action T
+      call = SetValue a v
 
-    pub login_kept : (id : ℕ) (o : OwnerName) → Meets S NewOwner (Owned o) R
-        → ((x : Key) → StandsIn x keys → x.id ≢ id)
-        → IsKept R (keys ++ record { id = id; owner = o } ∷ [])
-    login_kept id o m free = record {
+      answer : Answer T
+      answer = Old old
+
+  -- ---- one row that changes
+
+  module _ (laws : IsEquivalence eq) {after : I → Option Held} (at : I) (w : Option Held)
+      (update : (i : I) → after i ≡ cond (eq at i) w (rows i)) where
+    here : (i : I) → eq at i ≡ true → after i ≡ w
+    here i t = update i ∙ ap (λ b. cond b w (rows i)) t
+
+    beside : (i : I) → eq at i ≡ false → after i ≡ rows i
+    beside i f = update i ∙ ap (λ b. cond b w (rows i)) f
+
+    split : (i : I) (h : Held) → after i ≡ Some h
+        → ((eq at i ≡ true) × (w ≡ Some h)) ⊎ ((eq at i ≡ false) × (rows i ≡ Some h))
+    split i h is = ⊎_elim (λ t. inl (t, sym (here i t) ∙ is)) (λ f. inr (f, sym (beside i f) ∙ is))
+        (cases_Bool (eq at i))
+
+    -- two ids that are this one are one
+    both : (i j : I) → eq at i ≡ true → eq at j ≡ true → eq i j ≡ true
+    both i j a b = sym (laws.congr at i j a) ∙ b
+
+  -- ---- a login
+
+  module _ (laws : IsEquivalence eq) {after : I → Option Held} (at : I) (o : OwnerName)
+      (update : (i : I) → after i ≡ cond (eq at i) (Some (record { owner = o; names = [] })) (rows i))
+      (free : (i : I) → eq at i ≡ true → rows i ≡ None) (m : Meets S NewOwner (Owned o) R) where
+    abbrev new : Held
+    new = record { owner = o; names = [] }
+
+    fresh_owned : (i : I) (h : Held) → rows i ≡ Some h → h.owner ≢ o
+    fresh_owned i h is e = none≢some _ _ (unknown_owner (Ok o) s m)
+        (ap (ownership S) (sym e) ∙ k.held i h is)
+
+    old_stays : (i : I) (h : Held) → rows i ≡ Some h → after i ≡ Some h
+    old_stays i h is = ⊎_elim (λ t. absurd (none≢some _ h (free i t) is))
+        (λ f. beside laws at _ update i f ∙ is) (cases_Bool (eq at i))
+
+    pub login_kept : IsKept R eq after
+    login_kept = record {
       unborrowed = quiet_stays NewOwner (Owned o) m tt k.unborrowed;
       plain = stays_plain NewOwner (Owned o) m tt k.plain;
       listed = stays_listed NewOwner (Owned o) s m k.listed;
-      apart = apart_pushed keys new k.apart (λ x there. (free x there, other x there));
-      held = λ x there. ⊎_elim (λ is. subst (λ y. IsHeld R y.owner) (sym is) ([], owned (Ok o) m))
-          (λ old. held_still x old (still x old)) (stands_pushed keys new x there);
-      known = λ p h is. ⊎_elim (λ same. (new, stands_new keys new, same))
-          (λ ne. let was = k.known p h (sym (keeps_record NewOwner (Owned o) m p tt ne) ∙ is) in
-          (was.0, stands_old keys new was.0 was.1, was.2)) (owner_cases o p);
+      apart = λ i j h g is there same. ⊎_elim
+          (λ a. ⊎_elim (λ b. both laws at _ update i j a.0 b.0)
+          (λ b. absurd (fresh_owned j g b.1 (sym same ∙ ap (λ (x : Held). x.owner) (sym (same_Some _ _ a.1)))))
+          (split laws at _ update j g there))
+          (λ a. ⊎_elim (λ b. absurd (fresh_owned i h a.1 (same ∙ ap (λ (x : Held). x.owner) (sym (same_Some _ _ b.1)))))
+          (λ b. k.apart i j h g a.1 b.1 same) (split laws at _ update j g there))
+          (split laws at _ update i h is);
+      held = λ i h is. ⊎_elim
+          (λ a. subst (λ (x : Held). ownership R x.owner ≡ Some (record { names = x.names; count = 1 }))
+          (same_Some new h a.1) (owned (Ok o) m))
+          (λ a. owner_still NewOwner (Owned o) m i h a.1 tt) (split laws at _ update i h is);
+      known = λ p r is. ⊎_elim (λ same. (at, new, here laws at _ update at (laws.refl at), same))
+          (λ ne. let was = k.known p r (sym (keeps_record NewOwner (Owned o) m p tt ne) ∙ is) in
+          (was.0, was.1, old_stays was.0 was.1 was.2, was.3)) (owner_cases o p);
       kept = λ b n to.
           let was = k.kept b n (sym (same_reach S R NewOwner (Owned o) s m b tt tt) ∙ to) in
-          (was.0, stands_old keys new was.0 was.1, lists_same S R _ b (still was.0 was.1) was.2);
-      live = λ x there b listed own. ⊎_elim
-          (λ is. absurd (true≢false (sym listed ∙ ap (λ h. among (names_in h) (name_of b))
-          (ap (λ (y : Key). ownership R y.owner) is ∙ owned (Ok o) m))))
-          (λ old. still_live NewOwner (Owned o) m x old b tt tt
-          (lists_same R S _ b (sym (still x old)) listed) own)
-          (stands_pushed keys new x there);
+          (was.0, was.1, old_stays was.0 was.1 was.2, was.3);
+      live = λ i h is b listed own. ⊎_elim
+          (λ a. absurd (true≢false (sym listed
+          ∙ ap (λ (x : Held). among x.names (name_of b)) (sym (same_Some new h a.1)))))
+          (λ a. still_live NewOwner (Owned o) m i h a.1 b tt tt listed own) (split laws at _ update i h is);
     }
+
+  -- ---- a value that is put
+
+  module _ (laws : IsEquivalence eq) {after : I → Option Held} (at : I) (x : Held) (v : T) (l : Location)
+      (a : GenerationalBox T)
+      (update : (i : I) → after i ≡ cond (eq at i)
+      (Some (record { owner = x.owner; names = x.names ++ name_of (pointer_of a) ∷ [] })) (rows i))
+      (there : (i : I) → eq at i ≡ true → rows i ≡ Some x)
+      (m : Meets S (Make (Some x.owner) v l) (Made (pointer_of a)) R) where
+    abbrev grown : Held
+    grown = record { owner = x.owner; names = x.names ++ name_of (pointer_of a) ∷ [] }
+
+    abbrev put_call : Action T
+    put_call = Make (Some x.owner) v l
+
+    abbrev put_answer : Answer T
+    put_answer = Made (pointer_of a)
+
+    -- each row had its owner before
+    was_owned : (i : I) (h : Held) → after i ≡ Some h → (g : Held) × (rows i ≡ Some g) × (g.owner ≡ h.owner)
+    was_owned i h is = ⊎_elim
+        (λ b. (x, there i b.0, ap (λ (y : Held). y.owner) (same_Some grown h b.1)))
+        (λ b. (h, b.1, refl)) (split laws at _ update i h is)
+
+    -- another's owner is another
+    other_owner : (i : I) (h : Held) → eq at i ≡ false → rows i ≡ Some h → x.owner ≢ h.owner
+    other_owner i h f is e = true≢false (sym (k.apart at i x h (there at (laws.refl at)) is e) ∙ f)
+
+    -- what was listed is
+    listed_still : (b : GenerationalPointer) → among x.names (name_of b) ≡ true
+        → among grown.names (name_of b) ≡ true
+    listed_still b was = list_any-append (is_name (name_of b)) x.names _
+        ∙ ap (λ y. y || among (name_of (pointer_of a) ∷ []) (name_of b)) was
+
+    listed_before : (b : GenerationalPointer) → name_of (pointer_of a) ≢ name_of b
+        → among grown.names (name_of b) ≡ true → among x.names (name_of b) ≡ true
+    listed_before b ne now = ⊎_elim (λ old. old)
+        (λ new. ⊎_elim (λ same. absurd (ne (sym (name_same (name_of b) (name_of (pointer_of a)) same))))
+        (λ none. absurd (true≢false (sym none))) (or_cases _ _ new))
+        (or_cases _ _ (sym (list_any-append (is_name (name_of b)) x.names
+        (name_of (pointer_of a) ∷ [])) ∙ now))
+
+    pub put_kept : IsKept R eq after
+    put_kept = record {
+      unborrowed = quiet_stays put_call put_answer m tt k.unborrowed;
+      plain = stays_plain put_call put_answer m tt k.plain;
+      listed = stays_listed put_call put_answer s m k.listed;
+      apart = λ i j h g is on same.
+          let b = was_owned i h is in
+          let c = was_owned j g on in
+          k.apart i j b.0 c.0 b.1 c.1 (b.2 ∙ (same ∙ sym c.2));
+      held = λ i h is. ⊎_elim
+          (λ b. subst (λ (y : Held). ownership R y.owner ≡ Some (record { names = y.names; count = 1 }))
+          (same_Some grown h b.1) (lists x.owner v l (Ok a) m _ (k.held at x (there at (laws.refl at)))))
+          (λ b. owner_still put_call put_answer m i h b.1 (other_owner i h b.0 b.1))
+          (split laws at _ update i h is);
+      known = λ o r is. ⊎_elim (λ same. (at, grown, here laws at _ update at (laws.refl at), same))
+          (λ ne. let was = k.known o r (sym (keeps_record put_call put_answer m o ne tt) ∙ is) in (
+            was.0,
+            was.1,
+            ⊎_elim
+                (λ t. absurd (ne (ap (λ (y : Held). y.owner) (same_Some x was.1 (sym (there was.0 t) ∙ was.2)) ∙ was.3)))
+                (λ f. beside laws at _ update was.0 f ∙ was.2) (cases_Bool (eq at was.0)),
+            was.3,
+          ))
+          (owner_cases x.owner o);
+      kept = λ b n to. ⊎_elim
+          (λ is. (
+            at,
+            grown,
+            here laws at _ update at (laws.refl at),
+            ap (among grown.names) (sym is) ∙ listed_last x.names (name_of (pointer_of a)),
+          ))
+          (λ ne. let was = k.kept b n (sym (same_reach S R put_call put_answer s m b tt ne) ∙ to) in ⊎_elim
+          (λ t. (
+            at,
+            grown,
+            here laws at _ update at (laws.refl at),
+            listed_still b
+                (ap (λ (y : Held). among y.names (name_of b)) (same_Some x was.1 (sym (there was.0 t) ∙ was.2)) ∙ was.3),
+          ))
+          (λ f. (was.0, was.1, beside laws at _ update was.0 f ∙ was.2, was.3)) (cases_Bool (eq at was.0)))
+          (name_cases (name_of (pointer_of a)) (name_of b));
+      live = λ i h is b listed own. ⊎_elim
+          (λ e. let to = seen_reached R (pointer_of a) v (made (Some x.owner) v l (Ok a) m) in (
+            to.0,
+            reach_alike R b (pointer_of a) (own ∙ sym ((made_new S R put_call (pointer_of a) m).0
+                ∙ sym (meets_number S R put_call put_answer m))) (sym e) ∙ to.1,
+          ))
+          (λ ne. ⊎_elim
+          (λ c. still_live put_call put_answer m i x (there i c.0) b tt ne (listed_before b ne
+          (ap (λ (y : Held). among y.names (name_of b)) (same_Some grown h c.1) ∙ listed)) own)
+          (λ c. still_live put_call put_answer m i h c.1 b tt ne listed own) (split laws at _ update i h is))
+          (name_cases (name_of (pointer_of a)) (name_of b));
+    }
+
+  -- ---- a session that ends
+
+  module _ (laws : IsEquivalence eq) {after : I → Option Held} (at : I) (x : Held)
+      (update : (i : I) → after i ≡ cond (eq at i) None (rows i))
+      (there : (i : I) → eq at i ≡ true → rows i ≡ Some x) (m : Meets S (ReleaseOwner x.owner) Done R) where
+    held_there : ownership S x.owner ≡ Some (record { names = x.names; count = 1 })
+    held_there = k.held at x (there at (laws.refl at))
+
+    -- what it listed reaches nothing, and each other box is left
+    ended_reach : (b : GenerationalPointer) → among x.names (name_of b) ≡ true → reach R b ≡ None
+    ended_reach b was = ends_owned x.owner {U = Unit {0}} {V = OwnerName} (Ok tt) m _ b held_there (omega arith) was
+
+    pub ended_shows : (b : GenerationalPointer) → among x.names (name_of b) ≡ true → value_in R b ≡ None
+    ended_shows b was = unseen R b (ended_reach b was)
+
+    pub ended_left : (b : GenerationalPointer) → among x.names (name_of b) ≡ false → IsLeft S b R
+    ended_left b out = release_leaves S R x.owner Done s m _ held_there b out
+
+    -- the rows that are left were there
+    old_row : (i : I) (h : Held) → after i ≡ Some h → (eq at i ≡ false) × (rows i ≡ Some h)
+    old_row i h is = ⊎_elim (λ a. absurd (none-some h a.1)) (λ a. a) (split laws at _ update i h is)
+
+    other_left : (i : I) (h : Held) → after i ≡ Some h → x.owner ≢ h.owner
+    other_left i h is e =
+        let old = old_row i h is in
+        true≢false (sym (k.apart at i x h (there at (laws.refl at)) old.1 e) ∙ old.0)
+
+    still_held : (i : I) (h : Held) → after i ≡ Some h
+        → ownership R h.owner ≡ Some (record { names = h.names; count = 1 })
+    still_held i h is =
+        owner_still (ReleaseOwner x.owner) Done m i h (old_row i h is).1 (other_left i h is)
+
+    gone : ownership R x.owner ≡ None
+    gone = none (nat_eq x.owner.store R.number)
       where
-        new : Key
-        new = record { id = id; owner = o }
+        none : (own : Bool) → cond own (map.get R.owners x.owner.key) None ≡ None
+        none true = last_record (record { held = held_there; done = m }) (omega arith)
+        none false = refl
 
-        other : (x : Key) → StandsIn x keys → x.owner ≢ o
-        other x there e = none≢some _ _ (unknown_owner (Ok o) s m)
-            (ap (ownership S) (sym e) ∙ (k.held x there).1)
+    -- what another row lists this one doesn't
+    unlisted : (i : I) (h : Held) → after i ≡ Some h → (b : GenerationalPointer)
+        → among h.names (name_of b) ≡ true → among x.names (name_of b) ≡ false
+    unlisted i h is b listed = k.listed.apart h.owner x.owner _ _ (name_of b)
+        (λ e. other_left i h is (sym e)) (k.held i h (old_row i h is).1) held_there listed
 
-        still : (x : Key) → StandsIn x keys → ownership R x.owner ≡ ownership S x.owner
-        still x there = owner_still NewOwner (Owned o) m x there tt
-
-    -- ---- a value that is put
-
-    module _ (x : Key) (there : StandsIn x keys) (v : T) (l : Location) (a : GenerationalBox T)
-        (m : Meets S (Make (Some x.owner) v l) (Made (pointer_of a)) R) where
-      -- the name stands at the end of its owner's list
-      pub put_listed : ownership R x.owner
-          ≡ Some (record { names = (k.held x there).0 ++ name_of (pointer_of a) ∷ []; count = 1 })
-      put_listed = lists x.owner v l (Ok a) m _ (k.held x there).1
-
-      pub put_other : (y : Key) → StandsIn y keys → x.owner ≢ y.owner
-          → ownership R y.owner ≡ ownership S y.owner
-      put_other y at ne = owner_still (Make (Some x.owner) v l) (Made (pointer_of a)) m y at ne
-
-      -- what was listed is
-      pub put_still : (y : Key) → StandsIn y keys → (b : GenerationalPointer) → Lists S y.owner b
-          → Lists R y.owner b
-      put_still y at b was = ⊎_elim
-          (λ is. subst (λ (z : Key). Lists R z.owner b) is
-          (ap (λ h. among (names_in h) (name_of b)) put_listed
-          ∙ (list_any-append (is_name (name_of b)) (k.held x there).0 _
-          ∙ ap (λ y. y || among (name_of (pointer_of a) ∷ []) (name_of b)) (listed is))))
-          (λ two. lists_same S R _ b (put_other y at two.1) was)
-          (one_or_two keys k.apart x y there at)
-        where
-          listed : x ≡ y → among (k.held x there).0 (name_of b) ≡ true
-          listed is = ap (λ h. among (names_in h) (name_of b)) (sym (k.held x there).1)
-              ∙ subst (λ (z : Key). Lists S z.owner b) (sym is) was
-
-      -- nothing else is but the new name
-      pub put_only : (y : Key) → StandsIn y keys → (b : GenerationalPointer)
-          → name_of (pointer_of a) ≢ name_of b → Lists R y.owner b → Lists S y.owner b
-      put_only y at b ne now = ⊎_elim
-          (λ is. subst (λ (z : Key). Lists S z.owner b) is
-          (ap (λ h. among (names_in h) (name_of b)) (k.held x there).1 ∙ listed is))
-          (λ two. lists_same R S _ b (sym (put_other y at two.1)) now)
-          (one_or_two keys k.apart x y there at)
-        where
-          among_all : x ≡ y → among ((k.held x there).0 ++ name_of (pointer_of a) ∷ []) (name_of b) ≡ true
-          among_all is = ap (λ h. among (names_in h) (name_of b)) (sym put_listed)
-              ∙ subst (λ (z : Key). Lists R z.owner b) (sym is) now
-
-          listed : x ≡ y → among (k.held x there).0 (name_of b) ≡ true
-          listed is = ⊎_elim (λ old. old)
-              (λ new. ⊎_elim (λ same. absurd (ne (sym (name_same (name_of b) (name_of (pointer_of a)) same))))
-              (λ none. absurd (true≢false (sym none))) (or_cases _ _ new))
-              (or_cases _ _ (sym (list_any-append (is_name (name_of b)) (k.held x there).0
-              (name_of (pointer_of a) ∷ [])) ∙ among_all is))
-
-      -- and the new name
-      pub put_new : (b : GenerationalPointer) → name_of (pointer_of a) ≡ name_of b
-          → Lists R x.owner b
-      put_new b is = ap (λ h. among (names_in h) (name_of b)) put_listed
-          ∙ (ap (among ((k.held x there).0 ++ name_of (pointer_of a) ∷ [])) (sym is)
-          ∙ listed_last (k.held x there).0 (name_of (pointer_of a)))
-
-      pub put_kept : IsKept R keys
-      put_kept = record {
-        unborrowed = quiet_stays call answer m tt k.unborrowed;
-        plain = stays_plain call answer m tt k.plain;
-        listed = stays_listed call answer s m k.listed;
-        apart = k.apart;
-        held = λ y at. ⊎_elim (λ is. subst (λ (z : Key). IsHeld R z.owner) is (_, put_listed))
-            (λ two. held_still y at (put_other y at two.1)) (one_or_two keys k.apart x y there at);
-        known = λ p h is. ⊎_elim (λ same. (x, there, same))
-            (λ ne. k.known p h (sym (keeps_record call answer m p ne tt) ∙ is)) (owner_cases x.owner p);
-        kept = λ b n to. ⊎_elim (λ is. (x, there, put_new b is))
-            (λ ne. let was = k.kept b n (sym (same_reach S R call answer s m b tt ne) ∙ to) in
-            (was.0, was.1, put_still was.0 was.1 b was.2))
-            (name_cases (name_of (pointer_of a)) (name_of b));
-        live = λ y at b listed own. ⊎_elim
-            (λ is. let to = seen_reached R (pointer_of a) v (made (Some x.owner) v l (Ok a) m) in (
-              to.0,
-              reach_alike R b (pointer_of a) (own ∙ sym ((made_new S R call (pointer_of a) m).0
-                  ∙ sym (meets_number S R call answer m))) (sym is) ∙ to.1,
-            ))
-            (λ ne. still_live call answer m y at b tt ne (put_only y at b ne listed) own)
-            (name_cases (name_of (pointer_of a)) (name_of b));
-      }
-        where
-          call : Action T
-          call = Make (Some x.owner) v l
-
-          answer : Answer T
-          answer = Made (pointer_of a)
-
-    -- ---- a value that is set
-
-    pub set_owner : (b : GenerationalPointer) (v old : T) → Meets S (SetValue b v) (Old old) R
-        → (o : OwnerName) → ownership R o ≡ ownership S o
-    set_owner b v old m o = keeps_record (SetValue b v) (Old old) m o tt tt
-
-    pub set_kept : (b : GenerationalPointer) (v old : T) → Meets S (SetValue b v) (Old old) R
-        → IsKept R keys
-    set_kept a v old m = record {
-      unborrowed = quiet_stays (SetValue a v) (Old old) m tt k.unborrowed;
-      plain = stays_plain (SetValue a v) (Old old) m tt k.plain;
-      listed = stays_listed (SetValue a v) (Old old) s m k.listed;
-      apart = k.apart;
-      held = λ x there. held_still x there (set_owner a v old m x.owner);
-      known = λ o h is. k.known o h (sym (set_owner a v old m o) ∙ is);
-      kept = λ b n to.
-          let was = k.kept b n (sym (same_reach S R (SetValue a v) (Old old) s m b tt tt) ∙ to) in
-          (was.0, was.1, lists_same S R _ b (set_owner a v old m was.0.owner) was.2);
-      live = λ x there b listed own. still_live (SetValue a v) (Old old) m x there b tt tt
-          (lists_same R S _ b (sym (set_owner a v old m x.owner)) listed) own;
+    pub ended_kept : IsKept R eq after
+    ended_kept = record {
+      unborrowed = quiet_stays (ReleaseOwner x.owner) Done m tt k.unborrowed;
+      plain = stays_plain (ReleaseOwner x.owner) Done m tt k.plain;
+      listed = stays_listed (ReleaseOwner x.owner) Done s m k.listed;
+      apart = λ i j h g is on. k.apart i j h g (old_row i h is).1 (old_row j g on).1;
+      held = still_held;
+      known = λ o r is. ⊎_elim
+          (λ same. absurd (none≢some _ r (subst (λ p. ownership R p ≡ None) same gone) is))
+          (λ ne. let was = k.known o r (sym (keeps_record (ReleaseOwner x.owner) Done m o ne tt) ∙ is) in (
+            was.0,
+            was.1,
+            ⊎_elim
+                (λ t. absurd (ne (ap (λ (y : Held). y.owner) (same_Some x was.1 (sym (there was.0 t) ∙ was.2)) ∙ was.3)))
+                (λ f. beside laws at _ update was.0 f ∙ was.2) (cases_Bool (eq at was.0)),
+            was.3,
+          ))
+          (owner_cases x.owner o);
+      kept = λ b n to. ⊎_elim
+          (λ was. absurd (none≢some _ n (ended_reach b was) to))
+          (λ out. let was = k.kept b n (sym (ended_left b out).reached ∙ to) in (
+            was.0,
+            was.1,
+            ⊎_elim
+                (λ t. absurd (true≢false (sym was.3
+                ∙ (ap (λ (y : Held). among y.names (name_of b)) (sym (same_Some x was.1 (sym (there was.0 t) ∙ was.2))) ∙ out))))
+                (λ f. beside laws at _ update was.0 f ∙ was.2) (cases_Bool (eq at was.0)),
+            was.3,
+          ))
+          (cases_Bool (among x.names (name_of b)));
+      live = λ i h is b listed own.
+          let was = k.live i h (old_row i h is).1 b listed
+          (own ∙ meets_number S R (ReleaseOwner x.owner) Done m) in
+          (was.0, (ended_left b (unlisted i h is b listed)).reached ∙ was.1);
     }
-
-    -- ---- a session that ends
-
-    module _ (i : ℕ) (x : Key) (at : slice_get keys i ≡ Some x)
-        (m : Meets S (ReleaseOwner x.owner) Done R) where
-      abbrev there : StandsIn x keys
-      there = stands_at keys i x at
-
-      held : ownership S x.owner ≡ Some (record { names = (k.held x there).0; count = 1 })
-      held = (k.held x there).1
-
-      -- what it listed reaches nothing, and each other box is left
-      ended_reach : (b : GenerationalPointer) → Lists S x.owner b → reach R b ≡ None
-      ended_reach b was = ends_owned x.owner {U = Unit {0}} {V = OwnerName} (Ok tt) m _ b held
-          (omega arith) (ap (λ h. among (names_in h) (name_of b)) (sym held) ∙ was)
-
-      pub ended_shows : (b : GenerationalPointer) → Lists S x.owner b → value_in R b ≡ None
-      ended_shows b was = unseen R b (ended_reach b was)
-
-      pub ended_left : (b : GenerationalPointer)
-          → among (names_in (ownership S x.owner)) (name_of b) ≡ false → IsLeft S b R
-      ended_left b out = release_leaves S R x.owner Done s m _ held b
-          (ap (λ h. among (names_in h) (name_of b)) (sym held) ∙ out)
-
-      pub ended_other : (y : Key) → StandsIn y (remove keys i)
-          → ownership R y.owner ≡ ownership S y.owner
-      ended_other y rest = owner_still (ReleaseOwner x.owner) Done m y (removed_old keys i y rest)
-          (removed_two keys i x y k.apart at rest).1
-
-      pub ended_kept : IsKept R (remove keys i)
-      ended_kept = record {
-        unborrowed = quiet_stays (ReleaseOwner x.owner) Done m tt k.unborrowed;
-        plain = stays_plain (ReleaseOwner x.owner) Done m tt k.plain;
-        listed = stays_listed (ReleaseOwner x.owner) Done s m k.listed;
-        apart = apart_removed keys i k.apart;
-        held = λ y rest. held_still y (removed_old keys i y rest) (ended_other y rest);
-        known = λ o h is. ⊎_elim (λ same. absurd (none≢some _ h (subst (λ p. ownership R p ≡ None) same gone) is))
-            (λ ne. known_still o h is ne) (owner_cases x.owner o);
-        kept = λ b n to. ⊎_elim
-            (λ was. absurd (none≢some _ n (ended_reach b was) to))
-            (λ out. found_still b n to out)
-            (cases_Bool (among (names_in (ownership S x.owner)) (name_of b)));
-        live = λ y rest b listed own.
-            let before = lists_same R S _ b (sym (ended_other y rest)) listed in
-            let was = k.live y (removed_old keys i y rest) b before
-            (own ∙ meets_number S R (ReleaseOwner x.owner) Done m) in
-            (was.0, (ended_left b (beside y rest b before)).reached ∙ was.1);
-      }
-        where
-          none : (own : Bool) → cond own (map.get R.owners x.owner.key) None ≡ None
-          none true = last_record (record { held = held; done = m }) (omega arith)
-          none false = refl
-
-          gone : ownership R x.owner ≡ None
-          gone = none (nat_eq x.owner.store R.number)
-
-          known_still : (o : OwnerName) (h : Ownership) → ownership R o ≡ Some h → x.owner ≢ o
-              → (y : Key) × StandsIn y (remove keys i) × (y.owner ≡ o)
-          known_still o h is ne =
-              let was = k.known o h (sym (keeps_record (ReleaseOwner x.owner) Done m o ne tt) ∙ is) in
-              ⊎_elim (λ same. absurd (ne (ap (λ (z : Key). z.owner) (sym same) ∙ was.2)))
-              (λ rest. (was.0, rest, was.2)) (removed_rest keys i x was.0 at was.1)
-
-          beside : (y : Key) → StandsIn y (remove keys i) → (b : GenerationalPointer)
-              → Lists S y.owner b → among (names_in (ownership S x.owner)) (name_of b) ≡ false
-          beside y rest b listed =
-              let also = k.held y (removed_old keys i y rest) in
-              ap (λ h. among (names_in h) (name_of b)) held
-              ∙ k.listed.apart y.owner x.owner _ _ (name_of b)
-              (λ e. (removed_two keys i x y k.apart at rest).1 (sym e)) also.1 held
-              (ap (λ h. among (names_in h) (name_of b)) (sym also.1) ∙ listed)
-
-          found_still : (b : GenerationalPointer) (n : Name) → reach R b ≡ Some n
-              → among (names_in (ownership S x.owner)) (name_of b) ≡ false
-              → (y : Key) × StandsIn y (remove keys i) × Lists R y.owner b
-          found_still b n to out =
-              let was = k.kept b n (sym (ended_left b out).reached ∙ to) in
-              ⊎_elim (λ is. absurd (true≢false
-              (sym (subst (λ (z : Key). Lists S z.owner b) is was.2) ∙ out)))
-              (λ rest. (was.0, rest, lists_same S R _ b (ended_other was.0 rest) was.2))
-              (removed_rest keys i x was.0 at was.1)

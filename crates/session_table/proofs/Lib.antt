@@ -1,9 +1,5 @@
 pub mod Calls
-pub mod Expiring
-pub mod Gathering
+pub mod Ending
 pub mod Keeping
-pub mod Keys
-pub mod Lists
 pub mod Rows
-pub mod Sessions
 pub mod Storing

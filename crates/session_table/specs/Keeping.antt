@@ -1,8 +1,8 @@
 -- What holds of a table's store and of its rows.
-use Rattle.std.specs.Prelude.{◌≡◌, ◌≢◌, ℕ, List, [], ◌∷◌, ◌⊎◌, Some, true}
+use Rattle.std.specs.Prelude.{◌≡◌, Bool, List, Option, Some, true, option_map}
+use Rattle.std.specs.Map.{lookup}
 use Rattle.generational_core.specs.Borrowing.{reach}
 use Rattle.generational_core.specs.Boxes.{name_of}
-use Rattle.generational_core.specs.Conditions.{names_in}
 use Rattle.generational_core.specs.Leaving.{IsUnborrowed}
 use Rattle.generational_core.specs.Machine.{OwnerName, ownership}
 use Rattle.generational_core.specs.Names.{Name, among}
@@ -11,47 +11,35 @@ use Rattle.generational_core.specs.declared.boxes.GenerationalPointer.{Generatio
 use Rattle.generational_sessions.specs.ListedOnce.{AreListedOnce}
 use Rattle.generational_sessions.specs.PlainStores.{IsPlain}
 use Rattle.session_table.specs.declared.session.Session.{Session}
+use Rattle.session_table.specs.Sessions.{names_of}
 
--- a row's id and its owner, which stay for as long as its session
-pub record Key : Type 0 where
-  pub id : ℕ
+-- what the store has for a row: its owner, and the names of its entries
+pub record Held : Type 0 where
   pub owner : OwnerName
+  pub names : List Name
 
-abbrev pub key_of : Session → Key
-key_of s = record { id = s.id; owner = s.owner }
+abbrev pub held_of : {K T : Type 0} → Session K T → Held
+held_of s = record { owner = s.owner; names = names_of s.entries.entries }
 
--- an element stands in a list
-abbrev pub StandsIn : {X : Type 0} → X → List X → Type 0
-StandsIn x [] = ⊥
-StandsIn x (y ∷ xs) = (x ≡ y) ⊎ StandsIn x xs
+module _ {I K T : Type 0} where
+  abbrev pub held_in : (I → I → Bool) → List (I × Session K T) → I → Option Held
+  held_in eq rows id = option_map held_of (lookup (eq id) rows)
 
--- no two keys have one id, or one owner
-abbrev pub AreApart : List Key → Type 0
-AreApart [] = Unit {0}
-AreApart (x ∷ keys) =
-    ((k : Key) → StandsIn k keys → (x.id ≢ k.id) × (x.owner ≢ k.owner)) × AreApart keys
-
-module _ {T : Type 0} where
-  -- an owner's list has a box's name
-  abbrev pub Lists : State T → OwnerName → GenerationalPointer → Type 0
-  Lists S o b = among (names_in (ownership S o)) (name_of b) ≡ true
-
-  -- an owner has a record, which counts one owner value
-  abbrev pub IsHeld : State T → OwnerName → Type 0
-  IsHeld S o = (names : List Name) × (ownership S o ≡ Some (record { names = names; count = 1 }))
-
+module _ {I T : Type 0} where
   -- no borrow stands, no cell is a reference, and no name is listed twice; the store's records are
-  -- those of the sessions' owners, what a box reaches is listed for one of them, and what is listed
-  -- reaches something
-  pub record IsKept (S : State T) (keys : List Key) : Type 0 where
+  -- those of the rows' owners, which list the rows' entries; two ids have two owners, what a box
+  -- reaches is an entry of a row, and an entry of a row reaches something
+  pub record IsKept (S : State T) (eq : I → I → Bool) (rows : I → Option Held) : Type 0 where
     pub unborrowed : IsUnborrowed S
     pub plain : IsPlain S
     pub listed : AreListedOnce S
-    pub apart : AreApart keys
-    pub held : (k : Key) → StandsIn k keys → IsHeld S k.owner
-    pub known : (o : OwnerName) (h : Ownership) → ownership S o ≡ Some h
-        → (k : Key) × StandsIn k keys × (k.owner ≡ o)
+    pub apart : (i j : I) (h g : Held) → rows i ≡ Some h → rows j ≡ Some g → h.owner ≡ g.owner
+        → eq i j ≡ true
+    pub held : (i : I) (h : Held) → rows i ≡ Some h
+        → ownership S h.owner ≡ Some (record { names = h.names; count = 1 })
+    pub known : (o : OwnerName) (r : Ownership) → ownership S o ≡ Some r
+        → (i : I) × (h : Held) × (rows i ≡ Some h) × (h.owner ≡ o)
     pub kept : (b : GenerationalPointer) (m : Name) → reach S b ≡ Some m
-        → (k : Key) × StandsIn k keys × Lists S k.owner b
-    pub live : (k : Key) → StandsIn k keys → (b : GenerationalPointer) → Lists S k.owner b
-        → b.id.store ≡ S.number → (m : Name) × (reach S b ≡ Some m)
+        → (i : I) × (h : Held) × (rows i ≡ Some h) × (among h.names (name_of b) ≡ true)
+    pub live : (i : I) (h : Held) → rows i ≡ Some h → (b : GenerationalPointer)
+        → among h.names (name_of b) ≡ true → b.id.store ≡ S.number → (m : Name) × (reach S b ≡ Some m)

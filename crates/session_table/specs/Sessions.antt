@@ -1,48 +1,45 @@
--- Sessions as a caller sees them, and which of a list an id, a time or an entry names.
-use Rattle.std.specs.Prelude.{ℕ, Bool, not, nat_eq, nat_lt, List, [], ◌∷◌, ◌++◌, Option, None, Some}
-use Rattle.std.specs.Prelude.{find, if◌then◌else◌}
+-- Sessions as a caller sees them.
+use Rattle.std.specs.Prelude.{ℕ, Bool, not, nat_lt, List, [], ◌∷◌, ◌++◌, Option, None, Some, map, if◌then◌else◌}
+use Rattle.std.specs.Map.{lookup}
+use Rattle.generational_core.specs.Boxes.{name_of}
 use Rattle.generational_core.specs.Names.{Name}
-use Rattle.session_table.specs.declared.session.Session.{Session}
+use Rattle.session_table.specs.declared.entry.Entry.{Entry}
+use Rattle.session_table.specs.Entries.{pointer_in}
 
--- a session: its id, the time of its last use, and the names of its entries, in the order in which
--- they were put
-pub record LiveSession : Type 0 where
-  pub id : ℕ
+-- a session: the time of its last use, and its entries by their keys, in the order in which they were put
+pub record LiveSession (K T : Type 0) : Type 0 where
   pub used_at : ℕ
-  pub entries : List Name
+  pub entries : List (K × Entry T)
 
--- whether a session has an id, whether a row has it, and whether a session has another
-abbrev pub is_of : ℕ → LiveSession → Bool
-is_of id s = nat_eq s.id id
+module _ {K T : Type 0} where
+  -- one that has just begun
+  abbrev pub begun : ℕ → LiveSession K T
+  begun now = record { used_at = now; entries = [] }
 
-abbrev pub is_row : ℕ → Session → Bool
-is_row id s = nat_eq s.id id
+  -- one that was used at a time, and one with one entry more
+  abbrev pub used : ℕ → LiveSession K T → LiveSession K T
+  used now s = record s { used_at = now }
 
-abbrev pub is_other : ℕ → LiveSession → Bool
-is_other id s = not (is_of id s)
+  abbrev pub with_entry : K → Entry T → LiveSession K T → LiveSession K T
+  with_entry k e s = record s { entries = s.entries ++ (k, e) ∷ [] }
 
--- the session of an id, if there is one, and the names of its entries
-abbrev pub session_in : List LiveSession → ℕ → Option LiveSession
-session_in sessions id = find (is_of id) sessions
+  -- whether one was used at a time or after it; the session, where it was
+  abbrev pub is_young : ℕ → LiveSession K T → Bool
+  is_young time s = not (nat_lt s.used_at time)
 
-abbrev pub entries_of : Option LiveSession → List Name
-entries_of None = []
-entries_of (Some s) = s.entries
+  abbrev pub if_young : ℕ → Option (LiveSession K T) → Option (LiveSession K T)
+  if_young time None = None
+  if_young time (Some s) = if is_young time s then Some s else None
 
--- whether a session, and whether a row, was used at a time or after it; the session, where it was
-abbrev pub is_young : ℕ → LiveSession → Bool
-is_young time s = not (nat_lt s.used_at time)
+  -- the names of entries
+  abbrev pub names_of : List (K × Entry T) → List Name
+  names_of entries = map (λ e. name_of (pointer_in e.1)) entries
 
-abbrev pub is_young_row : ℕ → Session → Bool
-is_young_row time s = not (nat_lt s.used_at time)
+  abbrev pub names_in : Option (LiveSession K T) → List Name
+  names_in None = []
+  names_in (Some s) = names_of s.entries
 
-abbrev pub if_young : ℕ → Option LiveSession → Option LiveSession
-if_young time None = None
-if_young time (Some s) = if is_young time s then Some s else None
-
--- what becomes of a session where a name is put into that of an id, and where that is used at a time
-abbrev pub put_in : ℕ → Name → LiveSession → LiveSession
-put_in id n s = if is_of id s then record s { entries = s.entries ++ n ∷ [] } else s
-
-abbrev pub touch_in : ℕ → ℕ → LiveSession → LiveSession
-touch_in id time s = if is_of id s then record s { used_at = time } else s
+  -- the entry under a key
+  abbrev pub entry_in : (K → K → Bool) → Option (LiveSession K T) → K → Option (Entry T)
+  entry_in eq None k = None
+  entry_in eq (Some s) k = lookup (eq k) s.entries

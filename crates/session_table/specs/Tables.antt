@@ -1,55 +1,73 @@
 -- What a caller sees of a table of sessions.
-use Rattle.std.specs.Prelude.{◌≡◌, ◌≢◌, ℕ, Bool, true, false, List, Option, is_some}
-use Rattle.std.specs.Prelude.{nat_eq, map as list_map}
+use Rattle.std.specs.Prelude.{◌≡◌, ℕ, ◌+◌, Bool, true, false, cond, List, Option, None, Some, is_some}
+use Rattle.std.specs.Prelude.{length, slice_get, take, map as list_map}
 use Rattle.std.specs.List.{IsDistinct}
+use Rattle.std.specs.Map.{keys_of, lookup}
 use Rattle.generational_core.specs.Boxes.{name_of}
-use Rattle.generational_core.specs.Conditions.{names_in}
-use Rattle.generational_core.specs.Machine.{ownership}
 use Rattle.generational_core.specs.Names.{among}
 use Rattle.generational_core.specs.Seeing.{value_in}
 use Rattle.generational_core.specs.State.{State, IsGiven}
 use Rattle.session_table.specs.declared.entry.Entry.{Entry}
 use Rattle.session_table.specs.declared.session.Session.{Session}
 use Rattle.session_table.specs.Entries.{pointer_in}
-use Rattle.session_table.specs.Sessions.{LiveSession, session_in, entries_of}
+use Rattle.session_table.specs.Sessions.{LiveSession, names_in, names_of}
 
--- the state of the store, and the sessions in the order of their logins
-pub record TableState (T : Type 0) : Type 0 where
+-- the state of the store, and the sessions under their ids
+pub record TableState (I K T : Type 0) : Type 0 where
   pub state : State T
-  pub sessions : List LiveSession
+  pub sessions : List (I × LiveSession K T)
 
-module _ {T : Type 0} where
-  -- what a row is to a caller: its session keeps what the store lists for its owner
-  abbrev pub live_session : State T → Session → LiveSession
-  live_session S s = record {
-    id = s.id;
-    used_at = s.used_at;
-    entries = names_in (ownership S s.owner);
-  }
+-- what a row is to a caller
+abbrev pub live : {K T : Type 0} → Session K T → LiveSession K T
+live s = record { used_at = s.used_at; entries = s.entries.entries }
 
-  abbrev pub table_of : State T → List Session → TableState T
-  table_of S rows = record { state = S; sessions = list_map (live_session S) rows }
+abbrev pub live_row : {I K T : Type 0} → I × Session K T → I × LiveSession K T
+live_row e = (e.0, live e.1)
+
+module _ {I K T : Type 0} where
+  abbrev pub table_of : State T → List (I × Session K T) → TableState I K T
+  table_of S rows = record { state = S; sessions = list_map live_row rows }
 
   -- what an entry shows: its value, or nothing once its session is gone
-  abbrev pub shown_in : TableState T → Entry T → Option T
+  abbrev pub shown_in : TableState I K T → Entry T → Option T
   shown_in t e = value_in t.state (pointer_in e)
 
   -- an entry that the table gave, once
-  abbrev pub WasPut : TableState T → Entry T → Type 0
+  abbrev pub WasPut : TableState I K T → Entry T → Type 0
   WasPut t e = IsGiven t.state (name_of (pointer_in e))
 
-  -- whether an id has a session, and whether that keeps an entry
-  abbrev pub has_session : TableState T → ℕ → Bool
-  has_session t id = is_some (session_in t.sessions id)
+  -- by what `==` says of ids: the session of an id, if there is one, whether there is, and whether it
+  -- keeps an entry
+  module _ (eq : I → I → Bool) where
+    abbrev pub session_in : TableState I K T → I → Option (LiveSession K T)
+    session_in t id = lookup (eq id) t.sessions
 
-  abbrev pub keeps : TableState T → ℕ → Entry T → Bool
-  keeps t id e = among (entries_of (session_in t.sessions id)) (name_of (pointer_in e))
+    abbrev pub has_session : TableState I K T → I → Bool
+    has_session t id = is_some (session_in t id)
 
-  -- no id has two sessions; each entry that shows something is kept by a session, and none by two; and
-  -- each that is kept shows something, but for entries of other stores
-  pub record IsOrderly (t : TableState T) : Type 0 where
-    pub once : IsDistinct nat_eq (list_map (λ s. s.id) t.sessions)
-    pub kept : (e : Entry T) → is_some (shown_in t e) ≡ true → (id : ℕ) × (keeps t id e ≡ true)
-    pub apart : (i j : ℕ) (e : Entry T) → i ≢ j → keeps t i e ≡ true → keeps t j e ≡ false
-    pub live : (id : ℕ) (e : Entry T) → keeps t id e ≡ true
-        → (pointer_in e).id.store ≡ t.state.number → is_some (shown_in t e) ≡ true
+    abbrev pub keeps : TableState I K T → I → Entry T → Bool
+    keeps t id e = among (names_in (session_in t id)) (name_of (pointer_in e))
+
+    -- no id has two sessions; each entry that shows something is kept by a session, and none by two; and
+    -- each that is kept shows something, but for entries of other stores
+    pub record IsOrderly (t : TableState I K T) : Type 0 where
+      pub once : IsDistinct eq (keys_of t.sessions)
+      pub kept : (e : Entry T) → is_some (shown_in t e) ≡ true → (id : I) × (keeps t id e ≡ true)
+      pub apart : (i j : I) (e : Entry T) → eq i j ≡ false → keeps t i e ≡ true → keeps t j e ≡ false
+      pub live : (id : I) (e : Entry T) → keeps t id e ≡ true
+          → (pointer_in e).id.store ≡ t.state.number → is_some (shown_in t e) ≡ true
+
+    -- the session at a place ends, and nothing else; those before it keep their places
+    pub record EndsAt (place : ℕ) (t u : TableState I K T) : Type 0 where
+      pub ended : I × LiveSession K T
+      pub there : slice_get t.sessions place ≡ Some ended
+      pub found : session_in t ended.0 ≡ Some ended.1
+      pub sessions : (id : I) → session_in u id ≡ cond (eq ended.0 id) None (session_in t id)
+      pub before : take place u.sessions ≡ take place t.sessions
+      pub fewer : length u.sessions + 1 ≡ length t.sessions
+      pub gone : (e : Entry T) → among (names_of ended.1.entries) (name_of (pointer_in e)) ≡ true
+          → shown_in u e ≡ None
+      pub left : (e : Entry T) → among (names_of ended.1.entries) (name_of (pointer_in e)) ≡ false
+          → shown_in u e ≡ shown_in t e
+      pub put : (e : Entry T) → WasPut t e → WasPut u e
+      pub ticket : u.state.next ≡ t.state.next

@@ -12,6 +12,7 @@ stale_text l = codes "the session of the value put at " ++ (location_text l ++ c
 
 abbrev pub put_error_text : PutError → List ℕ
 put_error_text put.NoSession = codes "the id has no session"
+put_error_text put.KeyInUse = codes "the session has an entry under the key already"
 put_error_text (put.Store cause) = store_error_text cause
 
 abbrev pub login_error_text : LoginError → List ℕ

@@ -1,35 +1,120 @@
-//! Sessions, and the rows in which a table keeps them.
+//! Sessions: what a table keeps under an id, from its login to its end. They are a user's, and have
+//! nothing of the machine's runs, which `generational_sessions` calls so.
 
-ghost use Rattle.std.specs.Prelude.{◌≡◌, None, Some, IfSome, IfNone, find, slice_get};
-ghost use Rattle.std.specs.Prelude.{option_copied, ◌≤◌, length, take, filter};
-ghost use Rattle.std.specs.List.Sorted.{IsPermutation};
-ghost use Rattle.session_table.specs.declared.session.Session.{Session};
-ghost use Rattle.session_table.specs.Sessions.{is_row, is_young_row};
+ghost use Rattle.std.specs.Prelude.{◌≡◌, ◌⊎◌, ◌++◌, ◌∷◌, [], ℕ, true, Some, is_some, IfOk, IfErr, IsErrAnd, OnErr};
+ghost use Rattle.std.specs.Iterator.{YieldsFirstBy, item_count};
+ghost use Rattle.std.specs.Map.{lookup};
+ghost use Rattle.generational_core.specs.Leaving.{IsUnborrowed};
+ghost use Rattle.generational_core.specs.Machine.{ownership};
+ghost use Rattle.generational_core.specs.Machine.Action.{Make, ReleaseOwner};
+ghost use Rattle.generational_core.specs.Machine.Answer.{Made, Done};
+ghost use Rattle.generational_core.specs.Steps.{Meets};
+ghost use Rattle.generational_errors.specs.declared.error.StoreError.TheVariants.{OutOfMemory};
+ghost use Rattle.session_table.specs.declared.entry.PutError.TheVariants as put;
+ghost use Rattle.session_table.specs.Entries.{pointer_in};
+ghost use Rattle.session_table.specs.Keeping.{held_of};
 
-use generational_core::{Owner, StoreError};
+use crate::entry::{Entry, PutError};
+use crate::walk::Entries;
+use generational_core::{Location, Owner, Refusal, Storage, StoreError};
+use indexmap::IndexMap;
 use std::error::Error;
 use std::fmt;
+use std::hash::Hash;
 
-/// A session that is logged in. Its table keeps it.
-pub struct Session {
-    pub(crate) id: u64,
+/// A session that is logged in. Its table keeps it under its id.
+pub struct Session<K: Eq + Hash, T> {
     pub(crate) used_at: u64,
     pub(crate) owner: Owner,
+    pub(crate) entries: IndexMap<K, Entry<T>>,
 }
 
-impl Session {
-    /// The id that was chosen for it.
-    pub fn id(&self) -> u64
-        ensures { result ≡ self.now.id }
-    {
-        self.id
-    }
-
+impl<K: Eq + Hash, T> Session<K, T> {
     /// The time of its last use: of its login, or of the last `touch`.
     pub fn used_at(&self) -> u64
         ensures { result ≡ self.now.used_at }
     {
         self.used_at
+    }
+
+    /// The entry under a key, if there is one. Takes no memory, and is O(1).
+    pub fn entry(&self, key: &K) -> Option<Entry<T>>
+        ensures { result ≡ lookup (K.eq key.now) self.now.entries.entries }
+    {
+        self.entries.get(key).copied()
+    }
+
+    /// The entries with their keys, in the order in which they were put. Takes no memory, and is O(1).
+    pub fn entries(&self) -> Entries<'_, K, T>
+        ensures { result ≡ self.now.entries.entries }
+    {
+        Entries {
+            pairs: self.entries.iter(),
+        }
+    }
+
+    /// Keeps a value under a key that has none. One that isn't kept comes back.
+    pub(crate) fn keep<S: Storage<T>>(
+        &mut self,
+        store: &mut S,
+        key: K,
+        value: T,
+        here: Location,
+    ) -> Result<Entry<T>, (T, PutError)>
+    where
+        K: Drop,
+        requires { is_some (ownership (S.state store.old) self.old.owner) ≡ true }
+        ensures entries { IfOk result (λ e. self.new.entries.entries
+            ≡ self.old.entries.entries ++ (key, e) ∷ []) }
+        ensures owner { self.new.owner ≡ self.old.owner }
+        ensures used { self.new.used_at ≡ self.old.used_at }
+        ensures step { IfOk result (λ e. Meets (S.state store.old)
+            (Make (Some self.old.owner) value here) (Made (pointer_in e)) (S.state store.new)) }
+        ensures here { IfOk result (λ e. (pointer_in e).created_at ≡ here) }
+        ensures in_use { is_some (lookup (K.eq key) self.old.entries.entries) ≡ true →
+            IsErrAnd result (λ refusal. refusal.1 ≡ put.KeyInUse) }
+        ensures short { IfErr result (λ refusal.
+            (is_some (lookup (K.eq key) self.old.entries.entries) ≡ true)
+            ⊎ (refusal.1 ≡ put.Store OutOfMemory)) }
+        ensures back { IfErr result (λ refusal. refusal.0 ≡ value) }
+        ensures same { OnErr result (self.new.entries.entries ≡ self.old.entries.entries) }
+        ensures refused { OnErr result (S.state store.new ≡ S.state store.old) }
+    {
+        if self.entries.contains_key(&key) {
+            return Err((value, PutError::KeyInUse));
+        }
+        if self.entries.reserve(1).is_err() {
+            return Err((value, PutError::Store(StoreError::OutOfMemory)));
+        }
+        let raw = match self.owner.insert(store, value, here) {
+            Ok(raw) => raw,
+            Err(Refusal { value, cause }) => return Err((value, PutError::Store(cause))),
+        };
+        let entry = Entry { raw };
+        match self.entries.insert(key, entry) {
+            Ok(_) => Ok(entry),
+            Err(_) => unreachable!(),
+        }
+    }
+
+    /// Ends all that it keeps.
+    pub(crate) fn end<S: Storage<T>>(self, store: &mut S)
+    where
+        K: Drop,
+        requires quiet { IsUnborrowed (S.state store.old) }
+        requires held { ownership (S.state store.old) self.owner
+            ≡ Some (record { names = (held_of self).names; count = 1 }) }
+        ensures { Meets (S.state store.old) (ReleaseOwner self.owner) Done (S.state store.new) }
+    {
+        let Session {
+            used_at: _,
+            owner,
+            entries: _entries,
+        } = self;
+        match owner.release(store) {
+            Ok(()) => {}
+            Err(_) => unreachable!(),
+        }
     }
 }
 
@@ -57,36 +142,3 @@ impl fmt::Display for LoginError {
 }
 
 impl Error for LoginError {}
-
-/// Brings the rows that were used at a time or after it to the front, in the order in which they
-/// stood. Answers how many they are.
-pub(crate) fn gather(rows: &mut Vec<Session>, before: u64) -> usize
-    ensures within { result ≤ length rows.new.items }
-    ensures young { take result rows.new.items ≡ filter (is_young_row before) rows.old.items }
-    ensures same { IsPermutation rows.old.items rows.new.items }
-{
-    let mut kept = 0;
-    for row in 0..rows.len() {
-        if rows[row].used_at >= before {
-            rows.swap(kept, row);
-            kept += 1;
-        }
-    }
-    kept
-}
-
-/// The row of an id's session.
-pub(crate) fn row_of(rows: &Vec<Session>, id: u64) -> Option<usize>
-    ensures row { IfSome result (λ row. (s : Session)
-        × (slice_get rows.now.items row ≡ Some s) × (s.id ≡ id)) }
-    ensures none { IfNone result (find (is_row id) rows.now.items ≡ None) }
-{
-    rows.iter().position(|session| session.id == id)
-}
-
-/// The session of an id.
-pub(crate) fn session_of(rows: &Vec<Session>, id: u64) -> Option<&Session>
-    ensures { option_copied result ≡ find (is_row id) rows.now.items }
-{
-    rows.iter().find(|session| session.id == id)
-}

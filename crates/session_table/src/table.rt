@@ -1,60 +1,64 @@
 //! Tables of sessions.
 
-ghost use Rattle.std.specs.Prelude.{◌≡◌, ◌≢◌, ◌↔◌, ◌⊎◌, ◌<◌, ◌+◌, ◌++◌, ◌∷◌, [], ℕ, true, false, length};
-ghost use Rattle.std.specs.Prelude.{None, Some, Err, is_some, option_map, option_copied, IfOk, OnOk};
-ghost use Rattle.std.specs.Prelude.{IfErr, OnErr, IsErr, IsTrue, IsFalse, filter, remove, slice_get, take, ◌≤◌};
-ghost use Rattle.std.specs.List.Sorted.{IsPermutation};
-ghost use Rattle.std.specs.Prelude.{map as list_map};
+ghost use Rattle.std.specs.Prelude.{◌≡◌, ◌≢◌, ◌↔◌, ◌⊎◌, ◌<◌, ◌≤◌, ◌+◌, [], true, false, length};
+ghost use Rattle.std.specs.Prelude.{None, Some, Err, is_some, option_map, option_copied, cond, IfOk, OnOk};
+ghost use Rattle.std.specs.Prelude.{IfErr, IsErrAnd, OnErr, IsErr, IsTrue, IsFalse, slice_get};
+ghost use Rattle.std.specs.Prelude.{if◌then◌else◌, not};
+ghost use Rattle.std.specs.Borrow.{MutBor};
+ghost use Rattle.std.specs.Fn.{FnOnceReturnsAtMut};
 ghost use Rattle.generational_core.specs.Boxes.{name_of};
 ghost use Rattle.generational_core.specs.Conditions.{IsFresh};
 ghost use Rattle.generational_core.specs.Leaving.{IsUnborrowed};
 ghost use Rattle.generational_core.specs.Machine.{OwnerName, ownership};
 ghost use Rattle.generational_core.specs.Names.{among};
 ghost use Rattle.generational_core.specs.Seeing.{value_in};
+ghost use Rattle.generational_errors.specs.declared.error.StoreError.{StoreError};
 ghost use Rattle.generational_errors.specs.declared.error.StoreError.TheVariants.{OutOfMemory};
 ghost use Rattle.generational_sessions.specs.Lacking.{Lacks};
 ghost use Rattle.session_table.specs.declared.entry.Entry.{Entry};
 ghost use Rattle.session_table.specs.declared.entry.PutError.TheVariants as put;
 ghost use Rattle.session_table.specs.declared.session.LoginError.TheVariants as login;
 ghost use Rattle.session_table.specs.Entries.{pointer_in, put_at, IsOther};
-ghost use Rattle.session_table.specs.Sessions.{LiveSession, session_in, is_other, is_young, if_young};
-ghost use Rattle.session_table.specs.Sessions.{put_in, touch_in};
-ghost use Rattle.session_table.specs.Tables.{TableState, live_session, shown_in, keeps};
-ghost use Rattle.session_table.specs.Tables.{has_session, WasPut, IsOrderly};
+ghost use Rattle.session_table.specs.Sessions.{LiveSession, begun, used, with_entry, entry_in};
+ghost use Rattle.session_table.specs.Sessions.{is_young, if_young, names_of};
+ghost use Rattle.session_table.specs.Tables.{EndsAt, TableState, live, shown_in, keeps};
+ghost use Rattle.session_table.specs.Tables.{has_session, session_in, WasPut, IsOrderly};
 
 use crate::entry::{Entry, PutError, PutRefusal, Stale};
-use crate::session::{LoginError, Session, gather, row_of, session_of};
-use generational_core::{Location, Refusal, Storage, StoreError};
+use crate::session::{LoginError, Session};
+use crate::walk::Sessions;
+use generational_core::{Location, Storage, StoreError};
+use indexmap::IndexMap;
 use std::alloc::Global;
+use std::hash::Hash;
 use std::marker::{Model, PhantomData};
 
-/// Sessions, with what they keep. Contracts see the machine's state, which says what each entry
-/// shows, and the sessions in the order of their logins, with the names of their entries.
+/// Sessions under ids, with what they keep under keys. Contracts see the machine's state, which says
+/// what each entry shows, and the sessions with their entries.
 ///
 /// It has no `Drop`: `finish` must spend it.
-pub struct SessionTable<T, S: Storage<T>> {
+pub struct SessionTable<I: Eq + Hash, K: Eq + Hash, T, S: Storage<T>> {
     store: S,
-    rows: Vec<Session>,
+    rows: IndexMap<I, Session<K, T>>,
     marker: PhantomData<T>,
 }
 
-impl<T, S: Storage<T>> Model for SessionTable<T, S> {
-    ghost use Rattle.std.specs.Prelude.{map as list_map};
+impl<I: Eq + Hash, K: Eq + Hash, T, S: Storage<T>> Model for SessionTable<I, K, T, S> {
     ghost use Rattle.std.specs.Coded.{codes};
     ghost use Rattle.std.specs.FinMap as map;
     ghost use Rattle.session_table.specs.Tables.{TableState, table_of};
-    ghost use Rattle.session_table.specs.Keeping.{IsKept, key_of};
+    ghost use Rattle.session_table.specs.Keeping.{IsKept, held_in};
 
-    ghost Value = { TableState T };
+    ghost Value = { TableState I K T };
 
     ghost coded = { Prim.hlevel (codes, map.code) };
 
-    ghost view = { λ t. table_of (S.state t.store) t.rows.items };
+    ghost view = { λ t. table_of (S.state t.store) t.rows.entries };
 
-    ghost invariant = { λ t. IsKept (S.state t.store) (list_map key_of t.rows.items) };
+    ghost invariant = { λ t. IsKept (S.state t.store) I.eq (held_in I.eq t.rows.entries) };
 }
 
-impl<T, S: Storage<T>> SessionTable<T, S> {
+impl<I: Eq + Hash, K: Eq + Hash, T, S: Storage<T>> SessionTable<I, K, T, S> {
     /// A table without sessions, over a fresh store (`is_fresh` is the test). Takes no memory.
     pub fn new(alloc: Global, store: S) -> Self
         requires { IsFresh (S.state store) }
@@ -63,7 +67,7 @@ impl<T, S: Storage<T>> SessionTable<T, S> {
     {
         SessionTable {
             store,
-            rows: Vec::new(alloc),
+            rows: IndexMap::new(alloc),
             marker: PhantomData,
         }
     }
@@ -74,24 +78,24 @@ impl<T, S: Storage<T>> SessionTable<T, S> {
     /// Refused, in this order: `IdInUse`, where the id has a session; `Store` of `OutOfMemory`, where
     /// the rows find no room; of `NumbersExhausted`, where the store gave all its tickets, of which a
     /// login uses one; of `OutOfMemory`, where the session's owner finds no room. The table stays as
-    /// it was then. Takes memory where the rows have no room, and for the session's owner. O(n) for n
-    /// sessions.
-    pub fn login(&mut self, id: u64, now: u64) -> Result<(), LoginError>
-        ensures sessions { OnOk result (self.new.sessions ≡ self.old.sessions
-            ++ record { id = id; used_at = now; entries = [] } ∷ []) }
-        ensures opened { OnOk result (session_in self.new.sessions id
-            ≡ Some (record { id = id; used_at = now; entries = [] })) }
-        ensures others { (other : ℕ) → id ≢ other →
-            session_in self.new.sessions other ≡ session_in self.old.sessions other }
+    /// it was then. Takes memory where the rows have no room, and for the session's owner. O(1), but
+    /// for finding room.
+    pub fn login(&mut self, id: I, now: u64) -> Result<(), LoginError>
+    where
+        I: Drop,
+        ensures opened { OnOk result (session_in I.eq self.new id ≡ Some (begun now)) }
+        ensures others { (other : I) → I.eq id other ≡ false →
+            session_in I.eq self.new other ≡ session_in I.eq self.old other }
+        ensures count { OnOk result (length self.new.sessions ≡ length self.old.sessions + 1) }
         ensures shown { (e : Entry T) → shown_in self.new e ≡ shown_in self.old e }
         ensures put { (e : Entry T) → WasPut self.old e → WasPut self.new e }
         ensures ticket { OnOk result (self.new.state.next ≡ self.old.state.next + 1) }
-        ensures in_use { IsTrue (has_session self.old id) → result ≡ Err login.IdInUse }
-        ensures short { IfErr result (λ e. (has_session self.old id ≡ true)
+        ensures in_use { IsTrue (has_session I.eq self.old id) → result ≡ Err login.IdInUse }
+        ensures short { IfErr result (λ e. (has_session I.eq self.old id ≡ true)
             ⊎ ((cause : StoreError) × (e ≡ login.Store cause) × Lacks self.old.state cause)) }
         ensures refused { OnErr result (self.new ≡ self.old) }
     {
-        if self.has(id) {
+        if self.has(&id) {
             return Err(LoginError::IdInUse);
         }
         if self.rows.reserve(1).is_err() {
@@ -101,61 +105,75 @@ impl<T, S: Storage<T>> SessionTable<T, S> {
             Ok(owner) => owner,
             Err(cause) => return Err(LoginError::Store(cause)),
         };
-        self.rows.push_reserved(Session {
-            id,
+        let session = Session {
             used_at: now,
             owner,
-        });
-        Ok(())
+            entries: IndexMap::new(*self.rows.allocator()),
+        };
+        match self.rows.insert(id, session) {
+            Ok(None) => Ok(()),
+            Ok(Some(_other)) => unreachable!(),
+            Err(_full) => unreachable!(),
+        }
     }
 
-    /// Keeps a value until the end of an id's session. Its entry is none that was ever given, every
-    /// other entry shows what it showed, and every other session is as it was.
+    /// Keeps a value under a key until the end of an id's session. Its entry is none that was ever
+    /// given, every other entry shows what it showed, and every other session is as it was.
     ///
-    /// Refused, in this order: `NoSession`, where the id has none; `Store` of `OutOfMemory`. The
-    /// value comes back then, and the table stays as it was. Takes memory where no slot is free, or
-    /// the session's list has no room. O(n) for n sessions, but for finding room.
-    pub fn put(&mut self, id: u64, value: T, here: Location) -> Result<Entry<T>, PutRefusal<T>>
+    /// Refused, in this order: `NoSession`, where the id has none; `KeyInUse`, where the session has an
+    /// entry under the key; `Store` of `OutOfMemory`. The value comes back then, and the table stays as
+    /// it was. Takes memory where no slot is free, or the session has no room. O(1), but for finding
+    /// room.
+    pub fn put(
+        &mut self,
+        id: &I,
+        key: K,
+        value: T,
+        here: Location,
+    ) -> Result<Entry<T>, PutRefusal<T>>
+    where
+        K: Drop,
         ensures shown { IfOk result (λ e. shown_in self.new e ≡ Some value) }
-        ensures kept { IfOk result (λ e. keeps self.new id e ≡ true) }
-        ensures sessions { IfOk result (λ e. self.new.sessions
-            ≡ list_map (put_in id (name_of (pointer_in e))) self.old.sessions) }
-        ensures grown { IfOk result (λ e. session_in self.new.sessions id ≡ option_map
-            (put_in id (name_of (pointer_in e))) (session_in self.old.sessions id)) }
-        ensures others { (other : ℕ) → id ≢ other →
-            session_in self.new.sessions other ≡ session_in self.old.sessions other }
+        ensures kept { IfOk result (λ e. session_in I.eq self.new id.now
+            ≡ option_map (with_entry key e) (session_in I.eq self.old id.now)) }
+        ensures others { (other : I) → I.eq id.now other ≡ false →
+            session_in I.eq self.new other ≡ session_in I.eq self.old other }
+        ensures count { length self.new.sessions ≡ length self.old.sessions }
         ensures beside { IfOk result (λ e. (f : Entry T) → IsOther e f →
             shown_in self.new f ≡ shown_in self.old f) }
         ensures left { (f : Entry T) → WasPut self.old f →
             shown_in self.new f ≡ shown_in self.old f }
-        ensures still { (other : ℕ) (f : Entry T) → keeps self.old other f ≡ true →
-            keeps self.new other f ≡ true }
-        ensures unkept { (other : ℕ) (f : Entry T) → WasPut self.old f →
-            keeps self.old other f ≡ false → keeps self.new other f ≡ false }
         ensures new { IfOk result (λ e. WasPut self.old e → ⊥) }
         ensures here { IfOk result (λ e. put_at e ≡ here) }
         ensures put { (f : Entry T) → WasPut self.old f → WasPut self.new f }
         ensures given { IfOk result (λ e. WasPut self.new e) }
         ensures ticket { self.new.state.next ≡ self.old.state.next }
-        ensures unknown { has_session self.old id ≡ false →
-            IfErr result (λ refusal. refusal.cause ≡ put.NoSession) }
-        ensures short { IfErr result (λ refusal. (has_session self.old id ≡ false)
-            ⊎ (refusal.cause ≡ put.Store OutOfMemory)) }
+        ensures unknown { has_session I.eq self.old id.now ≡ false →
+            IsErrAnd result (λ refusal. refusal.cause ≡ put.NoSession) }
+        ensures in_use { is_some (entry_in K.eq (session_in I.eq self.old id.now) key) ≡ true →
+            IsErrAnd result (λ refusal. refusal.cause ≡ put.KeyInUse) }
+        ensures short { IfErr result (λ refusal. (has_session I.eq self.old id.now ≡ false)
+            ⊎ ((is_some (entry_in K.eq (session_in I.eq self.old id.now) key) ≡ true)
+            ⊎ (refusal.cause ≡ put.Store OutOfMemory))) }
         ensures back { IfErr result (λ refusal. refusal.value ≡ value) }
         ensures refused { OnErr result (self.new ≡ self.old) }
     {
-        let Some(session) = session_of(&self.rows, id) else {
+        let Some(session) = self.rows.get_mut(id) else {
             let cause = PutError::NoSession;
             return Err(PutRefusal { value, cause });
         };
-        let raw = match session.owner.insert(&mut self.store, value, here) {
-            Ok(raw) => raw,
-            Err(Refusal { value, cause }) => {
-                let cause = PutError::Store(cause);
-                return Err(PutRefusal { value, cause });
-            }
+        let entry = match session.keep(&mut self.store, key, value, here) {
+            Ok(entry) => entry,
+            Err((value, cause)) => return Err(PutRefusal { value, cause }),
         };
-        Ok(Entry { raw })
+        Ok(entry)
+    }
+
+    /// The entry that an id's session has under a key, if it has one. Takes no memory, and is O(1).
+    pub fn entry(&self, id: &I, key: &K) -> Option<Entry<T>>
+        ensures { result ≡ entry_in K.eq (session_in I.eq self.now id.now) key.now }
+    {
+        self.session(id)?.entry(key)
     }
 
     /// Whether an entry shows a value: false once its session is gone, and of another table's. Takes
@@ -163,7 +181,7 @@ impl<T, S: Storage<T>> SessionTable<T, S> {
     pub fn shows(&self, entry: Entry<T>) -> bool
         ensures { result ≡ is_some (shown_in self.now entry) }
     {
-        entry.raw.can_read(&self.store)
+        entry.raw.peek(&self.store).is_some()
     }
 
     /// An entry's value. The table is lent meanwhile.
@@ -211,21 +229,49 @@ impl<T, S: Storage<T>> SessionTable<T, S> {
         Ok(())
     }
 
+    /// Changes an entry's value in its place by a closure, which is called once on it, and answers what
+    /// that answers. Every other entry shows what it showed, and the sessions stay.
+    ///
+    /// Refused where the entry's session is gone, or is another table's: the closure isn't called, and
+    /// the table stays as it was. Takes no memory of its own, and is O(1), but for the closure.
+    pub fn update<R, F: FnOnce(&mut T) -> R>(&mut self, entry: Entry<T>, f: F) -> Result<R, Stale>
+        requires { (value : MutBor T) → shown_in self.old entry ≡ Some value.now → F.pre f value }
+        ensures changed { IfOk result (λ answer. (old : T) × (new : T)
+            × (shown_in self.old entry ≡ Some old)
+            × FnOnceReturnsAtMut F.FnOnce f old answer new
+            × (shown_in self.new entry ≡ Some new)) }
+        ensures others { (e : Entry T) → IsOther entry e →
+            shown_in self.new e ≡ shown_in self.old e }
+        ensures sessions { self.new.sessions ≡ self.old.sessions }
+        ensures put { (e : Entry T) → WasPut self.old e → WasPut self.new e }
+        ensures ticket { self.new.state.next ≡ self.old.state.next }
+        ensures stale { IsErr result ↔ shown_in self.old entry ≡ None }
+        ensures told { IfErr result (λ stale. stale.put_at ≡ put_at entry) }
+        ensures refused { OnErr result (self.new ≡ self.old) }
+    {
+        if !self.shows(entry) {
+            return Err(Stale {
+                put_at: entry.put_at(),
+            });
+        }
+        Ok(self.store.change_value(entry.raw.pointer(), f))
+    }
+
     /// Sets the time of a session's last use. Answers whether the id has a session; where it has none,
-    /// nothing changes. Never refused. Takes no memory, and is O(n) for n sessions.
-    pub fn touch(&mut self, id: u64, now: u64) -> bool
-        ensures had { result ≡ has_session self.old id }
-        ensures sessions { self.new.sessions ≡ list_map (touch_in id now) self.old.sessions }
-        ensures used { session_in self.new.sessions id
-            ≡ option_map (touch_in id now) (session_in self.old.sessions id) }
-        ensures others { (other : ℕ) → id ≢ other →
-            session_in self.new.sessions other ≡ session_in self.old.sessions other }
+    /// nothing changes. Never refused. Takes no memory, and is O(1).
+    pub fn touch(&mut self, id: &I, now: u64) -> bool
+        ensures had { result ≡ has_session I.eq self.old id.now }
+        ensures used { session_in I.eq self.new id.now
+            ≡ option_map (used now) (session_in I.eq self.old id.now) }
+        ensures others { (other : I) → I.eq id.now other ≡ false →
+            session_in I.eq self.new other ≡ session_in I.eq self.old other }
+        ensures count { length self.new.sessions ≡ length self.old.sessions }
         ensures state { self.new.state ≡ self.old.state }
     {
-        let Some(row) = row_of(&self.rows, id) else {
+        let Some(session) = self.rows.get_mut(id) else {
             return false;
         };
-        self.rows[row].used_at = now;
+        session.used_at = now;
         true
     }
 
@@ -233,51 +279,58 @@ impl<T, S: Storage<T>> SessionTable<T, S> {
     /// later value is mistaken for theirs. Every other session is as it was, and what it keeps shows
     /// what it showed. Answers whether the id had a session; where it had none, nothing changes.
     ///
-    /// Never refused, since no borrow outlives a call of the table. Takes no memory. O(n + k) for n
-    /// sessions and k entries of this one.
-    pub fn logout(&mut self, id: u64) -> bool
-        ensures had { result ≡ has_session self.old id }
-        ensures sessions { self.new.sessions ≡ filter (is_other id) self.old.sessions }
-        ensures ended { session_in self.new.sessions id ≡ None }
-        ensures gone { (e : Entry T) → keeps self.old id e ≡ true → shown_in self.new e ≡ None }
-        ensures others { (other : ℕ) → id ≢ other →
-            session_in self.new.sessions other ≡ session_in self.old.sessions other }
-        ensures kept { (other : ℕ) (e : Entry T) → id ≢ other → keeps self.old other e ≡ true →
-            shown_in self.new e ≡ shown_in self.old e }
-        ensures left { (e : Entry T) → keeps self.old id e ≡ false →
+    /// Never refused, since no borrow outlives a call of the table. Takes no memory. O(k) for k entries
+    /// of this session.
+    pub fn logout(&mut self, id: &I) -> bool
+    where
+        I: Drop,
+        K: Drop,
+        ensures had { result ≡ has_session I.eq self.old id.now }
+        ensures ended { session_in I.eq self.new id.now ≡ None }
+        ensures others { (other : I) → I.eq id.now other ≡ false →
+            session_in I.eq self.new other ≡ session_in I.eq self.old other }
+        ensures count { length self.new.sessions + (if result then 1 else 0)
+            ≡ length self.old.sessions }
+        ensures gone { (e : Entry T) → keeps I.eq self.old id.now e ≡ true →
+            shown_in self.new e ≡ None }
+        ensures kept { (other : I) (e : Entry T) → I.eq id.now other ≡ false →
+            keeps I.eq self.old other e ≡ true → shown_in self.new e ≡ shown_in self.old e }
+        ensures left { (e : Entry T) → keeps I.eq self.old id.now e ≡ false →
             shown_in self.new e ≡ shown_in self.old e }
         ensures put { (e : Entry T) → WasPut self.old e → WasPut self.new e }
         ensures ticket { self.new.state.next ≡ self.old.state.next }
         ensures none { IsFalse result → self.new ≡ self.old }
     {
-        let Some(row) = row_of(&self.rows, id) else {
+        let Some(session) = self.rows.swap_remove(id) else {
             return false;
         };
-        self.end_row(row);
+        session.end(&mut self.store);
         true
     }
 
-    // Ends the session of a row.
-    fn end_row(&mut self, row: usize)
-        requires within { row < length self.old.sessions }
-        ensures sessions { self.new.sessions ≡ remove self.old.sessions row }
-        ensures gone { (s : LiveSession) (e : Entry T) → slice_get self.old.sessions row ≡ Some s →
-            among s.entries (name_of (pointer_in e)) ≡ true → shown_in self.new e ≡ None }
-        ensures left { (s : LiveSession) (e : Entry T) → slice_get self.old.sessions row ≡ Some s →
-            among s.entries (name_of (pointer_in e)) ≡ false →
-            shown_in self.new e ≡ shown_in self.old e }
-        ensures put { (e : Entry T) → WasPut self.old e → WasPut self.new e }
-        ensures ticket { self.new.state.next ≡ self.old.state.next }
-        ensures orderly { IsOrderly self.old }
+    // Ends the session at a place. The last one takes its place.
+    fn end_at(&mut self, place: usize)
+    where
+        I: Drop,
+        K: Drop,
+        requires within { place < length self.old.sessions }
+        ensures { EndsAt I.eq place self.old self.new }
     {
-        let Session {
-            id: _,
-            used_at: _,
-            owner,
-        } = self.rows.remove(row);
-        match owner.release(&mut self.store) {
-            Ok(()) => {}
-            Err(_) => unreachable!(),
+        prove!(place < self.rows.len());
+        match self.rows.swap_remove_index(place) {
+            Some((_, session)) => session.end(&mut self.store),
+            None => unreachable!(),
+        }
+    }
+
+    // Whether there is a session at a place that was last used before a time.
+    fn is_old_at(&self, place: usize, before: u64) -> bool
+        ensures { (e : I × LiveSession K T) → slice_get self.now.sessions place ≡ Some e →
+            is_young before e.1 ≡ not result }
+    {
+        match self.rows.get_index(place) {
+            Some((_, session)) => session.used_at < before,
+            None => false,
         }
     }
 
@@ -287,52 +340,45 @@ impl<T, S: Storage<T>> SessionTable<T, S> {
     /// Never refused, as `logout`. Takes no memory. O(n + k) for n sessions and k entries of those that
     /// end.
     pub fn expire(&mut self, before: u64) -> usize
-        ensures sessions { self.new.sessions ≡ filter (is_young before) self.old.sessions }
+    where
+        I: Drop,
+        K: Drop,
+        ensures ids { (id : I) → session_in I.eq self.new id
+            ≡ if_young before (session_in I.eq self.old id) }
         ensures count { result + length self.new.sessions ≡ length self.old.sessions }
-        ensures ids { (id : ℕ) → session_in self.new.sessions id
-            ≡ if_young before (session_in self.old.sessions id) }
-        ensures gone { (id : ℕ) (e : Entry T) → keeps self.old id e ≡ true →
-            has_session self.new id ≡ false → shown_in self.new e ≡ None }
-        ensures kept { (id : ℕ) (e : Entry T) → keeps self.old id e ≡ true →
-            has_session self.new id ≡ true → shown_in self.new e ≡ shown_in self.old e }
+        ensures gone { (id : I) (e : Entry T) → keeps I.eq self.old id e ≡ true →
+            has_session I.eq self.new id ≡ false → shown_in self.new e ≡ None }
+        ensures kept { (id : I) (e : Entry T) → keeps I.eq self.old id e ≡ true →
+            has_session I.eq self.new id ≡ true → shown_in self.new e ≡ shown_in self.old e }
         ensures none { (e : Entry T) → shown_in self.old e ≡ None → shown_in self.new e ≡ None }
         ensures put { (e : Entry T) → WasPut self.old e → WasPut self.new e }
         ensures ticket { self.new.state.next ≡ self.old.state.next }
     {
         let count = self.len();
-        let kept = self.gather_young(before);
-        'shed: while self.len() > kept {
-            self.end_row(self.len() - 1);
+        let mut place = 0;
+        'places: while place < self.len() {
+            if self.is_old_at(place, before) {
+                self.end_at(place);
+            } else {
+                place += 1;
+            }
         }
-        // The sessions are orderly now, as at any time.
-        let _ = self.sessions();
-        count - kept
-    }
-
-    // Brings the sessions that were used at a time or after it to the front, in their order, and
-    // answers how many they are.
-    fn gather_young(&mut self, before: u64) -> usize
-        ensures within { result ≤ length self.new.sessions }
-        ensures young { take result self.new.sessions ≡ filter (is_young before) self.old.sessions }
-        ensures same { IsPermutation self.old.sessions self.new.sessions }
-        ensures state { self.new.state ≡ self.old.state }
-        ensures orderly { IsOrderly self.old }
-    {
-        gather(&mut self.rows, before)
+        count - self.len()
     }
 
     /// Ends all sessions and all that they keep, and hands back the store, which has nothing then: no
     /// value, no borrow and no owner. Never refused. Takes no memory. O(n + k) for n sessions and k
     /// entries.
     pub fn finish(mut self) -> S
+    where
+        I: Drop,
+        K: Drop,
         ensures gone { (e : Entry T) → value_in (S.state result) (pointer_in e) ≡ None }
         ensures borrows { IsUnborrowed (S.state result) }
         ensures owners { (o : OwnerName) → ownership (S.state result) o ≡ None }
     {
-        let mut row = self.rows.len();
-        while row > 0 {
-            row -= 1;
-            self.end_row(row);
+        'places: while self.len() > 0 {
+            self.end_at(self.len() - 1);
         }
         let SessionTable {
             store,
@@ -343,33 +389,35 @@ impl<T, S: Storage<T>> SessionTable<T, S> {
         store
     }
 
-    /// Whether an id has a session. Takes no memory, and is O(n) for n sessions.
-    pub fn has(&self, id: u64) -> bool
-        ensures { result ≡ has_session self.now id }
+    /// Whether an id has a session. Takes no memory, and is O(1).
+    pub fn has(&self, id: &I) -> bool
+        ensures { result ≡ has_session I.eq self.now id.now }
     {
         self.session(id).is_some()
     }
 
-    /// The session of an id, if it has one. Takes no memory, and is O(n) for n sessions.
-    pub fn session(&self, id: u64) -> Option<&Session>
-        ensures { option_map (live_session self.now.state) (option_copied result)
-            ≡ session_in self.now.sessions id }
+    /// The session of an id, if it has one. Takes no memory, and is O(1).
+    pub fn session(&self, id: &I) -> Option<&Session<K, T>>
+        ensures { option_map live (option_copied result) ≡ session_in I.eq self.now id.now }
     {
-        session_of(&self.rows, id)
+        self.rows.get(id)
+    }
+
+    /// The sessions with their ids. A login comes last, and a session that ends leaves its place to the
+    /// last one. Takes no memory, and is O(1).
+    pub fn sessions(&self) -> Sessions<'_, I, K, T>
+        ensures { result ≡ self.now.sessions }
+    {
+        Sessions {
+            rows: self.rows.iter(),
+        }
     }
 
     /// How many sessions there are. Takes no memory, and is O(1).
     pub fn len(&self) -> usize
-        ensures { result ≡ length self.now.sessions }
+        ensures count { result ≡ length self.now.sessions }
+        ensures orderly { IsOrderly I.eq self.now }
     {
         self.rows.len()
-    }
-
-    /// The sessions in the order of their logins. Takes no memory, and is O(1).
-    pub fn sessions(&self) -> &[Session]
-        ensures rows { list_map (live_session self.now.state) result.now ≡ self.now.sessions }
-        ensures orderly { IsOrderly self.now }
-    {
-        self.rows.as_slice()
     }
 }

@@ -17,7 +17,7 @@ use std::process::Abort;
 /// How many things are added.
 const MANY: u64 = 20_000;
 
-/// How many values a long session keeps.
+/// How many sessions there are, and how many values a long one keeps.
 const ENTRIES: u64 = 100_000;
 
 /// Spawns entities, each with a component.
@@ -45,15 +45,27 @@ fn entities(rt: HostRuntime) {
     play_two::<u64, u64, SpawnAll>(&rt, rt.alloc(), &SpawnAll);
 }
 
-/// Begins sessions. Each login looks at all of them.
+/// Begins sessions with a value each, notes a use of each second one, lets the others expire, and
+/// logs the rest out. No call looks at all sessions but the one expiry.
 struct LogInAll;
 
 impl Scene<u64> for LogInAll {
     fn play<R: Abort, S: Storage<u64> + Drop>(&self, rt: &R, alloc: Global, store: S) {
         let mut table = sessions_over(rt, alloc, store);
-        for id in 0..MANY {
+        for id in 0..ENTRIES {
             log_in(rt, &mut table, id);
+            put(rt, &mut table, (id, 1), id);
         }
+        for id in 0..ENTRIES {
+            if id % 2 == 0 {
+                assert!(rt; table.touch(&id, 1));
+            }
+        }
+        assert!(rt; table.expire(1) == 50_000);
+        for id in 0..ENTRIES {
+            table.logout(&id);
+        }
+        assert!(rt; table.len() == 0);
         let _left = table.finish();
     }
 }
@@ -71,9 +83,9 @@ impl Scene<u64> for KeepAll {
         let mut table = sessions_over(rt, alloc, store);
         log_in(rt, &mut table, 1);
         for value in 0..ENTRIES {
-            put(rt, &mut table, 1, value);
+            put(rt, &mut table, (1, value), value);
         }
-        assert!(rt; table.logout(1));
+        assert!(rt; table.logout(&1));
         let _left = table.finish();
     }
 }

@@ -31,6 +31,8 @@ mod let_go;
 #[cfg(test)]
 mod session_acts;
 #[cfg(test)]
+mod session_handles;
+#[cfg(test)]
 mod session_histories;
 #[cfg(test)]
 mod session_limits;

@@ -11,8 +11,10 @@ use std::process::Abort;
 pub(crate) enum Act {
     /// Begins a session of an id, at a time.
     Login(u64, u64),
-    /// Puts a value into an id's session.
+    /// Puts a value into an id's session, under a key of its own: its number.
     Put(u64, u64),
+    /// Puts a value into an id's session, under a key.
+    PutAt(u64, u64, u64),
     /// Sets an entry's value.
     Set(usize, u64),
     /// Notes the time of an id's last use.
@@ -30,6 +32,8 @@ pub(crate) enum Reply {
     IdInUse,
     /// The id has no session.
     NoSession,
+    /// The session has an entry under the key.
+    KeyInUse,
     /// The entry's session is gone.
     Stale,
     /// So many sessions ended.
@@ -60,7 +64,7 @@ pub(crate) fn sessions_over<T, S: Storage<T>>(
     rt: &impl Abort,
     alloc: Global,
     store: S,
-) -> SessionTable<T, S> {
+) -> SessionTable<u64, u64, T, S> {
     assert!(rt; store.is_fresh());
     SessionTable::new(alloc, store)
 }
@@ -69,7 +73,7 @@ pub(crate) fn sessions_over<T, S: Storage<T>>(
 pub(crate) fn play<S: Storage<u64>>(
     rt: &impl Abort,
     alloc: Global,
-    table: &mut SessionTable<u64, S>,
+    table: &mut SessionTable<u64, u64, u64, S>,
     lines: &[Line],
 ) {
     let mut entries = Vec::new(alloc);
@@ -84,16 +88,20 @@ pub(crate) fn play<S: Storage<u64>>(
 /// Does an act.
 fn answer<S: Storage<u64>>(
     rt: &impl Abort,
-    table: &mut SessionTable<u64, S>,
+    table: &mut SessionTable<u64, u64, u64, S>,
     entries: &mut Vec<Entry<u64>>,
     act: Act,
 ) -> Reply {
     match act {
         Act::Login(id, now) => logged_in(table.login(id, now)),
-        Act::Put(id, value) => put(rt, table, entries, id, value),
+        Act::Put(id, value) => {
+            let key = entries.len() as u64;
+            put(rt, table, entries, (id, key), value)
+        }
+        Act::PutAt(id, key, value) => put(rt, table, entries, (id, key), value),
         Act::Set(number, value) => set(rt, table, entry_at(rt, entries, number), number, value),
-        Act::Touch(id, now) => known(table.touch(id, now)),
-        Act::Logout(id) => known(table.logout(id)),
+        Act::Touch(id, now) => known(table.touch(&id, now)),
+        Act::Logout(id) => known(table.logout(&id)),
         Act::Expire(before) => Reply::Ended(table.expire(before)),
     }
 }
@@ -112,16 +120,17 @@ fn known(had: bool) -> Reply {
     if had { Reply::Done } else { Reply::NoSession }
 }
 
-/// Puts a value, and keeps its entry. One that isn't put comes back.
+/// Puts a value under a key, by which its entry is found. One that isn't put comes back.
 fn put<S: Storage<u64>>(
     rt: &impl Abort,
-    table: &mut SessionTable<u64, S>,
+    table: &mut SessionTable<u64, u64, u64, S>,
     entries: &mut Vec<Entry<u64>>,
-    id: u64,
+    at: (u64, u64),
     value: u64,
 ) -> Reply {
-    let refusal = match table.put(id, value, put_at(entries.len())) {
+    let refusal = match table.put(&at.0, at.1, value, put_at(entries.len())) {
         Ok(entry) => {
+            assert_same(rt, &table.entry(&at.0, &at.1), &Some(entry));
             assert!(rt; entries.push(entry).is_ok());
             return Reply::Done;
         }
@@ -130,6 +139,7 @@ fn put<S: Storage<u64>>(
     assert_same(rt, &refusal.value, &value);
     match refusal.cause {
         PutError::NoSession => Reply::NoSession,
+        PutError::KeyInUse => Reply::KeyInUse,
         PutError::Store(_) => Reply::Lacks,
     }
 }
@@ -137,7 +147,7 @@ fn put<S: Storage<u64>>(
 /// Sets an entry's value. A stale entry is told where it was put, and the value comes back.
 fn set<S: Storage<u64>>(
     rt: &impl Abort,
-    table: &mut SessionTable<u64, S>,
+    table: &mut SessionTable<u64, u64, u64, S>,
     entry: Entry<u64>,
     number: usize,
     value: u64,
@@ -158,18 +168,25 @@ fn entry_at(rt: &impl Abort, entries: &[Entry<u64>], number: usize) -> Entry<u64
 }
 
 /// Sees which sessions there are.
-fn stands<S: Storage<u64>>(rt: &impl Abort, table: &SessionTable<u64, S>, sessions: &[(u64, u64)]) {
+fn stands<S: Storage<u64>>(
+    rt: &impl Abort,
+    table: &SessionTable<u64, u64, u64, S>,
+    sessions: &[(u64, u64)],
+) {
     assert_same(rt, &table.len(), &sessions.len());
-    for (session, wanted) in table.sessions().iter().zip(sessions) {
-        assert_same(rt, &(session.id(), session.used_at()), wanted);
-        assert!(rt; table.has(session.id()));
+    for (id, used_at) in sessions {
+        let found = table.session(id).map(|session| session.used_at());
+        assert_same(rt, &found, &Some(*used_at));
+    }
+    for (id, session) in table.sessions() {
+        assert!(rt; sessions.contains(&(*id, session.used_at())));
     }
 }
 
 /// Sees what each entry shows.
 fn shows<S: Storage<u64>>(
     rt: &impl Abort,
-    table: &SessionTable<u64, S>,
+    table: &SessionTable<u64, u64, u64, S>,
     entries: &[Entry<u64>],
     shows: &[Option<u64>],
 ) {

@@ -176,3 +176,83 @@ fn old_sessions_expire(rt: HostRuntime) {
     ];
     play_lines(&rt, rt.alloc(), &lines);
 }
+
+/// Begins three sessions, which were last used at 10, 20 and 10, and plays a line.
+fn play_after_three(rt: &impl Abort, alloc: Global, last: Line) {
+    let lines = [
+        line(Act::Login(1, 10), Reply::Done, &[(1, 10)], &[]),
+        line(Act::Login(2, 20), Reply::Done, &[(1, 10), (2, 20)], &[]),
+        line(
+            Act::Login(3, 10),
+            Reply::Done,
+            &[(1, 10), (2, 20), (3, 10)],
+            &[],
+        ),
+        line(
+            Act::Put(2, 7),
+            Reply::Done,
+            &[(1, 10), (2, 20), (3, 10)],
+            &[Some(7)],
+        ),
+        last,
+    ];
+    play_lines(rt, alloc, &lines);
+}
+
+#[test]
+fn none_expires(rt: HostRuntime) {
+    let all = line(
+        Act::Expire(10),
+        Reply::Ended(0),
+        &[(1, 10), (2, 20), (3, 10)],
+        &[Some(7)],
+    );
+    play_after_three(&rt, rt.alloc(), all);
+}
+
+#[test]
+fn each_second_expires(rt: HostRuntime) {
+    let second = line(Act::Expire(11), Reply::Ended(2), &[(2, 20)], &[Some(7)]);
+    play_after_three(&rt, rt.alloc(), second);
+}
+
+#[test]
+fn one_expires_beyond_the_very_time(rt: HostRuntime) {
+    let young = line(Act::Expire(20), Reply::Ended(2), &[(2, 20)], &[Some(7)]);
+    play_after_three(&rt, rt.alloc(), young);
+}
+
+#[test]
+fn all_expire(rt: HostRuntime) {
+    let none = line(Act::Expire(21), Reply::Ended(3), &[], &[None]);
+    play_after_three(&rt, rt.alloc(), none);
+}
+
+#[test]
+fn a_key_keeps_its_entry(rt: HostRuntime) {
+    let lines = [
+        line(Act::Login(1, 0), Reply::Done, &[(1, 0)], &[]),
+        line(Act::Login(2, 0), Reply::Done, &[(1, 0), (2, 0)], &[]),
+        line(
+            Act::PutAt(1, 5, 8),
+            Reply::Done,
+            &[(1, 0), (2, 0)],
+            &[Some(8)],
+        ),
+        line(
+            Act::PutAt(1, 5, 9),
+            Reply::KeyInUse,
+            &[(1, 0), (2, 0)],
+            &[Some(8)],
+        ),
+        // Another session has keys of its own.
+        line(
+            Act::PutAt(2, 5, 9),
+            Reply::Done,
+            &[(1, 0), (2, 0)],
+            &[Some(8), Some(9)],
+        ),
+        line(Act::Logout(1), Reply::Done, &[(2, 0)], &[None, Some(9)]),
+    ];
+    play_lines(&rt, rt.alloc(), &lines);
+}

@@ -4,26 +4,32 @@ use crate::counted::{Counted, another, assert_count, new_counted};
 use crate::expected::assert_same;
 use crate::fresh::{Scene, play, play_at_ticket};
 use crate::session_acts::{put_at, sessions_over};
-use example_libraries::sessions::{one_visit, seen_beside, told_after_logout};
+use example_libraries::sessions::{
+    found_by_key, greatest_key, latest_use, one_visit, seen_beside, told_after_logout,
+};
 use generational_box::{Storage, StoreError};
 use session_table::{Entry, LoginError, SessionTable, Stale};
 use std::alloc::Global;
 use std::process::Abort;
 
 /// Begins a session.
-pub(crate) fn log_in<T, S: Storage<T>>(rt: &impl Abort, table: &mut SessionTable<T, S>, id: u64) {
+pub(crate) fn log_in<T, S: Storage<T>>(
+    rt: &impl Abort,
+    table: &mut SessionTable<u64, u64, T, S>,
+    id: u64,
+) {
     assert!(rt; table.login(id, 0).is_ok());
 }
 
-/// Puts a value.
+/// Puts a value into the session of an id, under a key.
 pub(crate) fn put<T: Drop, S: Storage<T>>(
     rt: &impl Abort,
-    table: &mut SessionTable<T, S>,
-    id: u64,
+    table: &mut SessionTable<u64, u64, T, S>,
+    at: (u64, u64),
     value: T,
 ) -> Entry<T> {
     table
-        .put(id, value, put_at(3))
+        .put(&at.0, at.1, value, put_at(3))
         .map_err(|refusal| refusal.cause)
         .expect(rt, "an entry")
 }
@@ -35,12 +41,12 @@ impl Scene<u64> for TicketsAreUsedUp {
     fn play<R: Abort, S: Storage<u64> + Drop>(&self, rt: &R, alloc: Global, store: S) {
         let mut table = sessions_over(rt, alloc, store);
         log_in(rt, &mut table, 1);
-        let entry = put(rt, &mut table, 1, 5);
+        let entry = put(rt, &mut table, (1, 1), 5);
         let short = StoreError::NumbersExhausted;
         assert_same(rt, &table.login(2, 0), &Err(LoginError::Store(short)));
         assert!(rt; table.set(entry, 6).is_ok());
         assert_same(rt, &table.get(entry).copied().ok(), &Some(6));
-        assert!(rt; table.logout(1));
+        assert!(rt; table.logout(&1));
         let _left = table.finish();
     }
 }
@@ -53,7 +59,7 @@ fn logins_are_refused_where_no_ticket_is_left(rt: HostRuntime) {
 /// Sets a value, which lets the old one go.
 fn set<S: Storage<Counted>>(
     rt: &impl Abort,
-    table: &mut SessionTable<Counted, S>,
+    table: &mut SessionTable<u64, u64, Counted, S>,
     entry: Entry<Counted>,
     value: Counted,
 ) {
@@ -63,19 +69,19 @@ fn set<S: Storage<Counted>>(
 /// Values of two sessions, which end with them.
 fn values_go<S: Storage<Counted>>(
     rt: &impl Abort,
-    table: &mut SessionTable<Counted, S>,
+    table: &mut SessionTable<u64, u64, Counted, S>,
     first: &Counted,
     second: &Counted,
 ) {
     log_in(rt, table, 1);
     log_in(rt, table, 2);
-    let entry = put(rt, table, 1, another(rt, first));
-    put(rt, table, 2, another(rt, first));
-    put(rt, table, 2, another(rt, second));
+    let entry = put(rt, table, (1, 1), another(rt, first));
+    put(rt, table, (2, 1), another(rt, first));
+    put(rt, table, (2, 2), another(rt, second));
     assert_count(rt, first, 3);
     set(rt, table, entry, another(rt, second));
     assert_count(rt, first, 2);
-    assert!(rt; table.logout(1));
+    assert!(rt; table.logout(&1));
     assert_count(rt, second, 2);
     assert_count(rt, first, 2);
 }
@@ -101,24 +107,34 @@ fn values_are_let_go_with_their_sessions(rt: HostRuntime) {
 }
 
 /// Visits of ids with sessions and without.
-fn visits_leave_no_session<S: Storage<u64>>(rt: &impl Abort, table: &mut SessionTable<u64, S>) {
+fn visits_leave_no_session<S: Storage<u64>>(
+    rt: &impl Abort,
+    table: &mut SessionTable<u64, u64, u64, S>,
+) {
     log_in(rt, table, 1);
     assert_same(rt, &one_visit(table, 2, 0, 7, put_at(6)), &Some(7));
     assert_same(rt, &one_visit(table, 1, 0, 7, put_at(6)), &None);
     assert_same(rt, &table.len(), &1);
+    put(rt, table, (1, 4), 9);
+    assert_same(rt, &found_by_key(table, 1, 4), &Some(9));
+    assert_same(rt, &found_by_key(table, 1, 5), &None);
+    let greatest = table.session(&1).map(|session| greatest_key(session));
+    assert_same(rt, &greatest, &Some(4));
+    assert!(rt; table.touch(&1, 8));
+    assert_same(rt, &latest_use(table), &8);
 }
 
 /// Values of two sessions, of which one is logged out.
-fn callers_are_told<S: Storage<u64>>(rt: &impl Abort, table: &mut SessionTable<u64, S>) {
+fn callers_are_told<S: Storage<u64>>(rt: &impl Abort, table: &mut SessionTable<u64, u64, u64, S>) {
     log_in(rt, table, 2);
-    let first = match table.put(1, 5, put_at(3)) {
+    let first = match table.put(&1, 1, 5, put_at(3)) {
         Ok(entry) => entry,
         Err(_lacking) => rt.abort(),
     };
     let stale = Stale { put_at: put_at(3) };
     let told = told_after_logout(table, 1, first, 2, 6, put_at(5));
     assert_same(rt, &told, &Err(stale));
-    let second = match table.put(2, 8, put_at(4)) {
+    let second = match table.put(&2, 2, 8, put_at(4)) {
         Ok(entry) => entry,
         Err(_lacking) => rt.abort(),
     };

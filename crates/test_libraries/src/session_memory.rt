@@ -14,24 +14,28 @@ use std::process::Abort;
 const MANY: u64 = 10;
 
 /// Begins a session. A login that lacks memory leaves the table as it was.
-fn log_in_or_again<S: Storage<u64>>(rt: &impl Abort, table: &mut SessionTable<u64, S>, id: u64) {
+fn log_in_or_again<S: Storage<u64>>(
+    rt: &impl Abort,
+    table: &mut SessionTable<u64, u64, u64, S>,
+    id: u64,
+) {
     let before = table.len();
     if let Err(cause) = table.login(id, id) {
         assert_same(rt, &cause, &LoginError::Store(StoreError::OutOfMemory));
         assert_same(rt, &table.len(), &before);
         assert!(rt; table.login(id, id).is_ok());
     }
-    assert!(rt; table.has(id));
+    assert!(rt; table.has(&id));
 }
 
 /// Puts a value. One that lacks memory comes back, and the session is as it was.
 fn put_or_again<S: Storage<u64>>(
     rt: &impl Abort,
-    table: &mut SessionTable<u64, S>,
+    table: &mut SessionTable<u64, u64, u64, S>,
     id: u64,
     value: u64,
 ) {
-    let refusal = match table.put(id, value, put_at(0)) {
+    let refusal = match table.put(&id, value, value, put_at(0)) {
         Ok(entry) => {
             assert!(rt; table.shows(entry));
             return;
@@ -44,7 +48,7 @@ fn put_or_again<S: Storage<u64>>(
         &refusal.cause,
         &PutError::Store(StoreError::OutOfMemory),
     );
-    assert!(rt; table.put(id, value, put_at(0)).is_ok());
+    assert!(rt; table.put(&id, value, value, put_at(0)).is_ok());
 }
 
 /// Begins sessions that keep values, and ends half of them.

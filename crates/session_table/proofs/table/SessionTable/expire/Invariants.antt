@@ -1,9 +1,9 @@
-use Rattle.std.proofs.Common.{length}
-use Rattle.session_table.proofs.Gathering.{Sheds}
+use Rattle.std.proofs.Common.{length, ◌-◌}
+use Rattle.session_table.proofs.Ending.{Sheds}
 use Rattle.session_table.proofs.table.SessionTable.expire.Given as goal
 
-abbrev pub invariant-shed : goal.invariant-shed
-invariant-shed g l = Sheds l.before l.kept l.fn.self l.self
+abbrev pub invariant-places : goal.invariant-places
+invariant-places g l = Sheds g.I.PartialEq.eq l.before l.place l.fn.self l.self
 
-abbrev pub decreases-shed : goal.decreases-shed
-decreases-shed g l = length l.self.sessions
+abbrev pub decreases-places : goal.decreases-places
+decreases-places g l = length l.self.sessions - l.place

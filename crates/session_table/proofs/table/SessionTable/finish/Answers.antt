@@ -1,12 +1,12 @@
 use Rattle.session_table.specs.Entries.{pointer_in}
-use Rattle.session_table.proofs.Calls.{left_none}
+use Rattle.session_table.proofs.Ending.{none_left}
 use Rattle.session_table.proofs.Keeping.{empty_owns, empty_shows}
 use Rattle.session_table.proofs.table.SessionTable.finish.Goals as goal
 
 pub returns-clause-gone : goal.returns-clause-gone
-returns-clause-gone g c e = empty_shows _ (left_none _ _ _ c.self-2.invariant c.self-2.view_is
-    c.loop-row.invariant c.loop-row-test.false) (pointer_in e)
+returns-clause-gone g c e = empty_shows g.I.PartialEq.eq _ (none_left _ _ _ c.self.invariant c.self.view_is
+    c.len.ensures.count c.places-test.false) (pointer_in e)
 
 pub returns-clause-owners : goal.returns-clause-owners
-returns-clause-owners g c o = empty_owns _ (left_none _ _ _ c.self-2.invariant c.self-2.view_is
-    c.loop-row.invariant c.loop-row-test.false) o
+returns-clause-owners g c o = empty_owns g.I.PartialEq.eq _ (none_left _ _ _ c.self.invariant c.self.view_is
+    c.len.ensures.count c.places-test.false) o

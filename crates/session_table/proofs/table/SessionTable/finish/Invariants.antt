@@ -1,8 +1,9 @@
-use Rattle.std.proofs.Common.{◌≡◌, length}
+use Rattle.std.proofs.Common.{length}
+use Rattle.std.specs.Prelude.{⊤}
 use Rattle.session_table.proofs.table.SessionTable.finish.Given as goal
 
-abbrev pub invariant-loop-row : goal.invariant-loop-row
-invariant-loop-row g l = l.row ≡ length l.self.sessions
+abbrev pub invariant-places : goal.invariant-places
+invariant-places g l = ⊤
 
-abbrev pub decreases-loop-row : goal.decreases-loop-row
-decreases-loop-row g l = l.row
+abbrev pub decreases-places : goal.decreases-places
+decreases-places g l = length l.self.sessions

@@ -1,56 +1,61 @@
-use Rattle.std.proofs.Common.{inl, sym, ap, ◌∙◌}
-use Rattle.std.proofs.lemmas.Bool.{true≢false}
+use Rattle.std.proofs.Common.{◌≡◌, Some, None, Bool, cond, sym, ap, ◌∙◌, arith, length}
+use Rattle.std.specs.Map.{lookup}
+use Rattle.std.proofs.lemmas.List.{length-map}
+use Rattle.std.proofs.lemmas.Option.{none-some}
 use Rattle.generational_core.proofs.machine.Leaving.{same_value}
-use Rattle.session_table.specs.Sessions.{session_in}
-use Rattle.session_table.specs.Tables.{TableState, has_session}
-use Rattle.session_table.proofs.Calls.{login_rows, login_sessions}
-use Rattle.session_table.proofs.Sessions.{no_such, others_pushed, own_pushed}
-use Rattle.generational_sessions.proofs.callers.Tickets.{owner_next}
+use Rattle.session_table.specs.Keeping.{held_in}
+use Rattle.session_table.specs.Sessions.{names_of}
+use Rattle.session_table.specs.Tables.{TableState, has_session, live_row}
+use Rattle.session_table.proofs.Calls.{no_row, now_held, one_held, other_sessions, over, own_session}
+use Rattle.session_table.proofs.Keeping.{login_kept}
 use Rattle.session_table.proofs.table.SessionTable.login.Goals as goal
 
-pub invariant_of-self-2 : goal.invariant_of-self-2
-invariant_of-self-2 g c = rw (c.push_reserved.ensures.items, c.reserve.ensures.items)
-    (login_rows _ _ (g.met.S.AnyStorage.sound _) _ c.self.invariant _ c.in-Ok.ensures
-    (ap (λ (t : TableState _). has_session t c.args.id) c.self.view_is
-    ∙ (sym c.has.ensures ∙ c.if-has.false)))
+pub unreachable-requires : goal.unreachable-requires
+unreachable-requires g c = none-some _ (sym (c.in-Ok-Some.ensures.old
+    ∙ (ap (λ es. lookup (g.I.PartialEq.eq c.args.id) es) c.reserve.ensures.entries
+    ∙ (no_row g.I.PartialEq.eq (g.S.AnyStorage.state c.self.inside.store) c.self.inside.rows.entries c.args.id
+    (ap (λ (t : TableState _ _ _). has_session g.I.PartialEq.eq t c.args.id) c.self.view_is
+    ∙ (sym c.has.ensures ∙ c.if-has.false))))) ∙ c.in-Ok-Some.field-0-is)
 
-pub returns-clause-sessions : goal.returns-clause-sessions
-returns-clause-sessions g c = rw (← c.self.view_is, c.push_reserved.ensures.items, c.reserve.ensures.items)
-    (login_sessions _ _ (g.met.S.AnyStorage.sound _) _ c.self.invariant _ c.in-Ok.ensures)
+pub invariant_of-self-2 : goal.invariant_of-self-2
+invariant_of-self-2 g c =
+    login_kept _ _ (g.met.S.AnyStorage.sound _) c.self.invariant g.met.I.Eq.laws c.args.id c.in-Ok.owner
+    (λ q. now_held g.met.I.Eq.laws c.self.inside.rows.entries c.insert.new.self.entries c.args.id
+    (Some (record { used_at = c.args.now; owner = c.in-Ok.owner; entries = c.new.result })) (over g.I.PartialEq.eq c.insert.new.self.entries
+    c.args.id (Some (record { used_at = c.args.now; owner = c.in-Ok.owner; entries = c.new.result }))
+    c.reserve.ensures.entries c.in-Ok-None.ensures.updates.0) q
+    ∙ ap (λ ns. cond (g.I.PartialEq.eq c.args.id q) (Some (record { owner = c.in-Ok.owner; names = names_of ns }))
+    (held_in g.I.PartialEq.eq c.self.inside.rows.entries q)) c.new.ensures.empty)
+    (λ q t. one_held g.met.I.Eq.laws c.self.inside.rows.entries c.args.id q t (no_row g.I.PartialEq.eq (g.S.AnyStorage.state c.self.inside.store) c.self.inside.rows.entries c.args.id
+    (ap (λ (t : TableState _ _ _). has_session g.I.PartialEq.eq t c.args.id) c.self.view_is
+    ∙ (sym c.has.ensures ∙ c.if-has.false)))) c.in-Ok.ensures
+
+pub returns-clause-opened : goal.returns-clause-opened
+returns-clause-opened g c = own_session g.met.I.Eq.laws c.self.inside.rows.entries c.insert.new.self.entries c.args.id
+    (Some (record { used_at = c.args.now; owner = c.in-Ok.owner; entries = c.new.result }))
+    (over g.I.PartialEq.eq c.insert.new.self.entries
+    c.args.id (Some (record { used_at = c.args.now; owner = c.in-Ok.owner; entries = c.new.result }))
+    c.reserve.ensures.entries c.in-Ok-None.ensures.updates.0) (g.S.AnyStorage.state c.self.inside.store)
+    (g.S.AnyStorage.state c.owner.new.self)
+    ∙ ap (λ es. Some (record { used_at = c.args.now; entries = es })) c.new.ensures.empty
 
 pub returns-clause-others : goal.returns-clause-others
-returns-clause-others g c other ne =
-    rw (← c.self.view_is, c.push_reserved.ensures.items, c.reserve.ensures.items)
-    (ap (λ xs. session_in xs other)
-    (login_sessions _ _ (g.met.S.AnyStorage.sound _) _ c.self.invariant _ c.in-Ok.ensures)
-    ∙ others_pushed _ _ other ne)
+returns-clause-others g c = rw (← c.self.view_is) (other_sessions g.met.I.Eq.laws
+    c.self.inside.rows.entries c.insert.new.self.entries c.args.id
+    (Some (record { used_at = c.args.now; owner = c.in-Ok.owner; entries = c.new.result })) (over g.I.PartialEq.eq c.insert.new.self.entries
+    c.args.id (Some (record { used_at = c.args.now; owner = c.in-Ok.owner; entries = c.new.result }))
+    c.reserve.ensures.entries c.in-Ok-None.ensures.updates.0)
+    (g.S.AnyStorage.state c.self.inside.store) (g.S.AnyStorage.state c.owner.new.self))
+
+pub returns-clause-count : goal.returns-clause-count
+returns-clause-count g c = rw (← c.self.view_is) (omega (
+  arith,
+  rw c.in-Ok-None.field-0-is at c.in-Ok-None.ensures.len,
+  ap length c.reserve.ensures.entries,
+  length-map c.self.inside.rows.entries live_row,
+  length-map c.insert.new.self.entries live_row,
+))
 
 pub returns-clause-shown : goal.returns-clause-shown
 returns-clause-shown g c e = rw (← c.self.view_is)
     (same_value _ _ _ _ (g.met.S.AnyStorage.sound _) c.in-Ok.ensures _ tt tt)
-
-pub returns-clause-ticket : goal.returns-clause-ticket
-returns-clause-ticket g c = rw (← c.self.view_is) (owner_next _ _ _ c.in-Ok.ensures)
-
-pub returns-clause-opened : goal.returns-clause-opened
-returns-clause-opened g c = rw (c.push_reserved.ensures.items, c.reserve.ensures.items)
-    (ap (λ xs. session_in xs c.args.id)
-    (login_sessions _ _ (g.met.S.AnyStorage.sound _) _ c.self.invariant _ c.in-Ok.ensures)
-    ∙ own_pushed _ _ (no_such _ c.args.id
-    (ap (λ (t : TableState _). has_session t c.args.id) c.self.view_is
-    ∙ (sym c.has.ensures ∙ c.if-has.false))))
-
-pub returns-then-is_err-clause-in_use : goal.returns-then-is_err-clause-in_use
-returns-then-is_err-clause-in_use g c has =
-    absurd (true≢false (sym has ∙ (sym c.has.ensures ∙ c.if-has.false)))
-
-pub returns-in-Err-clause-in_use : goal.returns-in-Err-clause-in_use
-returns-in-Err-clause-in_use g c has =
-    absurd (true≢false (sym has ∙ (sym c.has.ensures ∙ c.if-has.false)))
-
-pub returns-clause-in_use : goal.returns-clause-in_use
-returns-clause-in_use g c has =
-    absurd (true≢false (sym has ∙ (sym c.has.ensures ∙ c.if-has.false)))
-
-pub returns-then-has-clause-short : goal.returns-then-has-clause-short
-returns-then-has-clause-short g c = inl (sym c.has.ensures ∙ c.if-has.true)

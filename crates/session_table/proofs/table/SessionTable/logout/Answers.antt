@@ -1,83 +1,107 @@
-use Rattle.std.proofs.Common.{List, sym, ap, ◌∙◌}
-use Rattle.std.specs.Prelude.{is_some}
+use Rattle.std.proofs.Common.{None, sym, ap, ◌∙◌, arith}
+use Rattle.std.specs.Prelude.{is_some, option_map}
+use Rattle.std.specs.Map.{lookup}
 use Rattle.std.proofs.lemmas.Bool.{true≢false}
-use Rattle.std.proofs.lemmas.Option.{slice_get_within}
+use Rattle.std.proofs.lemmas.List.{length-map}
 use Rattle.generational_core.specs.Boxes.{name_of}
 use Rattle.generational_core.specs.Names.{among}
+use Rattle.session_table.specs.Sessions.{names_in}
+use Rattle.generational_core.proofs.machine.Stepping.{meets_given}
+use Rattle.generational_sessions.proofs.callers.Tickets.{release_next}
 use Rattle.session_table.specs.Entries.{pointer_in}
-use Rattle.session_table.specs.Sessions.{LiveSession, entries_of, session_in}
-use Rattle.session_table.proofs.Rows.{no_session, row_has, row_live}
-use Rattle.session_table.proofs.Sessions.{none_filtered, others_filtered, own_filtered, removed_id, session_at}
+use Rattle.session_table.specs.Keeping.{held_of}
+use Rattle.session_table.specs.Tables.{live_row}
+use Rattle.session_table.proofs.Calls.{has_row, now_held, one_held, other_sessions, own_session}
+use Rattle.session_table.proofs.Keeping.{ended_kept, ended_left, ended_shows}
+use Rattle.session_table.proofs.Rows.{keeps_row, kept_once}
 use Rattle.session_table.proofs.table.SessionTable.logout.Goals as goal
 
-pub returns-in_default-clause-had : goal.returns-in_default-clause-had
-returns-in_default-clause-had g c = rw (← c.self.view_is) (ap is_some (sym c.in_default.is)
-    ∙ row_has _ _ c.self.invariant c.args.id c.row_of.result c.row_of.ensures.row c.row_of.ensures.none)
+pub end-requires : goal.end-requires
+end-requires g c = record {
+  quiet = c.self.invariant.unborrowed;
+  held = c.self.invariant.held c.args.id.now (held_of c.in-Some.session)
+      (ap (option_map held_of) (sym c.in-Some.ensures.value));
+}
 
-pub returns-in_default-clause-sessions : goal.returns-in_default-clause-sessions
-returns-in_default-clause-sessions g c =
-    none_filtered c.args.id _ (no_session _ _ c.args.id c.self.view_is c.in_default.ensures.none)
-
-pub returns-in_default-clause-gone : goal.returns-in_default-clause-gone
-returns-in_default-clause-gone g c e kept = absurd (true≢false (sym kept
-    ∙ ap (λ o. among (entries_of o) (name_of (pointer_in e)))
-    (no_session _ _ c.args.id c.self.view_is c.in_default.ensures.none)))
-
-pub end_row-requires : goal.end_row-requires
-end_row-requires g c =
-    let row = c.in-Some.ensures.row in record {
-      within = slice_get_within _ _ _ (row_live _ _ c.self.invariant _ _ c.self.view_is row.1);
-    }
+pub invariant_of-self-2 : goal.invariant_of-self-2
+invariant_of-self-2 g c = ended_kept _ _ (g.met.S.AnyStorage.sound _) c.self.invariant g.met.I.Eq.laws
+    c.args.id.now (held_of c.in-Some.session)
+    (now_held g.met.I.Eq.laws c.self.inside.rows.entries _ c.args.id.now None c.in-Some.ensures.updates.0)
+    (λ q t. one_held g.met.I.Eq.laws _ c.args.id.now q t (sym c.in-Some.ensures.value)) c.end.ensures
 
 pub returns-clause-had : goal.returns-clause-had
-returns-clause-had g c =
-    let row = c.in-Some.ensures.row in
-    let at = row_live _ _ c.self.invariant _ _ c.self.view_is row.1 in
-    sym (ap is_some (session_at _ _ _ c.args.id c.end_row.ensures.orderly.once at row.2))
+returns-clause-had g c = rw (← c.self.view_is) (sym (ap is_some (has_row g.I.PartialEq.eq
+    (g.S.AnyStorage.state c.self.inside.store) c.self.inside.rows.entries c.args.id.now
+    (sym c.in-Some.ensures.value))))
 
-pub returns-clause-sessions : goal.returns-clause-sessions
-returns-clause-sessions g c =
-    let row = c.in-Some.ensures.row in
-    let at = row_live _ _ c.self.invariant _ _ c.self.view_is row.1 in
-    c.end_row.ensures.sessions ∙ removed_id _ _ _ c.args.id c.end_row.ensures.orderly.once at row.2
-
-pub returns-clause-gone : goal.returns-clause-gone
-returns-clause-gone g c e kept =
-    let row = c.in-Some.ensures.row in
-    let at = row_live _ _ c.self.invariant _ _ c.self.view_is row.1 in
-    c.end_row.ensures.gone _ e at (ap (λ o. among (entries_of o) (name_of (pointer_in e)))
-    (sym (session_at _ _ _ c.args.id c.end_row.ensures.orderly.once at row.2)) ∙ kept)
-
-pub returns-clause-others : goal.returns-clause-others
-returns-clause-others g c other ne =
-    let row = c.in-Some.ensures.row in
-    let at = row_live _ _ c.self.invariant _ _ c.self.view_is row.1 in
-    ap (λ (xs : List LiveSession). session_in xs other) (c.end_row.ensures.sessions
-    ∙ removed_id _ _ _ c.args.id c.end_row.ensures.orderly.once at row.2)
-    ∙ others_filtered c.args.id _ other ne
-
-pub returns-clause-left : goal.returns-clause-left
-returns-clause-left g c e out =
-    let row = c.in-Some.ensures.row in
-    let at = row_live _ _ c.self.invariant _ _ c.self.view_is row.1 in
-    c.end_row.ensures.left _ e at (ap (λ o. among (entries_of o) (name_of (pointer_in e)))
-    (sym (session_at _ _ _ c.args.id c.end_row.ensures.orderly.once at row.2)) ∙ out)
-
-pub returns-clause-kept : goal.returns-clause-kept
-returns-clause-kept g c other e ne kept =
-    let row = c.in-Some.ensures.row in
-    let at = row_live _ _ c.self.invariant _ _ c.self.view_is row.1 in
-    c.end_row.ensures.left _ e at (ap (λ o. among (entries_of o) (name_of (pointer_in e)))
-    (sym (session_at _ _ _ c.args.id c.end_row.ensures.orderly.once at row.2))
-    ∙ c.end_row.ensures.orderly.apart other c.args.id e (λ is. ne (sym is)) kept)
-
-pub returns-in_default-clause-ended : goal.returns-in_default-clause-ended
-returns-in_default-clause-ended g c = no_session _ _ c.args.id c.self.view_is c.in_default.ensures.none
+pub returns-in_default-clause-had : goal.returns-in_default-clause-had
+returns-in_default-clause-had g c = rw (← c.self.view_is) (sym (ap is_some (has_row g.I.PartialEq.eq
+    (g.S.AnyStorage.state c.self.inside.store) c.self.inside.rows.entries c.args.id.now
+    (sym c.in_default.ensures.value))))
 
 pub returns-clause-ended : goal.returns-clause-ended
-returns-clause-ended g c =
-    let row = c.in-Some.ensures.row in
-    let at = row_live _ _ c.self.invariant _ _ c.self.view_is row.1 in
-    ap (λ (xs : List LiveSession). session_in xs c.args.id) (c.end_row.ensures.sessions
-    ∙ removed_id _ _ _ c.args.id c.end_row.ensures.orderly.once at row.2)
-    ∙ own_filtered c.args.id _
+returns-clause-ended g c = own_session g.met.I.Eq.laws c.self.inside.rows.entries _ c.args.id.now None
+    c.in-Some.ensures.updates.0 (g.S.AnyStorage.state c.self.inside.store) (g.S.AnyStorage.state c.end.new.store)
+
+pub returns-clause-others : goal.returns-clause-others
+returns-clause-others g c = rw (← c.self.view_is) (other_sessions g.met.I.Eq.laws
+    c.self.inside.rows.entries _ c.args.id.now None c.in-Some.ensures.updates.0
+    (g.S.AnyStorage.state c.self.inside.store) (g.S.AnyStorage.state c.end.new.store))
+
+pub returns-clause-count : goal.returns-clause-count
+returns-clause-count g c = rw (← c.self.view_is) (omega (
+  arith,
+  c.in-Some.ensures.len,
+  length-map c.self.inside.rows.entries live_row,
+  length-map c.swap_remove.new.self.entries live_row,
+))
+
+pub returns-clause-gone : goal.returns-clause-gone
+returns-clause-gone g c = rw (← c.self.view_is) (λ e kept.
+    let found = sym c.in-Some.ensures.value in
+    ended_shows _ _ (g.met.S.AnyStorage.sound _) c.self.invariant g.met.I.Eq.laws
+    c.args.id.now (held_of c.in-Some.session)
+    (now_held g.met.I.Eq.laws c.self.inside.rows.entries _ c.args.id.now None c.in-Some.ensures.updates.0)
+    (λ q t. one_held g.met.I.Eq.laws _ c.args.id.now q t found) c.end.ensures (pointer_in e)
+    (sym (keeps_row g.I.PartialEq.eq (g.S.AnyStorage.state c.self.inside.store) c.self.inside.rows.entries
+    c.args.id.now _ e (ap (option_map held_of) found)) ∙ kept))
+
+pub returns-clause-left : goal.returns-clause-left
+returns-clause-left g c = rw (← c.self.view_is) (λ e out.
+    let found = sym c.in-Some.ensures.value in
+    (ended_left _ _ (g.met.S.AnyStorage.sound _) c.self.invariant g.met.I.Eq.laws
+    c.args.id.now (held_of c.in-Some.session)
+    (now_held g.met.I.Eq.laws c.self.inside.rows.entries _ c.args.id.now None c.in-Some.ensures.updates.0)
+    (λ q t. one_held g.met.I.Eq.laws _ c.args.id.now q t found) c.end.ensures (pointer_in e)
+    (sym (keeps_row g.I.PartialEq.eq (g.S.AnyStorage.state c.self.inside.store) c.self.inside.rows.entries
+    c.args.id.now _ e (ap (option_map held_of) found)) ∙ out)).seen)
+
+pub returns-clause-kept : goal.returns-clause-kept
+returns-clause-kept g c = rw (← c.self.view_is) (λ other e ne kept.
+    let found = sym c.in-Some.ensures.value in
+    let rows = c.self.inside.rows.entries in
+    let S = g.S.AnyStorage.state c.self.inside.store in
+    let out = kept_once g.I.PartialEq.eq S rows c.self.invariant other c.args.id.now e
+    (g.met.I.Eq.laws.symm other c.args.id.now ∙ ne) kept in
+    (ended_left _ _ (g.met.S.AnyStorage.sound _) c.self.invariant g.met.I.Eq.laws
+    c.args.id.now (held_of c.in-Some.session)
+    (now_held g.met.I.Eq.laws rows _ c.args.id.now None c.in-Some.ensures.updates.0)
+    (λ q t. one_held g.met.I.Eq.laws _ c.args.id.now q t found) c.end.ensures (pointer_in e)
+    (sym (keeps_row g.I.PartialEq.eq S rows c.args.id.now _ e (ap (option_map held_of) found)) ∙ out)).seen)
+
+pub returns-clause-put : goal.returns-clause-put
+returns-clause-put g c e = rw (← c.self.view_is) (meets_given _ _ _ _ c.end.ensures _)
+
+pub returns-clause-ticket : goal.returns-clause-ticket
+returns-clause-ticket g c = rw (← c.self.view_is) (release_next _ _ _ _ c.end.ensures)
+
+pub returns-in_default-clause-ended : goal.returns-in_default-clause-ended
+returns-in_default-clause-ended g c = has_row g.I.PartialEq.eq (g.S.AnyStorage.state c.self.inside.store) _
+    c.args.id.now (ap (λ es. lookup (g.I.PartialEq.eq c.args.id.now) es) c.in_default.ensures.unchanged
+    ∙ sym c.in_default.ensures.value)
+
+pub returns-in_default-clause-gone : goal.returns-in_default-clause-gone
+returns-in_default-clause-gone g c = rw (← c.self.view_is) (λ e kept. absurd (true≢false (sym kept
+    ∙ ap (λ o. among (names_in o) (name_of (pointer_in e))) (has_row g.I.PartialEq.eq
+    (g.S.AnyStorage.state c.self.inside.store) c.self.inside.rows.entries c.args.id.now
+    (sym c.in_default.ensures.value)))))

@@ -3,19 +3,18 @@ use Rattle.std.specs.Prelude.{is_some}
 use Rattle.generational_core.proofs.machine.Calling.{seen_reached, sets}
 use Rattle.generational_core.proofs.machine.Leaving.{same_value}
 use Rattle.generational_core.proofs.machine.Stepping.{meets_given}
-use Rattle.generational_sessions.proofs.callers.PlainStores.{reach_apart}
 use Rattle.generational_core.proofs.machine.Unborrowed.{quiet_sees}
+use Rattle.generational_sessions.proofs.callers.Ids.{others_left, seen_store}
+use Rattle.generational_sessions.proofs.callers.PlainStores.{reach_apart}
+use Rattle.generational_sessions.proofs.callers.Tickets.{set_next}
 use Rattle.session_table.specs.Entries.{pointer_in}
 use Rattle.session_table.specs.Tables.{TableState, shown_in}
-use Rattle.session_table.proofs.Keeping.{set_kept, set_owner}
-use Rattle.session_table.proofs.Rows.{sessions_same}
-use Rattle.generational_sessions.proofs.callers.Ids.{others_left, seen_store}
-use Rattle.generational_sessions.proofs.callers.Tickets.{set_next}
+use Rattle.session_table.proofs.Keeping.{set_kept}
 use Rattle.session_table.proofs.table.SessionTable.set.Goals as goal
 
 pub set-requires : goal.set-requires
 set-requires g c = quiet_sees _ c.self.invariant.unborrowed _ (g.met.S.AnyStorage.sound _)
-    ∙ (ap (λ (t : TableState _). is_some (shown_in t c.args.entry)) c.self.view_is
+    ∙ (ap (λ (t : TableState _ _ _). is_some (shown_in t c.args.entry)) c.self.view_is
     ∙ (sym c.shows.ensures ∙ c.if-not-shows.false))
 
 pub invariant_of-self : goal.invariant_of-self
@@ -33,14 +32,3 @@ returns-clause-others g c f other =
     (pointer_in f) (seen_store _ _ (sound _) (ap is_some saw))
     (λ ne. same_value _ _ _ _ (sound _) c.set.ensures.1 _
     (λ same. ne (reach_apart _ c.self.invariant.plain _ _ to.0 to.1 (sym same))) tt) other)
-
-pub returns-clause-sessions : goal.returns-clause-sessions
-returns-clause-sessions g c = rw (← c.self.view_is) (sessions_same (g.S.AnyStorage.state c.self.inside.store)
-    (g.S.AnyStorage.state c.set.new.store) c.self.inside.rows.items
-    (λ x there. set_owner _ _ (g.met.S.AnyStorage.sound _) c.self.invariant _ _ _ c.set.ensures.1 x.owner))
-
-pub returns-clause-put : goal.returns-clause-put
-returns-clause-put g c f = rw (← c.self.view_is) (meets_given _ _ _ _ c.set.ensures.1 _)
-
-pub returns-clause-ticket : goal.returns-clause-ticket
-returns-clause-ticket g c = rw (← c.self.view_is) (set_next _ _ _ _ _ c.set.ensures.1)

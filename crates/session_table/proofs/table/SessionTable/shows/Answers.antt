@@ -1,7 +1,0 @@
-use Rattle.std.proofs.Common.{◌∙◌}
-use Rattle.generational_core.proofs.machine.Unborrowed.{test_sees}
-use Rattle.session_table.proofs.table.SessionTable.shows.Goals as goal
-
-pub returns : goal.returns
-returns g c =
-    rw (← c.self.view_is) (c.can_read.ensures ∙ test_sees _ _ (g.met.S.AnyStorage.sound _))
