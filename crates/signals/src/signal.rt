@@ -1,13 +1,16 @@
 //! Signals.
 
-ghost use Rattle.std.specs.Prelude.{◌≡◌, ◌≢◌, Some, IfOk, IfErr, OnOk, OnErr, option_copied};
+ghost use Rattle.std.specs.Prelude.{◌≡◌, ◌≢◌, Some, IfOk, IfErr, IfSome, OnOk, OnErr, option_copied};
+ghost use Rattle.std.specs.Prelude.{false, is_ok, is_some};
+ghost use Rattle.std.specs.Borrow.{MutBor};
 ghost use Rattle.std.specs.Fn.{FnOnceReturnsAt, FnOnceReturnsAtMut};
 ghost use Rattle.generational_core.specs.declared.boxes.GenerationalPointer.{GenerationalPointer};
 ghost use Rattle.generational_core.specs.Answers.{read_refused, end_refused, end_answer};
 ghost use Rattle.generational_core.specs.Boxes.{name_of};
-ghost use Rattle.generational_core.specs.Borrowing.{reach, can_read, take_ticket};
+ghost use Rattle.generational_core.specs.Borrowing.{reach, can_read, can_write, take_ticket};
 ghost use Rattle.generational_core.specs.Leaving.{IsLeft, IsSet};
-ghost use Rattle.generational_core.specs.Machine.Action.{Read, Write, Point};
+ghost use Rattle.generational_core.specs.Machine.Action.{Read, Write, Point, SetValue};
+ghost use Rattle.generational_core.specs.Machine.Answer.{Old};
 ghost use Rattle.generational_core.specs.Seeing.{value_in};
 ghost use Rattle.generational_core.specs.Steps.{Meets};
 ghost use Rattle.signals.specs.Scopes.{LeavesScopes};
@@ -22,9 +25,7 @@ use generational_sessions::caller_laws::{
     pointed_boxes_see_what_others_saw, refused_calls_change_nothing,
     released_borrows_leave_the_rest,
 };
-use generational_sessions::laws::{
-    guards_hold_what_boxes_see, made_boxes_see_their_values, unborrowed_boxes_are_free,
-};
+use generational_sessions::laws::{made_boxes_see_their_values, unborrowed_boxes_are_free};
 use std::alloc::AllocError;
 use std::fmt;
 use std::hash::{Hash, Hasher};
@@ -189,23 +190,29 @@ impl<T> Signal<T> {
         }
     }
 
-    /// Changes the value by a closure, which is called once, and answers what that answers: each box
-    /// that reaches the same sees what the closure made of the value, the others are left, and
-    /// nothing else changes but a ticket that is used up.
+    /// Changes the value in its place by a closure, which is called once on it, and answers what that
+    /// answers: each box that reaches the same sees what the closure left, the others are left, and
+    /// nothing else changes. No ticket is used up, and the value isn't moved.
     ///
-    /// Refused as `set` is. The closure isn't called then, and the store stays as it was.
+    /// Refused where the value has ended or is borrowed, as a write of the signal's box is, in this
+    /// order: `Dropped`, `AlreadyBorrowedMut`, `AlreadyBorrowed`, in whose place `OutOfMemory` is
+    /// answered if its list of locations finds no memory. The closure isn't called then, and the store
+    /// stays as it was.
     pub fn update<S: Storage<T>, R, F: FnOnce(&mut T) -> R>(
         self,
         store: &mut S,
         location: Location,
         f: F,
     ) -> BorrowMutResult<R>
-        requires { F.IsAlwaysCallable f }
+        requires { (value : MutBor T) →
+            value_in (S.state store.old) (pointer_in self) ≡ Some value.now → F.pre f value }
         ensures changed { IfOk result (λ answer. (old : T) × (changed : T) ×
             (value_in (S.state store.old) (pointer_in self) ≡ Some old) ×
             FnOnceReturnsAtMut F.FnOnce f old answer changed ×
-            IsSet (S.state store.old) (pointer_in self) changed (S.state store.new) ×
+            Meets (S.state store.old) (SetValue (pointer_in self) changed) (Old old)
+            (S.state store.new) ×
             AllSee (S.state store.old) (pointer_in self) changed (S.state store.new)) }
+        ensures free { is_ok result ≡ can_write (S.state store.old) (pointer_in self) }
         ensures others { OnOk result ((b : GenerationalPointer) →
             reach (S.state store.old) b ≢ reach (S.state store.old) (pointer_in self) →
             IsLeft (S.state store.old) b (S.state store.new)) }
@@ -214,14 +221,40 @@ impl<T> Signal<T> {
             Meets (S.state store.old) (Write (pointer_in self) location) (end_refused cause)
             (S.state store.new)) }
     {
-        guards_hold_what_boxes_see::<T>();
-        released_borrows_leave_the_rest::<T>();
-        refused_calls_change_nothing::<T>();
-        let mut guard = self.raw.try_write(store, location)?;
-        let answer = change_value(&mut guard, f);
-        match guard.release(store) {
-            Ok(()) => Ok(answer),
-            Err(_) => unreachable!(),
+        if !self.raw.can_write(store) {
+            return Err(self.hindrance(store, location));
+        }
+        Ok(store.change_value(self.raw.pointer(), f))
+    }
+
+    // Why a write is refused that isn't free. Nothing changes.
+    fn hindrance<S: Storage<T>>(self, store: &mut S, location: Location) -> Refused<BorrowMutError>
+        requires { can_write (S.state store.old) (pointer_in self) ≡ false }
+        ensures step { Meets (S.state store.old) (Write (pointer_in self) location)
+            (end_refused result) (S.state store.new) }
+        ensures unchanged { S.state store.new ≡ S.state store.old }
+    {
+        match self.raw.try_write(store, location) {
+            Err(refused) => refused,
+            Ok(_) => unreachable!(),
+        }
+    }
+
+    /// Reads the value in passing by a closure, which is called once on it, and answers what that
+    /// answers: without a ticket or a location. The store is lent meanwhile.
+    ///
+    /// None where the signal has ended or is of another store, or a writer has the value: the closure
+    /// isn't called. Takes no memory of its own, and is O(1), but for the closure.
+    pub fn with<S: Storage<T>, R, F: FnOnce(&T) -> R>(self, store: &S, f: F) -> Option<R>
+        requires { F.IsAlwaysCallable f }
+        ensures read { IfSome result (λ answer. (v : T) ×
+            (value_in (S.state store.now) (pointer_in self) ≡ Some v) ×
+            FnOnceReturnsAt F.FnOnce f v answer) }
+        ensures seen { is_some result ≡ is_some (value_in (S.state store.now) (pointer_in self)) }
+    {
+        match self.raw.peek(store) {
+            Some(value) => Some(f(value)),
+            None => None,
         }
     }
 
@@ -274,13 +307,4 @@ fn set_value<T: Drop>(guard: &mut GenerationalRefMut<T>, value: T)
     ensures { guard.new ≡ record guard.old { value = value } }
 {
     guard.replace(value);
-}
-
-// Changes the value of a writer's guard by a closure, which is called once.
-fn change_value<T, R, F: FnOnce(&mut T) -> R>(guard: &mut GenerationalRefMut<T>, f: F) -> R
-    requires { F.IsAlwaysCallable f }
-    ensures changed { FnOnceReturnsAtMut F.FnOnce f guard.old.value result guard.new.value }
-    ensures guard { guard.new ≡ record guard.old { value = guard.new.value } }
-{
-    f(&mut *guard.deref_mut())
 }

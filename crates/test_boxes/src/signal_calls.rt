@@ -88,6 +88,7 @@ pub(crate) fn sees<S: Storage<u64>>(
 ) {
     assert!(rt; signal.is_readable(store));
     assert_same(rt, &signal.peek(store).copied(), &Some(value));
+    assert_same(rt, &signal.with(store, |seen| *seen), &Some(value));
     assert_same(rt, &signal.get(store, asked(), |seen| *seen), &Ok(value));
 }
 
@@ -100,6 +101,7 @@ pub(crate) fn is_gone<S: Storage<u64>>(
 ) {
     assert!(rt; !signal.is_readable(store));
     let mut called = false;
+    assert_same(rt, &signal.with(store, |_| called = true), &None);
     let answer = signal.get(store, asked(), |_| called = true);
     let error = BorrowError::Dropped(ValueDroppedError::new(made));
     assert_same(rt, &answer, &Err(Refused::Borrow(error)));
@@ -139,6 +141,21 @@ pub(crate) fn update_ended<S: Storage<u64>>(
     let mut called = false;
     let answer = signal.update(store, asked(), |_| called = true);
     let error = BorrowMutError::Dropped(ValueDroppedError::new(made));
+    assert_same(rt, &answer, &Err(Refused::Borrow(error)));
+    assert!(rt; !called);
+}
+
+/// Changes a signal that is read, since `asked`: the closure isn't called.
+pub(crate) fn update_hindered<S: Storage<u64>>(
+    rt: &impl Abort,
+    store: &mut S,
+    signal: Signal<u64>,
+    alloc: Global,
+) {
+    let mut called = false;
+    let answer = signal.update(store, asked(), |_| called = true);
+    let readers = [asked()].to_vec(alloc).expect(rt, "memory");
+    let error = BorrowMutError::AlreadyBorrowed(AlreadyBorrowedError::new(readers));
     assert_same(rt, &answer, &Err(Refused::Borrow(error)));
     assert!(rt; !called);
 }

@@ -3,7 +3,7 @@
 use crate::expected::assert_same;
 use crate::signal_calls::{
     alias, asked, double, end, end_hindered, first_made, is_gone, scope, second_made, sees, set,
-    set_ended, signal, swap, update_ended,
+    set_ended, signal, swap, update_ended, update_hindered,
 };
 use example_libraries::scopes::{count_up, outlived, set_source, set_through_alias};
 use generational_box::{LastFirst, OldestFirst, Storage, Store};
@@ -74,8 +74,11 @@ impl History for EndRefused {
         let b = scope(rt, store);
         let u = signal(rt, store, &b, 4, second_made());
         let guard = u.as_box().try_read(store, asked()).expect(rt, "a reader");
+        update_hindered(rt, store, u, alloc);
         let b = end_hindered(rt, store, b, alloc);
         assert!(rt; guard.release(store));
+        double(rt, store, u, 4);
+        set(rt, store, u, 4);
         sees(rt, store, u, 4);
         end(rt, store, b);
         is_gone(rt, store, u, second_made());
@@ -89,7 +92,8 @@ fn a_scope_that_is_read_comes_back(rt: HostRuntime) {
 
 struct TicketsTaken;
 
-/// Each read, set and update takes one ticket, and leaves no borrow; a refused one takes none.
+/// Each read and set takes one ticket, and an update none; none leaves a borrow, and a refused one
+/// takes no ticket.
 impl History for TicketsTaken {
     fn play<R: Abort, S: Storage<u64>>(rt: &R, _: Global, store: &mut S) {
         let a = scope(rt, store);
@@ -98,18 +102,18 @@ impl History for TicketsTaken {
         sees(rt, store, s, 6);
         set(rt, store, s, 7);
         double(rt, store, s, 7);
-        assert_same(rt, &tickets.checked_sub(3), &Some(store.tickets_left()));
+        assert_same(rt, &tickets.checked_sub(2), &Some(store.tickets_left()));
         assert!(rt; s.as_box().can_write(store));
         sees(rt, store, s, 14);
         end(rt, store, a);
         set_ended(rt, store, s, 8, first_made());
         update_ended(rt, store, s, first_made());
-        assert_same(rt, &tickets.checked_sub(4), &Some(store.tickets_left()));
+        assert_same(rt, &tickets.checked_sub(3), &Some(store.tickets_left()));
     }
 }
 
 #[test]
-fn a_call_takes_one_ticket(rt: HostRuntime) {
+fn a_read_or_a_set_takes_one_ticket(rt: HostRuntime) {
     play::<TicketsTaken>(&rt, rt.alloc());
 }
 

@@ -1,14 +1,16 @@
-use Rattle.std.proofs.Common.{inr, ap, subst, sym, ◌∙◌, refl}
+use Rattle.std.proofs.Common.{inr, ap, subst, sym, ◌∙◌}
 use Rattle.generational_core.specs.Leaving.{IsLeft}
 use Rattle.generational_errors.specs.Texts.{as_refused_mut}
-use Rattle.generational_sessions.proofs.callers.Lefts.{left_ticket, left_twice, set_free}
+use Rattle.generational_core.proofs.machine.Calling.{keeps_free}
+use Rattle.generational_sessions.proofs.callers.Lefts.{left_ticket, left_twice}
 use Rattle.generational_sessions.proofs.callers.Results.{err_so}
 use Rattle.generational_sessions.proofs.callers.Shortage.{read_short}
 use Rattle.example_libraries.proofs.scopes.count_up.Goals as goal
 
 pub returns-in_err-seen-clause-refused : goal.returns-in_err-seen-clause-refused
 returns-in_err-seen-clause-refused g c =
-    let free = set_free c.in_ok-update.ensures.changed.4 _ refl in
+    let update = c.in_ok-update.ensures in
+    let free = keeps_free _ _ (g.met.S.AnyStorage.sound _) update.changed.4 _ tt (sym update.free) in
     let read = c.in_err-seen.ensures.refused in
     let short = read_short _ _ (g.met.S.AnyStorage.sound _) free _ read.1 in
     err_so _ (λ e is. inr (is ∙ ap as_refused_mut short.0, ap (λ X. X.next) read.0 ∙ short.1))

@@ -1,22 +1,28 @@
-use Rattle.std.proofs.Common.{Ok, Err, ◌∙◌}
+use Rattle.std.proofs.Common.{sym}
+use Rattle.generational_core.proofs.machine.Calling.{sets}
+use Rattle.generational_core.proofs.machine.Leaving.{leaves}
+use Rattle.generational_core.proofs.machine.Owning.{keeps_known}
 use Rattle.signals.proofs.signal.Signal.update.Goals as goal
 
-pub unreachable-requires : goal.unreachable-requires
-unreachable-requires g c =
-    let rest = c.released_borrows_leave_the_rest.ensures in
-    let release = rw c.change_value-answer.ensures.guard at c.in-Err.ensures in
-    let ok = (rest.written _ _ _ _ _ _ _ _ (Err _) c.in_ok-guard.ensures release).0 in absurd cc
+pub returns-then-not-can_write-clause-scopes : goal.returns-then-not-can_write-clause-scopes
+returns-then-not-can_write-clause-scopes g c =
+    rw c.hindrance.ensures.unchanged (λ o names has. has)
 
-pub returns : goal.returns
-returns g c =
-    let rest = c.released_borrows_leave_the_rest.ensures in
-    let write = c.in_ok-guard.ensures in
-    let release = rw c.change_value-answer.ensures.guard at c.in-Ok.ensures in
-    let set = (rest.written _ _ _ _ _ _ _ _ (Ok tt) write release).1 in
-    let old = c.guards_hold_what_boxes_see.ensures.lends _ _ _ _ (Ok c.in_ok-guard.guard) write in
-    record {
-      changed = (_, _, old, c.change_value-answer.ensures.changed, set, rest.seen _ _ _ _ set);
-      others = rest.others _ _ _ _ set;
-      scopes = λ o _ has. rest.owners _ _ _ _ set o ∙ has;
-      refused = tt;
-    }
+pub change_value-requires-clause-callable : goal.change_value-requires-clause-callable
+change_value-requires-clause-callable g c = rw c.pointer.ensures c.requires
+
+pub returns-clause-changed : goal.returns-clause-changed
+returns-clause-changed g c =
+    let done = c.change_value.ensures in
+    let step = rw c.pointer.ensures at done.set in
+    let set = sets _ _ _ step in (done.old, done.new, set.0, done.called, step, set.2)
+
+pub returns-clause-others : goal.returns-clause-others
+returns-clause-others g c b apart =
+    let step = rw c.pointer.ensures at c.change_value.ensures.set in
+    leaves _ _ _ _ (g.met.S.AnyStorage.sound _) step b (λ e. apart (sym e)) tt
+
+pub returns-clause-scopes : goal.returns-clause-scopes
+returns-clause-scopes g c o names has =
+    let step = rw c.pointer.ensures at c.change_value.ensures.set in
+    keeps_known _ _ (g.met.S.AnyStorage.sound _) step o _ tt has
