@@ -185,6 +185,31 @@ module _ {T C : Type 0} where
         (λ same. k.apart j slot q p ne at is (sym (reach_apart S k.plain (pointer_of p.raw)
         (pointer_of q.raw) to.0 to.1 (sym same)))) tt
 
+    -- a component that was changed in its place
+    pub attached_changed : (p : Part T C) (v old : C)
+        → Meets S (SetValue (pointer_of p.raw) v) (Old old) R → AreAttached R parts
+    attached_changed p v old m =
+        let answer : Answer C = Old old in record {
+          unborrowed = quiet_stays (SetValue (pointer_of p.raw) v) answer m tt k.unborrowed;
+          plain = stays_plain (SetValue (pointer_of p.raw) v) answer m tt k.plain;
+          placed = k.placed;
+          seen = λ i q at. set_seen s k.unborrowed (pointer_of p.raw) v old m (pointer_of q.raw)
+              ∙ k.seen i q at;
+          apart = k.apart;
+          listed = λ b seen. k.listed b
+              (sym (set_seen s k.unborrowed (pointer_of p.raw) v old m b) ∙ seen);
+        }
+
+    pub changed_beside : (a e : Entity T) (p : Part T C) (v old : C) → part_of parts a ≡ Some p
+        → Meets S (SetValue (pointer_of p.raw) v) (Old old) R → IsOther a e
+        → shown_by R (part_of parts e) ≡ shown_by S (part_of parts e)
+    changed_beside a e p v old is m other = ⊎_elim
+        (λ same. let none = other_part parts a e p is same other in
+        ap (shown_by R) none ∙ sym (ap (shown_by S) none))
+        (λ ne. shown_same S R e (part_at parts (slot_in e)) (λ q at. set_beside (slot_in a) p v old
+        (part_there parts a p is).0 m (slot_in e) q (λ back. ne (sym back)) at))
+        (key_cases by_number (slot_in a) (slot_in e))
+
     pub attached_set : (slot : ℕ) (p : Part T C) (e : Entity T) (v old : C) → slot ≡ slot_in e
         → part_at parts slot ≡ Some p → Meets S (SetValue (pointer_of p.raw) v) (Old old) R
         → AreAttached R (slice_set parts slot (Some (record { entity = e; raw = p.raw })))

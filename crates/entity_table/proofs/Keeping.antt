@@ -3,7 +3,8 @@ use Rattle.std.proofs.Common.{◌≡◌, ◌≢◌, ℕ, Option, None, Some, Lis
 use Rattle.std.proofs.Common.{Ok, refl, sym, ap, subst, ◌∙◌, ⊎_elim, arith, get_or, length}
 use Rattle.std.proofs.lemmas.Bool.{true≢false}
 use Rattle.std.proofs.lemmas.Option.{get_or_from_slice_get, none-some, same_Some, slice_get_within}
-use Rattle.std.specs.Prelude.{◌-◌, is_some, slice_get, slice_set, swap_remove}
+use Rattle.std.specs.Borrow.{Bor}
+use Rattle.std.specs.Prelude.{◌-◌, is_some, option_copied, slice_get, slice_set, swap_remove}
 use Rattle.std.specs.FinMap as map
 use Rattle.generational_core.specs.Boxes.{name_in, name_of}
 use Rattle.generational_core.specs.Conditions.{fresh}
@@ -33,6 +34,11 @@ use Rattle.entity_table.specs.Rows.{ArePlaced, KeepsPlaces}
 use Rattle.entity_table.specs.Tables.{TableState, IsDense}
 use Rattle.generational_sessions.proofs.callers.Elements.{get_pushed, get_set_apart, get_set_here, pushed_new, pushed_old}
 use Rattle.entity_table.proofs.Removals.{removed_get, removed_last, removed_old}
+
+-- a look that finds something
+pub copied_some : {V : Type 0} (o : Option (Bor V)) → is_some (option_copied o) ≡ is_some o
+copied_some None = refl
+copied_some (Some v) = refl
 
 module _ {T : Type 0} where
   pub fresh_kept : (number start next : ℕ) → IsKept (fresh {T = T} number start next) [] []

@@ -19,3 +19,14 @@ module _ {E V R : Type 0} (key : R → E) (box : R → GenerationalPointer) (S :
 abbrev pub AreSeen : {V R : Type 0} → (R → GenerationalPointer) → State V → List R → Type 0
 AreSeen box S [] = Unit {0}
 AreSeen box S (r ∷ rows) = (is_some (value_in S (box r)) ≡ true) × AreSeen box S rows
+
+module _ {E V W : Type 0} where
+  -- a key with two values, where there is a first, before others
+  abbrev pub joined_first : E → Option V → W → List (E × V × W) → List (E × V × W)
+  joined_first e None w rest = rest
+  joined_first e (Some v) w rest = (e, v, w) ∷ rest
+
+  -- keys with values, each beside what is seen of its key, where something is, in order
+  abbrev pub joined : (E → Option V) → List (E × W) → List (E × V × W)
+  joined see [] = []
+  joined see (p ∷ rest) = joined_first p.0 (see p.0) p.1 (joined see rest)

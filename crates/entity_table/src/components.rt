@@ -2,6 +2,9 @@
 
 ghost use Rattle.std.specs.Prelude.{◌≡◌, ◌≢◌, ◌<◌, length, None, Some, is_some, option_copied, IsTrue, ℕ};
 ghost use Rattle.std.specs.Prelude.{OnOk, IfErr, OnErr, IsErrAnd, true, slice_get, map as list_map};
+ghost use Rattle.std.specs.Prelude.{IfSome, IfNone, ◌+◌};
+ghost use Rattle.std.specs.Borrow.{MutBor};
+ghost use Rattle.std.specs.Fn.{FnOnceReturnsAtMut};
 ghost use Rattle.std.specs.List.Sorted.{IsStrictlyIncreasing};
 ghost use Rattle.generational_core.specs.Conditions.{IsFresh};
 ghost use Rattle.generational_errors.specs.declared.error.StoreError.TheVariants.{OutOfMemory};
@@ -10,10 +13,12 @@ ghost use Rattle.entity_table.specs.declared.components.AttachError.TheVariants 
 ghost use Rattle.entity_table.specs.Entities.{slot_in, spawned_at, IsOther, IsSame};
 ghost use Rattle.entity_table.specs.Tables.{element_in};
 ghost use Rattle.entity_table.specs.Components.{part_at, part_of, component_in, AreListed};
+ghost use Rattle.entity_table.specs.Components.{ComponentState};
+ghost use Rattle.entity_table.specs.Sweeping.{Sweeps};
 
 use crate::entity::{Entity, Stale};
 use crate::table::EntityTable;
-use crate::walk::ComponentIter;
+use crate::walk::{ComponentIter, Join};
 use generational_core::{GenerationalBox, Location, Refusal, Storage, StoreError};
 use std::alloc::{AllocError, Global};
 use std::error::Error;
@@ -95,8 +100,8 @@ impl<T, C> Copy for Part<T, C> {}
 /// machine's state of that store, and which component each slot's entity has.
 ///
 /// The entities are those of one [`EntityTable`](crate::EntityTable), of which two never have one
-/// slot at once. An entity that was despawned keeps its component until that is removed, or until
-/// an entity that has taken its slot gets one.
+/// slot at once. An entity that was despawned keeps its component until that is removed or swept, or
+/// until an entity that has taken its slot gets one.
 #[derive(Drop)]
 pub struct ComponentTable<T, C, S: Storage<C>> {
     store: S,
@@ -234,6 +239,30 @@ impl<T, C, S: Storage<C>> ComponentTable<T, C, S> {
         part.raw.peek(&self.store)
     }
 
+    /// Changes an entity's component in its place by a closure, which is called once on it, and answers
+    /// what that answers. Every other entity keeps its own.
+    ///
+    /// None where the entity has no component: the closure isn't called, and the table stays as it was.
+    /// Takes no memory of its own, and is O(1), but for the closure.
+    pub fn update<R, F: FnOnce(&mut C) -> R>(&mut self, entity: Entity<T>, f: F) -> Option<R>
+        requires { (component : MutBor C) →
+            component_in self.old entity ≡ Some component.now → F.pre f component }
+        ensures changed { IfSome result (λ answer. (old : C) × (new : C)
+            × (component_in self.old entity ≡ Some old)
+            × FnOnceReturnsAtMut F.FnOnce f old answer new
+            × (component_in self.new entity ≡ Some new)) }
+        ensures had { is_some result ≡ is_some (component_in self.old entity) }
+        ensures others { (e : Entity T) → IsOther entity e →
+            component_in self.new e ≡ component_in self.old e }
+        ensures none { IfNone result (self.new ≡ self.old) }
+        ensures listed { AreListed self.new.state self.new.parts }
+    {
+        match part_for(&self.parts, entity) {
+            Some(part) => Some(self.store.change_value(part.raw.pointer(), f)),
+            None => None,
+        }
+    }
+
     /// The components with their entities, in the order of the entities' slots, each once. The table is
     /// lent meanwhile. Takes no memory, and is O(1); all steps together are O(n) for n slots.
     pub fn iter(&self) -> ComponentIter<'_, T, C, S>
@@ -245,6 +274,23 @@ impl<T, C, S: Storage<C>> ComponentTable<T, C, S> {
     {
         let parts = &self.parts;
         ComponentIter::new(&self.store, parts.as_slice())
+    }
+
+    /// The live entities of a table that have a component, each with its element and its component, in
+    /// the order of the entities' slots, each once. Both tables are lent meanwhile. Takes no memory, and
+    /// is O(1); all steps together are O(n) for n slots.
+    pub fn join<'a, E: Storage<T>>(&'a self, table: &'a EntityTable<T, E>) -> Join<'a, T, C, S, E>
+        ensures shown { (i : ℕ) (e : Entity T) (v : T) (c : C) → slice_get result i ≡ Some (e, v, c) →
+            (element_in table.now e ≡ Some v) × (component_in self.now e ≡ Some c) }
+        ensures every { (e : Entity T) (v : T) (c : C) → element_in table.now e ≡ Some v →
+            component_in self.now e ≡ Some c → (i : ℕ) × (f : Entity T)
+            × (slice_get result i ≡ Some (f, v, c)) × IsSame f e }
+        ensures ordered { IsStrictlyIncreasing (list_map (λ p. slot_in p.0) result) }
+    {
+        Join {
+            components: self.iter(),
+            table,
+        }
     }
 
     /// Ends an entity's component: it goes from the store too. Answers whether it had one. Every other
@@ -265,6 +311,38 @@ impl<T, C, S: Storage<C>> ComponentTable<T, C, S> {
         }
         self.parts[entity.raw.raw_ptr()] = None;
         true
+    }
+
+    /// Ends the components of all entities that aren't live in a table: those of entities that were
+    /// despawned since the last sweep. Every live one keeps its own. Never refused; takes no memory, and
+    /// is O(n) for n slots.
+    pub fn sweep<E: Storage<T>>(&mut self, table: &EntityTable<T, E>)
+        ensures gone { (e : Entity T) → element_in table.now e ≡ None →
+            component_in self.new e ≡ None }
+        ensures kept { (e : Entity T) → is_some (element_in table.now e) ≡ true →
+            component_in self.new e ≡ component_in self.old e }
+        ensures listed { AreListed self.new.state self.new.parts }
+    {
+        let mut slot = self.parts.len();
+        while slot > 0 {
+            slot -= 1;
+            self.sweep_slot(table, slot);
+        }
+    }
+
+    // Ends the component of a slot where its entity isn't live. The slots behind it were swept.
+    fn sweep_slot<E: Storage<T>>(&mut self, table: &EntityTable<T, E>, slot: usize)
+        ensures swept { (first : ComponentState T C) →
+            Sweeps table.now first self.old (slot + 1) → Sweeps table.now first self.new slot }
+        ensures listed { AreListed self.new.state self.new.parts }
+    {
+        let Some(part) = part_in(&self.parts, slot) else {
+            return;
+        };
+        if table.is_alive(part.entity) {
+            return;
+        }
+        self.remove(part.entity);
     }
 
     /// Whether an entity has a component. Takes no memory, and is O(1).

@@ -18,4 +18,4 @@ pub use crate::components::{AttachError, AttachRefusal, ComponentTable};
 pub use crate::entity::{Entity, Stale};
 pub use crate::laws::equal_entities_show_the_same;
 pub use crate::table::EntityTable;
-pub use crate::walk::{ComponentIter, Iter};
+pub use crate::walk::{ComponentIter, Iter, Join};

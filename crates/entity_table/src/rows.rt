@@ -26,7 +26,12 @@ pub(crate) fn reserve_row<T>(
     if room <= places.len() {
         return true;
     }
-    places.resize(room, 0).is_ok()
+    if places.reserve(1).is_err() {
+        return false;
+    }
+    // All that there is room for: so most spawns find their place there.
+    let all = places.capacity().max(room);
+    places.resize(all, 0).is_ok()
 }
 
 /// Takes a row away: the last one takes its place.

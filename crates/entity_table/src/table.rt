@@ -3,7 +3,8 @@
 ghost use Rattle.std.specs.Prelude.{◌≡◌, ◌↔◌, ◌⊎◌, ◌<◌, ◌+◌, ◌-◌, ◌++◌, ◌∷◌, [], ℕ, true, length, None, Some, Err, is_some};
 ghost use Rattle.std.specs.Prelude.{IfOk, OnOk, IfErr, OnErr, IsErr, IsTrue, swap_remove, slice_get};
 ghost use Rattle.std.specs.Prelude.{map as list_map};
-ghost use Rattle.std.specs.Fn.{FnReturnsAt};
+ghost use Rattle.std.specs.Borrow.{MutBor};
+ghost use Rattle.std.specs.Fn.{FnReturnsAt, FnOnceReturnsAtMut};
 ghost use Rattle.generational_core.specs.Conditions.{IsFresh};
 ghost use Rattle.generational_errors.specs.declared.error.StoreError.TheVariants.{OutOfMemory};
 ghost use Rattle.entity_table.specs.declared.entity.Entity.{Entity};
@@ -110,7 +111,7 @@ impl<T, S: Storage<T>> EntityTable<T, S> {
         ensures told { IfErr result (λ stale. stale.spawned_at ≡ spawned_at entity) }
         ensures refused { OnErr result (self.new ≡ self.old) }
     {
-        if !entity.raw.can_write(&self.store) {
+        if !self.is_alive(entity) {
             return Err(Stale {
                 spawned_at: entity.spawned_at(),
             });
@@ -142,7 +143,7 @@ impl<T, S: Storage<T>> EntityTable<T, S> {
         ensures back { IfErr result (λ back. back.0 ≡ element) }
         ensures refused { OnErr result (self.new ≡ self.old) }
     {
-        if !entity.raw.can_write(&self.store) {
+        if !self.is_alive(entity) {
             let stale = Stale {
                 spawned_at: entity.spawned_at(),
             };
@@ -150,6 +151,34 @@ impl<T, S: Storage<T>> EntityTable<T, S> {
         }
         entity.raw.set(&mut self.store, element);
         Ok(())
+    }
+
+    /// Changes an entity's element in its place by a closure, which is called once on it, and answers
+    /// what that answers. Every other entity shows what it showed, and the rows stay.
+    ///
+    /// Refused where the entity is gone, or is another table's: the closure isn't called, and the
+    /// table stays as it was. Takes no memory of its own, and is O(1), but for the closure.
+    pub fn update<R, F: FnOnce(&mut T) -> R>(&mut self, entity: Entity<T>, f: F) -> Result<R, Stale>
+        requires { (element : MutBor T) →
+            element_in self.old entity ≡ Some element.now → F.pre f element }
+        ensures changed { IfOk result (λ answer. (old : T) × (new : T)
+            × (element_in self.old entity ≡ Some old)
+            × FnOnceReturnsAtMut F.FnOnce f old answer new
+            × (element_in self.new entity ≡ Some new)) }
+        ensures others { (e : Entity T) → IsOther entity e →
+            element_in self.new e ≡ element_in self.old e }
+        ensures rows { self.new.rows ≡ self.old.rows }
+        ensures kept { (e : Entity T) → WasSpawned self.old e → WasSpawned self.new e }
+        ensures stale { IsErr result ↔ element_in self.old entity ≡ None }
+        ensures told { IfErr result (λ stale. stale.spawned_at ≡ spawned_at entity) }
+        ensures refused { OnErr result (self.new ≡ self.old) }
+    {
+        if !self.is_alive(entity) {
+            return Err(Stale {
+                spawned_at: entity.spawned_at(),
+            });
+        }
+        Ok(self.store.change_value(entity.raw.pointer(), f))
     }
 
     /// The live entities with their elements, each once, in the order of the rows. The table is lent
@@ -185,7 +214,7 @@ impl<T, S: Storage<T>> EntityTable<T, S> {
     pub fn is_alive(&self, entity: Entity<T>) -> bool
         ensures { result ≡ is_some (element_in self.now entity) }
     {
-        entity.raw.can_read(&self.store)
+        entity.raw.peek(&self.store).is_some()
     }
 
     // Whether an entity is live. No other live entity has its slot then.
@@ -194,7 +223,7 @@ impl<T, S: Storage<T>> EntityTable<T, S> {
         ensures alone { IsTrue result → (e : Entity T) →
             is_some (element_in self.now e) ≡ true → slot_in entity ≡ slot_in e → IsSame entity e }
     {
-        entity.raw.can_read(&self.store)
+        entity.raw.peek(&self.store).is_some()
     }
 
     /// How many entities are live: as many as there are rows. Takes no memory, and is O(1).

@@ -4,10 +4,12 @@ ghost use Rattle.std.specs.Prelude.{◌≡◌, ◌∷◌, [], MatchOption};
 ghost use Rattle.std.specs.Iterator.{YieldsFirstBy, item_count};
 ghost use Rattle.entity_table.specs.Components.{box_of_part, entity_of_part, listed_parts};
 ghost use Rattle.entity_table.specs.Entities.{pointer_in};
-ghost use Rattle.entity_table.specs.Walking.{AreSeen, shown_rows};
+ghost use Rattle.entity_table.specs.Tables.{element_in};
+ghost use Rattle.entity_table.specs.Walking.{AreSeen, joined, shown_rows};
 
 use crate::components::Part;
 use crate::entity::Entity;
+use crate::table::EntityTable;
 use generational_core::Storage;
 use std::iter::FusedIterator;
 use std::marker::Model;
@@ -124,6 +126,56 @@ impl<'a, T, C, S: Storage<C>> Iterator for ComponentIter<'a, T, C, S> {
 }
 
 impl<'a, T, C, S: Storage<C>> FusedIterator for ComponentIter<'a, T, C, S> {}
+
+/// The live entities of a table that have a component, each with its element and its component, in the
+/// order of the entities' slots, as [`ComponentTable::join`](crate::ComponentTable::join) gives them.
+/// Contracts see the list of those that are left.
+#[derive(Drop)]
+pub struct Join<'a, T, C, S: Storage<C>, E: Storage<T>> {
+    pub(crate) components: ComponentIter<'a, T, C, S>,
+    pub(crate) table: &'a EntityTable<T, E>,
+}
+
+impl<'a, T, C, S: Storage<C>, E: Storage<T>> Model for Join<'a, T, C, S, E> {
+    ghost use Rattle.std.specs.Prelude.{List};
+    ghost use Rattle.entity_table.specs.declared.entity.Entity.{Entity};
+    ghost use Rattle.entity_table.specs.Tables.{element_in};
+    ghost use Rattle.entity_table.specs.Walking.{joined};
+
+    ghost Value = { List (Entity T × T × C) };
+
+    ghost view = { λ it. joined (element_in it.table.now) it.components };
+}
+
+impl<'a, T, C, S: Storage<C>, E: Storage<T>> Iterator for Join<'a, T, C, S, E> {
+    type Item = (Entity<T>, &'a T, &'a C);
+
+    ghost next_gives = { YieldsFirstBy (λ item. (item.0, item.1.now, item.2.now)) (λ left. left) };
+
+    ghost remaining = { item_count (λ left. left) };
+
+    fn next(&mut self) -> Option<(Entity<T>, &'a T, &'a C)> {
+        first_joined(&mut self.components, self.table)
+    }
+}
+
+impl<'a, T, C, S: Storage<C>, E: Storage<T>> FusedIterator for Join<'a, T, C, S, E> {}
+
+// The first component whose entity is live, with its element. Those up to it are taken.
+fn first_joined<'a, T, C, S: Storage<C>, E: Storage<T>>(
+    components: &mut ComponentIter<'a, T, C, S>,
+    table: &'a EntityTable<T, E>,
+) -> Option<(Entity<T>, &'a T, &'a C)>
+    ensures { YieldsFirstBy (λ item. (item.0, item.1.now, item.2.now)) (joined (element_in table.now))
+        components.old result components.new }
+{
+    while let Some((entity, component)) = components.next() {
+        if let Ok(element) = table.get(entity) {
+            return Some((entity, element, component));
+        }
+    }
+    None
+}
 
 // The first part of a list of slots, and the slots behind it.
 fn first_part<'a, T, C>(

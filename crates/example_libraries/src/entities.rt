@@ -1,9 +1,10 @@
 //! Entities, and their handles.
 
-ghost use Rattle.std.specs.Prelude.{◌≡◌, ◌≤◌, ℕ, None, Some, IsErr, IfErr, OnOk, true, is_some};
+ghost use Rattle.std.specs.Prelude.{◌≡◌, ◌≤◌, ◌<◌, ◌+◌, ◌^◌, ℕ, None, Some, IsErr, IfErr, OnOk, true};
+ghost use Rattle.std.specs.Prelude.{IfOk, IfSome, OnErr, is_some};
 ghost use Rattle.entity_table.specs.declared.entity.Entity.{Entity};
 ghost use Rattle.entity_table.specs.Components.{component_in};
-ghost use Rattle.entity_table.specs.Entities.{spawned_at};
+ghost use Rattle.entity_table.specs.Entities.{spawned_at, IsOther};
 ghost use Rattle.entity_table.specs.Tables.{element_in, WasSpawned};
 
 use entity_table::{
@@ -58,4 +59,57 @@ pub fn renamed<E: Storage<u64>, C: Storage<u64>>(
     names
         .attach(table, entity, name, here)
         .map_err(|refusal| refusal.cause)
+}
+
+/// Adds to an entity's element in its place, and answers what it is then.
+pub fn grown<S: Storage<u64>>(
+    table: &mut EntityTable<u64, S>,
+    entity: Entity<u64>,
+    more: u64,
+) -> Result<u64, Stale>
+    requires { IfSome (element_in table.old entity) (λ v. v + more < 2 ^ 64) }
+    ensures grown { IfOk result (λ now. (before : ℕ)
+        × (element_in table.old entity ≡ Some before) × (now ≡ before + more)
+        × (element_in table.new entity ≡ Some now)) }
+    ensures others { (e : Entity ℕ) → IsOther entity e →
+        element_in table.new e ≡ element_in table.old e }
+    ensures refused { OnErr result (table.new ≡ table.old) }
+{
+    table.update(entity, |element: &mut u64| {
+        *element += more;
+        *element
+    })
+}
+
+/// Counts an entity's component up in its place, and answers the count before.
+pub fn raised<S: Storage<u64>>(
+    counts: &mut ComponentTable<u64, u64, S>,
+    entity: Entity<u64>,
+) -> Option<u64>
+    ensures before { IfSome result (λ n. component_in counts.old entity ≡ Some n) }
+    ensures had { is_some result ≡ is_some (component_in counts.old entity) }
+    ensures others { (e : Entity ℕ) → IsOther entity e →
+        component_in counts.new e ≡ component_in counts.old e }
+{
+    counts.update(entity, |count: &mut u64| {
+        let before = *count;
+        *count = before.wrapping_add(1);
+        before
+    })
+}
+
+/// Despawns an entity, and ends the components of all that are gone, its own too. Those of live ones
+/// stay, whatever the answer.
+pub fn despawned_bare<E: Storage<u64>, C: Storage<u64>>(
+    table: &mut EntityTable<u64, E>,
+    names: &mut ComponentTable<u64, u64, C>,
+    entity: Entity<u64>,
+) -> Result<(), Stale>
+    ensures bare { component_in names.new entity ≡ None }
+    ensures kept { (e : Entity ℕ) → is_some (element_in table.new e) ≡ true →
+        component_in names.new e ≡ component_in names.old e }
+{
+    let ended = table.despawn(entity);
+    names.sweep(table);
+    ended
 }

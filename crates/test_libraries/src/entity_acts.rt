@@ -12,6 +12,8 @@ pub(crate) enum Act {
     Spawn(u64),
     Despawn(usize),
     Set(usize, u64),
+    /// Adds to an element in its place.
+    Add(usize, u64),
     /// Keeps the entities whose elements are below a number.
     Retain(u64),
     Clear,
@@ -128,6 +130,10 @@ fn carries_out<S: Storage<u64>>(
             });
             told(rt, answer, number)
         }
+        Act::Add(number, more) => {
+            let entity = entity_at(rt, entities, number);
+            told(rt, add(rt, table, entity, more), number)
+        }
         Act::Retain(bound) => {
             table.retain(|element| *element < bound);
             true
@@ -137,6 +143,22 @@ fn carries_out<S: Storage<u64>>(
             true
         }
     }
+}
+
+/// Adds to an entity's element in its place. The closure is called only where it is carried out.
+pub(crate) fn add<S: Storage<u64>>(
+    rt: &impl Abort,
+    table: &mut EntityTable<u64, S>,
+    entity: Entity<u64>,
+    more: u64,
+) -> Result<(), Stale> {
+    let mut called = false;
+    let answer = table.update(entity, |element: &mut u64| {
+        called = true;
+        *element = element.wrapping_add(more);
+    });
+    assert_same(rt, &called, &answer.is_ok());
+    answer
 }
 
 /// An entity by its number.

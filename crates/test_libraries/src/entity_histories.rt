@@ -95,3 +95,20 @@ fn a_test_leaves_what_passes(rt: HostRuntime) {
     ];
     play_lines(&rt, rt.alloc(), &lines);
 }
+
+#[test]
+fn an_element_is_changed_in_its_place(rt: HostRuntime) {
+    let lines = [
+        done(Act::Spawn(10), &[0], &[Some(10)]),
+        done(Act::Spawn(20), &[0, 1], &[Some(10), Some(20)]),
+        done(Act::Add(0, 5), &[0, 1], &[Some(15), Some(20)]),
+        done(Act::Add(0, 5), &[0, 1], &[Some(20), Some(20)]),
+        done(Act::Despawn(0), &[1], &[None, Some(20)]),
+        stale(Act::Add(0, 5), &[1], &[None, Some(20)]),
+        // The slot is used again, and the first handle doesn't change what stands there.
+        done(Act::Spawn(30), &[1, 2], &[None, Some(20), Some(30)]),
+        stale(Act::Add(0, 5), &[1, 2], &[None, Some(20), Some(30)]),
+        done(Act::Add(2, 1), &[1, 2], &[None, Some(20), Some(31)]),
+    ];
+    play_lines(&rt, rt.alloc(), &lines);
+}

@@ -1,11 +1,11 @@
 //! Tables of components, and tables whose store has given all its tickets.
 
-use crate::entity_acts::{components_over, entities_over, give, spawn, spawned_at};
+use crate::entity_acts::{add, components_over, entities_over, give, spawn, spawned_at};
 use crate::expected::assert_same;
 use crate::fresh::{Scene, SceneOfTwo, play, play_at_ticket, play_two};
-use entity_table::{AttachError, ComponentTable, Entity, Stale};
-use example_libraries::entities::{greatest, renamed, told_after};
-use generational_box::Storage;
+use entity_table::{AttachError, ComponentTable, Entity, EntityTable, Stale};
+use example_libraries::entities::{despawned_bare, greatest, raised, renamed, told_after};
+use generational_box::{LastFirst, Storage, Store};
 use std::alloc::Global;
 use std::process::Abort;
 
@@ -151,4 +151,109 @@ impl Scene<u64> for LiveOnesAreGoneOver {
 #[test]
 fn live_entities_are_gone_over(rt: HostRuntime) {
     play::<u64, LiveOnesAreGoneOver>(&rt, rt.alloc(), &LiveOnesAreGoneOver);
+}
+
+/// Entities of which some have a component, and some of these go.
+struct ComponentsAreSwept;
+
+impl SceneOfTwo<u64, u64> for ComponentsAreSwept {
+    fn play<R: Abort, S: Storage<u64> + Drop, P: Storage<u64> + Drop>(
+        &self,
+        rt: &R,
+        alloc: Global,
+        store: S,
+        parts: P,
+    ) {
+        let mut entities = entities_over(rt, alloc, store);
+        let mut components = components_over(rt, alloc, parts);
+        let first = spawn(rt, &mut entities, 0);
+        let second = spawn(rt, &mut entities, 1);
+        let third = spawn(rt, &mut entities, 2);
+        give(rt, &mut components, first, 10);
+        give(rt, &mut components, third, 12);
+        // The second has none: it is passed over.
+        goes_over(rt, &components, &[(first, 10), (third, 12)]);
+        assert!(rt; entities.set(third, 2).is_ok());
+        joins(
+            rt,
+            &entities,
+            &components,
+            &[(first, 0, 10), (third, 2, 12)],
+        );
+        assert!(rt; entities.despawn(third).is_ok());
+        has(rt, &components, third, Some(12));
+        joins(rt, &entities, &components, &[(first, 0, 10)]);
+        assert!(rt; despawned_bare(&mut entities, &mut components, second).is_ok());
+        goes_over(rt, &components, &[(first, 10)]);
+        has(rt, &components, third, None);
+        assert!(rt; despawned_bare(&mut entities, &mut components, second).is_err());
+        assert!(rt; despawned_bare(&mut entities, &mut components, first).is_ok());
+        goes_over(rt, &components, &[]);
+    }
+}
+
+/// Sees what components there are, in order.
+fn goes_over<S: Storage<u64>>(
+    rt: &impl Abort,
+    table: &ComponentTable<u64, u64, S>,
+    wanted: &[(Entity<u64>, u64)],
+) {
+    assert_same(rt, &table.iter().count(), &wanted.len());
+    for ((entity, component), (of, number)) in table.iter().zip(wanted) {
+        assert_same(rt, &entity, of);
+        assert_same(rt, component, number);
+    }
+}
+
+/// Sees which live entities have a component, with both, in order.
+fn joins<E: Storage<u64>, S: Storage<u64>>(
+    rt: &impl Abort,
+    entities: &EntityTable<u64, E>,
+    components: &ComponentTable<u64, u64, S>,
+    wanted: &[(Entity<u64>, u64, u64)],
+) {
+    assert_same(rt, &components.join(entities).count(), &wanted.len());
+    for ((entity, element, component), of) in components.join(entities).zip(wanted) {
+        assert_same(rt, &(entity, *element, *component), of);
+    }
+}
+
+#[test]
+fn components_of_gone_entities_are_swept(rt: HostRuntime) {
+    play_two::<u64, u64, ComponentsAreSwept>(&rt, rt.alloc(), &ComponentsAreSwept);
+}
+
+/// An entity that gets a component, or changes it, by a handle of another table.
+struct AForeignHandleGivesNothing;
+
+impl SceneOfTwo<u64, u64> for AForeignHandleGivesNothing {
+    fn play<R: Abort, S: Storage<u64> + Drop, P: Storage<u64> + Drop>(
+        &self,
+        rt: &R,
+        alloc: Global,
+        store: S,
+        parts: P,
+    ) {
+        let mut entities = entities_over(rt, alloc, store);
+        let mut components = components_over(rt, alloc, parts);
+        let others: Store<u64, LastFirst> = Store::new(alloc, 7);
+        let mut others = entities_over(rt, alloc, others);
+        let own = spawn(rt, &mut entities, 0);
+        let foreign = spawn(rt, &mut others, 1);
+        give(rt, &mut components, own, 11);
+        let stale = Stale {
+            spawned_at: spawned_at(1),
+        };
+        let told = renamed(&entities, &mut components, foreign, 12, spawned_at(6));
+        assert!(rt; told == Err(AttachError::Stale(stale)));
+        assert_same(rt, &raised(&mut components, foreign), &None);
+        assert_same(rt, &add(rt, &mut entities, foreign, 1), &Err(stale));
+        assert_same(rt, &raised(&mut components, own), &Some(11));
+        has(rt, &components, own, Some(12));
+    }
+}
+
+#[test]
+fn a_foreign_handle_gives_no_component(rt: HostRuntime) {
+    play_two::<u64, u64, AForeignHandleGivesNothing>(&rt, rt.alloc(), &AForeignHandleGivesNothing);
 }

@@ -1,10 +1,11 @@
 //! Want of memory. Each test passes whichever one allocation is refused: what lacks memory changes
 //! nothing, and is tried a second time.
 
-use crate::entity_acts::{components_over, entities_over, given_at, spawned_at};
+use crate::entity_acts::{add, components_over, entities_over, given_at, spawned_at};
 use crate::expected::assert_same;
 use crate::fresh::{SceneOfTwo, play_two};
 use entity_table::{ComponentTable, Entity, EntityTable};
+use example_libraries::entities::raised;
 use generational_box::Storage;
 use std::alloc::Global;
 use std::process::Abort;
@@ -65,6 +66,14 @@ impl SceneOfTwo<u64, u64> for SpawnMany {
         for element in 0..MANY {
             let entity = spawn_or_again(rt, &mut entities, element);
             give_or_again(rt, &mut components, entity, element);
+            // No memory is asked for from here on.
+            assert!(rt; add(rt, &mut entities, entity, 1).is_ok());
+            assert_same(rt, &raised(&mut components, entity), &Some(element));
+            if element % 3 == 0 {
+                assert!(rt; entities.despawn(entity).is_ok());
+            }
+            components.sweep(&entities);
+            assert_same(rt, &components.contains(entity), &entities.is_alive(entity));
         }
     }
 }

@@ -1,7 +1,0 @@
-use Rattle.std.proofs.Common.{◌∙◌}
-use Rattle.generational_core.proofs.machine.Unborrowed.{test_sees}
-use Rattle.entity_table.proofs.table.EntityTable.is_alive.Goals as goal
-
-pub returns : goal.returns
-returns g c =
-    rw (← c.self.view_is) (c.can_read.ensures ∙ test_sees _ _ (g.met.S.AnyStorage.sound _))

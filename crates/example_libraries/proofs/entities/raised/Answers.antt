@@ -1,0 +1,9 @@
+use Rattle.std.proofs.Common.{◌≡◌, ◌∙◌, ap, rules, Some}
+use Rattle.std.proofs.lemmas.Option.{IfSome_then}
+use Rattle.example_libraries.proofs.entities.raised.Goals as goal
+
+pub returns-clause-before : goal.returns-clause-before
+returns-clause-before g c =
+    IfSome_then c.update.result c.update.ensures.changed (λ n done.
+    let called = done.3 in
+    let same : done.0 ≡ n = search rules in done.2 ∙ ap Some same)
