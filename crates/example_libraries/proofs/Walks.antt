@@ -27,6 +27,16 @@ bounds_each {P} {E} key number most items pairs is low row e v at =
     by None none h = absurd (none-some _ none)
     by (Some p) same h = subst (λ n. n ≤ most) (ap (λ q. q.1) (same_Some _ _ same)) (h p refl)
 
+-- what holds of each item and of one more holds of all
+pub each_more : {P : Type 0} (Q : P → Type 0) (xs : List P) (y : P)
+    → ((k : ℕ) (p : P) → slice_get xs k ≡ Some p → Q p) → Q y
+    → (k : ℕ) (p : P) → slice_get (xs ++ y ∷ []) k ≡ Some p → Q p
+each_more Q [] y each last zero p is = subst Q (same_Some y p is) last
+each_more Q [] y each last (suc k) p is = absurd (none-some p is)
+each_more Q (x ∷ xs) y each last zero p is = each 0 p is
+each_more Q (x ∷ xs) y each last (suc k) p is =
+    each_more Q xs y (λ j q there. each (suc j) q there) last k p is
+
 -- what holds of each item as it is seen holds of all that is seen
 pub holds_all : {P Y : Type 0} (view : P → Y) (Q : Y → Type 0) (items : List P) (ys : List Y)
     → map view items ≡ ys → ((k : ℕ) (p : P) → slice_get items k ≡ Some p → Q (view p))

@@ -1,7 +1,7 @@
 //! Entities, and their handles.
 
 ghost use Rattle.std.specs.Prelude.{◌≡◌, ◌≤◌, ◌<◌, ◌+◌, ◌^◌, ℕ, None, Some, IsErr, IfErr, OnOk, true};
-ghost use Rattle.std.specs.Prelude.{IfOk, IfSome, OnErr, is_some};
+ghost use Rattle.std.specs.Prelude.{IfOk, IfSome, IsTrue, OnErr, is_some};
 ghost use Rattle.entity_table.specs.declared.entity.Entity.{Entity};
 ghost use Rattle.entity_table.specs.Components.{component_in};
 ghost use Rattle.entity_table.specs.Entities.{spawned_at, IsOther};
@@ -59,6 +59,22 @@ pub fn renamed<E: Storage<u64>, C: Storage<u64>>(
     names
         .attach(table, entity, name, here)
         .map_err(|refusal| refusal.cause)
+}
+
+/// Whether no live entity's component is greater than its element.
+pub fn within_limits<E: Storage<u64>, C: Storage<u64>>(
+    limits: &EntityTable<u64, E>,
+    uses: &ComponentTable<u64, u64, C>,
+) -> bool
+    ensures { IsTrue result → (e : Entity ℕ) (limit used : ℕ) → element_in limits.now e ≡ Some limit →
+        component_in uses.now e ≡ Some used → used ≤ limit }
+{
+    'walk: for (_, limit, used) in uses.join(limits) {
+        if *used > *limit {
+            return false;
+        }
+    }
+    true
 }
 
 /// Adds to an entity's element in its place, and answers what it is then.

@@ -4,7 +4,9 @@ use crate::entity_acts::{add, components_over, entities_over, give, spawn, spawn
 use crate::expected::assert_same;
 use crate::fresh::{Scene, SceneOfTwo, play, play_at_ticket, play_two};
 use entity_table::{AttachError, ComponentTable, Entity, EntityTable, Stale};
-use example_libraries::entities::{despawned_bare, greatest, raised, renamed, told_after};
+use example_libraries::entities::{
+    despawned_bare, greatest, raised, renamed, told_after, within_limits,
+};
 use generational_box::{LastFirst, Storage, Store};
 use std::alloc::Global;
 use std::process::Abort;
@@ -180,9 +182,12 @@ impl SceneOfTwo<u64, u64> for ComponentsAreSwept {
             &components,
             &[(first, 0, 10), (third, 2, 12)],
         );
+        assert!(rt; !within_limits(&entities, &components));
         assert!(rt; entities.despawn(third).is_ok());
         has(rt, &components, third, Some(12));
         joins(rt, &entities, &components, &[(first, 0, 10)]);
+        assert!(rt; entities.set(first, 10).is_ok());
+        assert!(rt; within_limits(&entities, &components));
         assert!(rt; despawned_bare(&mut entities, &mut components, second).is_ok());
         goes_over(rt, &components, &[(first, 10)]);
         has(rt, &components, third, None);

@@ -17,6 +17,8 @@ pub(crate) enum Act {
     PutAt(u64, u64, u64),
     /// Sets an entry's value.
     Set(usize, u64),
+    /// Adds to an entry's value in its place.
+    Add(usize, u64),
     /// Notes the time of an id's last use.
     Touch(u64, u64),
     Logout(u64),
@@ -100,6 +102,7 @@ fn answer<S: Storage<u64>>(
         }
         Act::PutAt(id, key, value) => put(rt, table, entries, (id, key), value),
         Act::Set(number, value) => set(rt, table, entry_at(rt, entries, number), number, value),
+        Act::Add(number, more) => add(rt, table, entry_at(rt, entries, number), number, more),
         Act::Touch(id, now) => known(table.touch(&id, now)),
         Act::Logout(id) => known(table.logout(&id)),
         Act::Expire(before) => Reply::Ended(table.expire(before)),
@@ -159,6 +162,30 @@ fn set<S: Storage<u64>>(
         put_at: put_at(number),
     };
     assert_same(rt, &back, &(value, stale));
+    Reply::Stale
+}
+
+/// Adds to an entry's value in its place. The closure is called only where the entry isn't stale.
+fn add<S: Storage<u64>>(
+    rt: &impl Abort,
+    table: &mut SessionTable<u64, u64, u64, S>,
+    entry: Entry<u64>,
+    number: usize,
+    more: u64,
+) -> Reply {
+    let mut called = false;
+    let answer = table.update(entry, |value: &mut u64| {
+        called = true;
+        *value = value.wrapping_add(more);
+    });
+    assert_same(rt, &called, &answer.is_ok());
+    if answer.is_ok() {
+        return Reply::Done;
+    }
+    let stale = Stale {
+        put_at: put_at(number),
+    };
+    assert_same(rt, &answer, &Err(stale));
     Reply::Stale
 }
 

@@ -256,3 +256,30 @@ fn a_key_keeps_its_entry(rt: HostRuntime) {
     ];
     play_lines(&rt, rt.alloc(), &lines);
 }
+
+#[test]
+fn a_value_is_changed_in_its_place(rt: HostRuntime) {
+    let lines = [
+        line(Act::Login(1, 0), Reply::Done, &[(1, 0)], &[]),
+        line(Act::Put(1, 5), Reply::Done, &[(1, 0)], &[Some(5)]),
+        line(Act::Add(0, 2), Reply::Done, &[(1, 0)], &[Some(7)]),
+        line(Act::Put(1, 9), Reply::Done, &[(1, 0)], &[Some(7), Some(9)]),
+        line(Act::Add(0, 1), Reply::Done, &[(1, 0)], &[Some(8), Some(9)]),
+        line(Act::Logout(1), Reply::Done, &[], &[None, None]),
+        line(Act::Login(1, 3), Reply::Done, &[(1, 3)], &[None, None]),
+        // The slot is used again, and the first entry doesn't change what stands there.
+        line(
+            Act::Put(1, 6),
+            Reply::Done,
+            &[(1, 3)],
+            &[None, None, Some(6)],
+        ),
+        line(
+            Act::Add(0, 1),
+            Reply::Stale,
+            &[(1, 3)],
+            &[None, None, Some(6)],
+        ),
+    ];
+    play_lines(&rt, rt.alloc(), &lines);
+}
