@@ -1,9 +1,9 @@
 -- A table after one row more was tested: the row's entity has passed, or it was ended.
 use Rattle.std.proofs.Common.{◌≡◌, ◌≢◌, ℕ, Bool, true, false, None, Some}
 use Rattle.std.proofs.Common.{inl, inr, sym, ap, subst, ◌∙◌, ⊎_elim, arith, length}
-use Rattle.std.proofs.lemmas.Bool.{true≢false, cases_Bool}
-use Rattle.std.proofs.lemmas.Option.{same_Some, slice_get_within}
-use Rattle.std.specs.Prelude.{◌-◌, ◌+◌, ◌≤◌, ◌⊎◌, is_some, slice_get, swap_remove}
+use Rattle.std.proofs.lemmas.Bool.{true≢false, cases_Bool, cases_lt}
+use Rattle.std.proofs.lemmas.Option.{same_Some, slice_get_within, slice_get-get_or}
+use Rattle.std.specs.Prelude.{◌-◌, ◌+◌, ◌<◌, ◌≤◌, ◌⊎◌, is_some, slice_get, swap_remove}
 use Rattle.generational_core.specs.Borrowing.{reach}
 use Rattle.generational_core.specs.Boxes.{has_same_id}
 use Rattle.generational_core.specs.Seeing.{value_in}
@@ -14,7 +14,7 @@ use Rattle.generational_core.proofs.maps.Maps.{by_number, key_cases, same_ids}
 use Rattle.entity_table.specs.declared.entity.Entity.{Entity}
 use Rattle.entity_table.specs.Entities.{pointer_in, IsSame, IsOther}
 use Rattle.entity_table.specs.Tables.{TableState, IsDense, Sifts, IsSifted, WasSpawned, element_in}
-use Rattle.entity_table.proofs.Removals.{removed_get, removed_length}
+use Rattle.entity_table.proofs.Removals.{removed_get, removed_length, removed_old}
 
 module _ {T : Type 0} where
   -- handles of one entity show the same, and two handles are of one entity or of two
@@ -23,7 +23,7 @@ module _ {T : Type 0} where
   same_sees S a b e = ap (λ (d : GenerationalBoxId).
       value_in S (record { id = d; created_at = a.created_at })) e
 
-  one_or_two : (a b : Entity T) → IsSame a b ⊎ IsOther a b
+  pub one_or_two : (a b : Entity T) → IsSame a b ⊎ IsOther a b
   one_or_two a b =
       let ids = same_ids (pointer_in a) (pointer_in b) in
       ⊎_elim (λ same. inl (ids.0 same))
@@ -52,6 +52,8 @@ module _ {T : Type 0} where
           (λ here. let same = same_Some entity e (sym at ∙ (ap (slice_get old.rows) (sym here) ∙ is)) in
           (v, ap (element_in old) (sym same) ∙ has, passes))
           (λ ne. s.passed i e is (omega (arith, le, ne))) (key_cases by_number i row);
+      front = s.front;
+      ahead = λ i e lt is. s.ahead i e (omega (arith, lt)) is;
       within = omega (arith, s.within);
     }
 
@@ -75,6 +77,10 @@ module _ {T : Type 0} where
           (λ left. passed i e left.2 (λ same. left.0 (same ∙ sym here)) (omega (arith, left.0, here, le)))
           (removed_get old.rows r.0 i r.1 e (slice_get_within old.rows r.0 r.1 r.3)
           (ap (λ rows. slice_get rows i) (sym r.4) ∙ is));
+      front = λ i e is all.
+          let now = s.front i e is (λ j d le there. survives d (all j d le there)) in
+          before i e (⊎_elim (λ lt. lt) (λ le. absurd (no_further i e is le all)) (cases_lt i row)) now;
+      ahead = λ i e lt is. before i e lt (s.ahead i e (omega (arith, lt)) is);
       within = omega (arith, s.within, ap length r.4 ∙ removed_length old.rows r.0 r.1);
     }
       where
@@ -88,6 +94,27 @@ module _ {T : Type 0} where
         alike : (e : Entity T) → IsSame entity e → element_in new e ≡ None
         alike e same =
             sym (same_sees new.state (pointer_in entity) (pointer_in e) same) ∙ end.gone
+
+        -- what shows something still did so before, and isn't the one that was ended
+        survives : (e : Entity T) → is_some (element_in new e) ≡ true → is_some (element_in old e) ≡ true
+        survives e shows = ⊎_elim
+            (λ same. absurd (true≢false (sym shows ∙ ap is_some (alike e same))))
+            (λ other. sym (ap is_some (end.others e other)) ∙ shows) (one_or_two entity e)
+
+        before : (i : ℕ) (e : Entity T) → i < row → slice_get old.rows i ≡ Some e
+            → slice_get new.rows i ≡ Some e
+        before i e lt is = ap (λ rows. slice_get rows i) r.4
+            ∙ removed_old old.rows r.0 i r.1 e (λ same. absurd (omega (arith, same, here, lt)))
+            (omega (arith, lt, here, slice_get_within old.rows r.0 r.1 r.3)) is
+
+        no_further : (i : ℕ) (e : Entity T) → slice_get first.rows i ≡ Some e → row ≤ i
+            → ((j : ℕ) (d : Entity T) → j ≤ i → slice_get first.rows j ≡ Some d
+            → is_some (element_in new d) ≡ true) → ⊥
+        no_further i e is le all =
+            let there = slice_get-get_or first.rows row e
+            (omega (arith, le, slice_get_within first.rows i e is)) in
+            let same = same_Some _ entity (sym (s.ahead row _ (omega arith) there) ∙ at) in
+            true≢false (sym (all row _ le there) ∙ ap is_some (ap (element_in new) same ∙ end.gone))
 
         stays : (e : Entity T) → element_in old e ≡ None → element_in new e ≡ None
         stays e none = ⊎_elim (alike e) (λ other. end.others e other ∙ none) (one_or_two entity e)
@@ -108,6 +135,8 @@ module _ {T : Type 0} where
     none = λ e shows. shows;
     kept = λ e given. given;
     passed = λ i e there le. absurd (omega (arith, is, le, slice_get_within t.rows i e there));
+    front = λ i e there all. there;
+    ahead = λ i e lt there. there;
     within = omega (arith, is);
   }
 

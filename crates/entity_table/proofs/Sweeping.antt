@@ -15,15 +15,7 @@ use Rattle.entity_table.specs.Components.{ComponentState, component_in, part_at,
 use Rattle.entity_table.specs.Entities.{pointer_in, slot_in, IsOther, IsSame}
 use Rattle.entity_table.specs.Sweeping.{Sweeps}
 use Rattle.entity_table.specs.Tables.{TableState, element_in}
-
--- two handles are of one entity, or of two
-one_or_two : {T : Type 0} (a e : Entity T) → IsSame a e ⊎ IsOther a e
-one_or_two a e = by (has_same_id (pointer_in a) (pointer_in e)) refl
-  where
-    by : (own : Bool) → has_same_id (pointer_in a) (pointer_in e) ≡ own → IsSame a e ⊎ IsOther a e
-    by true is = inl ((same_ids (pointer_in a) (pointer_in e)).0 is)
-    by false is =
-        inr (λ same. true≢false (sym ((same_ids (pointer_in a) (pointer_in e)).1 same) ∙ is))
+use Rattle.entity_table.proofs.Sifting.{one_or_two}
 
 module _ {T C : Type 0} where
   -- handles of one entity show one component

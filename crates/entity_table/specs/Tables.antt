@@ -1,5 +1,5 @@
 -- What a caller sees of a table of entities.
-use Rattle.std.specs.Prelude.{◌≡◌, ◌⊎◌, ◌≤◌, ℕ, List, Option, None, Some, Bool, true, false}
+use Rattle.std.specs.Prelude.{◌≡◌, ◌⊎◌, ◌<◌, ◌≤◌, ℕ, List, Option, None, Some, Bool, true, false}
 use Rattle.std.specs.Prelude.{is_some, length, slice_get}
 use Rattle.generational_core.specs.Boxes.{name_of}
 use Rattle.generational_core.specs.Seeing.{value_in}
@@ -36,7 +36,8 @@ module _ {T : Type 0} where
       ((left ≡ Some v) × answers v true) ⊎ ((left ≡ None) × answers v false)
 
   -- what is left of a table where the rows from one on were tested: each entity as it was, or gone
-  -- where it failed, and those of the tested rows have passed
+  -- where it failed, those of the tested rows have passed, and the rows before the first that failed
+  -- stay, as those that weren't tested
   pub record Sifts (answers : T → Bool → Type 0) (old new : TableState T) (row : ℕ) : Type 0 where
     pub left : (e : Entity T) (v : T) → element_in old e ≡ Some v
         → (element_in new e ≡ Some v) ⊎ ((element_in new e ≡ None) × answers v false)
@@ -44,4 +45,9 @@ module _ {T : Type 0} where
     pub kept : (e : Entity T) → WasSpawned old e → WasSpawned new e
     pub passed : (i : ℕ) (e : Entity T) → slice_get new.rows i ≡ Some e → row ≤ i
         → (v : T) × (element_in new e ≡ Some v) × answers v true
+    pub front : (i : ℕ) (e : Entity T) → slice_get old.rows i ≡ Some e → ((j : ℕ) (f : Entity T)
+        → j ≤ i → slice_get old.rows j ≡ Some f → is_some (element_in new f) ≡ true)
+        → slice_get new.rows i ≡ Some e
+    pub ahead : (i : ℕ) (e : Entity T) → i < row → slice_get old.rows i ≡ Some e
+        → slice_get new.rows i ≡ Some e
     pub within : row ≤ length new.rows

@@ -1,6 +1,6 @@
 //! Tables of entities.
 
-ghost use Rattle.std.specs.Prelude.{◌≡◌, ◌↔◌, ◌⊎◌, ◌<◌, ◌+◌, ◌-◌, ◌++◌, ◌∷◌, [], ℕ, true, length, None, Some, Err, is_some};
+ghost use Rattle.std.specs.Prelude.{◌≡◌, ◌↔◌, ◌⊎◌, ◌<◌, ◌≤◌, ◌+◌, ◌-◌, ◌++◌, ◌∷◌, [], ℕ, true, length, None, Some, Err, is_some};
 ghost use Rattle.std.specs.Prelude.{IfOk, OnOk, IfErr, OnErr, IsErr, IsTrue, swap_remove, slice_get};
 ghost use Rattle.std.specs.Prelude.{map as list_map};
 ghost use Rattle.std.specs.Borrow.{MutBor};
@@ -241,14 +241,18 @@ impl<T, S: Storage<T>> EntityTable<T, S> {
         self.rows.as_slice()
     }
 
-    /// Ends each entity whose element fails a test. Every other entity shows what it showed. Never
-    /// refused; takes no memory, and is O(n).
+    /// Ends each entity whose element fails a test. Every other entity shows what it showed. The rows
+    /// before the first that fails stay in their order, and behind it the last row of the moment takes
+    /// the place of each that goes. Never refused; takes no memory, and is O(n).
     pub fn retain<F: Fn(&T) -> bool>(&mut self, test: F)
         requires { F.IsAlwaysCallable test }
         ensures sifted { (e : Entity T) (v : T) → element_in self.old e ≡ Some v →
             IsSifted (FnReturnsAt F.Fn test) v (element_in self.new e) }
         ensures none { (e : Entity T) → element_in self.old e ≡ None →
             element_in self.new e ≡ None }
+        ensures front { (i : ℕ) (e : Entity T) → slice_get self.old.rows i ≡ Some e →
+            ((j : ℕ) (f : Entity T) → j ≤ i → slice_get self.old.rows j ≡ Some f →
+            is_some (element_in self.new f) ≡ true) → slice_get self.new.rows i ≡ Some e }
         ensures kept { (f : Entity T) → WasSpawned self.old f → WasSpawned self.new f }
     {
         let mut row = self.rows.len();

@@ -22,3 +22,6 @@ pub returns-clause-sifted : goal.returns-clause-sifted
 returns-clause-sifted g c = sifted
     (subst IsDense c.self-2.view_is (kept_dense c.self-2.invariant)) c.loop-row.invariant
     c.loop-row-test.false
+
+pub returns-clause-front : goal.returns-clause-front
+returns-clause-front g c = c.loop-row.invariant.front
