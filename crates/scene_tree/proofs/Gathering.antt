@@ -16,6 +16,22 @@ use Rattle.scene_tree.specs.Nodes.{slot_in}
 use Rattle.scene_tree.proofs.Counting.{count_apart, count_both, count_here, count_more, count_take, distinct}
 use Rattle.scene_tree.proofs.Paths.{no_cycle}
 
+-- nodes at different slots are no more than there are slots
+pub short : {T : Type 0} (list : List (Node T)) (n : ℕ) → ((s : ℕ) → count_at s list ≤ 1)
+    → ((s : ℕ) → 0 < count_at s list → s < n) → length list ≤ n
+short {T} list n once within =
+    let few = length-le_from_distinct_below (map slot_in list) n (distinct list once)
+    (λ q any. within q (found q list any)) in
+    let len = length-map list slot_in in omega (arith, few, len)
+  where
+    found : (q : ℕ) (xs : List (Node T)) → list_any (nat_eq q) (map slot_in xs) ≡ true
+        → 0 < count_at q xs
+    found q [] any = absurd (true≢false (sym any))
+    found q (x ∷ xs) any = ⊎_elim
+        (λ yes. let one = count_here q x xs (sym (eqb-true q (slot_in x) yes)) in omega (arith, one))
+        (λ rest. let more = count_more q x xs in let lt = found q xs rest in omega (arith, more, lt))
+        (or_cases _ _ any)
+
 module _ {T : Type 0} (fs : List (Family T)) where
   abbrev pub children_of : List (Node T) → List (Node T)
   children_of list = flat_map (λ n. children_at fs (slot_in n)) list
@@ -137,19 +153,7 @@ module _ {T : Type 0} (fs : List (Family T)) where
 
         -- so they are no more than there are slots
         pub list_short : slot_in top < length fs → length list ≤ length fs
-        list_short lt =
-            let few = length-le_from_distinct_below (map slot_in list) (length fs)
-            (distinct list listed_once)
-            (λ q any. below_within lt q (listed_below q (found q list any))) in
-            let len = length-map list slot_in in omega (arith, few, len)
-          where
-            found : (q : ℕ) (xs : List (Node T)) → list_any (nat_eq q) (map slot_in xs) ≡ true
-                → 0 < count_at q xs
-            found q [] any = absurd (true≢false (sym any))
-            found q (x ∷ xs) any = ⊎_elim
-                (λ yes. let one = count_here q x xs (sym (eqb-true q (slot_in x) yes)) in omega (arith, one))
-                (λ rest. let more = count_more q x xs in let lt = found q xs rest in omega (arith, more, lt))
-                (or_cases _ _ any)
+        list_short lt = short list (length fs) listed_once (λ s some. below_within lt s (listed_below s some))
 
       -- where the children of all are listed, all that are below are
       pub all_listed : (list : List (Node T)) → IsInLevels fs top list → (e s : ℕ)

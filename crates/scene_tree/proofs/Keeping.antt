@@ -1,7 +1,7 @@
 -- A tree's store and families after each of its calls.
 use Rattle.std.specs.FinMap as map
-use Rattle.std.proofs.Common.{◌≡◌, ◌≢◌, ◌<◌, ℕ, zero, suc, Bool, true, cond, List, [], ◌∷◌, ◌++◌}
-use Rattle.std.proofs.Common.{Ok, Option, None, Some, refl, sym, ap, subst, ◌∙◌, ⊎_elim, arith, length, length-append}
+use Rattle.std.proofs.Common.{◌≡◌, ◌≢◌, ◌<◌, ℕ, zero, suc, Bool, true, cond, List, [], ◌∷◌}
+use Rattle.std.proofs.Common.{Ok, Option, None, Some, refl, sym, ap, subst, ◌∙◌, ⊎_elim, arith, length}
 use Rattle.std.specs.Ordering.{nat_cmp}
 use Rattle.std.specs.Prelude.{is_some, slice_get, filter}
 use Rattle.std.proofs.lemmas.Bool.{cases_Bool, cases_eq, cases_lt}
@@ -23,15 +23,20 @@ use Rattle.generational_sessions.specs.PlainStores.{IsSimple}
 use Rattle.generational_sessions.proofs.callers.SimpleStores.{fresh_simple, made_simple}
 use Rattle.scene_tree.specs.declared.node.Node.{Node}
 use Rattle.scene_tree.specs.declared.spot.Spot.{Spot}
+use Rattle.scene_tree.specs.declared.spot.Spot.TheVariants as spot
+use Rattle.scene_tree.specs.Families.{IsAmong, IsSpotIn}
+use Rattle.scene_tree.specs.Trees.{parent_for, parent_of}
 use Rattle.scene_tree.specs.Families.{Family, IsAttached, IsCleared, IsDetached, IsOpened, IsUnder, above, alone, children_at, count_at, family_at, parent_at}
 use Rattle.scene_tree.specs.Families.{families, family_in, slot_of}
-use Rattle.scene_tree.specs.declared.links.Links.{Links}
+use Rattle.scene_tree.specs.declared.links.Link.{Link}
 use Rattle.scene_tree.specs.Keeping.{IsKept, IsLiveIn}
 use Rattle.scene_tree.specs.Nodes.{is_same, pointer_in, slot_in}
 use Rattle.scene_tree.specs.Spots.{placed}
 use Rattle.scene_tree.proofs.Counting.{counted, placed_from, same_id}
 use Rattle.scene_tree.proofs.Forests.{above_parent, attached, cleared, detached, parent_is, same_forest, slot_cases, under_alone}
+use Rattle.scene_tree.proofs.Linked.{among}
 use Rattle.scene_tree.proofs.Stores.{live_within, made_beside, made_slots, one_live}
+use Rattle.scene_tree.proofs.Trees.{has_parent}
 
 -- what a filter leaves stood there before
 filtered_from : {X : Type 0} (test : X → Bool) (xs : List X) (k : ℕ) (x : X)
@@ -51,13 +56,6 @@ filtered_from test (y ∷ xs) k x at = ⊎_elim
     passes rest (suc i) at = let old = rest i at in (suc old.0, old.1)
 
 module _ {T : Type 0} where
-  -- a slot more that is alone changes no family
-  pub pushed_family : (fs : List (Family T)) (s : ℕ) → family_at (fs ++ alone ∷ []) s ≡ family_at fs s
-  pushed_family [] zero = refl
-  pushed_family [] (suc s) = refl
-  pushed_family (f ∷ fs) zero = refl
-  pushed_family (f ∷ fs) (suc s) = pushed_family fs s
-
   pub fresh_kept : (number start next : ℕ) → IsKept (fresh {T = T} number start next) []
   fresh_kept number start next = record {
     simple = fresh_simple number start next;
@@ -119,15 +117,12 @@ module _ {T : Type 0} where
     module _ {R : State T} (sound : IsSound S) (v : T) (l : Location) (b : GenerationalPointer)
         (m : Meets S (Make None v l) (Made b) R) (gs : List (Family T)) (o : IsOpened fs b.id.slot gs) where
       pub opened_same : (s : ℕ) → family_at gs s ≡ family_at fs s
-      opened_same s = ⊎_elim
-          (λ old. ap (λ x. family_at x s) (o.old (omega (arith, old.0, k.whole))))
-          (λ next. ap (λ x. family_at x s) (o.next (next.0 ∙ sym k.whole)) ∙ pushed_family fs s)
-          (made_slots sound k.simple v l b m)
+      opened_same = o.same
 
       opened_whole : length gs ≡ slots R
       opened_whole = ⊎_elim
-          (λ old. ap length (o.old (omega (arith, old.0, k.whole))) ∙ (k.whole ∙ sym old.1))
-          (λ next. let long = ap length (o.next (next.0 ∙ sym k.whole)) ∙ length-append fs (alone ∷ []) in
+          (λ old. o.old (omega (arith, old.0, k.whole)) ∙ (k.whole ∙ sym old.1))
+          (λ next. let long = o.next (next.0 ∙ sym k.whole) in
           let more = next.1 in omega (arith, long, more, k.whole))
           (made_slots sound k.simple v l b m)
 
@@ -167,10 +162,27 @@ module _ {T : Type 0} where
     }
 
     -- a node that was taken out of its parent's children
-    alike : IsSound S → (child : Node T) → IsLiveIn S child → (s i : ℕ) (x : Node T)
+    pub alike : IsSound S → (child : Node T) → IsLiveIn S child → (s i : ℕ) (x : Node T)
         → slice_get (children_at fs s) i ≡ Some x → slot_in x ≡ slot_in child → is_same x child ≡ true
     alike sound child live s i x at same =
         same_id x child (one_live S x child sound k.simple (k.children s i x at) live same)
+
+    sibling_in : IsSound S → (by up : Node T)
+        → parent_of (record { state = S; families = fs }) by ≡ Some up
+        → IsAmong (children_at fs (slot_in up)) by
+    sibling_in sound by up is =
+        let has = has_parent sound k by up is in
+        let one = k.forest.once (slot_in by) (slot_in up) (ap slot_of has.1) in
+        among by (children_at fs (slot_in up)) (omega (arith, one)) (alike sound by has.0 (slot_in up))
+
+    -- a sibling that a spot names is among the children of its parent
+    pub spot_in : IsSound S → (at : Spot T) (up : Node T)
+        → parent_for (record { state = S; families = fs }) at ≡ Some up
+        → IsSpotIn (children_at fs (slot_in up)) at
+    spot_in sound (spot.FirstOf to) up is = tt
+    spot_in sound (spot.LastOf to) up is = tt
+    spot_in sound (spot.Before by) up is = sibling_in sound by up is
+    spot_in sound (spot.After by) up is = sibling_in sound by up is
 
     pub kept_detached : IsSound S → (gs : List (Family T)) (child : Node T) → IsLiveIn S child
         → IsDetached fs child gs → IsKept S gs
@@ -265,8 +277,8 @@ module _ {T : Type 0} where
     }
 
   -- a live node's slot has links
-  pub live_slot : {S : State T} (links : List (Links T)) → IsSound S → IsKept S (families links)
+  pub live_slot : {S : State T} (links : List (Link T)) → IsSound S → IsKept S (families links)
       → (n : Node T) → IsLiveIn S n → slot_in n < length links
   live_slot {S} links sound k n live =
       let lt = live_within S n sound k.simple live in
-      let long = length-map links family_in in omega (arith, lt, long, k.whole)
+      let long = length-map links (family_in links) in omega (arith, lt, long, k.whole)

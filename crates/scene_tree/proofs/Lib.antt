@@ -1,12 +1,14 @@
+pub mod Chains
 pub mod Counting
 pub mod Cutting
 pub mod Forests
 pub mod Gathering
 pub mod Keeping
+pub mod Linked
+pub mod Linking
 pub mod Losing
 pub mod Moving
 pub mod Paths
-pub mod Spotting
 pub mod Stores
 pub mod Trees
 pub mod Walking

@@ -1,21 +1,23 @@
 -- A tree in which a node was moved, or was made a root.
-use Rattle.std.proofs.Common.{◌≡◌, ◌≢◌, ℕ, zero, suc, List, Some, true, sym, ap, subst, ◌∙◌, ⊎_elim}
-use Rattle.std.specs.Prelude.{IfOk, Result, Ok, Err}
+use Rattle.std.proofs.Common.{◌≡◌, ◌≢◌, ℕ, zero, suc, List, Some, true, sym, ap, subst, ◌∙◌, ⊎_elim, arith}
+use Rattle.std.specs.Prelude.{IfOk, OnOk, Result, Ok, Err}
 use Rattle.std.proofs.lemmas.Bool.{cases_eq}
 use Rattle.std.proofs.lemmas.Option.{none-some, same_Some}
 use Rattle.generational_core.specs.State.{State, IsSound}
 use Rattle.scene_tree.specs.declared.node.Node.{Node}
 use Rattle.scene_tree.specs.declared.spot.Spot.{Spot}
 use Rattle.scene_tree.specs.declared.spot.Spot.TheVariants as spot
-use Rattle.scene_tree.specs.Families.{Family, IsAttached, IsDetached, IsUnder, above, children_at, parent_at, slot_of}
+use Rattle.scene_tree.specs.Families.{Family, IsAmong, IsSpotIn, IsAttached, IsDetached, IsUnder, above, children_at, parent_at, slot_of}
 use Rattle.scene_tree.specs.Keeping.{IsKept, IsLiveIn}
 use Rattle.scene_tree.specs.Nodes.{IsOther, slot_in, without}
 use Rattle.scene_tree.specs.Spots.{named, placed}
-use Rattle.scene_tree.specs.Trees.{CanMove, TreeState, is_live, parent_for}
+use Rattle.scene_tree.specs.Trees.{CanMove, IsBelow, TreeState, is_live, parent_for, parent_of}
 use Rattle.scene_tree.proofs.Counting.{same_without}
 use Rattle.scene_tree.proofs.Forests.{above_parent, slot_cases}
-use Rattle.scene_tree.proofs.Keeping.{kept_attached, kept_detached}
+use Rattle.scene_tree.proofs.Keeping.{alike, kept_attached, kept_detached}
+use Rattle.scene_tree.proofs.Linked.{among}
 use Rattle.scene_tree.proofs.Stores.{one_live}
+use Rattle.scene_tree.proofs.Trees.{has_parent}
 
 module _ {T : Type 0} {S : State T} {fs gs : List (Family T)} (sound : IsSound S)
     (k : IsKept S fs) (node : Node T) (live : IsLiveIn S node) (d : IsDetached fs node gs) where
@@ -31,6 +33,27 @@ module _ {T : Type 0} {S : State T} {fs gs : List (Family T)} (sound : IsSound S
   freed_others n living beside =
       d.others (slot_in n) (λ is. let p = above_parent fs (slot_in node) (slot_in n) is in
       beside p.0 p.1 (one_live S p.0 n sound k.simple (k.parents (slot_in node) p.0 p.1) living p.2))
+
+  -- a spot that doesn't name the node or what is below it is where it was
+  abbrev tree : TreeState T
+  tree = record { state = S; families = fs }
+
+  sibling_left : (by up : Node T) → parent_of tree by ≡ Some up → (IsBelow tree node by → ⊥)
+      → IsAmong (children_at gs (slot_in up)) by
+  sibling_left by up is apart =
+      let has = has_parent sound k by up is in
+      let left = kept_detached k sound gs node live d in
+      let parent = d.parents (slot_in by)
+      (λ same. apart (0, one_live S by node sound k.simple has.0 live same)) ∙ has.1 in
+      let one = left.forest.once (slot_in by) (slot_in up) (ap slot_of parent) in
+      among by (children_at gs (slot_in up)) (omega (arith, one)) (alike left sound by has.0 (slot_in up))
+
+  pub spot_left : (at : Spot T) (up : Node T) → parent_for tree at ≡ Some up
+      → (IsBelow tree node (named at) → ⊥) → IsSpotIn (children_at gs (slot_in up)) at
+  spot_left (spot.FirstOf to) up is apart = tt
+  spot_left (spot.LastOf to) up is apart = tt
+  spot_left (spot.Before by) up is apart = sibling_left by up is apart
+  spot_left (spot.After by) up is apart = sibling_left by up is apart
 
 module _ {T : Type 0} {S : State T} {fs gs hs : List (Family T)} (sound : IsSound S)
     (k : IsKept S fs) (node parent : Node T) (spot : Spot T) (live : IsLiveIn S node) (lives : IsLiveIn S parent)
@@ -108,3 +131,7 @@ pub ok_map : {X E : Type 0} {P Q : X → Type 0} (r : Result X E) → ((x : X) �
     → IfOk r P → IfOk r Q
 ok_map (Ok x) f p = f x p
 ok_map (Err e) f p = tt
+
+pub ok_always : {X E P : Type 0} (r : Result X E) → P → OnOk r P
+ok_always (Ok x) p = p
+ok_always (Err e) p = tt

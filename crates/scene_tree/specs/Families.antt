@@ -1,14 +1,15 @@
 -- Families: of each slot the parent and the children of the node that lives there, and when they are
 -- those of trees.
 use Rattle.std.specs.Prelude.{◌≡◌, ◌≢◌, ◌++◌, ℕ, suc, zero, List, [], ◌∷◌, Option, None, Some, nat_eq, map}
-use Rattle.std.specs.Prelude.{slice_index_or, slice_get, length, ◌<◌, Vec}
-use Rattle.std.specs.Vec.{vec_capacity}
+use Rattle.std.specs.Prelude.{slice_index_or, length, ◌+◌, ◌<◌}
 use Rattle.std.specs.List.{count_by, flat_map}
-use Rattle.scene_tree.specs.declared.links.Links.{Links}
+use Rattle.scene_tree.specs.declared.links.Link.{Link}
 use Rattle.scene_tree.specs.declared.node.Node.{Node}
 use Rattle.scene_tree.specs.declared.spot.Spot.{Spot}
+use Rattle.scene_tree.specs.declared.spot.Spot.TheVariants as spot
+use Rattle.scene_tree.specs.Chains.{IsHeld, chain, head_or, last_or}
 use Rattle.scene_tree.specs.Nodes.{slot_in, without}
-use Rattle.scene_tree.specs.Spots.{placed}
+use Rattle.scene_tree.specs.Spots.{place_of, placed}
 
 -- a node's parent, if it has one, and its children in order
 pub record Family (T : Type 0) : Type 0 where
@@ -20,12 +21,12 @@ module _ {T : Type 0} where
   abbrev pub alone : Family T
   alone = record { parent = None; children = [] }
 
-  -- what links keep, without where it lies in memory
-  abbrev pub family_in : Links T → Family T
-  family_in links = record { parent = links.parent; children = links.children.items }
+  -- what a link says: the parent, and the children by their chain, which is no longer than there are links
+  abbrev pub family_in : List (Link T) → Link T → Family T
+  family_in links l = record { parent = l.parent; children = chain links (length links) l.first }
 
-  abbrev pub families : List (Links T) → List (Family T)
-  families links = map family_in links
+  abbrev pub families : List (Link T) → List (Family T)
+  families links = map (family_in links) links
 
   -- the family of a slot, and its two parts
   abbrev pub family_at : List (Family T) → ℕ → Family T
@@ -37,12 +38,9 @@ module _ {T : Type 0} where
   abbrev pub children_at : List (Family T) → ℕ → List (Node T)
   children_at fs slot = (family_at fs slot).children
 
-  -- there is room for one node more in a list, and among the children of a slot
-  abbrev pub HasSpace : {A : Type 0} → Vec (Node T) A → Type 0
-  HasSpace list = length list.items < vec_capacity list
-
-  abbrev pub HasRoom : List (Links T) → ℕ → Type 0
-  HasRoom links slot = (l : Links T) × (slice_get links slot ≡ Some l) × HasSpace l.children
+  -- the children of each slot lie in the links, both ways
+  abbrev pub IsLinked : List (Link T) → Type 0
+  IsLinked links = (slot : ℕ) → IsHeld links slot (children_at (families links) slot)
 
   -- the slot of a parent, and of a slot's
   abbrev pub slot_of : Option (Node T) → Option ℕ
@@ -85,8 +83,34 @@ module _ {T : Type 0} where
 
   -- a slot is one of those that there were, or one more, which is alone
   pub record IsOpened (before : List (Family T)) (slot : ℕ) (after : List (Family T)) : Type 0 where
-    pub old : slot < length before → after ≡ before
-    pub next : slot ≡ length before → after ≡ before ++ alone ∷ []
+    pub same : (s : ℕ) → family_at after s ≡ family_at before s
+    pub old : slot < length before → length after ≡ length before
+    pub next : slot ≡ length before → length after ≡ length before + 1
+
+  -- a node is one of a list, where it is looked for by its id
+  pub record IsAmong (list : List (Node T)) (n : Node T) : Type 0 where
+    pub front : List (Node T)
+    pub here : Node T
+    pub back : List (Node T)
+    pub whole : list ≡ front ++ here ∷ back
+    pub slot : slot_in here ≡ slot_in n
+    pub place : place_of n list ≡ length front
+
+  -- a spot is among the children of a node: where it names a sibling, this is one of them
+  abbrev pub IsSpotIn : List (Node T) → Spot T → Type 0
+  IsSpotIn list (spot.FirstOf up) = Unit {0}
+  IsSpotIn list (spot.LastOf up) = Unit {0}
+  IsSpotIn list (spot.Before by) = IsAmong list by
+  IsSpotIn list (spot.After by) = IsAmong list by
+
+  -- a spot is between the front of a list and its back, which end and begin at these slots
+  pub record IsGap (list : List (Node T)) (at : Spot T) (gap : Option ℕ × Option ℕ) : Type 0 where
+    pub front : List (Node T)
+    pub back : List (Node T)
+    pub whole : list ≡ front ++ back
+    pub put : (n : Node T) → placed at n list ≡ front ++ n ∷ back
+    pub before : gap.0 ≡ last_or None front
+    pub after : gap.1 ≡ head_or back None
 
   -- a node was made a child of another, at a spot among its children
   pub record IsAttached (before : List (Family T)) (parent : Node T) (spot : Spot T) (child : Node T) (after : List (Family T)) : Type 0 where

@@ -1,3 +1,4 @@
+pub mod Chains
 pub mod Families
 pub mod Keeping
 pub mod Nodes

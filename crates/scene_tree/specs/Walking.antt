@@ -1,6 +1,8 @@
--- What a walk from parent to parent yields.
-use Rattle.std.specs.Prelude.{ℕ, suc, zero, ◌<◌, length, List, [], ◌∷◌, Option, None, Some}
+-- What a walk from parent to parent yields, and what is left of one over children.
+use Rattle.std.specs.Prelude.{◌≡◌, ℕ, suc, zero, ◌<◌, length, List, [], ◌∷◌, Option, None, Some}
+use Rattle.scene_tree.specs.declared.links.Link.{Link}
 use Rattle.scene_tree.specs.declared.node.Node.{Node}
+use Rattle.scene_tree.specs.Chains.{IsChain, chain, head_or}
 use Rattle.scene_tree.specs.Families.{Family, parent_at}
 use Rattle.scene_tree.specs.Nodes.{slot_in}
 
@@ -15,3 +17,9 @@ module _ {T : Type 0} where
   abbrev pub IsWithin : List (Family T) → Option (Node T) → Type 0
   IsWithin fs None = Unit {0}
   IsWithin fs (Some n) = slot_in n < length fs
+
+  -- what is left of a walk over children begins at a slot, and lies in the links up to the last child
+  pub record IsRest (links : List (Link T)) (next : Option ℕ) : Type 0 where
+    pub before : Option ℕ
+    pub first : next ≡ head_or (chain links (length links) next) None
+    pub lies : IsChain links before (chain links (length links) next) None

@@ -1,23 +1,53 @@
-//! The parent and the children of each slot's node.
+//! The links of each slot's node: its parent, its first and last child, and the siblings beside it.
 
-ghost use Rattle.std.specs.Prelude.{◌≡◌, ◌≢◌, ◌<◌, ◌+◌, ◌++◌, ◌∷◌, [], ℕ, length, true, None, Some, IfOk, OnOk, IsTrue, ◌↔◌, slice_get};
+ghost use Rattle.std.specs.Prelude.{◌≡◌, ◌≢◌, ◌<◌, ◌≤◌, ◌+◌, ◌++◌, ◌∷◌, [], ℕ, length, true, None, Some, IfOk, OnOk, IsTrue, ◌↔◌, slice_get};
 ghost use Rattle.std.specs.Vec.{vec_capacity};
-ghost use Rattle.scene_tree.specs.Nodes.{slot_in, without};
+ghost use Rattle.scene_tree.specs.Chains.{after_put, before_put, changed, tie_of};
+ghost use Rattle.scene_tree.specs.Nodes.{slot_in, is_same};
 ghost use Rattle.scene_tree.specs.Families.{families, family_at, parent_at, children_at, above, alone};
-ghost use Rattle.scene_tree.specs.Families.{IsForest, IsInLevels, IsUnder, IsOpened, IsAttached};
-ghost use Rattle.scene_tree.specs.Families.{IsDetached, IsCleared, IsRooted, count_at, HasRoom, HasSpace};
-ghost use Rattle.scene_tree.specs.Spots.{placed};
+ghost use Rattle.scene_tree.specs.Families.{IsForest, IsLinked, IsInLevels, IsUnder, IsOpened, IsAttached};
+ghost use Rattle.scene_tree.specs.Families.{IsDetached, IsCleared, IsRooted, count_at, IsGap, IsSpotIn};
+ghost use Rattle.scene_tree.specs.declared.links.Link.{Link};
 ghost use Rattle.scene_tree.specs.declared.node.Node.{Node};
 
 use crate::node::Node;
 use crate::spot::Spot;
+use crate::walk::Children;
 use std::alloc::{AllocError, Global};
 
-/// The parent and the children of a slot's node.
+/// The node of a slot, its parent, and by their slots its first and last child and the siblings before
+/// and after it.
 #[derive(Drop)]
-pub(crate) struct Links<T> {
-    parent: Option<Node<T>>,
-    children: Vec<Node<T>>,
+pub(crate) struct Link<T> {
+    pub(crate) node: Node<T>,
+    pub(crate) parent: Option<Node<T>>,
+    pub(crate) first: Option<usize>,
+    pub(crate) last: Option<usize>,
+    pub(crate) before: Option<usize>,
+    pub(crate) after: Option<usize>,
+}
+
+impl<T> Link<T> {
+    // The link of a node without parent and children.
+    fn alone(node: Node<T>) -> Self
+        ensures { result ≡ record {
+          node = node;
+          parent = None;
+          first = None;
+          last = None;
+          before = None;
+          after = None;
+        } }
+    {
+        Link {
+            node,
+            parent: None,
+            first: None,
+            last: None,
+            before: None,
+            after: None,
+        }
+    }
 }
 
 /// Room for one more in a list.
@@ -28,128 +58,146 @@ pub(crate) fn reserve_one<X>(list: &mut Vec<X>) -> bool
     list.reserve(1).is_ok()
 }
 
-/// Room for one child more of the node of a slot.
-pub(crate) fn reserve_child<T>(links: &mut Vec<Links<T>>, slot: usize) -> bool
-    requires within { slot < length links.old.items }
-    ensures same { families links.new.items ≡ families links.old.items }
-    ensures capacity { vec_capacity links.new ≡ vec_capacity links.old }
-    ensures room { result ≡ true → HasRoom links.new.items slot }
-{
-    reserve_one(&mut links[slot].children)
-}
-
-/// The same, and room for one slot more.
-pub(crate) fn reserve_node<T>(links: &mut Vec<Links<T>>, slot: usize) -> bool
-    requires within { slot < length links.old.items }
-    ensures same { families links.new.items ≡ families links.old.items }
-    ensures slot { result ≡ true → length links.new.items < vec_capacity links.new }
-    ensures child { result ≡ true → HasRoom links.new.items slot }
-{
-    reserve_one(links) && reserve_child(links, slot)
-}
-
 /// Opens the slot of a new node, where it is the next one.
-pub(crate) fn open_slot<T>(alloc: Global, links: &mut Vec<Links<T>>, slot: usize)
+pub(crate) fn open_slot<T>(links: &mut Vec<Link<T>>, node: Node<T>)
     requires room { length links.old.items < vec_capacity links.old }
-    ensures opened { IsOpened (families links.old.items) slot (families links.new.items) }
-    ensures kept { (s : ℕ) → HasRoom links.old.items s → HasRoom links.new.items s }
+    requires linked { IsLinked links.old.items }
+    ensures linked { IsLinked links.new.items }
+    ensures opened { IsOpened (families links.old.items) (slot_in node) (families links.new.items) }
+    ensures longer { length links.old.items ≤ length links.new.items }
 {
-    if slot == links.len() {
-        links.push_reserved(Links {
-            parent: None,
-            children: Vec::new(alloc),
-        });
+    if node.slot() == links.len() {
+        links.push_reserved(Link::alone(node));
     }
 }
 
-/// Makes one node a child of another, at a spot among its children.
-pub(crate) fn attach<T>(links: &mut Vec<Links<T>>, parent: Node<T>, spot: Spot<T>, child: Node<T>)
-    requires room { HasRoom links.old.items (slot_in parent) }
+/// Makes a node without parent a child of another, at a spot among its children.
+pub(crate) fn attach<T>(links: &mut Vec<Link<T>>, parent: Node<T>, spot: Spot<T>, child: Node<T>)
+    requires linked { IsLinked links.old.items }
+    requires forest { IsForest (families links.old.items) }
+    requires spot { IsSpotIn (children_at (families links.old.items) (slot_in parent)) spot }
+    requires parent { slot_in parent < length links.old.items }
     requires child { slot_in child < length links.old.items }
-    ensures { IsAttached (families links.old.items) parent spot child (families links.new.items) }
+    requires root { above (families links.old.items) (slot_in child) ≡ None }
+    ensures linked { IsLinked links.new.items }
+    ensures attached { IsAttached (families links.old.items) parent spot child
+        (families links.new.items) }
 {
-    set_parent(links, child.slot(), Some(parent));
-    insert_child(links, parent.slot(), spot, child);
+    let up = parent.slot();
+    let slot = child.slot();
+    let (before, after) = gap_at(links, up, spot);
+    place(links, child, parent, before, after);
+    put_after(links, up, before, Some(slot));
+    put_before(links, up, after, Some(slot));
 }
 
 /// Takes a node out of its parent's children, if it has a parent.
-pub(crate) fn detach<T>(links: &mut Vec<Links<T>>, node: Node<T>)
+pub(crate) fn detach<T>(links: &mut Vec<Link<T>>, node: Node<T>)
+    requires linked { IsLinked links.old.items }
+    requires forest { IsForest (families links.old.items) }
     requires node { slot_in node < length links.old.items }
-    requires parent { (up : ℕ) → above (families links.old.items) (slot_in node) ≡ Some up →
-        up < length links.old.items }
+    requires alike { (s k : ℕ) (n : Node T) →
+        slice_get (children_at (families links.old.items) s) k ≡ Some n →
+        slot_in n ≡ slot_in node → is_same n node ≡ true }
+    ensures linked { IsLinked links.new.items }
     ensures detached { IsDetached (families links.old.items) node (families links.new.items) }
-    ensures room { (s : ℕ) → HasRoom links.old.items s → HasRoom links.new.items s }
 {
-    let Some(parent) = parent_at(links, node.slot()) else {
+    let slot = node.slot();
+    let Some(parent) = parent_at(links, slot) else {
         return;
     };
-    set_parent(links, node.slot(), None);
-    remove_child(links, parent.slot(), node);
+    let up = parent.slot();
+    let (before, after) = sides_at(links, slot);
+    remove_parent(links, slot);
+    put_after(links, up, before, after);
+    put_before(links, up, after, before);
 }
 
-// Sets the parent of a slot's node.
-fn set_parent<T>(links: &mut Vec<Links<T>>, slot: usize, parent: Option<Node<T>>)
+// The slots of the children of a slot's node on both sides of a spot.
+fn gap_at<T>(links: &Vec<Link<T>>, slot: usize, spot: Spot<T>) -> (Option<usize>, Option<usize>)
+    requires linked { IsLinked links.now.items }
+    requires within { slot < length links.now.items }
+    requires spot { IsSpotIn (children_at (families links.now.items) slot) spot }
+    ensures { IsGap (children_at (families links.now.items) slot) spot result }
+{
+    match spot {
+        Spot::FirstOf(_) => (None, links[slot].first),
+        Spot::LastOf(_) => (links[slot].last, None),
+        Spot::Before(sibling) => (sides_at(links, sibling.slot()).0, Some(sibling.slot())),
+        Spot::After(sibling) => (Some(sibling.slot()), sides_at(links, sibling.slot()).1),
+    }
+}
+
+// The slots of the siblings before and after a slot's node.
+fn sides_at<T>(links: &Vec<Link<T>>, slot: usize) -> (Option<usize>, Option<usize>)
+    requires within { slot < length links.now.items }
+    ensures { (node : Node T) × (tie_of (slice_get links.now.items slot)
+        ≡ Some (node, result.0, result.1)) }
+{
+    let link = &links[slot];
+    (link.before, link.after)
+}
+
+// Gives a node its parent, and the siblings beside it.
+fn place<T>(
+    links: &mut Vec<Link<T>>,
+    node: Node<T>,
+    parent: Node<T>,
+    before: Option<usize>,
+    after: Option<usize>,
+)
+    requires within { slot_in node < length links.old.items }
+    ensures { links.new.items ≡ changed links.old.items (slot_in node) (λ l. record l {
+      node = node;
+      parent = Some parent;
+      before = before;
+      after = after;
+    }) }
+{
+    let link = &mut links[node.slot()];
+    link.node = node;
+    link.parent = Some(parent);
+    link.before = before;
+    link.after = after;
+}
+
+// Leaves a slot's node without parent.
+fn remove_parent<T>(links: &mut Vec<Link<T>>, slot: usize)
     requires within { slot < length links.old.items }
-    ensures length { length links.new.items ≡ length links.old.items }
-    ensures set { parent_at (families links.new.items) slot ≡ parent }
-    ensures others { (s : ℕ) → s ≢ slot →
-        parent_at (families links.new.items) s ≡ parent_at (families links.old.items) s }
-    ensures children { (s : ℕ) →
-        children_at (families links.new.items) s ≡ children_at (families links.old.items) s }
-    ensures room { (s : ℕ) → HasRoom links.old.items s → HasRoom links.new.items s }
+    ensures { links.new.items ≡ changed links.old.items slot (λ l. record l { parent = None }) }
 {
-    links[slot].parent = parent;
+    links[slot].parent = None;
 }
 
-// Puts a child at a spot among those of a slot's node.
-fn insert_child<T>(links: &mut Vec<Links<T>>, slot: usize, spot: Spot<T>, child: Node<T>)
-    requires room { HasRoom links.old.items slot }
-    ensures length { length links.new.items ≡ length links.old.items }
-    ensures listed { children_at (families links.new.items) slot
-        ≡ placed spot child (children_at (families links.old.items) slot) }
-    ensures others { (s : ℕ) → s ≢ slot →
-        children_at (families links.new.items) s ≡ children_at (families links.old.items) s }
-    ensures parents { (s : ℕ) →
-        parent_at (families links.new.items) s ≡ parent_at (families links.old.items) s }
-{
-    insert_node(&mut links[slot].children, spot, child);
-}
-
-// Puts a node at a spot in a list.
-fn insert_node<T>(list: &mut Vec<Node<T>>, spot: Spot<T>, node: Node<T>)
-    requires room { HasSpace list.old }
-    ensures { list.new.items ≡ placed spot node list.old.items }
-{
-    let index = spot.index_in(list.as_slice());
-    let _room_was_reserved = list.insert(index, node);
-}
-
-// Takes a node out of the children of a slot's node.
-fn remove_child<T>(links: &mut Vec<Links<T>>, slot: usize, child: Node<T>)
+// Puts another after one child of a slot's node, or first where there is none.
+fn put_after<T>(links: &mut Vec<Link<T>>, slot: usize, child: Option<usize>, next: Option<usize>)
     requires within { slot < length links.old.items }
-    ensures length { length links.new.items ≡ length links.old.items }
-    ensures lost { children_at (families links.new.items) slot
-        ≡ without child (children_at (families links.old.items) slot) }
-    ensures room { (s : ℕ) → HasRoom links.old.items s → HasRoom links.new.items s }
-    ensures others { (s : ℕ) → s ≢ slot →
-        children_at (families links.new.items) s ≡ children_at (families links.old.items) s }
-    ensures parents { (s : ℕ) →
-        parent_at (families links.new.items) s ≡ parent_at (families links.old.items) s }
+    requires child { (s : ℕ) → child ≡ Some s → s < length links.old.items }
+    ensures { links.new.items ≡ after_put links.old.items slot child next }
 {
-    remove_node(&mut links[slot].children, child);
+    match child {
+        Some(at) => links[at].after = next,
+        None => links[slot].first = next,
+    }
 }
 
-// Takes a node out of a list.
-fn remove_node<T>(list: &mut Vec<Node<T>>, node: Node<T>)
-    ensures without { list.new.items ≡ without node list.old.items }
-    ensures room { HasSpace list.old → HasSpace list.new }
+// Puts another before one child of a slot's node, or last where there is none.
+fn put_before<T>(links: &mut Vec<Link<T>>, slot: usize, child: Option<usize>, next: Option<usize>)
+    requires within { slot < length links.old.items }
+    requires child { (s : ℕ) → child ≡ Some s → s < length links.old.items }
+    ensures { links.new.items ≡ before_put links.old.items slot child next }
 {
-    list.retain(|other| !other.raw.ptr_eq(&node.raw));
+    match child {
+        Some(at) => links[at].before = next,
+        None => links[slot].last = next,
+    }
 }
 
 /// Leaves each node of a list without parent and children.
-pub(crate) fn clear_all<T>(links: &mut Vec<Links<T>>, nodes: &Vec<Node<T>>)
+pub(crate) fn clear_all<T>(links: &mut Vec<Link<T>>, nodes: &Vec<Node<T>>)
+    requires linked { IsLinked links.old.items }
     requires within { (s : ℕ) → 0 < count_at s nodes.now.items → s < length links.old.items }
+    ensures linked { IsLinked links.new.items }
     ensures length { length links.new.items ≡ length links.old.items }
     ensures cleared { IsCleared (families links.old.items) (families links.new.items) nodes.now.items }
 {
@@ -159,20 +207,22 @@ pub(crate) fn clear_all<T>(links: &mut Vec<Links<T>>, nodes: &Vec<Node<T>>)
 }
 
 // Leaves the node of a slot without parent and children.
-fn clear<T>(links: &mut Vec<Links<T>>, slot: usize)
+fn clear<T>(links: &mut Vec<Link<T>>, slot: usize)
     requires within { slot < length links.old.items }
-    ensures length { length links.new.items ≡ length links.old.items }
-    ensures cleared { family_at (families links.new.items) slot ≡ alone }
-    ensures others { (s : ℕ) → s ≢ slot →
-        family_at (families links.new.items) s ≡ family_at (families links.old.items) s }
+    ensures { links.new.items ≡ changed links.old.items slot (λ l. record l {
+      parent = None;
+      first = None;
+      last = None;
+    }) }
 {
     let at = &mut links[slot];
     at.parent = None;
-    at.children.clear();
+    at.first = None;
+    at.last = None;
 }
 
 /// Whether one node is another, or below it.
-pub(crate) fn is_under<T>(links: &Vec<Links<T>>, slot: usize, top: usize) -> bool
+pub(crate) fn is_under<T>(links: &Vec<Link<T>>, slot: usize, top: usize) -> bool
     requires forest { IsForest (families links.now.items) }
     requires within { slot < length links.now.items }
     ensures { IsTrue result ↔ (steps : ℕ) × IsUnder (families links.now.items) top steps slot }
@@ -192,7 +242,7 @@ pub(crate) fn is_under<T>(links: &Vec<Links<T>>, slot: usize, top: usize) -> boo
 }
 
 /// How many steps a root is above a slot.
-pub(crate) fn depth_at<T>(links: &Vec<Links<T>>, slot: usize) -> usize
+pub(crate) fn depth_at<T>(links: &Vec<Link<T>>, slot: usize) -> usize
     requires forest { IsForest (families links.now.items) }
     requires within { slot < length links.now.items }
     ensures { IsRooted (families links.now.items) result slot }
@@ -209,7 +259,7 @@ pub(crate) fn depth_at<T>(links: &Vec<Links<T>>, slot: usize) -> usize
 }
 
 /// The parent of a slot's node.
-pub(crate) fn parent_at<T>(links: &Vec<Links<T>>, slot: usize) -> Option<Node<T>>
+pub(crate) fn parent_at<T>(links: &Vec<Link<T>>, slot: usize) -> Option<Node<T>>
     ensures { result ≡ parent_at (families links.now.items) slot }
 {
     match links.get(slot) {
@@ -218,20 +268,22 @@ pub(crate) fn parent_at<T>(links: &Vec<Links<T>>, slot: usize) -> Option<Node<T>
     }
 }
 
-/// The children of a slot's node.
-pub(crate) fn children_at<T>(links: &Vec<Links<T>>, slot: usize) -> &[Node<T>]
+/// The children of a slot's node, in order.
+pub(crate) fn children_at<T>(links: &Vec<Link<T>>, slot: usize) -> Children<'_, T>
+    requires linked { IsLinked links.now.items }
     requires within { slot < length links.now.items }
-    ensures { result.now ≡ children_at (families links.now.items) slot }
+    ensures { result ≡ children_at (families links.now.items) slot }
 {
-    links[slot].children.as_slice()
+    Children::new(links, links[slot].first)
 }
 
 /// A node and all below it, level by level.
 pub(crate) fn gather<T>(
     alloc: Global,
-    links: &Vec<Links<T>>,
+    links: &Vec<Link<T>>,
     top: Node<T>,
 ) -> Result<Vec<Node<T>>, AllocError>
+    requires linked { IsLinked links.now.items }
     requires forest { IsForest (families links.now.items) }
     requires within { slot_in top < length links.now.items }
     ensures { IfOk result (λ list. IsInLevels (families links.now.items) top list.items) }
@@ -248,9 +300,10 @@ pub(crate) fn gather<T>(
 // Adds the children of a node of a list at its end.
 fn push_children<T>(
     list: &mut Vec<Node<T>>,
-    links: &Vec<Links<T>>,
+    links: &Vec<Link<T>>,
     next: usize,
 ) -> Result<(), AllocError>
+    requires linked { IsLinked links.now.items }
     requires listed { next < length list.old.items }
     requires within { (n : Node T) → slice_get list.old.items next ≡ Some n →
         slot_in n < length links.now.items }
@@ -258,5 +311,8 @@ fn push_children<T>(
         list.new.items ≡ list.old.items ++ children_at (families links.now.items) (slot_in n)) }
 {
     let node = list[next];
-    list.extend_from_slice(children_at(links, node.slot()))
+    for child in children_at(links, node.slot()) {
+        list.push(child)?;
+    }
+    Ok(())
 }

@@ -19,12 +19,12 @@ ghost use Rattle.scene_tree.specs.Trees.{AreAncestors, IsRootedIn, IsSubtree, Is
 ghost use Rattle.scene_tree.specs.Spots.{named, placed};
 
 use crate::links::{
-    Links, attach, children_at, clear_all, depth_at, detach, gather, is_under, open_slot,
-    parent_at, reserve_child, reserve_node, reserve_one,
+    Link, attach, children_at, clear_all, depth_at, detach, gather, is_under, open_slot, parent_at,
+    reserve_one,
 };
 use crate::node::{Node, Stale, TreeError};
 use crate::spot::Spot;
-use crate::walk::Ancestors;
+use crate::walk::{Ancestors, Children};
 use generational_core::{GenerationalBox, Location, Refusal, Storage, StoreError};
 use std::alloc::Global;
 use std::marker::Model;
@@ -35,14 +35,14 @@ use std::marker::Model;
 pub struct SceneTree<T, S: Storage<T>> {
     alloc: Global,
     store: S,
-    // of each slot the parent and the children of the node that lives there
-    links: Vec<Links<T>>,
+    // of each slot the node that lives there, and those around it
+    links: Vec<Link<T>>,
 }
 
 impl<T, S: Storage<T>> Model for SceneTree<T, S> {
     ghost use Rattle.std.specs.Coded.{codes};
     ghost use Rattle.std.specs.FinMap as map;
-    ghost use Rattle.scene_tree.specs.Families.{families};
+    ghost use Rattle.scene_tree.specs.Families.{IsLinked, families};
     ghost use Rattle.scene_tree.specs.Keeping.{IsKept};
     ghost use Rattle.scene_tree.specs.Trees.{TreeState};
 
@@ -55,7 +55,8 @@ impl<T, S: Storage<T>> Model for SceneTree<T, S> {
       families = families t.links.items;
     } };
 
-    ghost invariant = { λ t. IsKept (S.state t.store) (families t.links.items) };
+    ghost invariant = { λ t. IsKept (S.state t.store) (families t.links.items)
+        × IsLinked t.links.items };
 }
 
 impl<T, S: Storage<T>> SceneTree<T, S> {
@@ -97,8 +98,9 @@ impl<T, S: Storage<T>> SceneTree<T, S> {
             return Err(Refusal { value, cause });
         }
         let raw = GenerationalBox::leak(&mut self.store, value, here)?;
-        open_slot(self.alloc, &mut self.links, raw.raw_ptr());
-        Ok(Node { raw })
+        let node = Node { raw };
+        open_slot(&mut self.links, node);
+        Ok(node)
     }
 
     /// A new node with this value, as the last child of another, and without children. Its handle is
@@ -106,7 +108,7 @@ impl<T, S: Storage<T>> SceneTree<T, S> {
     ///
     /// Refused, in this order: `Stale`, where the parent is gone, or is another tree's; `Store` of
     /// `OutOfMemory`. The value comes back then, and the tree stays as it was. Takes memory where the
-    /// links or the parent's children have no room, or no slot is free. O(1), but for finding room.
+    /// links have no room, or no slot is free. O(1), but for finding room.
     pub fn add_child(
         &mut self,
         parent: Node<T>,
@@ -143,8 +145,8 @@ impl<T, S: Storage<T>> SceneTree<T, S> {
     ///
     /// Refused, in this order: `Stale`, where the node that the spot names is gone, or is another tree's;
     /// `NoParent`, where it is to be a sibling and has no parent; `Store` of `OutOfMemory`. The value
-    /// comes back then, and the tree stays as it was. Takes memory as `add_child` does. O(c) for c
-    /// children of the parent, and O(1) as the last of them, but for finding room.
+    /// comes back then, and the tree stays as it was. Takes memory as `add_child` does. O(1), but for
+    /// finding room.
     pub fn add_at(
         &mut self,
         spot: Spot<T>,
@@ -181,7 +183,7 @@ impl<T, S: Storage<T>> SceneTree<T, S> {
             Ok(parent) => parent,
             Err(error) => return Err((value, error)),
         };
-        if !reserve_node(&mut self.links, parent.slot()) {
+        if !reserve_one(&mut self.links) {
             return Err((value, TreeError::Store(StoreError::OutOfMemory)));
         }
         let raw = match GenerationalBox::leak(&mut self.store, value, here) {
@@ -189,7 +191,7 @@ impl<T, S: Storage<T>> SceneTree<T, S> {
             Err(refusal) => return Err((refusal.value, TreeError::Store(refusal.cause))),
         };
         let child = Node { raw };
-        open_slot(self.alloc, &mut self.links, child.slot());
+        open_slot(&mut self.links, child);
         attach(&mut self.links, parent, spot, child);
         Ok(child)
     }
@@ -385,11 +387,12 @@ impl<T, S: Storage<T>> SceneTree<T, S> {
         Ok(depth_at(links, node.slot()))
     }
 
-    /// A node's children, in order.
+    /// A node's children, in order. The tree is lent meanwhile.
     ///
-    /// Refused where the node is gone, or is another tree's. Takes no memory, and is O(1).
-    pub fn children(&self, node: Node<T>) -> Result<&[Node<T>], Stale>
-        ensures children { IfOk result (λ children. children.now ≡ children_of self.now node) }
+    /// Refused where the node is gone, or is another tree's. Takes no memory, and is O(1), as each of its
+    /// steps.
+    pub fn children(&self, node: Node<T>) -> Result<Children<'_, T>, Stale>
+        ensures children { IfOk result (λ children. children ≡ children_of self.now node) }
         ensures tree { IsTree self.now }
         ensures stale { IsErr result ↔ value_of self.now node ≡ None }
         ensures told { IfErr result (λ stale. stale.made_at ≡ made_at node) }
@@ -428,10 +431,8 @@ impl<T, S: Storage<T>> SceneTree<T, S> {
     /// one child, all below it stays where it is, and every node shows what it showed.
     ///
     /// Refused, in this order: `Stale`, where the node is gone, or is another tree's; `Stale`, where
-    /// the parent is; `Cycle`, where the parent is the node or below it; `Store` of `OutOfMemory`. The
-    /// tree stays as it was then. Takes memory where the parent's children have no room, and
-    /// O(d + c) time for d steps from the parent to its root and c children of the parent before, but
-    /// for finding room.
+    /// the parent is; `Cycle`, where the parent is the node or below it. The tree stays as it was then.
+    /// Takes no memory, and O(d) time for d steps from the parent to its root.
     pub fn move_to(&mut self, node: Node<T>, parent: Node<T>) -> Result<(), TreeError>
         ensures state { self.new.state ≡ self.old.state }
         ensures moved { OnOk result (parent_of self.new node ≡ Some parent) }
@@ -450,10 +451,9 @@ impl<T, S: Storage<T>> SceneTree<T, S> {
             result ≡ Err (error.Stale (made_at parent)) }
         ensures cycle { is_live self.old node ≡ true → IsBelow self.old node parent →
             result ≡ Err error.Cycle }
-        ensures short { IfErr result (λ e. (value_of self.old node ≡ None)
+        ensures why { OnErr result ((value_of self.old node ≡ None)
             ⊎ (value_of self.old parent ≡ None)
-            ⊎ IsBelow self.old node parent
-            ⊎ (e ≡ error.Store OutOfMemory)) }
+            ⊎ IsBelow self.old node parent) }
         ensures refused { OnErr result (self.new ≡ self.old) }
     {
         self.move_at(node, Spot::LastOf(parent))
@@ -464,9 +464,8 @@ impl<T, S: Storage<T>> SceneTree<T, S> {
     ///
     /// Refused, in this order: `Stale`, where the node is gone, or is another tree's; `Stale`, where
     /// the node that the spot names is; `Cycle`, where that is the node or below it; `NoParent`, where it
-    /// is to be a sibling and has no parent; `Store` of `OutOfMemory`. The tree stays as it was then. Takes
-    /// memory where the new parent's children have no room, and O(d + c) time for d steps from the spot to
-    /// the root and c children of both parents, but for finding room.
+    /// is to be a sibling and has no parent. The tree stays as it was then. Takes no memory, and O(d) time
+    /// for d steps from the spot to its root.
     pub fn move_at(&mut self, node: Node<T>, spot: Spot<T>) -> Result<(), TreeError>
         ensures state { self.new.state ≡ self.old.state }
         ensures moved { OnOk result (parent_of self.new node ≡ parent_for self.old spot) }
@@ -488,17 +487,13 @@ impl<T, S: Storage<T>> SceneTree<T, S> {
             result ≡ Err error.Cycle }
         ensures root { CanMove self.old node (named spot) → parent_for self.old spot ≡ None →
             result ≡ Err (error.NoParent (made_at (named spot))) }
-        ensures short { IfErr result (λ e. (value_of self.old node ≡ None)
+        ensures why { OnErr result ((value_of self.old node ≡ None)
             ⊎ (value_of self.old (named spot) ≡ None)
             ⊎ IsBelow self.old node (named spot)
-            ⊎ (parent_for self.old spot ≡ None)
-            ⊎ (e ≡ error.Store OutOfMemory)) }
+            ⊎ (parent_for self.old spot ≡ None)) }
         ensures refused { OnErr result (self.new ≡ self.old) }
     {
         let parent = self.parent_moved(node, spot)?;
-        if !reserve_child(&mut self.links, parent.slot()) {
-            return Err(TreeError::Store(StoreError::OutOfMemory));
-        }
         detach(&mut self.links, node);
         attach(&mut self.links, parent, spot, node);
         Ok(())
@@ -508,7 +503,7 @@ impl<T, S: Storage<T>> SceneTree<T, S> {
     /// it is, and every node shows what it showed. A root stays as it is.
     ///
     /// Refused where the node is gone, or is another tree's: the tree stays as it was. Takes no memory,
-    /// and O(c) time for c children of the parent.
+    /// and is O(1).
     pub fn detach(&mut self, node: Node<T>) -> Result<(), Stale>
         ensures state { self.new.state ≡ self.old.state }
         ensures root { OnOk result (parent_of self.new node ≡ None) }
@@ -536,6 +531,7 @@ impl<T, S: Storage<T>> SceneTree<T, S> {
     fn parent_moved(&self, node: Node<T>, spot: Spot<T>) -> Result<Node<T>, TreeError>
         ensures parent { IfOk result (λ up. parent_for self.now spot ≡ Some up) }
         ensures may { IfOk result (λ up. CanMove self.now node up) }
+        ensures apart { OnOk result (IsBelow self.now node (named spot) → ⊥) }
         ensures gone { value_of self.now node ≡ None → result ≡ Err (error.Stale (made_at node)) }
         ensures stale { is_live self.now node ≡ true → value_of self.now (named spot) ≡ None →
             result ≡ Err (error.Stale (made_at (named spot))) }
@@ -581,8 +577,8 @@ impl<T, S: Storage<T>> SceneTree<T, S> {
     /// child, and every other node is left.
     ///
     /// Refused, in this order: `Stale`, where the node is gone, or is another tree's; `Store` of
-    /// `OutOfMemory`. The tree stays as it was then. Takes memory for the list, and O(k + c) time for
-    /// k nodes and c children of the parent, but for finding room and for letting the values go.
+    /// `OutOfMemory`. The tree stays as it was then. Takes memory for the list, and O(k) time for k nodes,
+    /// but for finding room and for letting the values go.
     pub fn remove_subtree(&mut self, node: Node<T>) -> Result<Vec<Node<T>>, TreeError>
         ensures subtree { IfOk result (λ list. IsSubtree self.old node list.items) }
         ensures gone { IfOk result (λ list. (n : Node T) → 0 < times n list.items →

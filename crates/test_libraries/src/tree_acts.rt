@@ -284,10 +284,15 @@ fn stand_below<S: Storage<u64>>(
 ) {
     let mut rest = below;
     for node in nodes {
-        if let Ok(children) = tree.children(*node) {
-            assert!(rt; children.len() <= rest.len());
-            let (first, others) = rest.split_at(children.len());
-            are_nodes(rt, nodes, children, first);
+        let Ok(children) = tree.children(*node) else {
+            continue;
+        };
+        for child in children {
+            let Some((number, others)) = rest.split_first() else {
+                assert!(rt; false);
+                return;
+            };
+            assert_same(rt, &child.id(), &node_at(rt, nodes, *number).id());
             rest = others;
         }
     }

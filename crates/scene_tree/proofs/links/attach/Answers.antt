@@ -1,9 +1,49 @@
-use Rattle.std.proofs.Common.{sym, subst}
-use Rattle.scene_tree.specs.Families.{HasRoom}
+use Rattle.std.proofs.Common.{Some, ap, inl, inr, arith, length, ◌∙◌}
+use Rattle.scene_tree.specs.Chains.{after_put, before_put}
+use Rattle.scene_tree.proofs.Chains.{after_length, changed_length}
+use Rattle.scene_tree.proofs.Linked.{attached_by, gap_within}
 use Rattle.scene_tree.proofs.links.attach.Goals as goal
 
-pub insert_child-requires : goal.insert_child-requires
-insert_child-requires g c = record {
-  room = subst (HasRoom c.set_parent.new.links.items) (sym c.slot-2.ensures)
-      (c.set_parent.ensures.room _ c.requires.room);
-}
+pub put_after-requires-clause-within : goal.put_after-requires-clause-within
+put_after-requires-clause-within g c =
+    let len = ap length c.place.ensures ∙ changed_length _ _ _ in
+    omega (arith, c.requires.parent, c.slot-up.ensures, len)
+
+pub put_after-requires-clause-child : goal.put_after-requires-clause-child
+put_after-requires-clause-child g c s is =
+    let len = ap length c.place.ensures ∙ changed_length _ _ _ in
+    let lt = gap_within _ c.requires.forest _ _ _ c.gap_at-before.ensures s (inl is) in
+    omega (arith, lt, len)
+
+pub put_before-requires-clause-within : goal.put_before-requires-clause-within
+put_before-requires-clause-within g c =
+    let len = ap length c.put_after.ensures ∙ (after_length _ _ c.gap_at-before.result.0 _
+    ∙ (ap length c.place.ensures ∙ changed_length _ _ _)) in
+    omega (arith, c.requires.parent, c.slot-up.ensures, len)
+
+pub put_before-requires-clause-child : goal.put_before-requires-clause-child
+put_before-requires-clause-child g c s is =
+    let len = ap length c.put_after.ensures ∙ (after_length _ _ c.gap_at-before.result.0 _
+    ∙ (ap length c.place.ensures ∙ changed_length _ _ _)) in
+    let lt = gap_within _ c.requires.forest _ _ _ c.gap_at-before.ensures s (inr is) in
+    omega (arith, lt, len)
+
+pub returns-clause-linked : goal.returns-clause-linked
+returns-clause-linked g c = (attached_by c.args.links.now.items c.requires.linked c.requires.forest
+    c.args.parent c.args.child c.args.spot c.requires.parent c.requires.child c.requires.root
+    c.slot-up.result c.slot-slot.result c.slot-up.ensures c.slot-slot.ensures c.gap_at-before.result
+    c.gap_at-before.ensures _ (c.put_before.ensures
+    ∙ ap (λ ls. before_put ls c.slot-up.result c.gap_at-before.result.1 (Some c.slot-slot.result))
+    (c.put_after.ensures
+    ∙ ap (λ ls. after_put ls c.slot-up.result c.gap_at-before.result.0 (Some c.slot-slot.result))
+    c.place.ensures))).0
+
+pub returns-clause-attached : goal.returns-clause-attached
+returns-clause-attached g c = (attached_by c.args.links.now.items c.requires.linked c.requires.forest
+    c.args.parent c.args.child c.args.spot c.requires.parent c.requires.child c.requires.root
+    c.slot-up.result c.slot-slot.result c.slot-up.ensures c.slot-slot.ensures c.gap_at-before.result
+    c.gap_at-before.ensures _ (c.put_before.ensures
+    ∙ ap (λ ls. before_put ls c.slot-up.result c.gap_at-before.result.1 (Some c.slot-slot.result))
+    (c.put_after.ensures
+    ∙ ap (λ ls. after_put ls c.slot-up.result c.gap_at-before.result.0 (Some c.slot-slot.result))
+    c.place.ensures))).1

@@ -1,9 +1,10 @@
 use Rattle.std.proofs.Common.{◌≡◌, length, take}
-use Rattle.scene_tree.specs.Families.{families, IsCleared}
+use Rattle.scene_tree.specs.Families.{families, IsCleared, IsLinked}
 use Rattle.scene_tree.proofs.links.clear_all.Given as goal
 
 abbrev pub invariant-loop-node : goal.invariant-loop-node
 invariant-loop-node g l = record {
+  linked : IsLinked l.links.items;
   length : length l.links.items ≡ length l.fn.links.items;
   cleared : IsCleared (families l.fn.links.items) (families l.links.items)
       (take l.node-index l.nodes.items);

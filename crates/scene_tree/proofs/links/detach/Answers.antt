@@ -1,14 +1,57 @@
-use Rattle.std.proofs.Common.{arith, ap, sym, ◌∙◌}
-use Rattle.scene_tree.specs.Families.{families, parent_at, slot_of}
-use Rattle.scene_tree.specs.Nodes.{slot_in}
+use Rattle.std.proofs.Common.{ap, sym, inl, inr, arith, length, ◌∙◌}
+use Rattle.scene_tree.specs.Chains.{after_put, before_put}
+use Rattle.scene_tree.proofs.Chains.{after_length, changed_length}
+use Rattle.scene_tree.proofs.Linked.{detached_by, side_within, top_within}
 use Rattle.scene_tree.proofs.links.detach.Goals as goal
 
-pub remove_child-requires : goal.remove_child-requires
-remove_child-requires g c =
-    let up = ap slot_of (ap (parent_at (families c.args.links.now.items)) (sym c.slot.ensures)
-    ∙ (sym c.parent_at.ensures ∙ c.in-Some.is)) in
-    let lt = c.requires.parent (slot_in c.in-Some.parent) up in
-    record { within = omega (arith, lt, c.slot-3.ensures, c.set_parent.ensures.length) }
+pub put_after-requires-clause-within : goal.put_after-requires-clause-within
+put_after-requires-clause-within g c =
+    let len = ap length c.remove_parent.ensures ∙ changed_length _ _ _ in
+    let lt = top_within c.args.links.now.items c.requires.forest c.slot-slot.result c.in-Some.parent
+    (sym c.parent_at.ensures ∙ c.in-Some.is) in
+    omega (arith, lt, c.slot-up.ensures, len)
 
-pub returns-clause-room : goal.returns-clause-room
-returns-clause-room g c s room = c.remove_child.ensures.room s (c.set_parent.ensures.room s room)
+pub put_after-requires-clause-child : goal.put_after-requires-clause-child
+put_after-requires-clause-child g c s is =
+    let len = ap length c.remove_parent.ensures ∙ changed_length _ _ _ in
+    let lt = side_within c.args.links.now.items c.requires.linked c.requires.forest c.args.node c.in-Some.parent
+    c.slot-slot.result c.slot-slot.ensures (sym c.parent_at.ensures ∙ c.in-Some.is) c.requires.alike
+    c.sides_at-before.ensures.0 _ _ c.sides_at-before.ensures.1 s (inl is) in
+    omega (arith, lt, len)
+
+pub put_before-requires-clause-within : goal.put_before-requires-clause-within
+put_before-requires-clause-within g c =
+    let len = ap length c.put_after.ensures ∙ (after_length _ _ c.sides_at-before.result.0 _
+    ∙ (ap length c.remove_parent.ensures ∙ changed_length _ _ _)) in
+    let lt = top_within c.args.links.now.items c.requires.forest c.slot-slot.result c.in-Some.parent
+    (sym c.parent_at.ensures ∙ c.in-Some.is) in
+    omega (arith, lt, c.slot-up.ensures, len)
+
+pub put_before-requires-clause-child : goal.put_before-requires-clause-child
+put_before-requires-clause-child g c s is =
+    let len = ap length c.put_after.ensures ∙ (after_length _ _ c.sides_at-before.result.0 _
+    ∙ (ap length c.remove_parent.ensures ∙ changed_length _ _ _)) in
+    let lt = side_within c.args.links.now.items c.requires.linked c.requires.forest c.args.node c.in-Some.parent
+    c.slot-slot.result c.slot-slot.ensures (sym c.parent_at.ensures ∙ c.in-Some.is) c.requires.alike
+    c.sides_at-before.ensures.0 _ _ c.sides_at-before.ensures.1 s (inr is) in
+    omega (arith, lt, len)
+
+pub returns-clause-linked : goal.returns-clause-linked
+returns-clause-linked g c = (detached_by c.args.links.now.items c.requires.linked c.requires.forest c.args.node
+    c.in-Some.parent c.slot-slot.result c.slot-up.result c.slot-slot.ensures c.slot-up.ensures
+    (sym c.parent_at.ensures ∙ c.in-Some.is) c.requires.alike
+    c.sides_at-before.ensures.0 _ _ c.sides_at-before.ensures.1 _ (c.put_before.ensures
+    ∙ ap (λ ls. before_put ls c.slot-up.result c.sides_at-before.result.1 c.sides_at-before.result.0)
+    (c.put_after.ensures
+    ∙ ap (λ ls. after_put ls c.slot-up.result c.sides_at-before.result.0 c.sides_at-before.result.1)
+    c.remove_parent.ensures))).0
+
+pub returns-clause-detached : goal.returns-clause-detached
+returns-clause-detached g c = (detached_by c.args.links.now.items c.requires.linked c.requires.forest c.args.node
+    c.in-Some.parent c.slot-slot.result c.slot-up.result c.slot-slot.ensures c.slot-up.ensures
+    (sym c.parent_at.ensures ∙ c.in-Some.is) c.requires.alike
+    c.sides_at-before.ensures.0 _ _ c.sides_at-before.ensures.1 _ (c.put_before.ensures
+    ∙ ap (λ ls. before_put ls c.slot-up.result c.sides_at-before.result.1 c.sides_at-before.result.0)
+    (c.put_after.ensures
+    ∙ ap (λ ls. after_put ls c.slot-up.result c.sides_at-before.result.0 c.sides_at-before.result.1)
+    c.remove_parent.ensures))).1

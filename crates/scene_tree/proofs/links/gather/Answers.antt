@@ -10,7 +10,7 @@ use Rattle.scene_tree.proofs.links.gather.Goals as goal
 pub push_children-requires-clause-within : goal.push_children-requires-clause-within
 push_children-requires-clause-within g c n at =
     let fs = families c.args.links.now.items in
-    let len = length-map c.args.links.now.items family_in in
+    let len = length-map c.args.links.now.items (family_in c.args.links.now.items) in
     let lt : slot_in c.args.top < length fs = omega (arith, len, c.requires.within) in
     let list = c.loop-next.list.items in
     let below = below_within fs c.requires.forest c.args.top list c.loop-next.next c.loop-next.invariant
@@ -21,7 +21,7 @@ push_children-requires-clause-within g c n at =
 pub loop-next-smaller : goal.loop-next-smaller
 loop-next-smaller g c =
     let fs = families c.args.links.now.items in
-    let len = length-map c.args.links.now.items family_in in
+    let len = length-map c.args.links.now.items (family_in c.args.links.now.items) in
     let lt : slot_in c.args.top < length fs = omega (arith, len, c.requires.within) in
     let short = list_short fs c.requires.forest c.args.top c.loop-next.list.items c.loop-next.next
     c.loop-next.invariant lt in

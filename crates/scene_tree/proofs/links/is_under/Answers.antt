@@ -9,7 +9,7 @@ use Rattle.scene_tree.proofs.links.is_under.Goals as goal
 pub loop-init : goal.loop-init
 loop-init g c =
     let fs = families c.args.links.now.items in
-    let len = length-map c.args.links.now.items family_in in
+    let len = length-map c.args.links.now.items (family_in c.args.links.now.items) in
     let r = c.requires.forest.rooted c.args.slot in
     let lt : c.args.slot < length fs = omega (arith, len, c.requires.within) in
     let far = depth_within fs (length fs) (above_within fs c.requires.forest) r.0 c.args.slot r.1 lt in

@@ -1,5 +1,5 @@
-use Rattle.std.proofs.Common.{None, Ok, arith, sym, subst, ap, true, ◌∙◌, [], ◌≡◌}
-use Rattle.scene_tree.specs.Trees.{TreeState, is_live}
+use Rattle.std.proofs.Common.{None, Ok, arith, length, sym, subst, ap, true, ◌∙◌, [], ◌≡◌}
+use Rattle.scene_tree.specs.Trees.{TreeState, is_live, parent_for}
 use Rattle.std.specs.Prelude.{is_some}
 use Rattle.generational_core.specs.Answers.{pointer_of}
 use Rattle.generational_core.proofs.machine.Calling.{made}
@@ -9,40 +9,61 @@ use Rattle.generational_sessions.proofs.callers.Ids.{others_left}
 use Rattle.std.proofs.lemmas.List.{length-map}
 use Rattle.std.proofs.lemmas.Option.{same_Some}
 use Rattle.scene_tree.specs.declared.node.Node.{Node}
-use Rattle.scene_tree.specs.Families.{Family, HasRoom, family_in}
+use Rattle.scene_tree.specs.Families.{Family, IsLinked, IsSpotIn, families, family_in, slot_of}
 use Rattle.scene_tree.specs.Nodes.{pointer_in, slot_in}
 use Rattle.scene_tree.specs.Spots.{placed}
-use Rattle.scene_tree.proofs.Keeping.{added_beside, added_child, added_left, added_parent, kept_added, live_slot, opened_within}
+use Rattle.scene_tree.proofs.Keeping.{added_beside, added_child, added_left, added_parent, kept_added, kept_opened, live_slot, opened_alone, opened_within, spot_in}
 use Rattle.scene_tree.proofs.Stores.{made_count, made_beside, one_live}
 use Rattle.scene_tree.proofs.Trees.{left_with, live_family}
 use Rattle.scene_tree.proofs.Writes.{opened_from}
 use Rattle.scene_tree.proofs.tree.SceneTree.add_at.Goals as goal
 
-pub reserve_node-requires : goal.reserve_node-requires
-reserve_node-requires g c =
-    let lt = live_slot c.self.inside.links.items (g.met.S.AnyStorage.sound _) c.self.invariant c.in-Ok.parent
+pub open_slot-requires-clause-linked : goal.open_slot-requires-clause-linked
+open_slot-requires-clause-linked g c = subst IsLinked (sym c.reserve_one.ensures.same) c.self.invariant.1
+
+pub attach-requires-clause-forest : goal.attach-requires-clause-forest
+attach-requires-clause-forest g c =
+    let opened = opened_from (ap families c.reserve_one.ensures.same) c.open_slot.ensures.opened in
+    (kept_opened c.self.invariant.0 (g.met.S.AnyStorage.sound _) _ _ (pointer_of c.in-Ok-leak.raw)
+    c.in-Ok-leak.ensures.step _ opened).forest
+
+pub attach-requires-clause-spot : goal.attach-requires-clause-spot
+attach-requires-clause-spot g c =
+    let opened = opened_from (ap families c.reserve_one.ensures.same) c.open_slot.ensures.opened in
+    subst (λ cs. IsSpotIn cs c.args.spot) (sym (ap (λ f. f.children) (opened.same (slot_in c.in-Ok.parent))))
+    (spot_in c.self.invariant.0 (g.met.S.AnyStorage.sound _) c.args.spot c.in-Ok.parent
+    (ap (λ t. parent_for t c.args.spot) c.self.view_is ∙ c.in-Ok.ensures.parent))
+
+pub attach-requires-clause-parent : goal.attach-requires-clause-parent
+attach-requires-clause-parent g c =
+    let lt = live_slot c.self.inside.links.items (g.met.S.AnyStorage.sound _) c.self.invariant.0 c.in-Ok.parent
     (subst (λ (t : TreeState _). is_live t c.in-Ok.parent ≡ true) (sym c.self.view_is)
     c.in-Ok.ensures.live) in
-    record { within = omega (arith, lt, c.slot.ensures) }
+    let more = c.open_slot.ensures.longer in
+    let same = ap length c.reserve_one.ensures.same in omega (arith, lt, more, same)
 
-pub attach-requires-clause-room : goal.attach-requires-clause-room
-attach-requires-clause-room g c = c.open_slot.ensures.kept _
-    (subst (HasRoom _) c.slot.ensures (c.reserve_node.ensures.child c.if-not-reserve_node.false))
+pub attach-requires-clause-root : goal.attach-requires-clause-root
+attach-requires-clause-root g c =
+    let opened = opened_from (ap families c.reserve_one.ensures.same) c.open_slot.ensures.opened in
+    ap (λ f. slot_of f.parent) (opened_alone c.self.invariant.0 (g.met.S.AnyStorage.sound _) _ _
+    (pointer_of c.in-Ok-leak.raw) c.in-Ok-leak.ensures.step _ opened)
 
 pub attach-requires-clause-child : goal.attach-requires-clause-child
 attach-requires-clause-child g c =
-    let opened = opened_from c.reserve_node.ensures.same c.slot-2.ensures c.open_slot.ensures.opened in
-    let lt = opened_within c.self.invariant (g.met.S.AnyStorage.sound _) _ _ (pointer_of c.in-Ok-leak.raw)
+    let opened = opened_from (ap families c.reserve_one.ensures.same) c.open_slot.ensures.opened in
+    let lt = opened_within c.self.invariant.0 (g.met.S.AnyStorage.sound _) _ _ (pointer_of c.in-Ok-leak.raw)
     c.in-Ok-leak.ensures.step _ opened in
-    let long = length-map c.open_slot.new.links.items family_in in omega (arith, lt, long)
+    let long = length-map c.open_slot.new.links.items (family_in c.open_slot.new.links.items) in omega (arith, lt, long)
 
 pub invariant_of-self-2 : goal.invariant_of-self-2
 invariant_of-self-2 g c =
     let sound = g.met.S.AnyStorage.sound in
-    let opened = opened_from c.reserve_node.ensures.same c.slot-2.ensures c.open_slot.ensures.opened in
-    kept_added c.self.invariant (sound _) _ _ c.in-Ok.parent (record { raw = c.in-Ok-leak.raw }) c.args.spot
-    c.in-Ok-leak.ensures.step (subst (λ (t : TreeState _). is_live t c.in-Ok.parent ≡ true) (sym c.self.view_is)
-    c.in-Ok.ensures.live) _ _ opened c.attach.ensures
+    let opened = opened_from (ap families c.reserve_one.ensures.same) c.open_slot.ensures.opened in (
+      kept_added c.self.invariant.0 (sound _) _ _ c.in-Ok.parent (record { raw = c.in-Ok-leak.raw }) c.args.spot
+          c.in-Ok-leak.ensures.step (subst (λ (t : TreeState _). is_live t c.in-Ok.parent ≡ true) (sym c.self.view_is)
+          c.in-Ok.ensures.live) _ _ opened c.attach.ensures.attached,
+      c.attach.ensures.linked,
+    )
 
 pub returns-clause-shown : goal.returns-clause-shown
 returns-clause-shown g c = made None _ _ (Ok c.in-Ok-leak.raw) c.in-Ok-leak.ensures.step
@@ -50,28 +71,28 @@ returns-clause-shown g c = made None _ _ (Ok c.in-Ok-leak.raw) c.in-Ok-leak.ensu
 pub returns-clause-below : goal.returns-clause-below
 returns-clause-below g c =
     let sound = g.met.S.AnyStorage.sound in
-    let opened = opened_from c.reserve_node.ensures.same c.slot-2.ensures c.open_slot.ensures.opened in
+    let opened = opened_from (ap families c.reserve_one.ensures.same) c.open_slot.ensures.opened in
     (live_family _ (record { raw = c.in-Ok-leak.raw })
     (ap is_some (made None _ _ (Ok c.in-Ok-leak.raw) c.in-Ok-leak.ensures.step))
-    ∙ added_child c.self.invariant (sound _) _ _ c.in-Ok.parent (record { raw = c.in-Ok-leak.raw }) c.args.spot
+    ∙ added_child c.self.invariant.0 (sound _) _ _ c.in-Ok.parent (record { raw = c.in-Ok-leak.raw }) c.args.spot
     c.in-Ok-leak.ensures.step (subst (λ (t : TreeState _). is_live t c.in-Ok.parent ≡ true) (sym c.self.view_is)
-    c.in-Ok.ensures.live) _ _ opened c.attach.ensures)
+    c.in-Ok.ensures.live) _ _ opened c.attach.ensures.attached)
     ∙ ap (λ p. let f : Family _ = record { parent = p; children = [] } in f) (sym c.in-Ok.ensures.parent)
 
 pub returns-clause-placed : goal.returns-clause-placed
 returns-clause-placed g c up is =
     let sound = g.met.S.AnyStorage.sound in
-    let opened = opened_from c.reserve_node.ensures.same c.slot-2.ensures c.open_slot.ensures.opened in
+    let opened = opened_from (ap families c.reserve_one.ensures.same) c.open_slot.ensures.opened in
     let child : Node _ = record { raw = c.in-Ok-leak.raw } in
     let live = subst (λ (t : TreeState _). is_live t c.in-Ok.parent ≡ true) (sym c.self.view_is)
     c.in-Ok.ensures.live in
-    let value = added_left c.self.invariant (sound _) _ _ child c.in-Ok-leak.ensures.step c.in-Ok.parent live in
+    let value = added_left c.self.invariant.0 (sound _) _ _ child c.in-Ok-leak.ensures.step c.in-Ok.parent live in
     let same = same_Some c.in-Ok.parent up (sym c.in-Ok.ensures.parent ∙ is) in
     rw (← same, ← c.self.view_is) (
       value,
       live_family _ c.in-Ok.parent (ap is_some value ∙ live)
-          ∙ (added_parent c.self.invariant (sound _) _ _ c.in-Ok.parent child c.args.spot c.in-Ok-leak.ensures.step live _ _
-          opened c.attach.ensures
+          ∙ (added_parent c.self.invariant.0 (sound _) _ _ c.in-Ok.parent child c.args.spot c.in-Ok-leak.ensures.step live _ _
+          opened c.attach.ensures.attached
           ∙ ap (λ f. let more : Family _ = record { parent = f.parent; children = placed c.args.spot child f.children } in more)
           (sym (live_family _ c.in-Ok.parent live))),
     )
@@ -79,17 +100,17 @@ returns-clause-placed g c up is =
 pub returns-clause-others : goal.returns-clause-others
 returns-clause-others g c f other beside =
     let sound = g.met.S.AnyStorage.sound in
-    let opened = opened_from c.reserve_node.ensures.same c.slot-2.ensures c.open_slot.ensures.opened in
+    let opened = opened_from (ap families c.reserve_one.ensures.same) c.open_slot.ensures.opened in
     let child : Node _ = record { raw = c.in-Ok-leak.raw } in
     let step = c.in-Ok-leak.ensures.step in
     let live = subst (λ (t : TreeState _). is_live t c.in-Ok.parent ≡ true) (sym c.self.view_is)
     c.in-Ok.ensures.live in
     rw (← c.self.view_is) (left_with _ _ f (others_left _ _ step (pointer_of c.in-Ok-leak.raw)
     (pointer_in f) (made_new _ _ _ _ step).0 (same_value _ _ _ _ (sound _) step _ tt) other)
-    (λ lives. added_beside c.self.invariant (sound _) _ _ c.in-Ok.parent child c.args.spot step live _ _
-    opened c.attach.ensures (slot_in f)
-    (made_beside (sound _) c.self.invariant.simple _ _ (pointer_of c.in-Ok-leak.raw) step f lives)
-    (λ is. beside c.in-Ok.parent c.in-Ok.ensures.parent (sym (one_live _ f c.in-Ok.parent (sound _) c.self.invariant.simple lives live is)))))
+    (λ lives. added_beside c.self.invariant.0 (sound _) _ _ c.in-Ok.parent child c.args.spot step live _ _
+    opened c.attach.ensures.attached (slot_in f)
+    (made_beside (sound _) c.self.invariant.0.simple _ _ (pointer_of c.in-Ok-leak.raw) step f lives)
+    (λ is. beside c.in-Ok.parent c.in-Ok.ensures.parent (sym (one_live _ f c.in-Ok.parent (sound _) c.self.invariant.0.simple lives live is)))))
 
 pub returns-clause-made : goal.returns-clause-made
 returns-clause-made g c = (made_new _ _ _ _ c.in-Ok-leak.ensures.step).2
@@ -99,4 +120,4 @@ returns-clause-kept g c f = rw (← c.self.view_is) (meets_given _ _ _ _ c.in-Ok
 
 pub returns-clause-count : goal.returns-clause-count
 returns-clause-count g c = rw (← c.self.view_is) (made_count (g.met.S.AnyStorage.sound _)
-    c.self.invariant.simple _ _ (pointer_of c.in-Ok-leak.raw) c.in-Ok-leak.ensures.step)
+    c.self.invariant.0.simple _ _ (pointer_of c.in-Ok-leak.raw) c.in-Ok-leak.ensures.step)

@@ -5,7 +5,7 @@ use Rattle.generational_core.proofs.machine.Calling.{made}
 use Rattle.generational_core.proofs.machine.Leaving.{given_other, same_value}
 use Rattle.generational_core.proofs.machine.Stepping.{made_new, meets_given}
 use Rattle.generational_sessions.proofs.callers.Ids.{others_left}
-use Rattle.scene_tree.specs.Families.{families}
+use Rattle.scene_tree.specs.Families.{IsLinked, families}
 use Rattle.scene_tree.specs.Nodes.{pointer_in, slot_in}
 use Rattle.scene_tree.specs.Trees.{TreeState, WasMade}
 use Rattle.scene_tree.proofs.Keeping.{kept_opened, opened_alone, opened_same}
@@ -14,11 +14,16 @@ use Rattle.scene_tree.proofs.Trees.{left_with, live_family}
 use Rattle.scene_tree.proofs.Writes.{opened_from}
 use Rattle.scene_tree.proofs.tree.SceneTree.add_root.Goals as goal
 
+pub open_slot-requires-clause-linked : goal.open_slot-requires-clause-linked
+open_slot-requires-clause-linked g c = subst IsLinked (sym c.reserve_one.ensures.same) c.self.invariant.1
+
 pub invariant_of-self-2 : goal.invariant_of-self-2
-invariant_of-self-2 g c =
-    kept_opened c.self.invariant (g.met.S.AnyStorage.sound _) _ _ (pointer_of c.in_ok-raw.raw)
-    c.in_ok-raw.ensures.step _
-    (opened_from (ap families c.reserve_one.ensures.same) c.raw_ptr.ensures c.open_slot.ensures.opened)
+invariant_of-self-2 g c = (
+  kept_opened c.self.invariant.0 (g.met.S.AnyStorage.sound _) _ _ (pointer_of c.in_ok-raw.raw)
+      c.in_ok-raw.ensures.step _
+      (opened_from (ap families c.reserve_one.ensures.same) c.open_slot.ensures.opened),
+  c.open_slot.ensures.linked,
+)
 
 pub returns-clause-shown : goal.returns-clause-shown
 returns-clause-shown g c = made None _ _ (Ok c.in_ok-raw.raw) c.in_ok-raw.ensures.step
@@ -26,9 +31,9 @@ returns-clause-shown g c = made None _ _ (Ok c.in_ok-raw.raw) c.in_ok-raw.ensure
 pub returns-clause-alone : goal.returns-clause-alone
 returns-clause-alone g c =
     live_family _ _ (ap is_some (made None _ _ (Ok c.in_ok-raw.raw) c.in_ok-raw.ensures.step))
-    ∙ opened_alone c.self.invariant (g.met.S.AnyStorage.sound _) _ _ (pointer_of c.in_ok-raw.raw)
+    ∙ opened_alone c.self.invariant.0 (g.met.S.AnyStorage.sound _) _ _ (pointer_of c.in_ok-raw.raw)
     c.in_ok-raw.ensures.step _
-    (opened_from (ap families c.reserve_one.ensures.same) c.raw_ptr.ensures c.open_slot.ensures.opened)
+    (opened_from (ap families c.reserve_one.ensures.same) c.open_slot.ensures.opened)
 
 pub returns-clause-others : goal.returns-clause-others
 returns-clause-others g c f other =
@@ -36,8 +41,8 @@ returns-clause-others g c f other =
     let step = c.in_ok-raw.ensures.step in
     rw (← c.self.view_is) (left_with _ _ f (others_left _ _ step (pointer_of c.in_ok-raw.raw)
     (pointer_in f) (made_new _ _ _ _ step).0 (same_value _ _ _ _ (sound _) step _ tt) other)
-    (λ live. opened_same c.self.invariant (sound _) _ _ (pointer_of c.in_ok-raw.raw) step _
-    (opened_from (ap families c.reserve_one.ensures.same) c.raw_ptr.ensures c.open_slot.ensures.opened) (slot_in f)))
+    (λ live. opened_same c.self.invariant.0 (sound _) _ _ (pointer_of c.in_ok-raw.raw) step _
+    (opened_from (ap families c.reserve_one.ensures.same) c.open_slot.ensures.opened) (slot_in f)))
 
 pub returns-clause-left : goal.returns-clause-left
 returns-clause-left g c f given =
@@ -46,8 +51,8 @@ returns-clause-left g c f given =
     let was = subst (λ (t : TreeState _). WasMade t f) (sym c.self.view_is) given in
     rw (← c.self.view_is) (left_with _ _ f
     (same_value _ _ _ _ (sound _) step _ tt (given_other _ _ _ _ (pointer_in f) step was))
-    (λ live. opened_same c.self.invariant (sound _) _ _ (pointer_of c.in_ok-raw.raw) step _
-    (opened_from (ap families c.reserve_one.ensures.same) c.raw_ptr.ensures c.open_slot.ensures.opened) (slot_in f)))
+    (λ live. opened_same c.self.invariant.0 (sound _) _ _ (pointer_of c.in_ok-raw.raw) step _
+    (opened_from (ap families c.reserve_one.ensures.same) c.open_slot.ensures.opened) (slot_in f)))
 
 pub returns-clause-made : goal.returns-clause-made
 returns-clause-made g c = (made_new _ _ _ _ c.in_ok-raw.ensures.step).2
@@ -57,4 +62,4 @@ returns-clause-kept g c f = rw (← c.self.view_is) (meets_given _ _ _ _ c.in_ok
 
 pub returns-clause-count : goal.returns-clause-count
 returns-clause-count g c = rw (← c.self.view_is) (made_count (g.met.S.AnyStorage.sound _)
-    c.self.invariant.simple _ _ (pointer_of c.in_ok-raw.raw) c.in_ok-raw.ensures.step)
+    c.self.invariant.0.simple _ _ (pointer_of c.in_ok-raw.raw) c.in_ok-raw.ensures.step)

@@ -1,30 +1,30 @@
-use Rattle.std.proofs.Common.{arith, refl, sym, subst, ap, true, ◌∙◌, ◌≡◌}
-use Rattle.std.proofs.lemmas.List.{length-map}
-use Rattle.scene_tree.specs.Families.{families, family_in, slot_of}
+use Rattle.std.proofs.Common.{refl, sym, subst, ap, true, ◌∙◌, ◌≡◌}
+use Rattle.scene_tree.specs.Families.{slot_of}
 use Rattle.scene_tree.specs.Nodes.{slot_in, without}
 use Rattle.scene_tree.specs.Trees.{TreeState, is_live}
-use Rattle.scene_tree.proofs.Gathering.{above_within}
-use Rattle.scene_tree.proofs.Keeping.{kept_detached, live_slot}
+use Rattle.scene_tree.proofs.Keeping.{alike, kept_detached, live_slot}
 use Rattle.scene_tree.proofs.Moving.{freed_others, freed_parents}
 use Rattle.scene_tree.proofs.Trees.{live_children, live_family, live_parent, part_with}
 use Rattle.scene_tree.proofs.tree.SceneTree.detach.Goals as goal
 
 pub detach-requires-clause-node : goal.detach-requires-clause-node
 detach-requires-clause-node g c =
-    live_slot c.self.inside.links.items (g.met.S.AnyStorage.sound _) c.self.invariant c.args.node
+    live_slot c.self.inside.links.items (g.met.S.AnyStorage.sound _) c.self.invariant.0 c.args.node
     (subst (λ (t : TreeState _). is_live t c.args.node ≡ true) (sym c.self.view_is)
     (sym c.is_alive.ensures ∙ c.if-not-is_alive.false))
 
-pub detach-requires-clause-parent : goal.detach-requires-clause-parent
-detach-requires-clause-parent g c up is =
-    let lt = above_within (families c.self.inside.links.items) c.self.invariant.forest
-    (slot_in c.args.node) up is in
-    let long = length-map c.self.inside.links.items family_in in omega (arith, lt, long)
+pub detach-requires-clause-alike : goal.detach-requires-clause-alike
+detach-requires-clause-alike g c = alike c.self.invariant.0 (g.met.S.AnyStorage.sound _) c.args.node
+    (subst (λ (t : TreeState _). is_live t c.args.node ≡ true) (sym c.self.view_is)
+    (sym c.is_alive.ensures ∙ c.if-not-is_alive.false))
 
 pub invariant_of-self : goal.invariant_of-self
-invariant_of-self g c = kept_detached c.self.invariant (g.met.S.AnyStorage.sound _) _ c.args.node
-    (subst (λ (t : TreeState _). is_live t c.args.node ≡ true) (sym c.self.view_is)
-    (sym c.is_alive.ensures ∙ c.if-not-is_alive.false)) c.detach.ensures.detached
+invariant_of-self g c = (
+  kept_detached c.self.invariant.0 (g.met.S.AnyStorage.sound _) _ c.args.node
+      (subst (λ (t : TreeState _). is_live t c.args.node ≡ true) (sym c.self.view_is)
+      (sym c.is_alive.ensures ∙ c.if-not-is_alive.false)) c.detach.ensures.detached,
+  c.detach.ensures.linked,
+)
 
 pub returns-clause-root : goal.returns-clause-root
 returns-clause-root g c =
@@ -38,11 +38,11 @@ returns-clause-lost g c =
     let live = subst (λ (t : TreeState _). is_live t c.args.node ≡ true) (sym c.self.view_is)
     (sym c.is_alive.ensures ∙ c.if-not-is_alive.false) in
     rw (← c.self.view_is) (λ up is.
-    let at = sym (live_parent (sound _) c.self.invariant c.args.node live) ∙ is in
-    let lives = c.self.invariant.parents (slot_in c.args.node) up at in
+    let at = sym (live_parent (sound _) c.self.invariant.0 c.args.node live) ∙ is in
+    let lives = c.self.invariant.0.parents (slot_in c.args.node) up at in
     ap (λ f. f.children) (live_family _ up lives)
     ∙ (c.detach.ensures.detached.lost (slot_in up) (ap slot_of at)
-    ∙ ap (without c.args.node) (sym (live_children (sound _) c.self.invariant up lives))))
+    ∙ ap (without c.args.node) (sym (live_children (sound _) c.self.invariant.0 up lives))))
 
 pub returns-clause-parents : goal.returns-clause-parents
 returns-clause-parents g c n other =
@@ -50,7 +50,7 @@ returns-clause-parents g c n other =
     let live = subst (λ (t : TreeState _). is_live t c.args.node ≡ true) (sym c.self.view_is)
     (sym c.is_alive.ensures ∙ c.if-not-is_alive.false) in
     rw (← c.self.view_is) (part_with (λ f. f.parent) _ _ n refl (λ lives.
-    freed_parents (sound _) c.self.invariant c.args.node live c.detach.ensures.detached n lives other))
+    freed_parents (sound _) c.self.invariant.0 c.args.node live c.detach.ensures.detached n lives other))
 
 pub returns-clause-others : goal.returns-clause-others
 returns-clause-others g c =
@@ -58,5 +58,5 @@ returns-clause-others g c =
     let live = subst (λ (t : TreeState _). is_live t c.args.node ≡ true) (sym c.self.view_is)
     (sym c.is_alive.ensures ∙ c.if-not-is_alive.false) in
     rw (← c.self.view_is) (λ n beside. part_with (λ f. f.children) _ _ n refl (λ lives.
-    freed_others (sound _) c.self.invariant c.args.node live c.detach.ensures.detached n lives
-    (λ up is. beside up (live_parent (sound _) c.self.invariant c.args.node live ∙ is))))
+    freed_others (sound _) c.self.invariant.0 c.args.node live c.detach.ensures.detached n lives
+    (λ up is. beside up (live_parent (sound _) c.self.invariant.0 c.args.node live ∙ is))))

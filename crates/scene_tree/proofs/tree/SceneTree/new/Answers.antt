@@ -1,4 +1,4 @@
-use Rattle.std.proofs.Common.{[], sym, subst, ap, ◌∙◌}
+use Rattle.std.proofs.Common.{[], refl, sym, subst, ap, ◌∙◌}
 use Rattle.generational_core.specs.Seeing.{value_in}
 use Rattle.generational_sessions.proofs.callers.SimpleStores.{fresh_sees}
 use Rattle.scene_tree.specs.Keeping.{IsKept}
@@ -8,7 +8,10 @@ use Rattle.scene_tree.proofs.tree.SceneTree.new.Goals as goal
 
 pub invariant_of-result : goal.invariant_of-result
 invariant_of-result g c =
-    rw c.new.ensures.items (subst (λ S. IsKept S []) (sym c.requires) (fresh_kept _ _ _))
+    rw c.new.ensures.items (
+      subst (λ S. IsKept S []) (sym c.requires) (fresh_kept _ _ _),
+      λ slot. record { first = refl; last = refl; chain = tt },
+    )
 
 pub returns-clause-none : goal.returns-clause-none
 returns-clause-none g c n =

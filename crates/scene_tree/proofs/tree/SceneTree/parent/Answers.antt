@@ -10,4 +10,4 @@ returns-clause-parent g c =
     (sym c.is_alive.ensures ∙ c.if-not-is_alive.false) in
     rw (← c.self.view_is) (c.parent_at.ensures
     ∙ (ap (parent_at (families c.self.inside.links.items)) c.slot.ensures
-    ∙ sym (live_parent (g.met.S.AnyStorage.sound _) c.self.invariant c.args.node live)))
+    ∙ sym (live_parent (g.met.S.AnyStorage.sound _) c.self.invariant.0 c.args.node live)))

@@ -14,17 +14,19 @@ use Rattle.scene_tree.proofs.Trees.{left_with, live_family}
 use Rattle.scene_tree.proofs.tree.SceneTree.set.Goals as goal
 
 pub set-requires : goal.set-requires
-set-requires g c = quiet_sees _ c.self.invariant.simple.unborrowed _ (g.met.S.AnyStorage.sound _)
+set-requires g c = quiet_sees _ c.self.invariant.0.simple.unborrowed _ (g.met.S.AnyStorage.sound _)
     ∙ (subst (λ (t : TreeState _). is_live t c.args.node ≡ true) (sym c.self.view_is)
     (sym c.is_alive.ensures ∙ c.if-not-is_alive.false))
 
 pub invariant_of-self : goal.invariant_of-self
 invariant_of-self g c =
-    let sound = g.met.S.AnyStorage.sound in
-    kept_still c.self.invariant
-    (simple_still (sound _) c.self.invariant.simple _ _ c.set.ensures.1 tt tt)
-    (same_slots _ _ refl c.set.ensures.1)
-    (λ n. set_seen (sound _) c.self.invariant.simple.unborrowed _ _ _ c.set.ensures.1 (pointer_in n))
+    let sound = g.met.S.AnyStorage.sound in (
+      kept_still c.self.invariant.0
+          (simple_still (sound _) c.self.invariant.0.simple _ _ c.set.ensures.1 tt tt)
+          (same_slots _ _ refl c.set.ensures.1)
+          (λ n. set_seen (sound _) c.self.invariant.0.simple.unborrowed _ _ _ c.set.ensures.1 (pointer_in n)),
+      c.self.invariant.1,
+    )
 
 pub returns-clause-shown : goal.returns-clause-shown
 returns-clause-shown g c = (sets _ _ _ c.set.ensures.1).2 _ refl
@@ -44,7 +46,7 @@ returns-clause-others g c f other =
     rw (← c.self.view_is) (left_with _ _ f (others_left _ _ c.set.ensures.1
     (pointer_in c.args.node) (pointer_in f) (seen_store _ _ (sound _) seen)
     (λ ne. same_value _ _ _ _ (sound _) c.set.ensures.1 _
-    (λ same. ne (reach_apart _ c.self.invariant.simple.plain _ _ to.0 to.1 (sym same))) tt) other)
+    (λ same. ne (reach_apart _ c.self.invariant.0.simple.plain _ _ to.0 to.1 (sym same))) tt) other)
     (λ live. refl))
 
 pub returns-clause-count : goal.returns-clause-count

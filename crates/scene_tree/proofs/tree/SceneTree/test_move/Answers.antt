@@ -16,7 +16,7 @@ pub is_under-requires-clause-within : goal.is_under-requires-clause-within
 is_under-requires-clause-within g c =
     let lives = subst (λ (t : TreeState _). is_live t c.args.parent ≡ true) (sym c.self.view_is)
     (sym c.is_alive-2.ensures ∙ c.if-not-is_alive-2.false) in
-    let lt = live_slot c.self.inside.links.items (g.met.S.AnyStorage.sound _) c.self.invariant
+    let lt = live_slot c.self.inside.links.items (g.met.S.AnyStorage.sound _) c.self.invariant.0
     c.args.parent lives in omega (arith, lt, c.slot.ensures)
 
 pub returns-then-is_under-clause-why : goal.returns-then-is_under-clause-why
@@ -29,7 +29,7 @@ returns-then-is_under-clause-why g c =
     rw (← c.self.view_is) (inr (inr (
       under.0,
       under_below (g.met.S.AnyStorage.sound _)
-          c.self.invariant c.args.node live under.0 c.args.parent lives
+          c.self.invariant.0 c.args.node live under.0 c.args.parent lives
           (under_at (families c.self.inside.links.items) under.0 c.slot-2.ensures c.slot.ensures under.1),
     )))
 
@@ -46,7 +46,7 @@ returns-clause-may g c =
         below.0,
         under_at
             (families c.self.inside.links.items) below.0 (sym c.slot-2.ensures) (sym c.slot.ensures)
-            (below_under (g.met.S.AnyStorage.sound _) c.self.invariant c.args.node live below.0
+            (below_under (g.met.S.AnyStorage.sound _) c.self.invariant.0 c.args.node live below.0
             c.args.parent below.1).1,
       )) ∙ c.if-is_under.false);
     })
@@ -57,6 +57,6 @@ returns-clause-cycle g c =
       below.0,
       under_at
           (families c.self.inside.links.items) below.0 (sym c.slot-2.ensures) (sym c.slot.ensures)
-          (below_under (g.met.S.AnyStorage.sound _) c.self.invariant c.args.node live below.0 c.args.parent
+          (below_under (g.met.S.AnyStorage.sound _) c.self.invariant.0 c.args.node live below.0 c.args.parent
           below.1).1,
     )) ∙ c.if-is_under.false)))

@@ -18,10 +18,12 @@ use Rattle.scene_tree.proofs.tree.SceneTree.update.Goals as goal
 pub invariant_of-self-2 : goal.invariant_of-self-2
 invariant_of-self-2 g c =
     let sound = g.met.S.AnyStorage.sound in
-    let set = c.in-Some.ensures.changed.set in
-    kept_still c.self.invariant (simple_still (sound _) c.self.invariant.simple _ _ set tt tt)
-    (same_slots _ _ refl set)
-    (λ n. set_seen (sound _) c.self.invariant.simple.unborrowed _ _ _ set (pointer_in n))
+    let set = c.in-Some.ensures.changed.set in (
+      kept_still c.self.invariant.0 (simple_still (sound _) c.self.invariant.0.simple _ _ set tt tt)
+          (same_slots _ _ refl set)
+          (λ n. set_seen (sound _) c.self.invariant.0.simple.unborrowed _ _ _ set (pointer_in n)),
+      c.self.invariant.1,
+    )
 
 pub returns-clause-changed : goal.returns-clause-changed
 returns-clause-changed g c =
@@ -48,7 +50,7 @@ returns-clause-others g c n other =
     rw (← c.self.view_is) (left_with _ _ n (others_left _ _ set
     (pointer_in c.args.node) (pointer_in n) (seen_store _ _ (sound _) (ap is_some (sets _ _ _ set).0))
     (λ ne. same_value _ _ _ _ (sound _) set _
-    (λ same. ne (reach_apart _ c.self.invariant.simple.plain _ _ to.0 to.1 (sym same))) tt) other)
+    (λ same. ne (reach_apart _ c.self.invariant.0.simple.plain _ _ to.0 to.1 (sym same))) tt) other)
     (λ live. refl))
 
 pub returns-clause-count : goal.returns-clause-count
@@ -59,7 +61,7 @@ returns-clause-kept g c n = rw (← c.self.view_is) (meets_given _ _ _ _ c.in-So
 
 pub returns-in_default-clause-stale : goal.returns-in_default-clause-stale
 returns-in_default-clause-stale g c =
-    let sees = quiet_sees _ c.self.invariant.simple.unborrowed (pointer_in c.args.node) (g.met.S.AnyStorage.sound _) in
+    let sees = quiet_sees _ c.self.invariant.0.simple.unborrowed (pointer_in c.args.node) (g.met.S.AnyStorage.sound _) in
     rw (← c.self.view_is) (λ _. missing _ (sym sees ∙ sym c.in_default.ensures.free), λ _. refl)
 
 pub returns-clause-stale : goal.returns-clause-stale

@@ -1,0 +1,834 @@
+-- Links whose children are linked: what they hold, and after a child comes or goes.
+use Rattle.std.proofs.Common.{◌≡◌, ◌≢◌, ◌<◌, ◌≤◌, ◌+◌, ℕ, zero, suc, true, List, [], ◌∷◌, ◌++◌, length, length-append, Option, None, Some, cond, not}
+use Rattle.std.proofs.Common.{refl, sym, ap, subst, ◌∙◌, ⊎_elim, arith, inl, inr}
+use Rattle.std.specs.Prelude.{◌⊎◌, map, nat_eq, slice_get, slice_index_or}
+use Rattle.std.specs.List.{insert}
+use Rattle.std.proofs.lemmas.Bool.{cases_Bool, cases_eq, eq-eqb, true≢false}
+use Rattle.std.proofs.lemmas.Bool.Decides.{eqb_tells}
+use Rattle.std.proofs.lemmas.List.{length-map}
+use Rattle.std.proofs.lemmas.Option.{none-some, same_Some, slice_get-get_or, slice_get_within}
+use Rattle.scene_tree.specs.declared.links.Link.{Link}
+use Rattle.scene_tree.specs.declared.node.Node.{Node}
+use Rattle.scene_tree.specs.declared.spot.Spot.{Spot}
+use Rattle.scene_tree.specs.declared.spot.Spot.TheVariants as spot
+use Rattle.scene_tree.specs.Chains.{IsChain, IsHeld, after_put, before_put, chain, changed, first_of, head_or, last_of, last_or, tie_of}
+use Rattle.scene_tree.specs.Families.{Family, IsAttached, IsDetached, IsAmong, IsForest, IsGap, IsLinked, IsOpened, above, alone, children_at, count_at, families, family_at, family_in, parent_at, slot_of}
+use Rattle.scene_tree.specs.Nodes.{is_same, slot_in, without}
+use Rattle.scene_tree.specs.Spots.{place_of}
+use Rattle.scene_tree.specs.Walking.{IsRest}
+use Rattle.scene_tree.proofs.Chains.{after_kept, after_length, before_kept, before_length, chain_is, chain_none, chain_short, changed_apart, changed_here, changed_kept, changed_length, held_is, last_both, pushed_kept}
+use Rattle.generational_sessions.proofs.callers.Elements.{pushed_old}
+use Rattle.scene_tree.proofs.Counting.{count_apart, count_both, count_here, count_more, same_slot, same_without}
+use Rattle.scene_tree.proofs.Forests.{slot_cases}
+use Rattle.scene_tree.proofs.Gathering.{above_within, short, slot_within}
+use Rattle.scene_tree.proofs.Writes.{same_length}
+use Rattle.scene_tree.proofs.Linking.{back_of, held_kept, joined, joined_held, linked_in, linked_out}
+
+module _ {T : Type 0} where
+  -- ---- what links say
+
+  abbrev pub upper : Option (Link T) → Option (Node T)
+  upper None = None
+  upper (Some l) = l.parent
+
+  abbrev family_of : List (Link T) → Option (Link T) → Family T
+  family_of links None = alone
+  family_of links (Some l) = family_in links l
+
+  family_is : (links : List (Link T)) (s : ℕ)
+      → family_at (families links) s ≡ family_of links (slice_get links s)
+  family_is links s = at links s
+    where
+      at : (ls : List (Link T)) (i : ℕ)
+          → slice_index_or (map (family_in links) ls) i alone ≡ family_of links (slice_get ls i)
+      at [] zero = refl
+      at [] (suc i) = refl
+      at (l ∷ ls) zero = refl
+      at (l ∷ ls) (suc i) = at ls i
+
+  pub parent_from : (links : List (Link T)) (s : ℕ)
+      → parent_at (families links) s ≡ upper (slice_get links s)
+  parent_from links s = ap (λ f. f.parent) (family_is links s) ∙ at (slice_get links s)
+    where
+      at : (o : Option (Link T)) → (family_of links o).parent ≡ upper o
+      at None = refl
+      at (Some l) = refl
+
+  pub children_from : (links : List (Link T)) (s : ℕ)
+      → children_at (families links) s ≡ chain links (length links) (first_of (slice_get links s))
+  children_from links s = ap (λ f. f.children) (family_is links s) ∙ at (slice_get links s)
+    where
+      at : (o : Option (Link T)) → (family_of links o).children ≡ chain links (length links) (first_of o)
+      at None = sym (chain_none links (length links))
+      at (Some l) = refl
+
+  pub children_held : (links : List (Link T)) (s : ℕ) (xs : List (Node T)) → IsHeld links s xs
+      → length xs ≤ length links → children_at (families links) s ≡ xs
+  children_held links s xs held le = children_from links s ∙ held_is links s xs (length links) held le
+
+  pub children_short : (links : List (Link T)) (s : ℕ)
+      → length (children_at (families links) s) ≤ length links
+  children_short links s =
+      let le = chain_short links (length links) (first_of (slice_get links s)) in
+      let same = ap length (children_from links s) in omega (arith, le, same)
+
+  -- links are linked where they hold some list of each slot that isn't too long
+  pub linked_with : (links : List (Link T)) (lists : ℕ → List (Node T))
+      → ((s : ℕ) → IsHeld links s (lists s)) → ((s : ℕ) → length (lists s) ≤ length links) → IsLinked links
+  linked_with links lists held le s =
+      subst (IsHeld links s) (sym (children_held links s (lists s) (held s) (le s))) (held s)
+
+  -- a slot within has a link
+  pub link_there : (links : List (Link T)) (s : ℕ) → s < length links
+      → (l : Link T) × (slice_get links s ≡ Some l)
+  link_there [] s lt = absurd (omega arith)
+  link_there (l ∷ links) zero lt = (l, refl)
+  link_there (l ∷ links) (suc s) lt = link_there links s (omega (arith, lt))
+
+  tied_within : (links : List (Link T)) (s : ℕ) (tie : Node T × Option ℕ × Option ℕ)
+      → tie_of (slice_get links s) ≡ Some tie → (l : Link T) × (slice_get links s ≡ Some l)
+  tied_within links s tie is = at (slice_get links s) refl
+    where
+      at : (o : Option (Link T)) → slice_get links s ≡ o → (l : Link T) × (slice_get links s ≡ Some l)
+      at None there = absurd (none-some tie (sym (ap tie_of there) ∙ is))
+      at (Some l) there = (l, there)
+
+  -- ---- forests
+
+  module _ (fs : List (Family T)) (f : IsForest fs) where
+    pub once_each : (up s : ℕ) → count_at s (children_at fs up) ≤ 1
+    once_each up s = ⊎_elim (λ is. let one = f.once s up is in omega (arith, one))
+        (λ ne. let none = f.only s up ne in omega (arith, none)) (slot_cases (above fs s) up)
+
+    pub child_above : (up s : ℕ) → 0 < count_at s (children_at fs up) → above fs s ≡ Some up
+    child_above up s lt = ⊎_elim (λ is. is)
+        (λ ne. let none = f.only s up ne in absurd (omega (arith, lt, none))) (slot_cases (above fs s) up)
+
+    -- what is among the children of one slot isn't among those of another
+    pub none_beside : (up other s : ℕ) → other ≢ up → 0 < count_at s (children_at fs other)
+        → count_at s (children_at fs up) ≡ 0
+    none_beside up other s ne lt = f.only s up
+        (λ is. ne (same_Some other up (sym (child_above other s lt) ∙ is)))
+
+  -- what is among children has a link
+  pub child_within : (links : List (Link T)) → IsForest (families links) → (up s : ℕ)
+      → 0 < count_at s (children_at (families links) up) → s < length links
+  child_within links f up s lt =
+      let less = slot_within (families links) s up (child_above (families links) f up s lt) in
+      let long = length-map links (family_in links) in omega (arith, less, long)
+
+  -- and so has a parent
+  pub top_within : (links : List (Link T)) → IsForest (families links) → (s : ℕ) (parent : Node T)
+      → parent_at (families links) s ≡ Some parent → slot_in parent < length links
+  top_within links f s parent has =
+      let less = above_within (families links) f s (slot_in parent) (ap slot_of has) in
+      let long = length-map links (family_in links) in omega (arith, less, long)
+
+  -- ---- lists in two parts
+
+  pub parts_none : (s : ℕ) (cs xs ys : List (Node T)) → cs ≡ xs ++ ys → count_at s cs ≡ 0
+      → (count_at s xs ≡ 0) × (count_at s ys ≡ 0)
+  parts_none s cs xs ys whole none =
+      let both = count_both s xs ys in let same = ap (count_at s) whole in
+      (omega (arith, both, same, none), omega (arith, both, same, none))
+
+  -- the ends of a list are counted
+  pub last_counted : (s : ℕ) (xs : List (Node T)) → last_or None xs ≡ Some s → 0 < count_at s xs
+  last_counted s [] is = absurd (none-some s is)
+  last_counted s (x ∷ xs) is = more (slot_in x) xs is
+      (let here = count_here (slot_in x) x xs refl in let some : 0 < count_at (slot_in x) (x ∷ xs) = omega (arith, here) in some)
+      (λ i lt. let le = count_more i x xs in omega (arith, le, lt))
+    where
+      more : (i : ℕ) (ys : List (Node T)) → last_or (Some i) ys ≡ Some s → 0 < count_at i (x ∷ xs)
+          → ((j : ℕ) → 0 < count_at j ys → 0 < count_at j (x ∷ xs)) → 0 < count_at s (x ∷ xs)
+      more i [] is some all = subst (λ j. 0 < count_at j (x ∷ xs)) (same_Some i s is) some
+      more i (y ∷ ys) is some all = more (slot_in y) ys is
+          (all (slot_in y) (let here = count_here (slot_in y) y ys refl in omega (arith, here)))
+          (λ j lt. all j (let le = count_more j y ys in omega (arith, le, lt)))
+
+  pub head_counted : (s : ℕ) (xs : List (Node T)) → head_or xs None ≡ Some s → 0 < count_at s xs
+  head_counted s [] is = absurd (none-some s is)
+  head_counted s (x ∷ xs) is =
+      let here = count_here s x xs (same_Some (slot_in x) s is) in omega (arith, here)
+
+  insert_here : (xs ys : List (Node T)) (n : Node T) → insert (xs ++ ys) (length xs) n ≡ xs ++ n ∷ ys
+  insert_here [] ys n = refl
+  insert_here (x ∷ xs) ys n = ap (λ rest. x ∷ rest) (insert_here xs ys n)
+
+  insert_next : (xs ys : List (Node T)) (c n : Node T)
+      → insert (xs ++ c ∷ ys) (suc (length xs)) n ≡ (xs ++ c ∷ []) ++ n ∷ ys
+  insert_next [] ys c n = refl
+  insert_next (x ∷ xs) ys c n = ap (λ rest. x ∷ rest) (insert_next xs ys c n)
+
+  both_apart : (xs ys : List (Node T)) (c : Node T) → xs ++ c ∷ ys ≡ (xs ++ c ∷ []) ++ ys
+  both_apart [] ys c = refl
+  both_apart (x ∷ xs) ys c = ap (λ rest. x ∷ rest) (both_apart xs ys c)
+
+  nil_behind : (xs : List (Node T)) → xs ≡ xs ++ []
+  nil_behind [] = refl
+  nil_behind (x ∷ xs) = ap (λ rest. x ∷ rest) (nil_behind xs)
+
+  -- a node that is counted parts a list
+  pub among : (n : Node T) (cs : List (Node T)) → 0 < count_at (slot_in n) cs
+      → ((k : ℕ) (x : Node T) → slice_get cs k ≡ Some x → slot_in x ≡ slot_in n → is_same x n ≡ true)
+      → IsAmong cs n
+  among n [] lt alike = absurd (omega (arith, lt))
+  among n (c ∷ cs) lt alike = ⊎_elim
+      (λ same. record {
+        front = [];
+        here = c;
+        back = cs;
+        whole = refl;
+        slot = same_slot c n same;
+        place = ap (λ b. cond (not b) (1 + place_of n cs) 0) same;
+      })
+      (λ other.
+      let rest = among n cs
+      (subst (λ k. 0 < k) (count_apart (slot_in n) c cs
+      (λ is. true≢false (sym (alike 0 c refl is) ∙ other))) lt)
+      (λ k. alike (suc k)) in record {
+        front = c ∷ rest.front;
+        here = rest.here;
+        back = rest.back;
+        whole = ap (λ xs. c ∷ xs) rest.whole;
+        slot = rest.slot;
+        place = ap (λ b. cond (not b) (1 + place_of n cs) 0) other
+            ∙ (let at = rest.place in omega (arith, at));
+      })
+      (cases_Bool (is_same c n))
+
+  pub without_one : (n c : Node T) (xs ys : List (Node T)) → is_same c n ≡ true
+      → count_at (slot_in n) xs ≡ 0 → count_at (slot_in n) ys ≡ 0
+      → without n (xs ++ c ∷ ys) ≡ xs ++ ys
+  without_one n c [] ys same none free =
+      ap (λ b. cond (not b) (c ∷ without n ys) (without n ys)) same ∙ same_without n ys free
+  without_one n c (x ∷ xs) ys same none free = ⊎_elim
+      (λ is. let here = count_here (slot_in n) x xs (same_slot x n is) in
+      absurd (omega (arith, here, none)))
+      (λ other. ap (λ b. cond (not b) (x ∷ without n (xs ++ c ∷ ys)) (without n (xs ++ c ∷ ys))) other
+      ∙ ap (λ rest. x ∷ rest) (without_one n c xs ys same
+      (let more = count_more (slot_in n) x xs in omega (arith, more, none)) free))
+      (cases_Bool (is_same x n))
+
+  -- ---- the slots beside a spot
+
+  module _ (links : List (Link T)) (up : ℕ) (linked : IsLinked links) where
+    abbrev cs : List (Node T)
+    cs = children_at (families links) up
+
+    pub gap_first : (at : Node T) (l : Link T) → slice_get links up ≡ Some l
+        → IsGap cs (spot.FirstOf at) (None, l.first)
+    gap_first at l there = record {
+      front = [];
+      back = cs;
+      whole = refl;
+      put = λ n. refl;
+      before = refl;
+      after = sym (ap first_of there) ∙ (linked up).first;
+    }
+
+    pub gap_last : (at : Node T) (l : Link T) → slice_get links up ≡ Some l
+        → IsGap cs (spot.LastOf at) (l.last, None)
+    gap_last at l there = record {
+      front = cs;
+      back = [];
+      whole = nil_behind cs;
+      put = λ n. refl;
+      before = sym (ap last_of there) ∙ (linked up).last;
+      after = refl;
+    }
+
+    -- a child lies between the ends of the two parts that it parts
+    pub between : (xs : List (Node T)) (c : Node T) (ys : List (Node T)) → cs ≡ xs ++ c ∷ ys
+        → tie_of (slice_get links (slot_in c)) ≡ Some (c, last_or None xs, head_or ys None)
+    between xs c ys whole = (back_of links up xs (c ∷ ys) (subst (IsHeld links up) whole (linked up))).chain.0
+
+    pub among_within : (by : Node T) → IsAmong cs by → slot_in by < length links
+    among_within by is =
+        let there = tied_within links (slot_in is.here) (is.here, last_or None is.front, head_or is.back None)
+        (between is.front is.here is.back is.whole) in
+        subst (λ s. s < length links) is.slot (slice_get_within links (slot_in is.here) there.0 there.1)
+
+    module _ (by : Node T) (is : IsAmong cs by) (node : Node T) (before after : Option ℕ)
+        (tie : tie_of (slice_get links (slot_in by)) ≡ Some (node, before, after)) where
+      sides : ◌≡◌ {A = Node T × Option ℕ × Option ℕ} (node, before, after)
+          (is.here, last_or None is.front, head_or is.back None)
+      sides = same_Some (node, before, after) (is.here, last_or None is.front, head_or is.back None)
+          (sym tie ∙ (ap (λ s. tie_of (slice_get links s)) (sym is.slot)
+          ∙ between is.front is.here is.back is.whole))
+
+      pub gap_before : IsGap cs (spot.Before by) (before, Some (slot_in by))
+      gap_before = record {
+        front = is.front;
+        back = is.here ∷ is.back;
+        whole = is.whole;
+        put = λ n. ap (λ i. insert cs i n) is.place
+            ∙ (ap (λ xs. insert xs (length is.front) n) is.whole
+            ∙ insert_here is.front (is.here ∷ is.back) n);
+        before = ap (λ t. t.1) sides;
+        after = ap Some (sym is.slot);
+      }
+
+      one_more : length is.front + 1 ≡ suc (length is.front)
+      one_more = omega arith
+
+      pub gap_after : IsGap cs (spot.After by) (Some (slot_in by), after)
+      gap_after = record {
+        front = is.front ++ is.here ∷ [];
+        back = is.back;
+        whole = is.whole ∙ both_apart is.front is.back is.here;
+        put = λ n. ap (λ i. insert cs (i + 1) n) is.place
+            ∙ (ap (λ xs. insert xs (length is.front + 1) n) is.whole
+            ∙ (ap (λ i. insert (is.front ++ is.here ∷ is.back) i n) one_more
+            ∙ insert_next is.front is.back is.here n));
+        before = ap Some (sym is.slot) ∙ sym (last_both None is.front (is.here ∷ []));
+        after = ap (λ t. t.2) sides;
+      }
+
+  -- ---- what is left of a walk over children
+
+  pub rest_first : (links : List (Link T)) (s : ℕ) (l : Link T) → IsLinked links
+      → slice_get links s ≡ Some l → IsRest links l.first
+  rest_first links s l linked there = record {
+    before = None;
+    first = sym (ap first_of there) ∙ ((linked s).first ∙ ap (λ xs. head_or xs None) same);
+    lies = subst (λ xs. IsChain links None xs None) same (linked s).chain;
+  }
+    where
+      same : children_at (families links) s ≡ chain links (length links) l.first
+      same = children_from links s ∙ ap (λ o. chain links (length links) (first_of o)) there
+
+  pub rest_next : (links : List (Link T)) (next : Option ℕ) (s : ℕ) → IsRest links next → next ≡ Some s
+      → (l : Link T) × (slice_get links s ≡ Some l)
+      × (chain links (length links) next ≡ l.node ∷ chain links (length links) l.after)
+      × IsRest links l.after
+  rest_next links next s rest is = at (chain links (length links) next) refl
+    where
+      Told : Type 0
+      Told = (l : Link T) × (slice_get links s ≡ Some l)
+          × (chain links (length links) next ≡ l.node ∷ chain links (length links) l.after)
+          × IsRest links l.after
+
+      at : (left : List (Node T)) → chain links (length links) next ≡ left → Told
+      at [] none = absurd (none-some s (sym (rest.first ∙ ap (λ xs. head_or xs None) none) ∙ is))
+      at (c ∷ cs) some =
+          let lies = subst (λ xs. IsChain links rest.before xs None) some rest.lies in
+          let here : slot_in c ≡ s = same_Some (slot_in c) s
+          (sym (rest.first ∙ ap (λ xs. head_or xs None) some) ∙ is) in
+          let tie = ap (λ i. tie_of (slice_get links i)) (sym here) ∙ lies.0 in
+          let there = tied_within links s (c, rest.before, head_or cs None) tie in
+          let l = there.0 in
+          let ties = same_Some (l.node, l.before, l.after) (c, rest.before, head_or cs None)
+          (sym (ap tie_of there.1) ∙ tie) in
+          let short = chain_short links (length links) next in
+          let long = ap length some in
+          let left : chain links (length links) l.after ≡ cs =
+          ap (λ t. chain links (length links) t.2) ties
+          ∙ chain_is links (Some (slot_in c)) cs (length links) lies.1 (omega (arith, short, long)) in (
+            l,
+            there.1,
+            some ∙ (ap (λ t. t.0 ∷ cs) (sym ties) ∙ ap (λ xs. l.node ∷ xs) (sym left)),
+            record {
+              before = Some (slot_in c);
+              first = ap (λ t. t.2) ties ∙ ap (λ xs. head_or xs None) (sym left);
+              lies = subst (λ xs. IsChain links (Some (slot_in c)) xs None) (sym left) lies.1;
+            },
+          )
+
+  pub rest_within : (links : List (Link T)) (next : Option ℕ) (s : ℕ) → IsRest links next → next ≡ Some s
+      → s < length links
+  rest_within links next s rest is =
+      let at = rest_next links next s rest is in slice_get_within links s at.0 at.1
+
+  -- the same, as the link is read
+  pub rest_read : (links : List (Link T)) (next : Option ℕ) (s : ℕ) (l : Link T) → IsRest links next
+      → next ≡ Some s → l ≡ slice_index_or links s l
+      → (chain links (length links) next ≡ l.node ∷ chain links (length links) l.after) × IsRest links l.after
+  rest_read links next s l rest is read =
+      let at = rest_next links next s rest is in
+      let same = same_Some at.0 l (sym at.1 ∙ (slice_get-get_or links s l (rest_within links next s rest is)
+      ∙ ap Some (sym read))) in
+      subst (λ m. (chain links (length links) next ≡ m.node ∷ chain links (length links) m.after)
+      × IsRest links m.after) same (at.2, at.3)
+
+  -- ---- a slot more
+
+  module _ (links : List (Link T)) (linked : IsLinked links) (l : Link T) (root : l.parent ≡ None)
+      (first : l.first ≡ None) (last : l.last ≡ None) where
+    abbrev longer : List (Link T)
+    longer = links ++ l ∷ []
+
+    longer_length : length longer ≡ length links + 1
+    longer_length = length-append links (l ∷ [])
+
+    grown : (before after : Option ℕ) (xs : List (Node T)) → IsChain links before xs after
+        → IsChain longer before xs after
+    grown before after [] is = tt
+    grown before after (x ∷ xs) is =
+        let there = tied_within links (slot_in x) (x, before, head_or xs after) is.0 in (
+          ap tie_of (pushed_old links (slot_in x) l there.0 there.1) ∙ (ap tie_of (sym there.1) ∙ is.0),
+          grown (Some (slot_in x)) after xs is.1,
+        )
+
+    longer_held : (s : ℕ) → IsHeld longer s (children_at (families links) s)
+    longer_held s = record {
+      first = pushed_kept first_of l first links s ∙ (linked s).first;
+      last = pushed_kept last_of l last links s ∙ (linked s).last;
+      chain = grown None None (children_at (families links) s) (linked s).chain;
+    }
+
+    longer_short : (s : ℕ) → length (children_at (families links) s) ≤ length longer
+    longer_short s = let le = children_short links s in let long = longer_length in omega (arith, le, long)
+
+    pub opened_linked : IsLinked longer
+    opened_linked = linked_with longer (children_at (families links)) longer_held longer_short
+
+    pub opened_is : (slot : ℕ) → slot ≡ length links → IsOpened (families links) slot (families longer)
+    opened_is slot at = record {
+      same = λ s. λ i. record {
+        parent = (parent_from longer s ∙ (pushed_kept upper l root links s ∙ sym (parent_from links s))) i;
+        children = children_held longer s (children_at (families links) s) (longer_held s) (longer_short s) i;
+      };
+      old = λ lt. let old = length-map links (family_in links) in absurd (omega (arith, lt, at, old));
+      next = λ is.
+          let old = length-map links (family_in links) in
+          let new = length-map longer (family_in longer) in
+          let long = longer_length in omega (arith, old, new, long);
+    }
+
+  -- ---- a slot left alone
+
+  module _ (links : List (Link T)) (linked : IsLinked links) (slot : ℕ) (lt : slot < length links) where
+    abbrev bare : Link T → Link T
+    bare l = record l { parent = None; first = None; last = None }
+
+    abbrev bared : List (Link T)
+    bared = changed links slot bare
+
+    bared_length : length bared ≡ length links
+    bared_length = changed_length links slot bare
+
+    bare_there : (l : Link T) × (slice_get bared slot ≡ Some (bare l))
+    bare_there = let l = link_there links slot lt in (l.0, changed_here links slot bare l.0 l.1)
+
+    abbrev bared_list : ℕ → List (Node T)
+    bared_list s = cond (nat_eq s slot) [] (children_at (families links) s)
+
+    bared_here : (s : ℕ) → s ≡ slot → bared_list s ≡ []
+    bared_here s same = ap (λ b. cond b [] (children_at (families links) s)) (eq-eqb s slot same)
+
+    bared_apart : (s : ℕ) → s ≢ slot → bared_list s ≡ children_at (families links) s
+    bared_apart s ne = ap (λ b. cond b [] (children_at (families links) s))
+        (⊎_elim (λ yes. absurd (ne yes.1)) (λ no. no.0) (eqb_tells s slot))
+
+    bared_held : (s : ℕ) → IsHeld bared s (bared_list s)
+    bared_held s = ⊎_elim
+        (λ same. subst (IsHeld bared s) (sym (bared_here s same)) (subst (λ i. IsHeld bared i []) (sym same)
+        (record {
+          first = ap first_of bare_there.1;
+          last = ap last_of bare_there.1;
+          chain = tt;
+        })))
+        (λ ne. subst (IsHeld bared s) (sym (bared_apart s ne))
+        (held_kept links bared s (children_at (families links) s)
+        (λ i some. changed_kept tie_of links slot bare (λ l. refl) i)
+        (ap first_of (changed_apart links slot bare s ne)) (ap last_of (changed_apart links slot bare s ne))
+        (linked s)))
+        (cases_eq s slot)
+
+    bared_short : (s : ℕ) → length (bared_list s) ≤ length bared
+    bared_short s = ⊎_elim
+        (λ same. let none = ap length (bared_here s same) in omega (arith, none))
+        (λ ne. let le = children_short links s in
+        let len = ap length (bared_apart s ne) in
+        let long = bared_length in omega (arith, le, len, long))
+        (cases_eq s slot)
+
+    pub bared_linked : IsLinked bared
+    bared_linked = linked_with bared bared_list bared_held bared_short
+
+    pub bared_alone : family_at (families bared) slot ≡ alone
+    bared_alone = λ i. record {
+      parent = (parent_from bared slot ∙ ap upper bare_there.1) i;
+      children = (children_held bared slot (bared_list slot) (bared_held slot) (bared_short slot)
+          ∙ bared_here slot refl) i;
+    }
+
+    pub bared_others : (s : ℕ) → s ≢ slot → family_at (families bared) s ≡ family_at (families links) s
+    bared_others s ne = λ i. record {
+      parent = (parent_from bared s ∙ (ap upper (changed_apart links slot bare s ne) ∙ sym (parent_from links s))) i;
+      children = (children_held bared s (bared_list s) (bared_held s) (bared_short s) ∙ bared_apart s ne) i;
+    }
+
+  -- ---- a child more
+
+  module _ (links : List (Link T)) (linked : IsLinked links) (f : IsForest (families links))
+      (parent child : Node T) (at : Spot T) (within : slot_in parent < length links)
+      (lc : slot_in child < length links) (root : above (families links) (slot_in child) ≡ None)
+      (gap : Option ℕ × Option ℕ) (is : IsGap (children_at (families links) (slot_in parent)) at gap) where
+    abbrev fs : List (Family T)
+    fs = families links
+
+    abbrev up : ℕ
+    up = slot_in parent
+
+    abbrev before : Option ℕ
+    before = last_or None is.front
+
+    abbrev after : Option ℕ
+    after = head_or is.back None
+
+    abbrev put_in : Option ℕ → Option ℕ → Link T → Link T
+    put_in b a l = record l { node = child; parent = Some parent; before = b; after = a }
+
+    abbrev there : List (Link T)
+    there = changed links (slot_in child) (put_in before after)
+
+    abbrev new : List (Link T)
+    new = joined there up is.front is.back (Some (slot_in child)) (Some (slot_in child))
+
+    -- what the calls leave
+    pub as_put : before_put (after_put (changed links (slot_in child) (put_in gap.0 gap.1)) up gap.0
+        (Some (slot_in child))) up gap.1 (Some (slot_in child)) ≡ new
+    as_put = λ i. before_put (after_put (changed links (slot_in child) (put_in (is.before i) (is.after i))) up
+        (is.before i) (Some (slot_in child))) up (is.after i) (Some (slot_in child))
+
+    unlisted : (s : ℕ) → count_at (slot_in child) (children_at fs s) ≡ 0
+    unlisted s = f.only (slot_in child) s (λ some. none-some s (sym root ∙ some))
+
+    there_length : length there ≡ length links
+    there_length = changed_length links (slot_in child) (put_in before after)
+
+    new_length : length new ≡ length links
+    new_length = before_length (after_put there up before (Some (slot_in child))) up after (Some (slot_in child))
+        ∙ (after_length there up before (Some (slot_in child)) ∙ there_length)
+
+    there_held : (s : ℕ) → IsHeld there s (children_at fs s)
+    there_held s = held_kept links there s (children_at fs s)
+        (λ i lt. ap tie_of (changed_apart links (slot_in child) (put_in before after) i
+        (λ same. let none = unlisted s in
+        let some = subst (λ j. 0 < count_at j (children_at fs s)) same lt in omega (arith, none, some))))
+        (changed_kept first_of links (slot_in child) (put_in before after) (λ l. refl) s)
+        (changed_kept last_of links (slot_in child) (put_in before after) (λ l. refl) s) (linked s)
+
+    up_there : (l : Link T) × (slice_get there up ≡ Some l)
+    up_there = link_there there up (omega (arith, within, there_length))
+
+    tied : tie_of (slice_get there (slot_in child)) ≡ Some (child, before, after)
+    tied = let l = link_there links (slot_in child) lc in
+        ap tie_of (changed_here links (slot_in child) (put_in before after) l.0 l.1)
+
+    counted_more : (s : ℕ) → s ≢ slot_in child → count_at s (is.front ++ child ∷ is.back) ≡ count_at s (children_at fs up)
+    counted_more s ne =
+        let all = count_both s is.front (child ∷ is.back) in
+        let rest = count_apart s child is.back (λ e. ne (sym e)) in
+        let both = count_both s is.front is.back in
+        let same = ap (count_at s) is.whole in omega (arith, all, rest, both, same)
+
+    none_yet : (count_at (slot_in child) is.front ≡ 0) × (count_at (slot_in child) is.back ≡ 0)
+    none_yet = parts_none (slot_in child) (children_at fs up) is.front is.back is.whole (unlisted up)
+
+    once : (s : ℕ) → count_at s (is.front ++ child ∷ is.back) ≤ 1
+    once s = ⊎_elim
+        (λ same. let all = count_both s is.front (child ∷ is.back) in
+        let here = count_here s child is.back (sym same) in
+        let front = ap (λ i. count_at i is.front) same ∙ none_yet.0 in
+        let back = ap (λ i. count_at i is.back) same ∙ none_yet.1 in omega (arith, all, here, front, back))
+        (λ ne. let same = counted_more s ne in let le = once_each fs f up s in omega (arith, same, le))
+        (cases_eq s (slot_in child))
+
+    listed_within : (s : ℕ) → 0 < count_at s (is.front ++ child ∷ is.back) → s < length links
+    listed_within s lt = ⊎_elim (λ same. subst (λ i. i < length links) (sym same) lc)
+        (λ ne. let same = counted_more s ne in
+        let long = length-map links (family_in links) in
+        let less = slot_within fs s up (child_above fs f up s (omega (arith, same, lt))) in
+        omega (arith, less, long))
+        (cases_eq s (slot_in child))
+
+    abbrev new_list : ℕ → List (Node T)
+    new_list s = cond (nat_eq s up) (is.front ++ child ∷ is.back) (children_at fs s)
+
+    list_here : (s : ℕ) → s ≡ up → new_list s ≡ is.front ++ child ∷ is.back
+    list_here s same = ap (λ b. cond b (is.front ++ child ∷ is.back) (children_at fs s)) (eq-eqb s up same)
+
+    list_apart : (s : ℕ) → s ≢ up → new_list s ≡ children_at fs s
+    list_apart s ne = ap (λ b. cond b (is.front ++ child ∷ is.back) (children_at fs s))
+        (⊎_elim (λ yes. absurd (ne yes.1)) (λ no. no.0) (eqb_tells s up))
+
+    new_held : (s : ℕ) → IsHeld new s (new_list s)
+    new_held s = ⊎_elim
+        (λ same. subst (IsHeld new s) (sym (list_here s same)) (subst (λ i. IsHeld new i (is.front ++ child ∷ is.back)) (sym same)
+        (linked_in there up up_there.0 is.front is.back child up_there.1 once tied
+        (subst (IsHeld there up) is.whole (there_held up)))))
+        (λ ne. subst (IsHeld new s) (sym (list_apart s ne))
+        (joined_held there up up_there.0 is.front is.back up_there.1
+        (λ i. let both = count_both i is.front is.back in let same = ap (count_at i) is.whole in
+        let le = once_each fs f up i in omega (arith, both, same, le))
+        (Some (slot_in child)) (Some (slot_in child)) s (children_at fs s) ne
+        (λ i lt. parts_none i (children_at fs up) is.front is.back is.whole (none_beside fs f up s i ne lt))
+        (there_held s)))
+        (cases_eq s up)
+
+    new_short : (s : ℕ) → length (new_list s) ≤ length new
+    new_short s = ⊎_elim
+        (λ same. let le = short (is.front ++ child ∷ is.back) (length links) once listed_within in
+        let len = ap length (list_here s same) in omega (arith, le, len, new_length))
+        (λ ne. let le = children_short links s in
+        let len = ap length (list_apart s ne) in omega (arith, le, len, new_length))
+        (cases_eq s up)
+
+    pub attached_linked : IsLinked new
+    attached_linked = linked_with new new_list new_held new_short
+
+    new_parent : (s : ℕ) → upper (slice_get new s) ≡ upper (slice_get there s)
+    new_parent s = before_kept upper (λ l next. refl) (λ l next. refl)
+        (after_put there up before (Some (slot_in child))) up after (Some (slot_in child)) s
+        ∙ after_kept upper (λ l next. refl) (λ l next. refl) there up before (Some (slot_in child)) s
+
+    pub attached_is : IsAttached fs parent at child (families new)
+    attached_is = record {
+      long = same_length new links new_length;
+      here = let l = link_there links (slot_in child) lc in
+          parent_from new (slot_in child) ∙ (new_parent (slot_in child)
+          ∙ ap upper (changed_here links (slot_in child) (put_in before after) l.0 l.1));
+      parents = λ s ne. parent_from new s ∙ (new_parent s
+          ∙ (ap upper (changed_apart links (slot_in child) (put_in before after) s ne) ∙ sym (parent_from links s)));
+      listed = children_held new up (new_list up) (new_held up) (new_short up)
+          ∙ (list_here up refl ∙ sym (is.put child));
+      others = λ s ne. children_held new s (new_list s) (new_held s) (new_short s) ∙ list_apart s ne;
+    }
+
+  -- ---- a child less
+
+  module _ (links : List (Link T)) (linked : IsLinked links) (f : IsForest (families links))
+      (node parent : Node T) (has : parent_at (families links) (slot_in node) ≡ Some parent)
+      (alike : (s k : ℕ) (n : Node T) → slice_get (children_at (families links) s) k ≡ Some n
+      → slot_in n ≡ slot_in node → is_same n node ≡ true) where
+    abbrev old : List (Family T)
+    old = families links
+
+    abbrev top : ℕ
+    top = slot_in parent
+
+    pub one : count_at (slot_in node) (children_at old top) ≡ 1
+    one = f.once (slot_in node) top (ap slot_of has)
+
+    abbrev pub part : IsAmong (children_at old top) node
+    part = among node (children_at old top) (omega (arith, one)) (alike top)
+
+    abbrev freed : List (Link T)
+    freed = changed links (slot_in node) (λ l. record l { parent = None })
+
+    abbrev cut : List (Link T)
+    cut = joined freed top part.front part.back (head_or part.back None) (last_or None part.front)
+
+    -- what the calls leave, by the slots that are read beside the node
+    pub sides_of : (n : Node T) (b a : Option ℕ) → tie_of (slice_get links (slot_in node)) ≡ Some (n, b, a)
+        → ◌≡◌ {A = Node T × Option ℕ × Option ℕ} (n, b, a)
+        (part.here, last_or None part.front, head_or part.back None)
+    sides_of n b a tie = same_Some (n, b, a) (part.here, last_or None part.front, head_or part.back None)
+        (sym tie ∙ (ap (λ s. tie_of (slice_get links s)) (sym part.slot)
+        ∙ between links top linked part.front part.here part.back part.whole))
+
+    pub as_cut : (n : Node T) (b a : Option ℕ) → tie_of (slice_get links (slot_in node)) ≡ Some (n, b, a)
+        → before_put (after_put freed top b a) top a b ≡ cut
+    as_cut n b a tie = ap (λ t. before_put (after_put freed top t.1 t.2) top t.2 t.1) (sides_of n b a tie)
+
+    freed_length : length freed ≡ length links
+    freed_length = changed_length links (slot_in node) (λ l. record l { parent = None })
+
+    cut_length : length cut ≡ length links
+    cut_length = before_length (after_put freed top (last_or None part.front) (head_or part.back None)) top
+        (head_or part.back None) (last_or None part.front)
+        ∙ (after_length freed top (last_or None part.front) (head_or part.back None) ∙ freed_length)
+
+    freed_held : (s : ℕ) → IsHeld freed s (children_at old s)
+    freed_held s = held_kept links freed s (children_at old s)
+        (λ i lt. changed_kept tie_of links (slot_in node) (λ l. record l { parent = None }) (λ l. refl) i)
+        (changed_kept first_of links (slot_in node) (λ l. record l { parent = None }) (λ l. refl) s)
+        (changed_kept last_of links (slot_in node) (λ l. record l { parent = None }) (λ l. refl) s) (linked s)
+
+    top_there : (l : Link T) × (slice_get freed top ≡ Some l)
+    top_there = link_there freed top
+        (let lt = top_within links f (slot_in node) parent has in omega (arith, lt, freed_length))
+
+    once_listed : (s : ℕ) → count_at s (part.front ++ part.here ∷ part.back) ≤ 1
+    once_listed s = subst (λ cs. count_at s cs ≤ 1) part.whole (once_each old f top s)
+
+    few_listed : (s : ℕ) → count_at s part.front + count_at s part.back ≤ 1
+    few_listed s =
+        let both = count_both s part.front (part.here ∷ part.back) in
+        let more = count_more s part.here part.back in
+        let le = once_listed s in omega (arith, both, more, le)
+
+    abbrev rest_list : ℕ → List (Node T)
+    rest_list s = cond (nat_eq s top) (part.front ++ part.back) (children_at old s)
+
+    rest_here : (s : ℕ) → s ≡ top → rest_list s ≡ part.front ++ part.back
+    rest_here s same = ap (λ b. cond b (part.front ++ part.back) (children_at old s)) (eq-eqb s top same)
+
+    rest_apart : (s : ℕ) → s ≢ top → rest_list s ≡ children_at old s
+    rest_apart s ne = ap (λ b. cond b (part.front ++ part.back) (children_at old s))
+        (⊎_elim (λ yes. absurd (ne yes.1)) (λ no. no.0) (eqb_tells s top))
+
+    beside_none : (s i : ℕ) → s ≢ top → 0 < count_at i (children_at old s)
+        → (count_at i part.front ≡ 0) × (count_at i part.back ≡ 0)
+    beside_none s i ne lt =
+        let none = parts_none i (children_at old top) part.front (part.here ∷ part.back) part.whole
+        (none_beside old f top s i ne lt) in
+        let more = count_more i part.here part.back in
+        let zero = none.1 in (none.0, omega (arith, more, zero))
+
+    cut_held : (s : ℕ) → IsHeld cut s (rest_list s)
+    cut_held s = ⊎_elim
+        (λ same. subst (IsHeld cut s) (sym (rest_here s same)) (subst (λ i. IsHeld cut i (part.front ++ part.back)) (sym same)
+        (linked_out freed top top_there.0 part.front part.back part.here top_there.1 once_listed
+        (subst (IsHeld freed top) part.whole (freed_held top)))))
+        (λ ne. subst (IsHeld cut s) (sym (rest_apart s ne))
+        (joined_held freed top top_there.0 part.front part.back top_there.1 few_listed
+        (head_or part.back None) (last_or None part.front) s (children_at old s) ne
+        (λ i lt. beside_none s i ne lt) (freed_held s)))
+        (cases_eq s top)
+
+    cut_short : (s : ℕ) → length (rest_list s) ≤ length cut
+    cut_short s = ⊎_elim
+        (λ same. let le = children_short links top in
+        let len = ap length (rest_here s same) ∙ length-append part.front part.back in
+        let whole = ap length part.whole ∙ length-append part.front (part.here ∷ part.back) in
+        omega (arith, le, len, whole, cut_length))
+        (λ ne. let le = children_short links s in
+        let len = ap length (rest_apart s ne) in omega (arith, le, len, cut_length))
+        (cases_eq s top)
+
+    pub detached_linked : IsLinked cut
+    detached_linked = linked_with cut rest_list cut_held cut_short
+
+    cut_parent : (s : ℕ) → upper (slice_get cut s) ≡ upper (slice_get freed s)
+    cut_parent s = before_kept upper (λ l next. refl) (λ l next. refl)
+        (after_put freed top (last_or None part.front) (head_or part.back None)) top
+        (head_or part.back None) (last_or None part.front) s
+        ∙ after_kept upper (λ l next. refl) (λ l next. refl) freed top (last_or None part.front) (head_or part.back None) s
+
+    rest_is : children_at (families cut) top ≡ without node (children_at old top)
+    rest_is = children_held cut top (rest_list top) (cut_held top) (cut_short top)
+        ∙ (rest_here top refl ∙ sym (ap (without node) part.whole
+        ∙ without_one node part.here part.front part.back same_here none.0 none.1))
+      where
+        same_here : is_same part.here node ≡ true
+        same_here = alike top (length part.front) part.here
+            (ap (λ cs. slice_get cs (length part.front)) part.whole ∙ get_here part.front) part.slot
+          where
+            get_here : (xs : List (Node T)) → slice_get (xs ++ part.here ∷ part.back) (length xs) ≡ Some part.here
+            get_here [] = refl
+            get_here (x ∷ xs) = get_here xs
+
+        none : (count_at (slot_in node) part.front ≡ 0) × (count_at (slot_in node) part.back ≡ 0)
+        none =
+            let all = count_both (slot_in node) part.front (part.here ∷ part.back) in
+            let here = count_here (slot_in node) part.here part.back part.slot in
+            let le = once_listed (slot_in node) in (omega (arith, all, here, le), omega (arith, all, here, le))
+
+    pub detached_is : IsDetached old node (families cut)
+    detached_is = record {
+      long = same_length cut links cut_length;
+      here = parent_from cut (slot_in node) ∙ (cut_parent (slot_in node)
+          ∙ freed_here (slice_get links (slot_in node)) refl);
+      parents = λ s ne. parent_from cut s ∙ (cut_parent s
+          ∙ (ap upper (changed_apart links (slot_in node) (λ l. record l { parent = None }) s ne) ∙ sym (parent_from links s)));
+      lost = λ s is. subst (λ i. children_at (families cut) i ≡ without node (children_at old i))
+          (same_Some top s (sym (ap slot_of has) ∙ is)) rest_is;
+      others = λ s ne. children_held cut s (rest_list s) (cut_held s) (cut_short s)
+          ∙ rest_apart s (λ same. ne (ap slot_of has ∙ ap Some (sym same)));
+    }
+      where
+        freed_here : (o : Option (Link T)) → slice_get links (slot_in node) ≡ o
+            → upper (slice_get freed (slot_in node)) ≡ None
+        freed_here None there = absurd (none-some parent
+            (sym (parent_from links (slot_in node) ∙ ap upper there) ∙ has))
+        freed_here (Some l) there =
+            ap upper (changed_here links (slot_in node) (λ l. record l { parent = None }) l there)
+
+    -- the slots beside the node are slots of links
+    pub beside_within : (s : ℕ) → (last_or None part.front ≡ Some s) ⊎ (head_or part.back None ≡ Some s)
+        → s < length links
+    beside_within s side = child_within links f top s (⊎_elim
+        (λ is. let lt = last_counted s part.front is in omega (arith, whole, lt))
+        (λ is. let lt = head_counted s part.back is in omega (arith, whole, more, lt)) side)
+      where
+        whole : count_at s (children_at old top) ≡ count_at s part.front + count_at s (part.here ∷ part.back)
+        whole = ap (count_at s) part.whole ∙ count_both s part.front (part.here ∷ part.back)
+
+        more : count_at s part.back ≤ count_at s (part.here ∷ part.back)
+        more = count_more s part.here part.back
+
+  -- ---- both, by what the calls leave
+
+  pub gap_within : (links : List (Link T)) → IsForest (families links) → (up : ℕ) (at : Spot T)
+      (gap : Option ℕ × Option ℕ) → IsGap (children_at (families links) up) at gap
+      → (s : ℕ) → (gap.0 ≡ Some s) ⊎ (gap.1 ≡ Some s) → s < length links
+  gap_within links f up at gap is s side = child_within links f up s (⊎_elim
+      (λ here. let lt = last_counted s is.front (sym is.before ∙ here) in omega (arith, whole, lt))
+      (λ here. let lt = head_counted s is.back (sym is.after ∙ here) in omega (arith, whole, lt)) side)
+    where
+      whole : count_at s (children_at (families links) up) ≡ count_at s is.front + count_at s is.back
+      whole = ap (count_at s) is.whole ∙ count_both s is.front is.back
+
+  pub attached_by : (links : List (Link T)) → IsLinked links → IsForest (families links)
+      → (parent child : Node T) (at : Spot T) → slot_in parent < length links → slot_in child < length links
+      → above (families links) (slot_in child) ≡ None → (up slot : ℕ) → up ≡ slot_in parent
+      → slot ≡ slot_in child → (gap : Option ℕ × Option ℕ) → IsGap (children_at (families links) up) at gap
+      → (final : List (Link T))
+      → final ≡ before_put (after_put (changed links (slot_in child)
+      (λ l. record l { node = child; parent = Some parent; before = gap.0; after = gap.1 }))
+      up gap.0 (Some slot)) up gap.1 (Some slot)
+      → IsLinked final × IsAttached (families links) parent at child (families final)
+  attached_by links linked f parent child at within lc root up slot upis slotis gap is final left =
+      let here = subst (λ i. IsGap (children_at (families links) i) at gap) upis is in
+      let same = left
+      ∙ (ap (λ i. before_put (after_put (changed links (slot_in child)
+      (λ l. record l { node = child; parent = Some parent; before = gap.0; after = gap.1 }))
+      i gap.0 (Some slot)) i gap.1 (Some slot)) upis
+      ∙ (ap (λ s. before_put (after_put (changed links (slot_in child)
+      (λ l. record l { node = child; parent = Some parent; before = gap.0; after = gap.1 }))
+      (slot_in parent) gap.0 (Some s)) (slot_in parent) gap.1 (Some s)) slotis
+      ∙ as_put links linked f parent child at within lc root gap here)) in (
+        subst IsLinked (sym same) (attached_linked links linked f parent child at within lc root gap here),
+        subst (λ ls. IsAttached (families links) parent at child (families ls)) (sym same)
+            (attached_is links linked f parent child at within lc root gap here),
+      )
+
+  pub detached_by : (links : List (Link T)) (linked : IsLinked links) (f : IsForest (families links))
+      (node parent : Node T) (slot up : ℕ) → slot ≡ slot_in node → up ≡ slot_in parent
+      → parent_at (families links) slot ≡ Some parent
+      → ((s k : ℕ) (n : Node T) → slice_get (children_at (families links) s) k ≡ Some n
+      → slot_in n ≡ slot_in node → is_same n node ≡ true)
+      → (n : Node T) (b a : Option ℕ) → tie_of (slice_get links slot) ≡ Some (n, b, a)
+      → (final : List (Link T))
+      → final ≡ before_put (after_put (changed links slot (λ l. record l { parent = None })) up b a) up a b
+      → IsLinked final × IsDetached (families links) node (families final)
+  detached_by links linked f node parent slot up slotis upis has alike n b a tie final left =
+      let is = subst (λ i. parent_at (families links) i ≡ Some parent) slotis has in
+      let here = subst (λ i. tie_of (slice_get links i) ≡ Some (n, b, a)) slotis tie in
+      let same = left
+      ∙ (ap (λ i. before_put (after_put (changed links i (λ l. record l { parent = None })) up b a) up a b) slotis
+      ∙ (ap (λ i. before_put (after_put (changed links (slot_in node) (λ l. record l { parent = None })) i b a) i a b) upis
+      ∙ as_cut links linked f node parent is alike n b a here)) in (
+        subst IsLinked (sym same) (detached_linked links linked f node parent is alike),
+        subst (λ ls. IsDetached (families links) node (families ls)) (sym same)
+            (detached_is links linked f node parent is alike),
+      )
+
+  pub side_within : (links : List (Link T)) (linked : IsLinked links) (f : IsForest (families links))
+      (node parent : Node T) (slot : ℕ) → slot ≡ slot_in node
+      → parent_at (families links) slot ≡ Some parent
+      → ((s k : ℕ) (n : Node T) → slice_get (children_at (families links) s) k ≡ Some n
+      → slot_in n ≡ slot_in node → is_same n node ≡ true)
+      → (n : Node T) (b a : Option ℕ) → tie_of (slice_get links slot) ≡ Some (n, b, a)
+      → (s : ℕ) → (b ≡ Some s) ⊎ (a ≡ Some s) → s < length links
+  side_within links linked f node parent slot slotis has alike n b a tie s side =
+      let is = subst (λ i. parent_at (families links) i ≡ Some parent) slotis has in
+      let here = subst (λ i. tie_of (slice_get links i) ≡ Some (n, b, a)) slotis tie in
+      let sides = sides_of links linked f node parent is alike n b a here in
+      beside_within links linked f node parent is alike s
+      (⊎_elim (λ before. inl (sym (ap (λ t. t.1) sides) ∙ before))
+      (λ after. inr (sym (ap (λ t. t.2) sides) ∙ after)) side)

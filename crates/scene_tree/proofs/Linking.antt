@@ -1,0 +1,296 @@
+-- A child that is linked among its siblings, and one that is taken out.
+use Rattle.std.proofs.Common.{◌≡◌, ◌≢◌, ◌<◌, ◌≤◌, ◌+◌, ℕ, List, [], ◌∷◌, ◌++◌, Option, None, Some}
+use Rattle.std.proofs.Common.{refl, sym, ap, subst, ◌∙◌, ⊎_elim, arith}
+use Rattle.std.specs.Prelude.{slice_get}
+use Rattle.std.proofs.lemmas.Bool.{cases_eq}
+use Rattle.std.proofs.lemmas.Option.{none-some, same_Some}
+use Rattle.scene_tree.specs.declared.links.Link.{Link}
+use Rattle.scene_tree.specs.declared.node.Node.{Node}
+use Rattle.scene_tree.specs.Chains.{IsChain, IsHeld, after_put, before_put, changed, first_of, head_or, last_of, last_or, tie_of}
+use Rattle.scene_tree.specs.Families.{count_at}
+use Rattle.scene_tree.specs.Nodes.{slot_in}
+use Rattle.scene_tree.proofs.Chains.{after_first, after_last, after_ties, before_first, before_last, before_ties, changed_apart, changed_here, changed_kept, chain_join, chain_split, head_apart, last_apart}
+use Rattle.scene_tree.proofs.Chains.{head_both, last_both}
+use Rattle.scene_tree.proofs.Counting.{count_both, count_here, count_more}
+
+module _ {T : Type 0} where
+  -- the front of the children of a slot, before another, and their back, behind one
+  pub record IsFront (links : List (Link T)) (up : ℕ) (xs : List (Node T)) (after : Option ℕ) : Type 0 where
+    pub first : first_of (slice_get links up) ≡ head_or xs after
+    pub chain : IsChain links None xs after
+
+  pub record IsBack (links : List (Link T)) (up : ℕ) (before : Option ℕ) (ys : List (Node T)) : Type 0 where
+    pub last : last_of (slice_get links up) ≡ last_or before ys
+    pub chain : IsChain links before ys None
+
+  -- two links have the same ties at the slots of a list
+  abbrev HasTies : List (Link T) → List (Link T) → List (Node T) → Type 0
+  HasTies old new xs = (s : ℕ) → 0 < count_at s xs
+      → tie_of (slice_get new s) ≡ tie_of (slice_get old s)
+
+  ties_rest : (old new : List (Link T)) (x : Node T) (xs : List (Node T)) → HasTies old new (x ∷ xs)
+      → HasTies old new xs
+  ties_rest old new x xs same s lt =
+      same s (let more = count_more s x xs in omega (arith, lt, more))
+
+  ties_here : (old new : List (Link T)) (x : Node T) (xs : List (Node T)) → HasTies old new (x ∷ xs)
+      → tie_of (slice_get new (slot_in x)) ≡ tie_of (slice_get old (slot_in x))
+  ties_here old new x xs same =
+      same (slot_in x) (let here = count_here (slot_in x) x xs refl in omega (arith, here))
+
+  pub chain_kept : (old new : List (Link T)) (before after : Option ℕ) (xs : List (Node T))
+      → HasTies old new xs → IsChain old before xs after → IsChain new before xs after
+  chain_kept old new before after [] same is = tt
+  chain_kept old new before after (x ∷ xs) same is = (
+    ties_here old new x xs same ∙ is.0,
+    chain_kept old new (Some (slot_in x)) after xs (ties_rest old new x xs same) is.1,
+  )
+
+  pub held_kept : (old new : List (Link T)) (slot : ℕ) (xs : List (Node T)) → HasTies old new xs
+      → first_of (slice_get new slot) ≡ first_of (slice_get old slot)
+      → last_of (slice_get new slot) ≡ last_of (slice_get old slot)
+      → IsHeld old slot xs → IsHeld new slot xs
+  held_kept old new slot xs same first last held = record {
+    first = first ∙ held.first;
+    last = last ∙ held.last;
+    chain = chain_kept old new None None xs same held.chain;
+  }
+
+  -- a list of children is its front and its back
+  pub front_of : (links : List (Link T)) (up : ℕ) (xs ys : List (Node T)) → IsHeld links up (xs ++ ys)
+      → IsFront links up xs (head_or ys None)
+  front_of links up xs ys held = record {
+    first = held.first ∙ head_both xs ys None;
+    chain = (chain_split links None None xs ys held.chain).0;
+  }
+
+  pub back_of : (links : List (Link T)) (up : ℕ) (xs ys : List (Node T)) → IsHeld links up (xs ++ ys)
+      → IsBack links up (last_or None xs) ys
+  back_of links up xs ys held = record {
+    last = held.last ∙ last_both None xs ys;
+    chain = (chain_split links None None xs ys held.chain).1;
+  }
+
+  pub held_of : (links : List (Link T)) (up : ℕ) (xs ys : List (Node T))
+      → IsFront links up xs (head_or ys None) → IsBack links up (last_or None xs) ys
+      → IsHeld links up (xs ++ ys)
+  held_of links up xs ys front back = record {
+    first = front.first ∙ sym (head_both xs ys None);
+    last = back.last ∙ sym (last_both None xs ys);
+    chain = chain_join links None None xs ys front.chain back.chain;
+  }
+
+  -- ---- another comes after the front
+
+  chain_after : (links : List (Link T)) (up : ℕ) (before after next at : Option ℕ) (xs : List (Node T))
+      → ((s : ℕ) → count_at s xs ≤ 1) → IsChain links before xs after
+      → IsChain (after_put links up (last_or at xs) next) before xs next
+  chain_after links up before after next at [] once is = tt
+  chain_after links up before after next at (x ∷ []) once is =
+      (tied (slice_get links (slot_in x)) refl, tt)
+    where
+      tied : (o : Option (Link T)) → slice_get links (slot_in x) ≡ o
+          → tie_of (slice_get (changed links (slot_in x) (λ l. record l { after = next })) (slot_in x))
+          ≡ Some (x, before, next)
+      tied None there = absurd (none-some (x, before, after) (sym (ap tie_of there) ∙ is.0))
+      tied (Some l) there =
+          ap tie_of (changed_here links (slot_in x) (λ l. record l { after = next }) l there)
+          ∙ ap (λ tie. Some (tie.0, tie.1, next))
+          (same_Some (l.node, l.before, l.after) (x, before, after) (sym (ap tie_of there) ∙ is.0))
+  chain_after links up before after next at (x ∷ y ∷ ys) once is = (
+    after_ties links up (last_or (Some (slot_in y)) ys) next (slot_in x)
+        (last_apart (Some (slot_in y)) ys (slot_in x)
+        (let here = count_here (slot_in x) x (y ∷ ys) refl in
+        let more = count_more (slot_in x) y ys in
+        let le = once (slot_in x) in omega (arith, here, more, le))
+        (λ same. let here = count_here (slot_in x) x (y ∷ ys) refl in
+        let there = count_here (slot_in x) y ys (same_Some (slot_in y) (slot_in x) same) in
+        let le = once (slot_in x) in omega (arith, here, there, le)))
+        ∙ is.0,
+    chain_after links up (Some (slot_in x)) after next (Some (slot_in x)) (y ∷ ys)
+        (λ s. let more = count_more s x (y ∷ ys) in let le = once s in omega (arith, more, le)) is.1,
+  )
+
+  pub front_put : (links : List (Link T)) (up : ℕ) (after next : Option ℕ) (l : Link T) (xs : List (Node T))
+      → slice_get links up ≡ Some l → ((s : ℕ) → count_at s xs ≤ 1) → IsFront links up xs after
+      → IsFront (after_put links up (last_or None xs) next) up xs next
+  front_put links up after next l [] there once front = record {
+    first = ap first_of (changed_here links up (λ l. record l { first = next }) l there);
+    chain = tt;
+  }
+  front_put links up after next l (x ∷ xs) there once front = record {
+    first = first (last_or (Some (slot_in x)) xs) (last_is (slot_in x) xs);
+    chain = chain_after links up None after next None (x ∷ xs) once front.chain;
+  }
+    where
+      last_is : (s : ℕ) (zs : List (Node T)) → last_or (Some s) zs ≢ None
+      last_is s [] is = none-some s (sym is)
+      last_is s (z ∷ zs) is = last_is (slot_in z) zs is
+
+      first : (at : Option ℕ) → at ≢ None
+          → first_of (slice_get (after_put links up at next) up) ≡ head_or (x ∷ xs) next
+      first None some = absurd (some refl)
+      first (Some at) some =
+          changed_kept first_of links at (λ l. record l { after = next }) (λ l. refl) up ∙ front.first
+
+  pub back_after : (links : List (Link T)) (up : ℕ) (at next before : Option ℕ) (ys : List (Node T))
+      → ((s : ℕ) → 0 < count_at s ys → at ≢ Some s) → IsBack links up before ys
+      → IsBack (after_put links up at next) up before ys
+  back_after links up at next before ys apart back = record {
+    last = after_last links up at next up ∙ back.last;
+    chain = chain_kept links (after_put links up at next) before None ys
+        (λ s lt. after_ties links up at next s (apart s lt)) back.chain;
+  }
+
+  -- ---- another comes before the back
+
+  pub back_put : (links : List (Link T)) (up : ℕ) (before next : Option ℕ) (l : Link T) (ys : List (Node T))
+      → slice_get links up ≡ Some l → ((s : ℕ) → count_at s ys ≤ 1) → IsBack links up before ys
+      → IsBack (before_put links up (head_or ys None) next) up next ys
+  back_put links up before next l [] there once back = record {
+    last = ap last_of (changed_here links up (λ l. record l { last = next }) l there);
+    chain = tt;
+  }
+  back_put links up before next l (y ∷ ys) there once back = record {
+    last = changed_kept last_of links (slot_in y) (λ l. record l { before = next }) (λ l. refl) up ∙ back.last;
+    chain = (
+      tied (slice_get links (slot_in y)) refl,
+      chain_kept links (before_put links up (Some (slot_in y)) next) (Some (slot_in y)) None ys
+          (λ s lt. before_ties links up (Some (slot_in y)) next s (λ is.
+          let here = count_here s y ys (same_Some (slot_in y) s is) in
+          let le = once s in omega (arith, here, le, lt))) back.chain.1,
+    );
+  }
+    where
+      tied : (o : Option (Link T)) → slice_get links (slot_in y) ≡ o
+          → tie_of (slice_get (changed links (slot_in y) (λ l. record l { before = next })) (slot_in y))
+          ≡ Some (y, next, head_or ys None)
+      tied None there = absurd (none-some (y, before, head_or ys None) (sym (ap tie_of there) ∙ back.chain.0))
+      tied (Some l) there =
+          ap tie_of (changed_here links (slot_in y) (λ l. record l { before = next }) l there)
+          ∙ ap (λ tie. Some (tie.0, next, tie.2))
+          (same_Some (l.node, l.before, l.after) (y, before, head_or ys None)
+          (sym (ap tie_of there) ∙ back.chain.0))
+
+  pub front_before : (links : List (Link T)) (up : ℕ) (at next after : Option ℕ) (xs : List (Node T))
+      → ((s : ℕ) → 0 < count_at s xs → at ≢ Some s) → IsFront links up xs after
+      → IsFront (before_put links up at next) up xs after
+  front_before links up at next after xs apart front = record {
+    first = before_first links up at next up ∙ front.first;
+    chain = chain_kept links (before_put links up at next) None after xs
+        (λ s lt. before_ties links up at next s (apart s lt)) front.chain;
+  }
+
+  -- ---- the links of a slot's children on both sides of a spot
+
+  -- what stands on one side isn't on the other, where each slot is counted once
+  module _ (xs ys : List (Node T)) (once : (s : ℕ) → count_at s xs + count_at s ys ≤ 1) where
+    pub behind : (s : ℕ) → 0 < count_at s ys → last_or None xs ≢ Some s
+    behind s lt = last_apart None xs s (let le = once s in omega (arith, le, lt)) (λ is. none-some s is)
+
+    pub ahead : (s : ℕ) → 0 < count_at s xs → head_or ys None ≢ Some s
+    ahead s lt = head_apart ys s (let le = once s in omega (arith, le, lt))
+
+  -- both sides are linked anew to what is to come between them
+  abbrev pub joined : List (Link T) → ℕ → List (Node T) → List (Node T) → Option ℕ → Option ℕ → List (Link T)
+  joined links up xs ys next previous =
+      before_put (after_put links up (last_or None xs) next) up (head_or ys None) previous
+
+  module _ (links : List (Link T)) (up : ℕ) (l : Link T) (xs ys : List (Node T))
+      (there : slice_get links up ≡ Some l) (once : (s : ℕ) → count_at s xs + count_at s ys ≤ 1)
+      (next previous : Option ℕ) where
+    abbrev half : List (Link T)
+    half = after_put links up (last_or None xs) next
+
+    still : (m : Link T) × (slice_get half up ≡ Some m)
+    still = at (last_or None xs)
+      where
+        more : (slot : ℕ) (f : Link T → Link T) → (m : Link T) × (slice_get (changed links slot f) up ≡ Some m)
+        more slot f = ⊎_elim
+            (λ is. (
+              f l,
+              subst (λ i. slice_get (changed links i f) up ≡ Some (f l)) is
+                  (changed_here links up f l there),
+            ))
+            (λ ne. (l, changed_apart links slot f up ne ∙ there)) (cases_eq up slot)
+
+        at : (o : Option ℕ) → (m : Link T) × (slice_get (after_put links up o next) up ≡ Some m)
+        at None = more up (λ l. record l { first = next })
+        at (Some s) = more s (λ l. record l { after = next })
+
+    pub joined_front : (after : Option ℕ) → IsFront links up xs after
+        → IsFront (joined links up xs ys next previous) up xs next
+    joined_front after front =
+        front_before half up (head_or ys None) previous next xs (ahead xs ys once)
+        (front_put links up after next l xs there (λ s. let le = once s in omega (arith, le)) front)
+
+    pub joined_back : (before : Option ℕ) → IsBack links up before ys
+        → IsBack (joined links up xs ys next previous) up previous ys
+    joined_back before back =
+        back_put half up before previous still.0 ys still.1 (λ s. let le = once s in omega (arith, le))
+        (back_after links up (last_or None xs) next before ys (behind xs ys once) back)
+
+    -- what stands on neither side is left
+    pub joined_ties : (s : ℕ) → count_at s xs ≡ 0 → count_at s ys ≡ 0
+        → tie_of (slice_get (joined links up xs ys next previous) s) ≡ tie_of (slice_get links s)
+    joined_ties s none free =
+        before_ties half up (head_or ys None) previous s (head_apart ys s free)
+        ∙ after_ties links up (last_or None xs) next s (last_apart None xs s none (λ is. none-some s is))
+
+    pub joined_held : (slot : ℕ) (zs : List (Node T)) → slot ≢ up
+        → ((s : ℕ) → 0 < count_at s zs → (count_at s xs ≡ 0) × (count_at s ys ≡ 0))
+        → IsHeld links slot zs → IsHeld (joined links up xs ys next previous) slot zs
+    joined_held slot zs other apart held = held_kept links (joined links up xs ys next previous) slot zs
+        (λ s lt. let none = apart s lt in joined_ties s none.0 none.1)
+        (before_first half up (head_or ys None) previous slot
+        ∙ after_first links up (last_or None xs) next slot other)
+        (before_last half up (head_or ys None) previous slot other
+        ∙ after_last links up (last_or None xs) next slot) held
+
+  -- ---- a child more, and a child less
+
+  module _ (links : List (Link T)) (up : ℕ) (l : Link T) (xs ys : List (Node T)) (c : Node T)
+      (there : slice_get links up ≡ Some l) (once : (s : ℕ) → count_at s (xs ++ c ∷ ys) ≤ 1) where
+    few : (s : ℕ) → count_at s xs + count_at s ys ≤ 1
+    few s =
+        let both = count_both s xs (c ∷ ys) in
+        let more = count_more s c ys in
+        let le = once s in omega (arith, both, more, le)
+
+    none : (count_at (slot_in c) xs ≡ 0) × (count_at (slot_in c) ys ≡ 0)
+    none =
+        let both = count_both (slot_in c) xs (c ∷ ys) in
+        let here = count_here (slot_in c) c ys refl in
+        let le = once (slot_in c) in (omega (arith, both, here, le), omega (arith, both, here, le))
+
+    abbrev more : List (Link T)
+    more = joined links up xs ys (Some (slot_in c)) (Some (slot_in c))
+
+    abbrev less : List (Link T)
+    less = joined links up xs ys (head_or ys None) (last_or None xs)
+
+    pub linked_in : tie_of (slice_get links (slot_in c)) ≡ Some (c, last_or None xs, head_or ys None)
+        → IsHeld links up (xs ++ ys) → IsHeld more up (xs ++ c ∷ ys)
+    linked_in tie held =
+        let back = joined_back links up l xs ys there few (Some (slot_in c)) (Some (slot_in c))
+        (last_or None xs) (back_of links up xs ys held) in
+        held_of more up xs (c ∷ ys)
+        (joined_front links up l xs ys there few (Some (slot_in c)) (Some (slot_in c))
+        (head_or ys None) (front_of links up xs ys held))
+        (record {
+          last = back.last;
+          chain = (
+            joined_ties links up l xs ys there few (Some (slot_in c)) (Some (slot_in c))
+                (slot_in c) none.0 none.1 ∙ tie,
+            back.chain,
+          );
+        })
+
+    pub linked_out : IsHeld links up (xs ++ c ∷ ys) → IsHeld less up (xs ++ ys)
+    linked_out held =
+        let back = back_of links up xs (c ∷ ys) held in
+        held_of less up xs ys
+        (joined_front links up l xs ys there few (head_or ys None) (last_or None xs)
+        (Some (slot_in c)) (front_of links up xs (c ∷ ys) held))
+        (joined_back links up l xs ys there few (head_or ys None) (last_or None xs)
+        (Some (slot_in c)) (record { last = back.last; chain = back.chain.1 }))

@@ -1,0 +1,18 @@
+use Rattle.std.proofs.Common.{Some, sym, ap, length, ◌∙◌}
+use Rattle.std.proofs.lemmas.Option.{slice_get-get_or}
+use Rattle.scene_tree.specs.Chains.{chain, first_of}
+use Rattle.scene_tree.proofs.Linked.{children_from, rest_first}
+use Rattle.scene_tree.proofs.links.children_at.Goals as goal
+
+pub new-requires : goal.new-requires
+new-requires g c =
+    let links = c.args.links.now.items in
+    rest_first links c.args.slot c.index.result.now c.requires.linked
+    (slice_get-get_or links c.args.slot c.index.result.now c.requires.within ∙ ap Some (sym c.index.ensures))
+
+pub returns : goal.returns
+returns g c =
+    let links = c.args.links.now.items in
+    c.new.ensures ∙ sym (children_from links c.args.slot
+    ∙ ap (λ o. chain links (length links) (first_of o))
+    (slice_get-get_or links c.args.slot c.index.result.now c.requires.within ∙ ap Some (sym c.index.ensures)))

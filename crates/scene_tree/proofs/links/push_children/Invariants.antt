@@ -1,0 +1,5 @@
+use Rattle.std.proofs.Common.{◌≡◌, ◌++◌}
+use Rattle.scene_tree.proofs.links.push_children.Given as goal
+
+abbrev pub invariant-loop-child : goal.invariant-loop-child
+invariant-loop-child g l = l.list.items ≡ l.fn.list.items ++ l.yielded

@@ -1,0 +1,6 @@
+use Rattle.std.proofs.Common.{None}
+use Rattle.scene_tree.proofs.Chains.{written}
+use Rattle.scene_tree.proofs.links.remove_parent.Goals as goal
+
+pub returns : goal.returns
+returns g c = written _ _ (λ l. record l { parent = None }) c.index_mut.result.now c.requires.within c.index_mut.ensures.value

@@ -1,0 +1,18 @@
+use Rattle.std.proofs.Common.{arith, length, sym, ap, ◌∙◌}
+use Rattle.scene_tree.proofs.Linked.{rest_read}
+use Rattle.scene_tree.proofs.walk.ChildrenIterator.next.Goals as goal
+
+pub invariant_of-self : goal.invariant_of-self
+invariant_of-self g c =
+    (rest_read _ _ _ c.index-link.result.now c.self.invariant c.in_ok-slot.was c.index-link.ensures).1
+
+pub returns-clause-steps : goal.returns-clause-steps
+returns-clause-steps g c = sym c.self.view_is
+    ∙ (rest_read _ _ _ c.index-link.result.now c.self.invariant c.in_ok-slot.was c.index-link.ensures).0
+
+pub returns-clause-goes : goal.returns-clause-goes
+returns-clause-goes g c = record {
+  on = λ _. (tt, tt, let less = ap length (returns-clause-steps g c) in omega (arith, less));
+  keeps = tt;
+  rests = λ _. tt;
+}
