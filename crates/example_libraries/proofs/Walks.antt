@@ -57,6 +57,15 @@ pub last_more : {X : Type 0} (x y : X) (ys : List X) → last_of x (ys ++ y ∷ 
 last_more x y [] = refl
 last_more x y (z ∷ ys) = last_more z y ys
 
+-- the last element of a list, if it has one
+abbrev pub last_in : {X : Type 0} → List X → Option X
+last_in [] = None
+last_in (x ∷ xs) = Some (last_of x xs)
+
+pub last_pushed : {X : Type 0} (xs : List X) (x : X) → last_in (xs ++ x ∷ []) ≡ Some x
+last_pushed [] x = refl
+last_pushed (y ∷ xs) x = ap Some (last_more y x xs)
+
 module _ {T : Type 0} (t : TreeState T) where
   -- the last of a node's ancestors is a root, and the node is below it
   pub last_root : (n : Node T) (ups : List (Node T)) → AreAncestors t n ups

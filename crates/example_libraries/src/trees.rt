@@ -1,6 +1,6 @@
 //! Trees, and handles of their nodes.
 
-ghost use Rattle.std.specs.Prelude.{◌≡◌, ◌⊎◌, ◌∷◌, ℕ, Err, IfOk, IsErr, None, OnOk, Some};
+ghost use Rattle.std.specs.Prelude.{◌≡◌, ◌⊎◌, ◌∷◌, ◌++◌, [], List, ℕ, Err, IfOk, IsErr, None, OnOk, Some};
 ghost use Rattle.generational_errors.specs.declared.error.StoreError.TheVariants.{OutOfMemory};
 ghost use Rattle.scene_tree.specs.declared.node.TreeError.TheVariants as error;
 ghost use Rattle.scene_tree.specs.declared.node.Node.{Node};
@@ -56,6 +56,21 @@ pub fn root_of<S: Storage<u64>>(
         root = above;
     }
     Ok(root)
+}
+
+/// The last of a node's children, if it has any.
+pub fn last_child<S: Storage<u64>>(
+    tree: &SceneTree<u64, S>,
+    node: Node<u64>,
+) -> Result<Option<Node<u64>>, Stale>
+    ensures { IfOk result (λ last. (others : List (Node ℕ)) (child : Node ℕ) →
+        children_of tree.now node ≡ others ++ child ∷ [] → last ≡ Some child) }
+{
+    let mut last = None;
+    'over: for child in tree.children(node)? {
+        last = Some(child);
+    }
+    Ok(last)
 }
 
 /// Puts a node before all its siblings, and leaves it where it is if it has no parent.
