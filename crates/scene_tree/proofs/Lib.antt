@@ -9,6 +9,7 @@ pub mod Linking
 pub mod Losing
 pub mod Moving
 pub mod Paths
+pub mod Rows
 pub mod Stores
 pub mod Trees
 pub mod Walking

@@ -68,7 +68,7 @@ missing None none = refl
 missing (Some v) none = absurd (true≢false none)
 
 -- what stands in two lists in a row stands in one of them
-get_both : {X : Type 0} (xs ys : List X) (i : ℕ) (x : X) → slice_get (xs ++ ys) i ≡ Some x
+pub get_both : {X : Type 0} (xs ys : List X) (i : ℕ) (x : X) → slice_get (xs ++ ys) i ≡ Some x
     → ((j : ℕ) × (slice_get xs j ≡ Some x)) ⊎ ((j : ℕ) × (slice_get ys j ≡ Some x))
 get_both [] ys i x at = inr (i, at)
 get_both (z ∷ xs) ys zero x at = inl (0, at)

@@ -2,6 +2,7 @@ pub mod Chains
 pub mod Families
 pub mod Keeping
 pub mod Nodes
+pub mod Rows
 pub mod Spots
 pub mod Texts
 pub mod Trees

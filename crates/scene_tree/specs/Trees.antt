@@ -1,7 +1,7 @@
 -- What a caller sees of a tree.
 use Rattle.std.specs.FinMap as map
 use Rattle.std.specs.List.{flat_map}
-use Rattle.std.specs.Prelude.{◌≡◌, ◌<◌, ◌≤◌, ◌↔◌, [], ◌∷◌, ℕ, suc, zero, true, Bool, List, Option, None, Some}
+use Rattle.std.specs.Prelude.{◌≡◌, ◌<◌, ◌≤◌, ◌+◌, ◌++◌, ◌↔◌, [], ◌∷◌, map as list_map, ℕ, suc, zero, true, Bool, List, Option, None, Some}
 use Rattle.std.specs.Prelude.{is_some, if◌then◌else◌}
 use Rattle.generational_core.specs.Boxes.{name_of}
 use Rattle.generational_core.specs.Seeing.{value_in}
@@ -86,6 +86,14 @@ module _ {T : Type 0} where
     pub levels : list ≡ top ∷ flat_map (children_of t) list
     pub below : (n : Node T) → 0 < times n list ↔ IsBelow t top n
     pub once : (n : Node T) → times n list ≤ 1
+
+  -- what is read of nodes that wait, each with a depth, so many at most: the first, and then its children,
+  -- one step deeper, and the others that wait
+  unfoldable pub outline_of : TreeState T → ℕ → List (ℕ × Node T) → List (ℕ × Node T)
+  outline_of t zero waiting = []
+  outline_of t (suc limit) [] = []
+  outline_of t (suc limit) (r ∷ waiting) =
+      r ∷ outline_of t limit (list_map (λ n. (r.0 + 1, n)) (children_of t r.1) ++ waiting)
 
   -- a node stands once among its parent's children, and in no other node's, and going from parent to
   -- parent ends at a root

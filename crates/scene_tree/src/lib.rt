@@ -15,4 +15,4 @@ mod walk;
 pub use crate::node::{Node, Stale, TreeError};
 pub use crate::spot::Spot;
 pub use crate::tree::SceneTree;
-pub use crate::walk::{Ancestors, Children};
+pub use crate::walk::{Ancestors, Children, Outline};

@@ -7,6 +7,7 @@ ghost use Rattle.scene_tree.specs.Nodes.{slot_in, is_same};
 ghost use Rattle.scene_tree.specs.Families.{families, family_at, parent_at, children_at, above, alone};
 ghost use Rattle.scene_tree.specs.Families.{IsForest, IsLinked, IsInLevels, IsUnder, IsOpened, IsAttached};
 ghost use Rattle.scene_tree.specs.Families.{IsDetached, IsCleared, IsRooted, count_at, IsGap, IsSpotIn};
+ghost use Rattle.scene_tree.specs.Rows.{IsPlaced, IsRow, behind, rows_at, waiting};
 ghost use Rattle.scene_tree.specs.declared.links.Link.{Link};
 ghost use Rattle.scene_tree.specs.declared.node.Node.{Node};
 
@@ -275,6 +276,50 @@ pub(crate) fn children_at<T>(links: &Vec<Link<T>>, slot: usize) -> Children<'_, 
     ensures { result ≡ children_at (families links.now.items) slot }
 {
     Children::new(links, links[slot].first)
+}
+
+/// The row that follows that of a slot's node in an outline: its first child, or what follows it and all
+/// below it.
+pub(crate) fn next_row<T>(
+    links: &Vec<Link<T>>,
+    depth: usize,
+    slot: usize,
+) -> Option<(usize, Node<T>)>
+    requires linked { IsLinked links.now.items }
+    requires forest { IsForest (families links.now.items) }
+    requires placed { IsPlaced links.now.items depth slot }
+    ensures next { waiting links.now.items result
+        ≡ rows_at (depth + 1) (children_at (families links.now.items) slot)
+        ++ behind links.now.items depth (Some slot) }
+    ensures row { IsRow links.now.items result }
+{
+    match links[slot].first {
+        Some(child) => Some((depth + 1, links[child].node)),
+        None => row_behind(links, depth, slot),
+    }
+}
+
+// The row that follows that of a slot's node and those of all below it.
+fn row_behind<T>(links: &Vec<Link<T>>, depth: usize, slot: usize) -> Option<(usize, Node<T>)>
+    requires linked { IsLinked links.now.items }
+    requires forest { IsForest (families links.now.items) }
+    requires placed { IsPlaced links.now.items depth slot }
+    ensures next { waiting links.now.items result ≡ behind links.now.items depth (Some slot) }
+    ensures row { IsRow links.now.items result }
+{
+    let mut at = slot;
+    let mut steps = depth;
+    while steps > 0 {
+        if let Some(sibling) = links[at].after {
+            return Some((steps, links[sibling].node));
+        }
+        match parent_at(links, at) {
+            Some(parent) => at = parent.slot(),
+            None => return None,
+        }
+        steps -= 1;
+    }
+    None
 }
 
 /// A node and all below it, level by level.

@@ -15,7 +15,7 @@ ghost use Rattle.scene_tree.specs.Keeping.{HasLost, IsLiveIn};
 ghost use Rattle.scene_tree.specs.Nodes.{made_at, times, without, IsOther};
 ghost use Rattle.scene_tree.specs.Trees.{TreeState, value_of, is_live, family_of, parent_of};
 ghost use Rattle.scene_tree.specs.Trees.{children_of, WasMade, IsBelow, IsLeft, CanMove};
-ghost use Rattle.scene_tree.specs.Trees.{AreAncestors, IsRootedIn, IsSubtree, IsTree, count_of, parent_for};
+ghost use Rattle.scene_tree.specs.Trees.{AreAncestors, IsRootedIn, IsSubtree, IsTree, count_of, outline_of, parent_for};
 ghost use Rattle.scene_tree.specs.Spots.{named, placed};
 
 use crate::links::{
@@ -24,7 +24,7 @@ use crate::links::{
 };
 use crate::node::{Node, Stale, TreeError};
 use crate::spot::Spot;
-use crate::walk::{Ancestors, Children};
+use crate::walk::{Ancestors, Children, Outline};
 use generational_core::{GenerationalBox, Location, Refusal, Storage, StoreError};
 use std::alloc::Global;
 use std::marker::Model;
@@ -425,6 +425,27 @@ impl<T, S: Storage<T>> SceneTree<T, S> {
             Ok(list) => Ok(list),
             Err(_) => Err(TreeError::Store(StoreError::OutOfMemory)),
         }
+    }
+
+    /// A node and those below it, as they are read: each before its children, and these in their order,
+    /// each with how many steps it is below the node. The tree is lent meanwhile. At most `limit` of them,
+    /// so all of them where that is no less than `len`.
+    ///
+    /// Refused where the node is gone, or is another tree's. Takes no memory, and is O(1). A step is O(d) for
+    /// d steps from its node to the first, and all steps together are O(k) for k nodes.
+    pub fn outline(&self, node: Node<T>, limit: usize) -> Result<Outline<'_, T>, Stale>
+        ensures outline { IfOk result (λ rows.
+            rows ≡ outline_of self.now limit ((0, node) ∷ [])) }
+        ensures stale { IsErr result ↔ value_of self.now node ≡ None }
+        ensures told { IfErr result (λ stale. stale.made_at ≡ made_at node) }
+    {
+        let links = &self.links;
+        if !self.is_alive(node) {
+            return Err(Stale {
+                made_at: node.made_at(),
+            });
+        }
+        Ok(Outline::new(links, node, limit))
     }
 
     /// Moves a node with all below it: it becomes the last child of another. Its parent loses this

@@ -1,12 +1,14 @@
-//! Walks from a node to its root, and over its children.
+//! Walks from a node to its root, over its children, and over all below it.
 
-ghost use Rattle.std.specs.Prelude.{◌≡◌, length, Option, ℕ};
+ghost use Rattle.std.specs.Prelude.{◌≡◌, ◌<◌, ◌∷◌, [], length, Option, ℕ};
+ghost use Rattle.scene_tree.specs.Nodes.{slot_in};
 ghost use Rattle.std.specs.Iterator.{YieldsFirst, item_count};
-ghost use Rattle.scene_tree.specs.Families.{IsForest, families};
+ghost use Rattle.scene_tree.specs.Families.{IsForest, IsLinked, families};
 ghost use Rattle.scene_tree.specs.Walking.{IsRest, IsWithin, way_up};
 ghost use Rattle.scene_tree.specs.Chains.{chain};
+ghost use Rattle.scene_tree.specs.Rows.{IsRow, rows, waiting};
 
-use crate::links::{Link, parent_at};
+use crate::links::{Link, next_row, parent_at};
 use crate::node::Node;
 use std::iter::FusedIterator;
 use std::marker::Model;
@@ -108,3 +110,64 @@ impl<'a, T> Iterator for Children<'a, T> {
 }
 
 impl<'a, T> FusedIterator for Children<'a, T> {}
+
+/// A node and those below it, each before its children, with how many steps each is below the first, as
+/// [`SceneTree::outline`](crate::SceneTree::outline) gives them. Contracts see the list of those that are
+/// left.
+#[derive(Drop)]
+pub struct Outline<'a, T> {
+    links: &'a Vec<Link<T>>,
+    left: usize,
+    next: Option<(usize, Node<T>)>,
+}
+
+impl<'a, T> Model for Outline<'a, T> {
+    ghost use Rattle.std.specs.Prelude.{List, ℕ};
+    ghost use Rattle.scene_tree.specs.declared.node.Node.{Node};
+    ghost use Rattle.scene_tree.specs.Families.{IsForest, IsLinked, families};
+    ghost use Rattle.scene_tree.specs.Rows.{IsRow, rows, waiting};
+
+    ghost Value = { List (ℕ × Node T) };
+
+    ghost view = { λ it. rows (families it.links.now.items) it.left
+        (waiting it.links.now.items it.next) };
+
+    ghost invariant = { λ it. IsLinked it.links.now.items
+        × IsForest (families it.links.now.items)
+        × IsRow it.links.now.items it.next };
+}
+
+impl<'a, T> Outline<'a, T> {
+    pub(crate) fn new(links: &'a Vec<Link<T>>, node: Node<T>, limit: usize) -> Self
+        requires linked { IsLinked links.now.items }
+        requires forest { IsForest (families links.now.items) }
+        requires within { slot_in node < length links.now.items }
+        ensures { result ≡ rows (families links.now.items) limit ((0, node) ∷ []) }
+    {
+        Outline {
+            links,
+            left: limit,
+            next: Some((0, node)),
+        }
+    }
+}
+
+impl<'a, T> Iterator for Outline<'a, T> {
+    type Item = (usize, Node<T>);
+
+    ghost next_gives = { YieldsFirst (λ left. left) };
+
+    ghost remaining = { item_count (λ left. left) };
+
+    fn next(&mut self) -> Option<(usize, Node<T>)> {
+        if self.left == 0 {
+            return None;
+        }
+        let (depth, node) = self.next?;
+        self.left -= 1;
+        self.next = next_row(self.links, depth, node.slot());
+        Some((depth, node))
+    }
+}
+
+impl<'a, T> FusedIterator for Outline<'a, T> {}

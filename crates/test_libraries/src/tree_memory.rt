@@ -30,40 +30,39 @@ pub(crate) fn root_or_again<S: Storage<u64>>(
     made.map_err(|refusal| refusal.cause).expect(rt, "a root")
 }
 
-/// Makes a child. One that lacks memory leaves the parent's children as they were.
+/// Makes a child. One that lacks memory leaves as many nodes as there were.
 pub(crate) fn child_or_again<S: Storage<u64>>(
     rt: &impl Abort,
     tree: &mut SceneTree<u64, S>,
     parent: Node<u64>,
     value: u64,
 ) -> Node<u64> {
-    let before = count_of(rt, tree, parent);
+    let before = tree.len();
     let made = match tree.add_child(parent, value, made_at(1)) {
         Ok(child) => Ok(child),
         Err((back, error)) => {
             assert_same(rt, &back, &value);
             assert_same(rt, &error, &LACKING);
-            assert_same(rt, &count_of(rt, tree, parent), &before);
+            assert_same(rt, &tree.len(), &before);
             tree.add_child(parent, back, made_at(1))
         }
     };
     made.map_err(|(_, error)| error).expect(rt, "a child")
 }
 
-/// Makes a child at a spot below a node. One that lacks memory leaves that node's children.
+/// Makes a child at a spot. One that lacks memory leaves as many nodes as there were.
 fn child_at_or_again<S: Storage<u64>>(
     rt: &impl Abort,
     tree: &mut SceneTree<u64, S>,
-    parent: Node<u64>,
     spot: Spot<u64>,
     value: u64,
 ) -> Node<u64> {
-    let before = count_of(rt, tree, parent);
+    let before = tree.len();
     let made = match tree.add_at(spot, value, made_at(1)) {
         Ok(child) => Ok(child),
         Err((back, error)) => {
             assert_same(rt, &error, &LACKING);
-            assert_same(rt, &count_of(rt, tree, parent), &before);
+            assert_same(rt, &tree.len(), &before);
             tree.add_at(spot, back, made_at(1))
         }
     };
@@ -134,7 +133,7 @@ impl Scene<u64> for GrowBefore {
         let last = child_or_again(rt, &mut tree, root, 0);
         for value in 1..MANY {
             let spot = Spot::Before(last);
-            let child = child_at_or_again(rt, &mut tree, root, spot, value);
+            let child = child_at_or_again(rt, &mut tree, spot, value);
             assert!(rt; tree.move_at(child, Spot::FirstOf(last)).is_ok());
         }
         assert_same(rt, &count_of(rt, &tree, root), &1);

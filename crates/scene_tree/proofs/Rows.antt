@@ -1,0 +1,321 @@
+-- Rows of an outline: what follows each, and that they are those of the tree.
+use Rattle.std.proofs.Common.{◌≡◌, ◌≢◌, ◌<◌, ◌≤◌, ◌+◌, ℕ, zero, suc, List, [], ◌∷◌, ◌++◌, length, length-append, Option, None, Some}
+use Rattle.std.proofs.Common.{refl, sym, ap, subst, ◌∙◌, ⊎_elim, arith}
+use Rattle.std.specs.Prelude.{◌-◌, slice_get, slice_index_or}
+use Rattle.std.proofs.lemmas.Bool.{cases_eq}
+use Rattle.std.proofs.lemmas.Option.{none-some, same_Some, slice_get-get_or, slice_get_within}
+use Rattle.std.proofs.lemmas.List.{length-map}
+use Rattle.generational_core.specs.State.{State, IsSound}
+use Rattle.scene_tree.specs.declared.links.Link.{Link}
+use Rattle.scene_tree.specs.declared.node.Node.{Node}
+use Rattle.scene_tree.specs.Chains.{IsChain, IsHeld, after_tied, chain, first_of, head_or, tie_of}
+use Rattle.scene_tree.specs.Families.{Family, IsForest, IsLinked, IsUnder, above, children_at, count_at, families, family_in}
+use Rattle.scene_tree.specs.Keeping.{IsKept, IsLiveIn}
+use Rattle.scene_tree.specs.Nodes.{slot_in}
+use Rattle.scene_tree.specs.Rows.{IsPlaced, behind, rows, rows_at, waiting}
+use Rattle.scene_tree.specs.Trees.{TreeState, outline_of}
+use Rattle.scene_tree.proofs.Chains.{chain_is, chain_none}
+use Rattle.scene_tree.proofs.Counting.{count_apart, counts}
+use Rattle.scene_tree.proofs.Gathering.{above_within}
+use Rattle.scene_tree.proofs.Paths.{depth_within, rooted_under}
+use Rattle.scene_tree.proofs.Linked.{between, child_above, child_within, children_short}
+use Rattle.scene_tree.proofs.Linking.{back_of}
+use Rattle.scene_tree.proofs.Trees.{get_both, live_children}
+
+pub one_deeper : (d : ℕ) → d + 1 ≡ suc d
+one_deeper d = omega arith
+
+module _ {T : Type 0} where
+  -- what is counted parts a list
+  pub parted : (s : ℕ) (cs : List (Node T)) → 0 < count_at s cs
+      → (xs : List (Node T)) × (c : Node T) × (ys : List (Node T)) × (cs ≡ xs ++ c ∷ ys) × (slot_in c ≡ s)
+  parted s [] lt = absurd (omega (arith, lt))
+  parted s (c ∷ cs) lt = ⊎_elim (λ is. ([], c, cs, refl, is))
+      (λ ne. let rest = parted s cs (subst (λ n. 0 < n) (count_apart s c cs ne) lt) in
+      (c ∷ rest.0, rest.1, rest.2, ap (λ xs. c ∷ xs) rest.3, rest.4))
+      (cases_eq (slot_in c) s)
+
+  get_behind : (xs ys : List (Node T)) (k : ℕ) (y : Node T) → slice_get ys k ≡ Some y
+      → (j : ℕ) × (slice_get (xs ++ ys) j ≡ Some y)
+  get_behind [] ys k y at = (k, at)
+  get_behind (x ∷ xs) ys k y at = let rest = get_behind xs ys k y at in (suc rest.0, rest.1)
+
+  module _ (links : List (Link T)) (linked : IsLinked links) (f : IsForest (families links)) where
+    abbrev fs : List (Family T)
+    fs = families links
+
+    abbrev after_at : ℕ → Option ℕ
+    after_at s = after_tied (tie_of (slice_get links s))
+
+    -- what follows a child among its siblings
+    module _ (s up : ℕ) (is : above fs s ≡ Some up) where
+      pub one : count_at s (children_at fs up) ≡ 1
+      one = f.once s up is
+
+      abbrev pub part : (xs : List (Node T)) × (c : Node T) × (ys : List (Node T))
+          × (children_at fs up ≡ xs ++ c ∷ ys) × (slot_in c ≡ s)
+      part = parted s (children_at fs up) (omega (arith, one))
+
+      after_is : after_at s ≡ head_or part.2 None
+      after_is = ap after_at (sym part.4) ∙ ap after_tied (between links up linked part.0 part.1 part.2 part.3)
+
+      lies : IsChain links (Some (slot_in part.1)) part.2 None
+      lies = (back_of links up part.0 (part.1 ∷ part.2)
+          (subst (λ cs. IsHeld links up cs) part.3 (linked up))).chain.1
+
+      short : length part.2 ≤ length links
+      short =
+          let le = children_short links up in
+          let all = ap length part.3 ∙ length-append part.0 (part.1 ∷ part.2) in omega (arith, le, all)
+
+      pub left_is : chain links (length links) (after_at s) ≡ part.2
+      left_is = ap (chain links (length links)) after_is
+          ∙ chain_is links (Some (slot_in part.1)) part.2 (length links) lies short
+
+      each_above : (k : ℕ) (y : Node T) → slice_get part.2 k ≡ Some y → above fs (slot_in y) ≡ Some up
+      each_above k y at =
+          let there = get_behind part.0 (part.1 ∷ part.2) (suc k) y at in
+          child_above fs f up (slot_in y) (counts (slot_in y) (children_at fs up) there.0 y
+          (ap (λ cs. slice_get cs there.0) part.3 ∙ there.1) refl)
+
+    -- a node that is first of what follows has a link, with what follows it
+    head_there : (before : Option ℕ) (y : Node T) (ys : List (Node T)) → IsChain links before (y ∷ ys) None
+        → (at : ℕ) (l : Link T) → slice_get links at ≡ Some l → Some at ≡ Some (slot_in y)
+        → (l.node ≡ y) × (at ≡ slot_in y)
+    head_there before y ys is at l there same =
+        let slot = same_Some at (slot_in y) same in (
+          ap (λ t. t.0) (same_Some (l.node, l.before, l.after) (y, before, head_or ys None)
+              (sym (ap tie_of there) ∙ (ap (λ s. tie_of (slice_get links s)) slot ∙ is.0))),
+          slot,
+        )
+
+    -- the next sibling's row waits next, and has the same parent
+    pub next_sibling : (d s up at : ℕ) (l : Link T) → above fs s ≡ Some up → after_at s ≡ Some at
+        → slice_get links at ≡ Some l
+        → (waiting links (Some (suc d, l.node)) ≡ behind links (suc d) (Some s))
+        × (above fs (slot_in l.node) ≡ Some up) × (slot_in l.node < length links)
+    next_sibling d s up at l is next there = by (part s up is).2 refl
+      where
+        by : (ys : List (Node T)) → (part s up is).2 ≡ ys
+            → (waiting links (Some (suc d, l.node)) ≡ behind links (suc d) (Some s))
+            × (above fs (slot_in l.node) ≡ Some up) × (slot_in l.node < length links)
+        by [] none = absurd (none-some at (sym (after_is s up is ∙ ap (λ ys. head_or ys None) none) ∙ next))
+        by (y ∷ ys) some =
+            let here = head_there (Some (slot_in (part s up is).1)) y ys
+            (subst (λ zs. IsChain links (Some (slot_in (part s up is).1)) zs None) some (lies s up is)) at l there
+            (sym next ∙ (after_is s up is ∙ ap (λ zs. head_or zs None) some)) in
+            let over : above fs (slot_in y) ≡ Some up =
+            each_above s up is 0 y (ap (λ zs. slice_get zs 0) some) in
+            let rest = subst (λ zs. IsChain links (Some (slot_in (part s up is).1)) zs None) some (lies s up is) in
+            let le = short s up is in
+            let long = ap length some in
+            let after : chain links (length links) (after_at (slot_in y)) ≡ ys =
+            ap (chain links (length links)) (ap after_tied rest.0)
+            ∙ chain_is links (Some (slot_in y)) ys (length links) rest.1 (omega (arith, le, long)) in
+            let rows_are : waiting links (Some (suc d, y)) ≡ behind links (suc d) (Some s) =
+            ap (λ zs. (suc d, y) ∷ (rows_at (suc d) zs ++ behind links d (above fs (slot_in y)))) after
+            ∙ (ap (λ o. (suc d, y) ∷ (rows_at (suc d) ys ++ behind links d o)) (over ∙ sym is)
+            ∙ ap (λ zs. rows_at (suc d) zs ++ behind links d (above fs s)) (sym (left_is s up is ∙ some))) in (
+              ap (λ n. waiting links (Some (suc d, n))) here.0 ∙ rows_are,
+              ap (λ n. above fs (slot_in n)) here.0 ∙ over,
+              subst (λ i. i < length links) (here.1 ∙ ap slot_in (sym here.0)) (slice_get_within links at l there),
+            )
+
+    -- where no sibling follows, what follows the parent does
+    pub no_sibling : (d s : ℕ) → after_at s ≡ None
+        → behind links (suc d) (Some s) ≡ behind links d (above fs s)
+    no_sibling d s none = ap (λ zs. rows_at (suc d) zs ++ behind links d (above fs s))
+        (ap (chain links (length links)) none ∙ chain_none links (length links))
+
+    head : (s : ℕ) (m : Link T) → slice_get links s ≡ Some m → m.first ≡ head_or (children_at fs s) None
+    head s m from = sym (ap first_of from) ∙ (linked s).first
+
+    -- the first child's row waits next
+    pub first_row : (d s at : ℕ) (l m : Link T) → slice_get links s ≡ Some m → m.first ≡ Some at
+        → slice_get links at ≡ Some l
+        → (waiting links (Some (d + 1, l.node))
+        ≡ rows_at (d + 1) (children_at fs s) ++ behind links d (Some s))
+        × (above fs (slot_in l.node) ≡ Some s) × (slot_in l.node < length links)
+    first_row d s at l m from next there = by (children_at fs s) refl
+      where
+        by : (cs : List (Node T)) → children_at fs s ≡ cs
+            → (waiting links (Some (d + 1, l.node))
+            ≡ rows_at (d + 1) (children_at fs s) ++ behind links d (Some s))
+            × (above fs (slot_in l.node) ≡ Some s) × (slot_in l.node < length links)
+        by [] none = absurd (none-some at (sym (head s m from ∙ ap (λ cs. head_or cs None) none) ∙ next))
+        by (c ∷ cs) some =
+            let all = subst (λ zs. IsChain links None zs None) some (linked s).chain in
+            let here = head_there None c cs all at l there
+            (sym next ∙ (head s m from ∙ ap (λ zs. head_or zs None) some)) in
+            let over : above fs (slot_in c) ≡ Some s =
+            child_above fs f s (slot_in c) (counts (slot_in c) (children_at fs s) 0 c
+            (ap (λ zs. slice_get zs 0) some) refl) in
+            let le = children_short links s in
+            let long = ap length some in
+            let after : chain links (length links) (after_at (slot_in c)) ≡ cs =
+            ap (chain links (length links)) (ap after_tied all.0)
+            ∙ chain_is links (Some (slot_in c)) cs (length links) all.1 (omega (arith, le, long)) in
+            let rows_are : waiting links (Some (suc d, c)) ≡ rows_at (suc d) (children_at fs s) ++ behind links d (Some s) =
+            ap (λ zs. (suc d, c) ∷ (rows_at (suc d) zs ++ behind links d (above fs (slot_in c)))) after
+            ∙ (ap (λ o. (suc d, c) ∷ (rows_at (suc d) cs ++ behind links d o)) over
+            ∙ ap (λ zs. rows_at (suc d) zs ++ behind links d (Some s)) (sym some)) in (
+              ap (λ n. waiting links (Some (d + 1, n))) here.0
+                  ∙ subst (λ e. waiting links (Some (e, c)) ≡ rows_at e (children_at fs s) ++ behind links d (Some s))
+                  (sym (one_deeper d)) rows_are,
+              ap (λ n. above fs (slot_in n)) here.0 ∙ over,
+              subst (λ i. i < length links) (here.1 ∙ ap slot_in (sym here.0)) (slice_get_within links at l there),
+            )
+
+    -- a slot without children has no rows of any
+    pub no_row : (d s : ℕ) (m : Link T) → slice_get links s ≡ Some m → m.first ≡ None
+        → rows_at (d + 1) (children_at fs s) ++ behind links d (Some s) ≡ behind links d (Some s)
+    no_row d s m from none = by (children_at fs s) refl
+      where
+        by : (cs : List (Node T)) → children_at fs s ≡ cs
+            → rows_at (d + 1) (children_at fs s) ++ behind links d (Some s) ≡ behind links d (Some s)
+        by [] is = ap (λ zs. rows_at (d + 1) zs ++ behind links d (Some s)) is
+        by (c ∷ cs) is = absurd (none-some (slot_in c)
+            (sym none ∙ (sym (ap first_of from) ∙ ((linked s).first ∙ ap (λ zs. head_or zs None) is))))
+
+    -- a slot of a link is within, as the slots that a link names
+    pub first_within : (s at : ℕ) (m : Link T) → slice_get links s ≡ Some m → m.first ≡ Some at
+        → at < length links
+    first_within s at m from next = by (children_at fs s) refl
+      where
+        by : (cs : List (Node T)) → children_at fs s ≡ cs → at < length links
+        by [] none = absurd (none-some at
+            (sym (sym (ap first_of from) ∙ ((linked s).first ∙ ap (λ zs. head_or zs None) none)) ∙ next))
+        by (c ∷ cs) some =
+            let slot = same_Some (slot_in c) at
+            (sym (sym (ap first_of from) ∙ ((linked s).first ∙ ap (λ zs. head_or zs None) some)) ∙ next) in
+            child_within links f s at (counts at (children_at fs s) 0 c (ap (λ zs. slice_get zs 0) some) slot)
+
+    pub after_within : (s up at : ℕ) → above fs s ≡ Some up → after_at s ≡ Some at → at < length links
+    after_within s up at is next = by (part s up is).2 refl
+      where
+        by : (ys : List (Node T)) → (part s up is).2 ≡ ys → at < length links
+        by [] none = absurd (none-some at (sym (after_is s up is ∙ ap (λ ys. head_or ys None) none) ∙ next))
+        by (y ∷ ys) some =
+            let slot = same_Some (slot_in y) at (sym (after_is s up is ∙ ap (λ zs. head_or zs None) some) ∙ next) in
+            let there = get_behind (part s up is).0 ((part s up is).1 ∷ (part s up is).2) 1 y
+            (ap (λ zs. slice_get zs 0) some) in
+            child_within links f up at (counts at (children_at fs up) there.0 y
+            (ap (λ cs. slice_get cs there.0) (part s up is).3 ∙ there.1) slot)
+
+-- a slot that is some steps below another has a parent, where these aren't none
+pub under_has : {T : Type 0} (fs : List (Family T)) (top d s : ℕ) → 0 < d → IsUnder fs top d s
+    → (up : ℕ) × (above fs s ≡ Some up)
+under_has fs top zero s lt under = absurd (omega arith)
+under_has fs top (suc d) s lt under = (under.0, under.1)
+
+module _ {T : Type 0} (links : List (Link T)) where
+  -- no row is deeper than there are links
+  pub placed_short : IsForest (families links) → (d s : ℕ) → IsPlaced links d s → d < length links
+  placed_short f d s placed =
+      let r = f.rooted placed.0 in
+      let far = rooted_under (families links) placed.0 r.0 d s placed.1 r.1 in
+      let more = far.1 in
+      let long = length-map links (family_in links) in
+      let lt = placed.2 in
+      let within : s < length (families links) = omega (arith, lt, long) in
+      let deep = depth_within (families links) (length (families links)) (above_within (families links) f)
+      far.0 s far.2 within in
+      omega (arith, more, deep, long)
+
+  module _ (linked : IsLinked links) (f : IsForest (families links)) where
+    -- both cases of a row behind, as the links are read
+    pub sibling_row : (d s : ℕ) → IsPlaced links d s → 0 < d → (l : Link T) → l ≡ slice_index_or links s l
+        → (at : ℕ) → l.after ≡ Some at → (m : Link T) → m ≡ slice_index_or links at m
+        → (waiting links (Some (d, m.node)) ≡ behind links d (Some s)) × IsPlaced links d (slot_in m.node)
+    sibling_row zero s placed lt l read at next m read2 = absurd (omega arith)
+    sibling_row (suc d) s placed lt l read at next m read2 =
+        let up = placed.1.0 in
+        let is = placed.1.1 in
+        let here = slice_get-get_or links s l placed.2 ∙ ap Some (sym read) in
+        let after = ap (λ o. after_tied (tie_of o)) here ∙ next in
+        let there = slice_get-get_or links at m (after_within links linked f s up at is after) ∙ ap Some (sym read2) in
+        let row = next_sibling links linked f d s up at m is after there in
+        (row.0, (placed.0, (up, row.1, placed.1.2), row.2))
+
+    pub behind_up : (d s : ℕ) → IsPlaced links d s → 0 < d → (l : Link T) → l ≡ slice_index_or links s l
+        → l.after ≡ None → (up : ℕ) → above (families links) s ≡ Some up
+        → IsPlaced links (d - 1) up × (behind links (d - 1) (Some up) ≡ behind links d (Some s))
+    behind_up zero s placed lt l read none up is = absurd (omega arith)
+    behind_up (suc d) s placed lt l read none up is =
+        let here = slice_get-get_or links s l placed.2 ∙ ap Some (sym read) in
+        let long = length-map links (family_in links) in
+        let within = above_within (families links) f s up is in
+        let same = same_Some placed.1.0 up (sym placed.1.1 ∙ is) in
+        let less : suc d - 1 ≡ d = omega arith in (
+          (
+            placed.0,
+            subst (λ e. IsUnder (families links) placed.0 e up) (sym less)
+                (subst (IsUnder (families links) placed.0 d) same placed.1.2),
+            omega (arith, within, long),
+          ),
+          subst (λ e. behind links e (Some up) ≡ behind links (suc d) (Some s)) (sym less)
+              (ap (behind links d) (sym is)
+              ∙ sym (no_sibling links linked f d s (ap (λ o. after_tied (tie_of o)) here ∙ none))),
+        )
+
+  -- what is read of rows, one at a time
+  pub rows_more : (left d : ℕ) (n : Node T) → left ≢ 0 → (slot : ℕ) → slot ≡ slot_in n
+      → (next : Option (ℕ × Node T))
+      → waiting links next ≡ rows_at (d + 1) (children_at (families links) slot) ++ behind links d (Some slot)
+      → rows (families links) left (waiting links (Some (d, n)))
+      ≡ (d, n) ∷ rows (families links) (left - 1) (waiting links next)
+  unfolding rows
+  rows_more zero d n some slot is next then = absurd (some refl)
+  rows_more (suc left) d n some slot is next then =
+      let less : suc left - 1 ≡ left = omega arith in
+      ap (λ rest. (d, n) ∷ rest)
+      (ap (λ s. rows (families links) left (rows_at (d + 1) (children_at (families links) s) ++ behind links d (Some s)))
+      (sym is)
+      ∙ (ap (rows (families links) left) (sym then)
+      ∙ ap (λ k. rows (families links) k (waiting links next)) (sym less)))
+
+module _ {T : Type 0} (fs : List (Family T)) where
+  pub rows_none : (left : ℕ) (list : List (ℕ × Node T)) → left ≡ 0 → rows fs left list ≡ []
+  unfolding rows
+  rows_none zero list is = refl
+  rows_none (suc left) list is = absurd (omega (arith, is))
+
+  pub rows_end : (left : ℕ) → rows fs left [] ≡ []
+  unfolding rows
+  rows_end zero = refl
+  rows_end (suc left) = refl
+
+-- rows of live nodes are those that the tree shows
+module _ {T : Type 0} {S : State T} {fs : List (Family T)} (sound : IsSound S) (k : IsKept S fs) where
+  abbrev tree : TreeState T
+  tree = record { state = S; families = fs }
+
+  get_row : (d : ℕ) (cs : List (Node T)) (i : ℕ) (r : ℕ × Node T) → slice_get (rows_at d cs) i ≡ Some r
+      → slice_get cs i ≡ Some r.1
+  get_row d [] i r at = absurd (none-some r at)
+  get_row d (c ∷ cs) zero r at = ap (λ (row : ℕ × Node T). Some row.1) (same_Some (d, c) r at)
+  get_row d (c ∷ cs) (suc i) r at = get_row d cs i r at
+
+  pub rows_outline : (limit : ℕ) (list : List (ℕ × Node T))
+      → ((i : ℕ) (r : ℕ × Node T) → slice_get list i ≡ Some r → IsLiveIn S r.1)
+      → rows fs limit list ≡ outline_of tree limit list
+  unfolding rows outline_of
+  rows_outline zero list lives = refl
+  rows_outline (suc limit) [] lives = refl
+  rows_outline (suc limit) (r ∷ list) lives =
+      ap (λ rest. r ∷ rest) (rows_outline limit (rows_at (r.0 + 1) (children_at fs (slot_in r.1)) ++ list)
+      (λ i x at. ⊎_elim
+      (λ child. k.children (slot_in r.1) child.0 x.1
+      (get_row (r.0 + 1) (children_at fs (slot_in r.1)) child.0 x child.1))
+      (λ old. lives (suc old.0) x old.1)
+      (get_both (rows_at (r.0 + 1) (children_at fs (slot_in r.1))) list i x at))
+      ∙ ap (λ cs. outline_of tree limit (rows_at (r.0 + 1) cs ++ list))
+      (sym (live_children sound k r.1 (lives 0 r refl))))
+
+  pub outline_from : (limit : ℕ) (node : Node T) → IsLiveIn S node
+      → rows fs limit ((0, node) ∷ []) ≡ outline_of tree limit ((0, node) ∷ [])
+  outline_from limit node live = rows_outline limit ((0, node) ∷ []) first
+    where
+      first : (i : ℕ) (r : ℕ × Node T) → slice_get ((0, node) ∷ []) i ≡ Some r → IsLiveIn S r.1
+      first zero r at = subst (λ (x : ℕ × Node T). IsLiveIn S x.1) (same_Some (0, node) r at) live
+      first (suc i) r at = absurd (none-some r at)

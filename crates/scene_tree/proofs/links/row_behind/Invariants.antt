@@ -1,0 +1,12 @@
+use Rattle.std.proofs.Common.{◌≡◌, Some}
+use Rattle.scene_tree.specs.Rows.{IsPlaced, behind}
+use Rattle.scene_tree.proofs.links.row_behind.Given as goal
+
+abbrev pub invariant-loop-steps : goal.invariant-loop-steps
+invariant-loop-steps g l = record {
+  placed : IsPlaced l.links.items l.steps l.at;
+  same : behind l.links.items l.steps (Some l.at) ≡ behind l.links.items l.depth (Some l.slot);
+}
+
+abbrev pub decreases-loop-steps : goal.decreases-loop-steps
+decreases-loop-steps g l = l.steps
