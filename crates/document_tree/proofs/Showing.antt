@@ -1,5 +1,7 @@
 -- What places show after each call of their document.
+use Rattle.std.specs.Borrow.{MutBor}
 use Rattle.std.specs.FinMap as map
+use Rattle.std.specs.Fn.{FnOnceReturnsAtMut, Once}
 use Rattle.std.proofs.Common.{ℕ, ◌≡◌, ◌≢◌, true, Option, None, Some, refl, sym, ap, subst}
 use Rattle.std.proofs.Common.{◌∙◌, ⊎_elim}
 use Rattle.std.proofs.lemmas.Bool.{true≢false}
@@ -28,7 +30,8 @@ use Rattle.generational_core.proofs.machine.Seeing.{led_box, reaches}
 use Rattle.generational_core.proofs.machine.Stepping.{meets_cases, meets_given, meets_number}
 use Rattle.document_tree.specs.declared.part.Part.{Part}
 use Rattle.document_tree.specs.declared.place.Place.{Place}
-use Rattle.document_tree.specs.Documents.{Shown, shown_by, shown_of, shown_in, part_in, live_among, with_children, WasMade, Leaves, Changes}
+use Rattle.document_tree.specs.Documents.{Shown, shown_by, shown_of, shown_in, part_in, content_of, live_among, with_children, with_content, WasMade, Leaves, Changes, ChangesContent}
+use Rattle.document_tree.specs.declared.part.Body.{Body}
 use Rattle.generational_sessions.proofs.callers.Ids.{same_id_reach, same_value_there, unreached}
 use Rattle.document_tree.specs.Places.{IsSame}
 
@@ -140,6 +143,34 @@ module _ {T : Type 0} where
         parts = λ q. told.1 q.raw;
         kept = λ q. meets_given D E (SetValue p.raw v) (Old old) m (name_of q.raw);
       }
+
+  -- what is answered, and shown, where a closure changed the content of a part that a place shows
+  pub content_changed : {D E : State (Part T)} {F R : Type 0}
+      (g : Once F (MutBor T × Unit {0}) (R × (MutBor T × Unit {0}))) (f : F) (p : Place) (old new : Part T)
+      (r : Option R) → Meets D (SetValue p.raw new) (Old old) E → ChangesContent g f old r new
+      → is_some (shown_in D p) ≡ true
+      → (answer : R) × (before : T) × (changed : T) × (r ≡ Some answer)
+      × (content_of (shown_in D p) ≡ Some before) × FnOnceReturnsAtMut g f before answer changed
+      × (shown_by new.body ≡ with_content changed (shown_in D p))
+  content_changed {D} {E} {F} {R} g f p old new r m told live = at old.body refl
+    where
+      seen : shown_in D p ≡ shown_by old.body
+      seen = ap shown_of (sets p.raw new old m).0
+
+      at : (o : Option (Body T)) → old.body ≡ o → (answer : R) × (before : T) × (changed : T) × (r ≡ Some answer)
+          × (content_of (shown_in D p) ≡ Some before) × FnOnceReturnsAtMut g f before answer changed
+          × (shown_by new.body ≡ with_content changed (shown_in D p))
+      at None is = absurd (true≢false (sym live ∙ ap is_some (seen ∙ ap shown_by is)))
+      at (Some body) is =
+          let call = told body is in (
+            call.0,
+            body.content,
+            call.1,
+            call.2,
+            ap content_of (seen ∙ ap shown_by is),
+            call.3,
+            call.4 ∙ ap (with_content call.1) (sym seen),
+          )
 
   pub changed_twice : {D E F : State (Part T)} {p : Place} {x y : Option (Shown T)}
       → Changes D p x E → Changes E p y F → Changes D p y F

@@ -1,6 +1,8 @@
 -- What a caller sees of a document: to which part each place leads, and what it shows.
 use Rattle.std.specs.Prelude.{◌≡◌, ◌≢◌, ◌++◌, ◌∷◌, [], List, Option, None, Some, filter, is_some}
+use Rattle.std.specs.Borrow.{MutBor}
 use Rattle.std.specs.FinMap as map
+use Rattle.std.specs.Fn.{FnOnceReturnsAtMut, Once}
 use Rattle.generational_core.specs.Borrowing.{reach}
 use Rattle.generational_core.specs.Boxes.{name_of}
 use Rattle.generational_core.specs.Cells.{location_of}
@@ -62,6 +64,14 @@ module _ {T : Type 0} where
   abbrev pub with_children : (List Place → List Place) → Option (Shown T) → Option (Shown T)
   with_children f None = None
   with_children f (Some shown) = Some (record shown { children = f shown.children })
+
+  -- a call of a closure on a part's content, with what it answers and leaves there
+  abbrev pub ChangesContent : {F R : Type 0} → Once F (MutBor T × Unit {0}) (R × (MutBor T × Unit {0}))
+      → F → Part T → Option R → Part T → Type 0
+  ChangesContent {R = R} g f old r new = (body : Body T) → old.body ≡ Some body
+      → (answer : R) × (changed : T) × (r ≡ Some answer)
+      × FnOnceReturnsAtMut g f body.content answer changed
+      × (shown_by new.body ≡ with_content changed (shown_by old.body))
 
   -- a list of places without those that lead to no part
   abbrev pub live_among : State (Part T) → List Place → List Place

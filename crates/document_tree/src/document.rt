@@ -11,7 +11,7 @@ ghost use Rattle.generational_errors.specs.declared.error.StoreError.TheVariants
 ghost use Rattle.document_tree.specs.declared.place.Place.{Place};
 ghost use Rattle.document_tree.specs.Documents.{shown_by, shown_in, part_in, content_of, children_of};
 ghost use Rattle.document_tree.specs.Documents.{with_content, with_child, with_children, live_among, WasMade, Leaves, Changes};
-ghost use Rattle.document_tree.specs.Documents.{added_in, first_gone, EndsPart, IsOnlyPlace};
+ghost use Rattle.document_tree.specs.Documents.{added_in, first_gone, ChangesContent, EndsPart, IsOnlyPlace};
 ghost use Rattle.document_tree.specs.declared.place.PlaceError.TheVariants as errors;
 ghost use Rattle.document_tree.specs.Outlines.{children_in, deep_outline_of, outline_of};
 ghost use Rattle.document_tree.specs.Places.{made_at, IsSame, IsOther};
@@ -232,16 +232,13 @@ impl<T, S: Storage<Part<T>>> Document<T, S> {
         Ok(())
     }
 
-    /// Changes the content of a part by a closure, and answers what that answers. What it leaves shows at
-    /// each place that leads to the part, with the children that there were; every other place shows what
-    /// it showed.
+    /// Changes the content of a part in its place, by a closure, and answers what that answers. What it
+    /// leaves shows at each place that leads to the part, with the children that there were; every other
+    /// place shows what it showed.
     ///
     /// Refused where the place is gone, or is another document's: the closure isn't called then, and the
     /// document stays as it was. Takes no memory, and is O(1), but for the closure.
     pub fn update<R, F: FnOnce(&mut T) -> R>(&mut self, place: Place, f: F) -> Result<R, Gone>
-    where
-        T: Drop,
-        F: Drop,
         requires { F.IsAlwaysCallable f }
         ensures changed { IfOk result (λ answer. (old : T) × (changed : T) ×
             (content_of (shown_in self.old place) ≡ Some old) ×
@@ -257,12 +254,13 @@ impl<T, S: Storage<Part<T>>> Document<T, S> {
         ensures refused { OnErr result (self.new ≡ self.old) }
     {
         self.find(place)?;
-        let Some(mut body) = self.swap(place, None) else {
-            unreachable!();
-        };
-        let answer = change_content(&mut body.content, f);
-        self.swap(place, Some(body));
-        Ok(answer)
+        match self
+            .store
+            .change_value(place.raw, |part: &mut Part<T>| change_content(part, f))
+        {
+            Some(answer) => Ok(answer),
+            None => unreachable!(),
+        }
     }
 
     /// The child becomes the last child of the parent's part, at each place that leads there. Every
@@ -589,10 +587,13 @@ fn insert_place(places: &mut Vec<Place>, index: usize, place: Place) -> bool
     places.insert(index, place).is_ok()
 }
 
-// Changes a content by a closure, which is called once.
-fn change_content<T, R, F: FnOnce(&mut T) -> R>(content: &mut T, f: F) -> R
+// Changes the content of a part by a closure, which is called once.
+fn change_content<T, R, F: FnOnce(&mut T) -> R>(part: &mut Part<T>, f: F) -> Option<R>
     requires { F.IsAlwaysCallable f }
-    ensures { FnOnceReturnsAtMut F.FnOnce f content.old result content.new }
+    ensures { ChangesContent F.FnOnce f part.old result part.new }
 {
-    f(content)
+    match &mut part.body {
+        Some(body) => Some(f(&mut body.content)),
+        None => None,
+    }
 }
