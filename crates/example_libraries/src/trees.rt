@@ -1,11 +1,11 @@
 //! Trees, and handles of their nodes.
 
-ghost use Rattle.std.specs.Prelude.{◌≡◌, ◌⊎◌, ◌∷◌, ◌++◌, [], List, ℕ, Err, IfOk, IsErr, None, OnOk, Some};
+ghost use Rattle.std.specs.Prelude.{◌≡◌, ◌≤◌, ◌⊎◌, ◌∷◌, slice_get, ◌++◌, [], List, ℕ, Err, IfOk, IsErr, None, OnOk, Some};
 ghost use Rattle.generational_errors.specs.declared.error.StoreError.TheVariants.{OutOfMemory};
 ghost use Rattle.scene_tree.specs.declared.node.TreeError.TheVariants as error;
 ghost use Rattle.scene_tree.specs.declared.node.Node.{Node};
 ghost use Rattle.scene_tree.specs.Nodes.{IsOther, made_at, without};
-ghost use Rattle.scene_tree.specs.Trees.{IsBelow, IsLeft, WasMade, children_of, parent_of};
+ghost use Rattle.scene_tree.specs.Trees.{IsBelow, IsLeft, WasMade, children_of, outline_of, parent_of};
 
 use generational_box::{Location, Storage};
 use scene_tree::{Node, SceneTree, Spot, Stale, TreeError};
@@ -71,6 +71,25 @@ pub fn last_child<S: Storage<u64>>(
         last = Some(child);
     }
     Ok(last)
+}
+
+/// How many steps the deepest of a node and those below it is below the node, of as many as a limit says,
+/// in the order in which they are read.
+pub fn height<S: Storage<u64>>(
+    tree: &SceneTree<u64, S>,
+    node: Node<u64>,
+    limit: usize,
+) -> Result<usize, Stale>
+    ensures { IfOk result (λ height. (i : ℕ) (row : ℕ × Node ℕ) →
+        slice_get (outline_of tree.now limit ((0, node) ∷ [])) i ≡ Some row → row.0 ≤ height) }
+{
+    let mut height = 0;
+    'rows: for (depth, _) in tree.outline(node, limit)? {
+        if depth > height {
+            height = depth;
+        }
+    }
+    Ok(height)
 }
 
 /// Puts a node before all its siblings, and leaves it where it is if it has no parent.
