@@ -224,11 +224,8 @@ impl<T, S: Storage<Part<T>>> Document<T, S> {
         if let Err(gone) = self.find(place) {
             return Err((content, gone));
         }
-        let Some(mut body) = self.swap(place, None) else {
-            unreachable!();
-        };
-        body.content = content;
-        self.swap(place, Some(body));
+        self.store
+            .change_value(place.raw, |part: &mut Part<T>| put_content(part, content));
         Ok(())
     }
 
@@ -585,6 +582,15 @@ fn insert_place(places: &mut Vec<Place>, index: usize, place: Place) -> bool
     ensures same { IsFalse result → places.new.items ≡ places.old.items }
 {
     places.insert(index, place).is_ok()
+}
+
+// Puts another content in the place of a part's.
+fn put_content<T: Drop>(part: &mut Part<T>, content: T)
+    ensures { shown_by part.new.body ≡ with_content content (shown_by part.old.body) }
+{
+    if let Some(body) = &mut part.body {
+        body.content = content;
+    }
 }
 
 // Changes the content of a part by a closure, which is called once.
