@@ -2,11 +2,11 @@
 
 use crate::expected::assert_same;
 use crate::fresh::{Scene, play};
-use crate::tree_acts::{are_nodes, made_at, tree_over};
+use crate::tree_acts::{are_nodes, made_at, node_at, tree_over};
 use crate::tree_memory::{child_or_again, root_or_again};
 use example_libraries::trees::root_of;
 use generational_box::{Storage, StoreError};
-use scene_tree::{Node, SceneTree, Stale, TreeError};
+use scene_tree::{Node, SceneTree, Spot, Stale, TreeError};
 use std::alloc::Global;
 use std::collections::HashSet;
 use std::process::Abort;
@@ -61,6 +61,59 @@ impl Scene<u64> for WaysUp {
 #[test]
 fn ways_up_end_at_a_root(rt: HostRuntime) {
     play::<u64, WaysUp>(&rt, rt.alloc(), &WaysUp);
+}
+
+/// Sees the rows of a node's outline: how deep each is, and which node it is.
+fn reads<S: Storage<u64>>(
+    rt: &impl Abort,
+    tree: &SceneTree<u64, S>,
+    nodes: &[Node<u64>],
+    limit: usize,
+    rows: &[(usize, usize)],
+) {
+    let mut rest = rows;
+    let root = node_at(rt, nodes, 0);
+    for (depth, node) in tree.outline(root, limit).expect(rt, "a live node") {
+        let Some(((deep, number), others)) = rest.split_first() else {
+            assert!(rt; false);
+            return;
+        };
+        assert_same(rt, &depth, deep);
+        assert_same(rt, &node.id(), &node_at(rt, nodes, *number).id());
+        rest = others;
+    }
+    assert!(rt; rest.is_empty());
+}
+
+/// A root with two children, of which the first has two of its own, read with several limits, after a
+/// move, and after a removal.
+struct ReadInOrder;
+
+impl Scene<u64> for ReadInOrder {
+    fn play<R: Abort, S: Storage<u64> + Drop>(&self, rt: &R, alloc: Global, store: S) {
+        let mut tree = tree_over(rt, alloc, store);
+        let root = root_or_again(rt, &mut tree);
+        let first = child_or_again(rt, &mut tree, root, 1);
+        let second = child_or_again(rt, &mut tree, root, 2);
+        let third = child_or_again(rt, &mut tree, first, 3);
+        let fourth = child_or_again(rt, &mut tree, first, 4);
+        let nodes = [root, first, second, third, fourth];
+        reads(rt, &tree, &nodes, 0, &[]);
+        reads(rt, &tree, &nodes, 3, &[(0, 0), (1, 1), (2, 3)]);
+        reads(rt, &tree, &nodes, 9, &[(0, 0), (1, 1), (2, 3), (2, 4), (1, 2)]);
+        assert!(rt; tree.move_at(fourth, Spot::FirstOf(second)).is_ok());
+        reads(rt, &tree, &nodes, 9, &[(0, 0), (1, 1), (2, 3), (1, 2), (2, 4)]);
+        assert!(rt; tree.move_at(second, Spot::Before(third)).is_ok());
+        reads(rt, &tree, &nodes, 9, &[(0, 0), (1, 1), (2, 2), (3, 4), (2, 3)]);
+        assert!(rt; tree.remove_subtree(second).is_ok());
+        reads(rt, &tree, &nodes, 9, &[(0, 0), (1, 1), (2, 3)]);
+        assert!(rt; tree.outline(fourth, 9).is_err());
+    }
+}
+
+#[test]
+fn outlines_are_in_the_order_of_reading(rt: HostRuntime) {
+    play::<u64, ReadInOrder>(&rt, rt.alloc(), &ReadInOrder);
 }
 
 /// Sees what an error prints.
