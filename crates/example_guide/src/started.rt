@@ -4,6 +4,12 @@ use anyhow::Result;
 use generational_box::{Location, Storage, UnsyncStorage};
 use session_table::SessionTable;
 
+/// Under which key a session keeps a value.
+#[derive(Clone, Copy, PartialEq, Eq, Hash)]
+pub enum Key {
+    Basket,
+}
+
 pub fn main(rt: HostRuntime) -> Result<()> {
     // The table must be spent, so nothing between these lines may return early.
     let store = UnsyncStorage::<u64>::new(rt.alloc(), 1);
@@ -16,10 +22,10 @@ pub fn main(rt: HostRuntime) -> Result<()> {
 // The table is only lent here, so each `?` may end the function.
 fn visit<R: Print, S: Storage<u64>>(
     rt: &R,
-    table: &mut SessionTable<u64, &'static str, u64, S>,
+    table: &mut SessionTable<u64, Key, u64, S>,
 ) -> Result<()> {
     table.login(7, 1000)?;
-    let basket = table.put(&7, "basket", 42, Location::new("started.rt", 22, 24))?;
+    let basket = table.put(&7, Key::Basket, 42, Location::new("started.rt", 28, 24))?;
     println!(rt; "session 7 keeps {}", table.get(basket)?)?;
     table.logout(&7);
     match table.get(basket) {
