@@ -100,11 +100,29 @@ impl Scene<u64> for ReadInOrder {
         let nodes = [root, first, second, third, fourth];
         reads(rt, &tree, &nodes, 0, &[]);
         reads(rt, &tree, &nodes, 3, &[(0, 0), (1, 1), (2, 3)]);
-        reads(rt, &tree, &nodes, 9, &[(0, 0), (1, 1), (2, 3), (2, 4), (1, 2)]);
+        reads(
+            rt,
+            &tree,
+            &nodes,
+            9,
+            &[(0, 0), (1, 1), (2, 3), (2, 4), (1, 2)],
+        );
         assert!(rt; tree.move_at(fourth, Spot::FirstOf(second)).is_ok());
-        reads(rt, &tree, &nodes, 9, &[(0, 0), (1, 1), (2, 3), (1, 2), (2, 4)]);
+        reads(
+            rt,
+            &tree,
+            &nodes,
+            9,
+            &[(0, 0), (1, 1), (2, 3), (1, 2), (2, 4)],
+        );
         assert!(rt; tree.move_at(second, Spot::Before(third)).is_ok());
-        reads(rt, &tree, &nodes, 9, &[(0, 0), (1, 1), (2, 2), (3, 4), (2, 3)]);
+        reads(
+            rt,
+            &tree,
+            &nodes,
+            9,
+            &[(0, 0), (1, 1), (2, 2), (3, 4), (2, 3)],
+        );
         assert!(rt; tree.remove_subtree(second).is_ok());
         reads(rt, &tree, &nodes, 9, &[(0, 0), (1, 1), (2, 3)]);
         assert!(rt; tree.outline(fourth, 9).is_err());
