@@ -326,7 +326,7 @@ def change(old, new):
 # Sources that say otherwise than the pages: a signature, a clause's name, a clause without one, a
 # comment, a function that is private, and a name that isn't handed on any more.
 CHANGES = [
-    ("session_table/src/table.rt", change("pub fn login(&mut self, id: u64", "pub fn login(&mut self, id: u32")),
+    ("session_table/src/table.rt", change("pub fn login(&mut self, id: I, now: u64", "pub fn login(&mut self, id: I, now: u32")),
     ("session_table/src/table.rt", change("ensures opened {", "ensures began {")),
     ("entity_table/src/table.rt", change("ensures { result ≡ length self.now.rows }", "ensures { result ≡ 0 }")),
     ("scene_tree/src/tree.rt", change("    /// Whether", "    /// Whether or not")),
