@@ -49,8 +49,7 @@ pub fn seen_beside<S: Storage<u64>>(
 }
 
 /// Keeps a value in a session of its own, looks at it, and logs the session out: it is the same value.
-/// Every other session is as it was, and every entry that was put before shows what it showed, whatever
-/// the answer.
+/// Every other session is as it was, whatever the answer.
 pub fn one_visit<S: Storage<u64>>(
     table: &mut SessionTable<u64, u64, u64, S>,
     id: u64,

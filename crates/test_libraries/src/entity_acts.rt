@@ -152,12 +152,11 @@ pub(crate) fn add<S: Storage<u64>>(
     entity: Entity<u64>,
     more: u64,
 ) -> Result<(), Stale> {
-    let mut called = false;
+    let mut left = Some(more);
     let answer = table.update(entity, |element: &mut u64| {
-        called = true;
-        *element = element.wrapping_add(more);
+        *element = element.wrapping_add(left.take().unwrap_or(0));
     });
-    assert_same(rt, &called, &answer.is_ok());
+    assert_same(rt, &left.is_none(), &answer.is_ok());
     answer
 }
 

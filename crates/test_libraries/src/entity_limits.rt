@@ -203,11 +203,17 @@ fn goes_over<S: Storage<u64>>(
     table: &ComponentTable<u64, u64, S>,
     wanted: &[(Entity<u64>, u64)],
 ) {
-    assert_same(rt, &table.iter().count(), &wanted.len());
-    for ((entity, component), (of, number)) in table.iter().zip(wanted) {
+    let mut rest = wanted;
+    for (entity, component) in table.iter() {
+        let Some(((of, number), others)) = rest.split_first() else {
+            assert!(rt; false);
+            return;
+        };
         assert_same(rt, &entity, of);
         assert_same(rt, component, number);
+        rest = others;
     }
+    assert!(rt; rest.is_empty());
 }
 
 /// Sees which live entities have a component, with both, in order.
@@ -217,10 +223,16 @@ fn joins<E: Storage<u64>, S: Storage<u64>>(
     components: &ComponentTable<u64, u64, S>,
     wanted: &[(Entity<u64>, u64, u64)],
 ) {
-    assert_same(rt, &components.join(entities).count(), &wanted.len());
-    for ((entity, element, component), of) in components.join(entities).zip(wanted) {
+    let mut rest = wanted;
+    for (entity, element, component) in components.join(entities) {
+        let Some((of, others)) = rest.split_first() else {
+            assert!(rt; false);
+            return;
+        };
         assert_same(rt, &(entity, *element, *component), of);
+        rest = others;
     }
+    assert!(rt; rest.is_empty());
 }
 
 #[test]

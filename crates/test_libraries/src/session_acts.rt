@@ -173,12 +173,11 @@ fn add<S: Storage<u64>>(
     number: usize,
     more: u64,
 ) -> Reply {
-    let mut called = false;
+    let mut left = Some(more);
     let answer = table.update(entry, |value: &mut u64| {
-        called = true;
-        *value = value.wrapping_add(more);
+        *value = value.wrapping_add(left.take().unwrap_or(0));
     });
-    assert_same(rt, &called, &answer.is_ok());
+    assert_same(rt, &left.is_none(), &answer.is_ok());
     if answer.is_ok() {
         return Reply::Done;
     }
