@@ -17,6 +17,9 @@ use std::thread;
 // How often a worker looks whether calls wait before it gives up.
 const TURNS: u64 = 10_000_000;
 
+/// How often an audit that was refused is asked for again.
+const AUDITS: u64 = 8;
+
 /// A worker, and the steps that its calls are.
 #[derive(Drop)]
 pub(crate) struct Recorder<W> {
@@ -545,13 +548,15 @@ impl<W: Worker> Recorder<W> {
 
     // The base and the history, once all other workers' counts were taken over.
     fn history(&mut self, rt: &(impl Wait + Judge)) -> (Base, Vec<Step>) {
-        let (base, steps) = match self.worker.audit(rt) {
-            Some(audit) => audit,
-            None => {
+        let mut audit = self.worker.audit(rt);
+        // An audit takes memory several times, so it may be refused as often.
+        for _ in 0..AUDITS {
+            if audit.is_none() {
                 self.lacks = self.lacks.wrapping_add(1);
-                present(rt, self.worker.audit(rt), "an audit")
+                audit = self.worker.audit(rt);
             }
-        };
+        }
+        let (base, steps) = present(rt, audit, "an audit");
         rt.compare(&base.trimmed(), &self.trimmed);
         (base, steps)
     }
