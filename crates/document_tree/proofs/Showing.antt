@@ -10,7 +10,7 @@ use Rattle.std.specs.Prelude.{List, filter, is_some}
 use Rattle.generational_core.specs.Borrowing.{BorrowRefusal, reach, refusal_to_read}
 use Rattle.generational_core.specs.Boxes.{name_of}
 use Rattle.generational_core.specs.Conditions.{fresh}
-use Rattle.generational_core.specs.Leaving.{IsLeft, LeavesContent}
+use Rattle.generational_core.specs.Leaving.{IsUnchanged, LeavesContent}
 use Rattle.generational_core.specs.Cells.{Cell, location_of}
 use Rattle.generational_core.specs.Cells.Cell.{Shared}
 use Rattle.generational_core.specs.Machine.{Action, Answer, Outcome, cell_at, refer, unless}
@@ -91,7 +91,7 @@ module _ {T : Type 0} where
 
   -- ---- what is left
 
-  pub left_place : {D E : State (Part T)} {p : Place} → IsLeft D p.raw E → Leaves D p E
+  pub left_place : {D E : State (Part T)} {p : Place} → IsUnchanged D p.raw E → Leaves D p E
   left_place left = record { part = left.reached; shown = ap shown_of left.seen }
 
   pub left_still : {D E : State (Part T)} (p : Place) → E ≡ D → Leaves D p E

@@ -11,7 +11,7 @@ use Rattle.generational_core.specs.Answers.{pointer_of}
 use Rattle.generational_core.specs.Borrowing.{can_write, leads_to}
 use Rattle.generational_core.specs.Boxes.{has_same_id, name_of}
 use Rattle.generational_core.specs.Conditions.{fresh}
-use Rattle.generational_core.specs.Leaving.{IsUnborrowed}
+use Rattle.generational_core.specs.Leaving.{HasNoBorrows}
 use Rattle.generational_core.specs.Machine.{Answer}
 use Rattle.generational_core.specs.Machine.Action.{Make, End, SetValue}
 use Rattle.generational_core.specs.Machine.Answer.{Made, Done, Old}
@@ -36,7 +36,7 @@ use Rattle.entity_table.specs.Entities.{pointer_in, slot_in, IsOther}
 use Rattle.generational_sessions.proofs.callers.SimpleStores.{fresh_sees, set_seen}
 
 -- a box that sees a value may be written, where no borrow stands
-pub seen_free : {C : Type 0} {S : State C} (b : GenerationalPointer) → IsSound S → IsUnborrowed S
+pub seen_free : {C : Type 0} {S : State C} (b : GenerationalPointer) → IsSound S → HasNoBorrows S
     → is_some (value_in S b) ≡ true → can_write S b ≡ true
 seen_free {S = S} b s quiet seen = quiet_sees S quiet b s ∙ seen
 

@@ -3,7 +3,7 @@ use Rattle.std.specs.Prelude.{◌≡◌, ◌≢◌, ℕ, true, List, [], ◌∷�
 use Rattle.std.specs.Prelude.{slice_index_or}
 use Rattle.generational_core.specs.Answers.{pointer_of}
 use Rattle.generational_core.specs.Boxes.{has_same_id, name_of}
-use Rattle.generational_core.specs.Leaving.{IsUnborrowed}
+use Rattle.generational_core.specs.Leaving.{HasNoBorrows}
 use Rattle.generational_core.specs.Seeing.{value_in}
 use Rattle.generational_core.specs.State.{State}
 use Rattle.generational_core.specs.declared.boxes.GenerationalPointer.{GenerationalPointer}
@@ -59,7 +59,7 @@ module _ {T C : Type 0} where
   -- no borrow stands and no cell is a reference; each part is of an entity of its slot, its box sees a
   -- value, those of two slots have two names, and no other box sees one
   pub record AreAttached (S : State C) (parts : List (Option (Part T C))) : Type 0 where
-    pub unborrowed : IsUnborrowed S
+    pub unborrowed : HasNoBorrows S
     pub plain : IsPlain S
     pub placed : (slot : ℕ) (p : Part T C) → part_at parts slot ≡ Some p → slot_in p.entity ≡ slot
     pub seen : (slot : ℕ) (p : Part T C) → part_at parts slot ≡ Some p

@@ -6,7 +6,7 @@ ghost use Rattle.generational_core.specs.Boxes.{has_same_id};
 ghost use Rattle.generational_core.specs.Conditions.{fresh};
 ghost use Rattle.generational_core.specs.Seeing.{value_in};
 ghost use Rattle.generational_core.specs.Slots.{free, retired};
-ghost use Rattle.generational_core.specs.StepCalls.{id_of_owner, is_free, is_ready, target_of};
+ghost use Rattle.generational_core.specs.StepCalls.{id_of_owner, meets_no_borrow, is_ready, target_of};
 ghost use Rattle.generational_core.specs.Machine.Action.{ReleaseOwner};
 ghost use Rattle.generational_core.specs.Machine.Answer.{Done};
 ghost use Rattle.generational_core.specs.Steps.{Meets};
@@ -26,7 +26,7 @@ pub fn release_if_free<S: Storage<u64>>(store: &mut S, owner: Owner) -> Result<(
     ensures left { OnErr result (S.state store.new ≡ S.state store.old) }
     ensures done { OnOk result (Meets (S.state store.old) (ReleaseOwner owner) Done
         (S.state store.new)) }
-    ensures free { OnOk result (is_free (S.state store.old) (ReleaseOwner owner) ≡ true) }
+    ensures free { OnOk result (meets_no_borrow (S.state store.old) (ReleaseOwner owner) ≡ true) }
 {
     if !store.may_release(&owner) {
         return Err(owner);

@@ -7,7 +7,7 @@ ghost use Rattle.generational_errors.specs.declared.error.StoreError.TheVariants
 ghost use Rattle.generational_core.specs.Answers.{pointer_of};
 ghost use Rattle.generational_core.specs.Borrowing.{reach, can_write};
 ghost use Rattle.generational_core.specs.Boxes.{name_of};
-ghost use Rattle.generational_core.specs.Leaving.{IsLeft, IsSet};
+ghost use Rattle.generational_core.specs.Leaving.{IsUnchanged, IsSet};
 ghost use Rattle.generational_core.specs.Machine.Action.{Read};
 ghost use Rattle.generational_core.specs.Machine.Answer.{Refused};
 ghost use Rattle.generational_core.specs.Seeing.{value_in};
@@ -26,7 +26,7 @@ pub fn set_value<S: Storage<u64>>(store: &mut S, target: GenerationalBox<u64>, v
         value_in (S.state store.new) b ≡ Some value }
     ensures others { (b : GenerationalPointer) →
         reach (S.state store.old) b ≢ reach (S.state store.old) (pointer_of target) →
-        IsLeft (S.state store.old) b (S.state store.new) }
+        IsUnchanged (S.state store.old) b (S.state store.new) }
     ensures unchanged { IsFalse result → S.state store.new ≡ S.state store.old }
 {
     if !target.can_write(store) {
@@ -49,7 +49,7 @@ pub fn count_up<S: Storage<u64>>(store: &mut S, counter: GenerationalBox<u64>) -
         value_in (S.state store.new) b ≡ Some (n + 1)) }
     ensures others { (b : GenerationalPointer) →
         reach (S.state store.old) b ≢ reach (S.state store.old) (pointer_of counter) →
-        IsLeft (S.state store.old) b (S.state store.new) }
+        IsUnchanged (S.state store.old) b (S.state store.new) }
     ensures unchanged { IfNone result (S.state store.new ≡ S.state store.old) }
 {
     counter.with_mut(store, |count: &mut u64| {
@@ -65,7 +65,7 @@ pub fn set_plain<S: Storage<u64>>(store: &mut S, given: GenerationalBox<u64>, va
     requires { IsPlain (S.state store.old) }
     ensures plain { IsPlain (S.state store.new) }
     ensures others { (b : GenerationalPointer) → name_of (pointer_of given) ≢ name_of b →
-        IsLeft (S.state store.old) b (S.state store.new) }
+        IsUnchanged (S.state store.old) b (S.state store.new) }
 {
     if given.can_write(store) {
         given.set(store, value);
@@ -82,7 +82,7 @@ pub fn read_free<S: Storage<u64>>(
     here: Location,
 ) -> Result<Option<u64>, StoreError>
     ensures seen { IfOk result (λ seen. seen ≡ value_in (S.state store.old) (pointer_of target)) }
-    ensures left { (b : GenerationalPointer) → IsLeft (S.state store.old) b (S.state store.new) }
+    ensures left { (b : GenerationalPointer) → IsUnchanged (S.state store.old) b (S.state store.new) }
     // It is refused as the read is: for want of a ticket, or of memory.
     ensures refused { IfErr result (λ cause. Meets (S.state store.old)
         (Read (pointer_of target) here) (Refused cause) (S.state store.new)) }
@@ -108,7 +108,7 @@ pub fn set_and_read<S: Storage<u64>>(
         (if can_write (S.state store.old) (pointer_of target) then Some value else None)) }
     ensures others { (b : GenerationalPointer) →
         reach (S.state store.old) b ≢ reach (S.state store.old) (pointer_of target) →
-        IsLeft (S.state store.old) b (S.state store.new) }
+        IsUnchanged (S.state store.old) b (S.state store.new) }
 {
     if !set_value(store, target, value) {
         return Ok(None);

@@ -7,7 +7,7 @@ ghost use Rattle.generational_core.specs.Answers.{pointer_of};
 ghost use Rattle.generational_core.specs.Borrowing.{reach};
 ghost use Rattle.generational_core.specs.Boxes.{name_of};
 ghost use Rattle.generational_core.specs.Conditions.{IsEnded};
-ghost use Rattle.generational_core.specs.Leaving.{IsLeft, IsSet, IsUnborrowed};
+ghost use Rattle.generational_core.specs.Leaving.{IsUnchanged, IsSet, HasNoBorrows};
 ghost use Rattle.generational_core.specs.Machine.{OwnerName, ownership};
 ghost use Rattle.generational_core.specs.Names.{Name};
 ghost use Rattle.generational_core.specs.Seeing.{value_in};
@@ -28,7 +28,7 @@ pub fn end_value<S: Storage<u64>>(
         IsEnded (S.state store.new) (name_of (pointer_of target))) }
     ensures refused { OnErr result (S.state store.new ≡ S.state store.old) }
     ensures others { (b : GenerationalPointer) → name_of (pointer_of target) ≢ name_of b →
-        IsLeft (S.state store.old) b (S.state store.new) }
+        IsUnchanged (S.state store.old) b (S.state store.new) }
 {
     target.manually_drop(store)
 }
@@ -103,8 +103,8 @@ pub fn sees_value<S: Storage<u64>>(store: &S, target: GenerationalBox<u64>) -> b
 
 /// Ends a value of a store in which no borrow stands. Never refused.
 pub fn end_unborrowed<S: Storage<u64>>(store: &mut S, target: GenerationalBox<u64>)
-    requires { IsUnborrowed (S.state store.old) }
-    ensures { IsUnborrowed (S.state store.new) }
+    requires { HasNoBorrows (S.state store.old) }
+    ensures { HasNoBorrows (S.state store.new) }
 {
     match target.manually_drop(store) {
         Ok(()) => {}

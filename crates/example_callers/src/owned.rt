@@ -5,7 +5,7 @@ ghost use Rattle.generational_core.specs.declared.boxes.GenerationalPointer.{Gen
 ghost use Rattle.generational_core.specs.Answers.{pointer_of, release_answer};
 ghost use Rattle.generational_core.specs.Boxes.{name_of};
 ghost use Rattle.generational_core.specs.Conditions.{IsEnded};
-ghost use Rattle.generational_core.specs.Leaving.{IsLeft};
+ghost use Rattle.generational_core.specs.Leaving.{IsUnchanged};
 ghost use Rattle.generational_core.specs.Machine.{ownership};
 ghost use Rattle.generational_core.specs.Machine.Action.{ReleaseOwner};
 ghost use Rattle.generational_core.specs.Names.{among};
@@ -29,9 +29,9 @@ pub fn end_owned<S: Storage<u64>>(
         IsEnded (S.state store.new) (name_of (pointer_of made))) }
     ensures others { IfOk result (λ made. (b : GenerationalPointer) →
         name_of (pointer_of made) ≢ name_of b →
-        IsLeft (S.state store.old) b (S.state store.new)) }
+        IsUnchanged (S.state store.old) b (S.state store.new)) }
     ensures left { OnErr result ((b : GenerationalPointer) →
-        IsLeft (S.state store.old) b (S.state store.new)) }
+        IsUnchanged (S.state store.old) b (S.state store.new)) }
     // It is refused only for want of memory, or of a ticket.
     ensures cause { IfErr result (λ cause. Lacks (S.state store.old) cause) }
 {
@@ -62,7 +62,7 @@ pub fn release_beside<S: Storage<u64>>(
     ensures once { AreListedOnce (S.state store.new) }
     ensures left { (h : Ownership) (b : GenerationalPointer) →
         ownership (S.state store.old) second.now ≡ Some h → among h.names (name_of b) ≡ true →
-        IsLeft (S.state store.old) b (S.state store.new) }
+        IsUnchanged (S.state store.old) b (S.state store.new) }
     ensures step { Meets (S.state store.old) (ReleaseOwner first) (release_answer result)
         (S.state store.new) }
 {

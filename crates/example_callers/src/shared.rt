@@ -3,7 +3,7 @@
 ghost use Rattle.std.specs.Prelude.{◌≡◌, IfOk, IfErr};
 ghost use Rattle.generational_core.specs.declared.boxes.GenerationalPointer.{GenerationalPointer};
 ghost use Rattle.generational_core.specs.Boxes.{name_of};
-ghost use Rattle.generational_core.specs.Leaving.{IsLeft};
+ghost use Rattle.generational_core.specs.Leaving.{IsUnchanged};
 ghost use Rattle.generational_core.specs.State.{IsGiven};
 ghost use Rattle.generational_sessions.specs.Lacking.{IsShortage};
 
@@ -20,7 +20,7 @@ pub fn written_through<S: Storage<u64>>(
 ) -> BorrowMutResult<u64>
     ensures written { IfOk result (λ seen. seen ≡ next) }
     ensures others { (b : GenerationalPointer) → IsGiven (S.state store.old) (name_of b) →
-        IsLeft (S.state store.old) b (S.state store.new) }
+        IsUnchanged (S.state store.old) b (S.state store.new) }
     // It is refused only where fewer than three slots are free, so that memory may lack, or where
     // fewer than two tickets are left.
     ensures short { IfErr result (IsShortage (S.state store.old) 3 2) }
@@ -41,7 +41,7 @@ pub fn written_through<S: Storage<u64>>(
 pub fn outlived<S: Storage<u64>>(store: &mut S, value: u64, here: Location) -> BorrowMutResult<u64>
     ensures same { IfOk result (λ seen. seen ≡ value) }
     ensures others { (b : GenerationalPointer) → IsGiven (S.state store.old) (name_of b) →
-        IsLeft (S.state store.old) b (S.state store.new) }
+        IsUnchanged (S.state store.old) b (S.state store.new) }
     // It is refused only where fewer than three slots are free, so that memory may lack, or where
     // no ticket is left.
     ensures short { IfErr result (IsShortage (S.state store.old) 3 1) }

@@ -5,7 +5,7 @@ ghost use Rattle.generational_core.specs.declared.boxes.GenerationalPointer.{Gen
 ghost use Rattle.generational_core.specs.Answers.{pointer_of, read_refused, end_refused};
 ghost use Rattle.generational_core.specs.Borrowing.{reach};
 ghost use Rattle.generational_core.specs.Boxes.{name_of};
-ghost use Rattle.generational_core.specs.Leaving.{IsLeft, IsSet};
+ghost use Rattle.generational_core.specs.Leaving.{IsUnchanged, IsSet};
 ghost use Rattle.generational_core.specs.Machine.Action.{Read, Write};
 ghost use Rattle.generational_core.specs.Seeing.{value_in};
 ghost use Rattle.generational_core.specs.State.{IsGiven};
@@ -25,7 +25,7 @@ pub fn there_and_back<S: Storage<u64>>(
 ) -> BorrowResult<u64>
     ensures same { IfOk result (λ seen. seen ≡ value) }
     ensures others { (b : GenerationalPointer) → IsGiven (S.state store.old) (name_of b) →
-        IsLeft (S.state store.old) b (S.state store.new) }
+        IsUnchanged (S.state store.old) b (S.state store.new) }
     // It is refused only where no slot is free, so that memory may lack, or where no ticket is left.
     ensures short { IfErr result (IsShortage (S.state store.old) 1 1) }
 {
@@ -50,7 +50,7 @@ pub fn read_value<S: Storage<u64>>(
 ) -> BorrowResult<u64>
     ensures seen { IfOk result (λ seen.
         value_in (S.state store.old) (pointer_of target) ≡ Some seen) }
-    ensures left { (b : GenerationalPointer) → IsLeft (S.state store.old) b (S.state store.new) }
+    ensures left { (b : GenerationalPointer) → IsUnchanged (S.state store.old) b (S.state store.new) }
     // It is refused as the read is.
     ensures refused { IfErr result (λ refusal. Meets (S.state store.old)
         (Read (pointer_of target) here) (read_refused refusal) (S.state store.new)) }
@@ -77,7 +77,7 @@ pub fn write_value<S: Storage<u64>>(
         value_in (S.state store.new) b ≡ Some value) }
     ensures others { (b : GenerationalPointer) →
         reach (S.state store.old) b ≢ reach (S.state store.old) (pointer_of target) →
-        IsLeft (S.state store.old) b (S.state store.new) }
+        IsUnchanged (S.state store.old) b (S.state store.new) }
     // Nothing else changes but a ticket, which is used up.
     ensures set { OnOk result (
         IsSet (S.state store.old) (pointer_of target) value (S.state store.new)) }
@@ -105,7 +105,7 @@ pub fn written_value<S: Storage<u64>>(
     ensures same { IfOk result (λ seen. seen ≡ value) }
     ensures others { (b : GenerationalPointer) →
         reach (S.state store.old) b ≢ reach (S.state store.old) (pointer_of target) →
-        IsLeft (S.state store.old) b (S.state store.new) }
+        IsUnchanged (S.state store.old) b (S.state store.new) }
 {
     write_value(store, target, value, here)?;
     let seen = read_value(store, target, here)?;
@@ -126,7 +126,7 @@ pub fn replaced_value<S: Storage<u64>>(
     ensures new { IfOk result (λ both. both.1 ≡ value) }
     ensures others { (b : GenerationalPointer) →
         reach (S.state store.old) b ≢ reach (S.state store.old) (pointer_of target) →
-        IsLeft (S.state store.old) b (S.state store.new) }
+        IsUnchanged (S.state store.old) b (S.state store.new) }
 {
     let mut guard = target.try_write(store, here)?;
     let old = guard.replace(value);

@@ -7,7 +7,7 @@ ghost use Rattle.generational_errors.specs.declared.error.StoreError.TheVariants
 ghost use Rattle.generational_core.specs.Answers.{end_refused};
 ghost use Rattle.generational_core.specs.Borrowing.{reach};
 ghost use Rattle.generational_core.specs.Boxes.{name_of};
-ghost use Rattle.generational_core.specs.Leaving.{IsLeft};
+ghost use Rattle.generational_core.specs.Leaving.{IsUnchanged};
 ghost use Rattle.generational_core.specs.Machine.{Action};
 ghost use Rattle.generational_core.specs.Machine.Action.{Point, Write};
 ghost use Rattle.generational_core.specs.Machine.Answer.{Done};
@@ -105,7 +105,7 @@ pub fn set_source<S: Storage<u64>>(
     ensures set { IfOk result (λ seen. seen ≡ value) }
     ensures others { (b : GenerationalPointer) → name_of (pointer_in signal) ≢ name_of b →
         reach (S.state store.old) b ≢ reach (S.state store.old) (pointer_in other) →
-        IsLeft (S.state store.old) b (S.state store.new) }
+        IsUnchanged (S.state store.old) b (S.state store.new) }
     // It is refused as the turn is, as the write after it, or as a read for which no ticket is left.
     ensures refused { IfErr result (λ refusal.
         let turn : Action ℕ = Point (pointer_in signal) (pointer_in other) in
@@ -137,7 +137,7 @@ pub fn count_up<S: Storage<u64>>(
         (seen ≡ (old + 1) % 2 ^ 64)) }
     ensures others { (b : GenerationalPointer) →
         reach (S.state store.old) b ≢ reach (S.state store.old) (pointer_in signal) →
-        IsLeft (S.state store.old) b (S.state store.new) }
+        IsUnchanged (S.state store.old) b (S.state store.new) }
     // It is refused as the write is, or as a read for which no ticket is left.
     ensures refused { IfErr result (λ refusal.
         Meets (S.state store.old) (Write (pointer_in signal) here) (end_refused refusal)

@@ -5,7 +5,7 @@ ghost use Rattle.generational_errors.specs.declared.error.StoreError.TheVariants
 ghost use Rattle.scene_tree.specs.declared.node.TreeError.TheVariants as error;
 ghost use Rattle.scene_tree.specs.declared.node.Node.{Node};
 ghost use Rattle.scene_tree.specs.Nodes.{IsOther, made_at, without};
-ghost use Rattle.scene_tree.specs.Trees.{IsBelow, IsLeft, WasMade, children_of, outline_of, parent_of};
+ghost use Rattle.scene_tree.specs.Trees.{IsBelow, NodeIsUnchanged, WasMade, children_of, outline_of, parent_of};
 
 use generational_box::{Location, Storage};
 use scene_tree::{Node, SceneTree, Spot, Stale, TreeError};
@@ -128,7 +128,7 @@ pub fn freed<S: Storage<u64>>(tree: &mut SceneTree<u64, S>, node: Node<u64>) -> 
 
 /// Adds to a node's number, in its place: every other node is left.
 pub fn count_up<S: Storage<u64>>(tree: &mut SceneTree<u64, S>, node: Node<u64>) -> Result<(), Stale>
-    ensures { (other : Node ℕ) → IsOther node other → IsLeft tree.old other tree.new }
+    ensures { (other : Node ℕ) → IsOther node other → NodeIsUnchanged tree.old other tree.new }
 {
     tree.update(node, |count: &mut u64| *count = count.wrapping_add(1))
 }

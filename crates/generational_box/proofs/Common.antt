@@ -47,12 +47,12 @@ pub use specs.Names.{among, change_if, Name, NameMap}
 pub use specs.Plain.{bare_cells, Plain, plain}
 pub use specs.Rows.{owner_rows, read_rows, ReadBack, rows_of, told_by}
 pub use specs.State.{content_at, HasTargets, IsBoxed, IsSound, one_less, one_listed, one_more}
-pub use specs.StepCalls.{is_free, is_hindered, is_ready, may_set, owner_of, tells_of_borrow}
+pub use specs.StepCalls.{meets_no_borrow, is_hindered, is_ready, may_set, owner_of, tells_of_borrow}
 pub use specs.Steps.{IsNew, last_ticket, limit_tickets, Meets, needs_memory, no_names}
 pub use specs.declared.{borrow.Borrow.Borrow, boxes.GenerationalPointer.GenerationalPointer}
 pub use specs.declared.{boxes.GenerationalBoxId.GenerationalBoxId, rows.BaseRow.BaseRow}
 pub use specs.declared.steps.StepCall.TheVariants.{ManuallyDrop}
-pub use Rattle.store_cells.specs.Entries.{kept_data, target_of}
+pub use Rattle.store_cells.specs.Entries.{kept_data, named_by}
 pub use Rattle.store_cells.specs.Entry.{cell_of, FoundBorrowed, has_no_borrow, less_read}
 pub use Rattle.store_cells.specs.Entry.{one_read, readers_of}
 pub use Rattle.store_cells.specs.declared.entry.StorageEntryData.{StorageEntryData}

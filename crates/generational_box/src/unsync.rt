@@ -9,7 +9,7 @@ ghost use Rattle.generational_core.specs.State.{HasTargets};
 ghost use Rattle.generational_core.specs.Sound.{IsSound-prop, IsBounded-prop};
 ghost use Rattle.store_parts.specs.CellNames.{name_of_cell};
 ghost use Rattle.store_cells.specs.Entry.{cell_of};
-ghost use Rattle.store_cells.specs.Entries.{IsUnborrowed, kept_data, target_of};
+ghost use Rattle.store_cells.specs.Entries.{IsUnborrowed, kept_data, named_by};
 ghost use Rattle.store_slots.specs.SlotsState.{Finds, IsMade, with_records};
 
 use crate::ids::{cell_name, id_in, pointer_in};
@@ -501,6 +501,13 @@ impl<T: Drop, P: SlotPool> Storage<T> for Store<T, P> {
         self.slots.change(cell_name(pointer.id), f)
     }
 
+    fn take_value(&mut self, pointer: GenerationalPointer) -> Option<T> {
+        match self.own(pointer.id) {
+            Some(name) => self.slots.take_value(name),
+            None => None,
+        }
+    }
+
     #[inline(always)]
     fn release_write(&mut self, guard: GenerationalRefMut<T>) -> Result<(), T>
         ensures { Meets self.old.state (ReleaseWriter guard.guard guard.value)
@@ -556,7 +563,7 @@ impl<T: Drop, P: SlotPool> Store<T, P> {
     ghost use Rattle.generational_core.specs.Machine.{ownership};
     ghost use Rattle.generational_core.specs.Machine.Action.{Point, Read, ReleaseOwner, Write};
     ghost use Rattle.generational_core.specs.Names.{is_name};
-    ghost use Rattle.generational_core.specs.StepCalls.{is_free, may_set, tells_of_borrow};
+    ghost use Rattle.generational_core.specs.StepCalls.{meets_no_borrow, may_set, tells_of_borrow};
     ghost use Rattle.generational_core.specs.State.{content_at};
     ghost use Rattle.generational_core.specs.Steps.{Meets};
     ghost use Rattle.store_parts.specs.CellNames.{name_of_cell};
@@ -623,7 +630,7 @@ impl<T: Drop, P: SlotPool> Store<T, P> {
 
     // Whether no borrow stands in the way where a box is pointed to what another reaches.
     fn may_point(&self, pointer: GenerationalPointer, other: GenerationalPointer) -> bool
-        ensures { result ≡ is_free self.now.state (Point pointer other) }
+        ensures { result ≡ meets_no_borrow self.now.state (Point pointer other) }
     {
         if pointer == other {
             return true;
@@ -648,7 +655,7 @@ impl<T: Drop, P: SlotPool> Store<T, P> {
         requires { IfSome (option_copied held) (λ r. IsDistinct is_name r.ownership.names) }
         ensures { (o : OwnerName)
             → option_map (λ r. r.ownership) (option_copied held.entry) ≡ ownership self.now.state o
-            → result ≡ is_free self.now.state (ReleaseOwner o) }
+            → result ≡ meets_no_borrow self.now.state (ReleaseOwner o) }
     {
         match held {
             Some(record) if record.count() <= 1 => self.slots.may_end_all(record.boxes()),
@@ -737,7 +744,7 @@ fn make_reserved<T: Drop, P: SlotPool>(
 ) -> CellName
     requires room { 0 < slots.old.spare }
     requires unborrowed { IsUnborrowed content }
-    requires target { IfSome (target_of content)
+    requires target { IfSome (named_by content)
         (λ m. is_shared (map.get slots.old.state.cells m) ≡ true) }
     requires linked { HasTargets slots.old.state.cells }
     ensures { IsMade slots.old slots.new (cell_of (kept_data [] created_at content))

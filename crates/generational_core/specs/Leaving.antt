@@ -44,7 +44,7 @@ module _ {T : Type 0} where
 
   -- from S to R a box is left: it reaches what it reached, where the content is what it was, and it
   -- sees what it saw
-  pub record IsLeft (S : State T) (b : GenerationalPointer) (R : State T) : Type 0 where
+  pub record IsUnchanged (S : State T) (b : GenerationalPointer) (R : State T) : Type 0 where
     pub reached : reach R b ≡ reach S b
     pub content : (m : Name) → reach S b ≡ Some m → content_at R m ≡ content_at S m
     pub seen : value_in R b ≡ value_in S b
@@ -93,7 +93,7 @@ module _ {T : Type 0} where
   BeginsNoBorrow _ = Unit {0}
 
   -- no borrow stands in the store
-  pub record IsUnborrowed (S : State T) : Type 0 where
+  pub record HasNoBorrows (S : State T) : Type 0 where
     pub none : (n : Name) → tickets_at S.cells n ≡ []
 
   -- no borrow stands at what would end with these names

@@ -5,7 +5,10 @@ use Rattle.generational_core.specs.Names.{Name, among}
 use Rattle.generational_core.specs.State.{State}
 use Rattle.generational_core.specs.Boxes.{name_of}
 use Rattle.generational_core.specs.Borrowing.{reach}
-use Rattle.generational_core.specs.Machine.{Action, own_name}
+use Rattle.generational_core.specs.Cells.{Cell}
+use Rattle.generational_core.specs.Cells.Cell.{Value}
+use Rattle.generational_core.specs.Cells.Content.{Here}
+use Rattle.generational_core.specs.Machine.{Action, own_cell, own_name}
 use Rattle.generational_core.specs.Machine.Action.{ReleaseOwner, Read, Write, ReleaseWriter}
 use Rattle.generational_core.specs.Machine.Action.{SetValue}
 use Rattle.generational_core.specs.Machine.Action.{End, Point}
@@ -20,6 +23,15 @@ module _ {T : Type 0} where
 
   unfoldable pub value_in : State T → GenerationalPointer → Option T
   value_in S b = value_reached S (reach S b)
+
+  -- the value of a cell that isn't shared, if no borrow stands there
+  abbrev pub unborrowed_value : Option (Cell T) → Option T
+  unborrowed_value (Some (Value (Here v []) l)) = Some v
+  unborrowed_value _ = None
+
+  -- the value that a box can hand back as it ends
+  unfoldable pub value_to_take : State T → GenerationalPointer → Option T
+  value_to_take S b = unborrowed_value (own_cell S b.id)
 
   -- the names that a call asks to end
   abbrev pub ending : State T → Action T → List Name

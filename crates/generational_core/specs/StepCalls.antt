@@ -84,8 +84,8 @@ module _ {T : Type 0} where
   may_set (Some m) _ = false
 
   -- whether the machine's answer to a call that hands in no value tells of none
-  abbrev pub is_free : State T → Action T → Bool
-  is_free S action = not (is_hindered action (act S action no_names).0)
+  abbrev pub meets_no_borrow : State T → Action T → Bool
+  meets_no_borrow S action = not (is_hindered action (act S action no_names).0)
 
   -- whether a call's answer tells of no borrow that stands in its way
   abbrev pub is_ready : State T → StepCall → Bool
@@ -96,6 +96,6 @@ module _ {T : Type 0} where
   is_ready S (call.Write b l) = not (tells_of_borrow (refusal_to_write S b))
   is_ready S (call.Set b) = may_set (reach S b) (content_of (cell_at S (reach S b)))
   is_ready S (call.ManuallyDrop b) = not (tells_of_borrow (hindrance_to S (own_name S b)))
-  is_ready S (call.PointTo a b) = is_free S (Point a b)
-  is_ready S (call.ReleaseOwner o) = is_free S (ReleaseOwner (owner_of o))
+  is_ready S (call.PointTo a b) = meets_no_borrow S (Point a b)
+  is_ready S (call.ReleaseOwner o) = meets_no_borrow S (ReleaseOwner (owner_of o))
   is_ready S _ = true

@@ -266,10 +266,10 @@ impl<T> GenerationalBox<T> {
     ghost use Rattle.generational_core.specs.Borrowing.{can_read, can_write, reach};
     ghost use Rattle.generational_core.specs.Changing.{Changes};
     ghost use Rattle.generational_core.specs.Keeping.{box_with};
-    ghost use Rattle.generational_core.specs.Seeing.{value_in};
+    ghost use Rattle.generational_core.specs.Seeing.{value_in, value_to_take};
     ghost use Rattle.generational_core.specs.Machine.Action.{Make, MakeShared, Refer, Read, Write};
     ghost use Rattle.generational_core.specs.Machine.Action.{End, Point, SetValue};
-    ghost use Rattle.generational_core.specs.Machine.Answer.{Old};
+    ghost use Rattle.generational_core.specs.Machine.Answer.{Done, Old};
     ghost use Rattle.generational_core.specs.Steps.{Meets};
     ghost use Rattle.generational_core.specs.Answers.{box_answer, read_answer, write_answer};
     ghost use Rattle.generational_core.specs.Answers.{reference_box_answer, end_answer};
@@ -666,6 +666,28 @@ impl<T> GenerationalBox<T> {
             (S.state store.new) }
     {
         store.recycle(self.raw)
+    }
+
+    /// Ends the box and hands its value back, exactly where the value isn't shared and nobody borrows
+    /// it.
+    ///
+    /// `None` elsewhere, and the store stays as it was: where the box's cell has ended or is of another
+    /// store, where any borrow stands at the value, and for a reference, also the last one to its shared
+    /// value: `manually_drop` ends that. Takes no memory, and is O(1).
+    ///
+    /// Upstream has no such call: there a value that ends is dropped.
+    ///
+    /// ```rust
+    /// let name: String = made.take(&mut store)?;
+    /// ```
+    #[inline(always)]
+    pub fn take<S: Storage<T>>(self, store: &mut S) -> Option<T>
+        ensures value { result ≡ value_to_take (S.state store.old) (pointer_of self) }
+        ensures ended { IfSome result (λ value. Meets (S.state store.old) (End (pointer_of self)) Done
+            (S.state store.new)) }
+        ensures none { IfNone result (S.state store.new ≡ S.state store.old) }
+    {
+        store.take_value(self.raw)
     }
 }
 

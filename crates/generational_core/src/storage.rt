@@ -1,23 +1,23 @@
 //! What every store does.
 
 ghost use Rattle.std.specs.Prelude.{◌≡◌, ◌≤◌, ◌+◌, ◌-◌, ◌↔◌, true, IsTrue, IfOk, IfErr, None};
-ghost use Rattle.std.specs.Prelude.{is_some, option_copied, Some};
+ghost use Rattle.std.specs.Prelude.{IfNone, IfSome, is_some, option_copied, Some};
 ghost use Rattle.generational_core.specs.State.{State, IsSound};
 ghost use Rattle.std.specs.FinMap as map;
 ghost use Rattle.std.specs.Borrow.{MutBor};
 ghost use Rattle.generational_core.specs.Changing.{Changes};
 ghost use Rattle.generational_core.specs.Conditions.{IsBounded, IsFresh};
 ghost use Rattle.generational_core.specs.Keeping.{box_with};
-ghost use Rattle.generational_core.specs.Seeing.{value_in};
+ghost use Rattle.generational_core.specs.Seeing.{value_in, value_to_take};
 ghost use Rattle.generational_core.specs.Slots.{slots, free, retired};
 ghost use Rattle.generational_core.specs.Machine.Action.{Make, NewOwner, CloneOwner, ReleaseOwner};
 ghost use Rattle.generational_core.specs.Machine.Action.{Read, Write, ReleaseReader, ReleaseWriter};
 ghost use Rattle.generational_core.specs.Machine.Action.{End, MakeShared, Refer, Point, SetValue};
-ghost use Rattle.generational_core.specs.Machine.Answer.{Flag, Old};
+ghost use Rattle.generational_core.specs.Machine.Answer.{Done, Flag, Old};
 ghost use Rattle.generational_core.specs.Borrowing.{can_read, can_write, reach};
 ghost use Rattle.generational_core.specs.Rows.{ReadBack, rows_of};
 ghost use Rattle.generational_core.specs.Steps.{Meets, last_ticket};
-ghost use Rattle.generational_core.specs.StepCalls.{is_free, is_ready, target_of};
+ghost use Rattle.generational_core.specs.StepCalls.{meets_no_borrow, is_ready, target_of};
 ghost use Rattle.generational_core.specs.Answers.{make_answer, owner_answer, release_answer};
 ghost use Rattle.generational_core.specs.Answers.{read_answer, write_answer, back_answer};
 ghost use Rattle.generational_core.specs.Answers.{reference_answer, end_answer, value_behind};
@@ -85,23 +85,6 @@ pub trait AnyStorage<T> {
     fn data_ptr(&self, pointer: GenerationalPointer) -> usize
         ensures { result ≡ pointer.id.slot };
 
-    /// Whether the call would be answered without telling of a borrow in its way. A read, or a
-    /// making of a reference, meets no writer; a write, or another value, no borrow; the end of a
-    /// box or of an owner's boxes, and a reference that is pointed elsewhere, no borrow of a value
-    /// that would end. Takes no memory.
-    fn ready(&self, call: &StepCall) -> bool
-        ensures { result ≡ is_ready (state self.now) call.now };
-
-    /// Whether the owner's release would be answered without telling of a borrow in its way. Its record
-    /// is found at once: `ready` has to look for it among all records. Takes no memory.
-    fn may_release(&self, owner: &Owner) -> bool
-        ensures { result ≡ is_free (state self.now) (ReleaseOwner owner.now) };
-
-    /// What the pointer's own cell names, exactly where that is a live reference of this store. Takes
-    /// no memory.
-    fn target(&self, pointer: GenerationalPointer) -> Option<GenerationalBoxId>
-        ensures { result ≡ target_of (state self.now) pointer };
-
     /// The pointer with an id, exactly where a live box of this store has it, with the location where
     /// that was made. Takes no memory.
     fn find(&self, id: GenerationalBoxId) -> Option<GenerationalPointer>
@@ -162,6 +145,25 @@ pub trait AnyStorage<T> {
     /// nothing else takes memory.
     fn recycle(&mut self, pointer: GenerationalPointer) -> BorrowMutResult<()>
         ensures { Meets (state self.old) (End pointer) (end_answer result) (state self.new) };
+
+    // ---- What the shared store alone asks of a storage.
+
+    /// Whether the call would be answered without telling of a borrow in its way. A read, or a
+    /// making of a reference, meets no writer; a write, or another value, no borrow; the end of a
+    /// box or of an owner's boxes, and a reference that is pointed elsewhere, no borrow of a value
+    /// that would end. Takes no memory.
+    fn ready(&self, call: &StepCall) -> bool
+        ensures { result ≡ is_ready (state self.now) call.now };
+
+    /// Whether the owner's release would be answered without telling of a borrow in its way. Its record
+    /// is found at once: `ready` has to look for it among all records. Takes no memory.
+    fn may_release(&self, owner: &Owner) -> bool
+        ensures { result ≡ meets_no_borrow (state self.now) (ReleaseOwner owner.now) };
+
+    /// What the pointer's own cell names, exactly where that is a live reference of this store. Takes
+    /// no memory.
+    fn target(&self, pointer: GenerationalPointer) -> Option<GenerationalBoxId>
+        ensures { result ≡ target_of (state self.now) pointer };
 
     /// What the store has, without values, in rows: its slots, ascending, and after each slot its
     /// live cell, with that cell's borrows in the order in which they began; then the records of
@@ -325,6 +327,15 @@ pub trait Storage<T>: AnyStorage<T> {
         requires callable { (value : MutBor T) →
             value_in (Self.state self.old) pointer ≡ Some value.now → F.pre f value }
         ensures { Changes F.FnOnce f (Self.state self.old) pointer result (Self.state self.new) };
+
+    /// Ends the cell that the pointer names, and hands its value back, exactly where that is a value
+    /// that isn't shared and at which no borrow stands. `None` elsewhere, and nothing changes. Takes no
+    /// memory.
+    fn take_value(&mut self, pointer: GenerationalPointer) -> Option<T>
+        ensures value { result ≡ value_to_take (Self.state self.old) pointer }
+        ensures ended { IfSome result (λ value. Meets (Self.state self.old) (End pointer) Done
+            (Self.state self.new)) }
+        ensures none { IfNone result (Self.state self.new ≡ Self.state self.old) };
 
     /// Ends a read. The answer is whether the store knew the guard; where it didn't, nothing
     /// changes. Takes no memory.

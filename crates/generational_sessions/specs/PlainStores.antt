@@ -5,7 +5,7 @@ use Rattle.std.specs.FinMap as map
 use Rattle.generational_errors.specs.declared.error.Location.{Location}
 use Rattle.generational_core.specs.Cells.Cell.{Ref}
 use Rattle.generational_core.specs.Conditions.{IsBounded}
-use Rattle.generational_core.specs.Leaving.{IsUnborrowed}
+use Rattle.generational_core.specs.Leaving.{HasNoBorrows}
 use Rattle.generational_core.specs.Machine.{Action}
 use Rattle.generational_core.specs.Machine.Action.{MakeShared, Refer}
 use Rattle.generational_core.specs.Names.{Name}
@@ -24,6 +24,6 @@ module _ {T : Type 0} where
 
   -- no borrow stands, no cell is a reference, and there are no more slots than are needed
   pub record IsSimple (S : State T) : Type 0 where
-    pub unborrowed : IsUnborrowed S
+    pub unborrowed : HasNoBorrows S
     pub plain : IsPlain S
     pub bounded : IsBounded S

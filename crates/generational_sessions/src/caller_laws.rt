@@ -38,8 +38,8 @@ ghost use Rattle.generational_core.specs.Answers.{owner_answer, release_answer};
 ghost use Rattle.generational_core.specs.Answers.{free_read_answer, free_write_answer};
 ghost use Rattle.generational_core.specs.Seeing.{value_in, LeavesBox, LeavesValue};
 ghost use Rattle.generational_core.specs.Leaving.{refuses, GivesOther, GivesOtherOwner};
-ghost use Rattle.generational_core.specs.Leaving.{LeavesContent, IsLeft, IsSet, LeavesOwner};
-ghost use Rattle.generational_core.specs.Leaving.{LeavesGuard, BeginsNoBorrow, IsUnborrowed};
+ghost use Rattle.generational_core.specs.Leaving.{LeavesContent, IsUnchanged, IsSet, LeavesOwner};
+ghost use Rattle.generational_core.specs.Leaving.{LeavesGuard, BeginsNoBorrow, HasNoBorrows};
 ghost use Rattle.generational_core.specs.Leaving.{AreFree};
 ghost use Rattle.generational_core.specs.Answers.{end_refused, read_refused};
 ghost use Rattle.generational_core.specs.Slots.{free};
@@ -104,15 +104,15 @@ pub fn calls_leave_other_boxes<T>()
         LeavesValue S call b → GivesOther call answer b → value_in R b ≡ value_in S b }
     ensures left { (S R : State T) (call : Action T) (answer : Answer T) →
         IsSound S → Meets S call answer R → (b : GenerationalPointer) →
-        LeavesContent S call b → GivesOther call answer b → IsLeft S b R }
+        LeavesContent S call b → GivesOther call answer b → IsUnchanged S b R }
     ensures unowned { (S R : State T) (o : OwnerName) (answer : Answer T) →
         IsSound S → Meets S (ReleaseOwner o) answer R →
         (h : Ownership) → ownership S o ≡ Some h → (b : GenerationalPointer) →
-        among h.names (name_of b) ≡ false → IsLeft S b R }
+        among h.names (name_of b) ≡ false → IsUnchanged S b R }
     ensures given { (S R : State T) (call : Action T) (answer : Answer T)
         (b : GenerationalPointer) → Meets S call answer R →
         IsGiven S (name_of b) → GivesOther call answer b }
-    ensures borrows { (S R : State T) (b : GenerationalPointer) → IsLeft S b R →
+    ensures borrows { (S R : State T) (b : GenerationalPointer) → IsUnchanged S b R →
         (refusal_to_read R b ≡ refusal_to_read S b) × (refusal_to_write R b ≡ refusal_to_write S b) }
 {}
 
@@ -146,7 +146,7 @@ pub fn guards_stay_known<T>()
 pub fn released_borrows_leave_the_rest<T>()
     ensures read { (S R Q : State T) (b : GenerationalPointer) (l : Location) (g : Guard)
         (known : Bool) → IsSound S → Meets S (Read b l) (Reads g) R →
-        Meets R (ReleaseReader g) (Flag known) Q → (c : GenerationalPointer) → IsLeft S c Q }
+        Meets R (ReleaseReader g) (Flag known) Q → (c : GenerationalPointer) → IsUnchanged S c Q }
     ensures written { (S R Q : State T) (b : GenerationalPointer) (l : Location) (g : Guard)
         (old v : T) (r : Result (Unit {0}) T) → Meets S (Write b l) (Writes g old) R →
         Meets R (ReleaseWriter g v) (back_answer r) Q → IsOk r × IsSet S b v Q }
@@ -155,7 +155,7 @@ pub fn released_borrows_leave_the_rest<T>()
     ensures free { (S Q : State T) (b : GenerationalPointer) (v : T) → IsSet S b v Q →
         (c : GenerationalPointer) → reach S c ≡ reach S b → can_write Q c ≡ true }
     ensures others { (S Q : State T) (b : GenerationalPointer) (v : T) → IsSet S b v Q →
-        (c : GenerationalPointer) → reach S c ≢ reach S b → IsLeft S c Q }
+        (c : GenerationalPointer) → reach S c ≢ reach S b → IsUnchanged S c Q }
     ensures owners { (S Q : State T) (b : GenerationalPointer) (v : T) → IsSet S b v Q →
         (o : OwnerName) → ownership Q o ≡ ownership S o }
 {}
@@ -168,26 +168,26 @@ pub fn released_borrows_leave_the_rest<T>()
 pub fn stores_without_borrows_refuse_no_end<T>()
     ensures reads { (S : State T) (b : GenerationalPointer) →
         IsSound S → can_read S b ≡ is_some (value_in S b) }
-    ensures writes { (S : State T) → IsUnborrowed S → (b : GenerationalPointer) →
+    ensures writes { (S : State T) → HasNoBorrows S → (b : GenerationalPointer) →
         IsSound S → can_write S b ≡ is_some (value_in S b) }
-    ensures free { (S : State T) → IsUnborrowed S → (b : GenerationalPointer) (m : Name) →
+    ensures free { (S : State T) → HasNoBorrows S → (b : GenerationalPointer) (m : Name) →
         reach S b ≡ Some m → can_write S b ≡ true }
-    ensures gone { (S : State T) → IsUnborrowed S → (b : GenerationalPointer) →
+    ensures gone { (S : State T) → HasNoBorrows S → (b : GenerationalPointer) →
         IsSound S → value_in S b ≡ None → reach S b ≡ None }
-    ensures fresh { (number start next : ℕ) → IsUnborrowed (fresh {T = T} number start next) }
+    ensures fresh { (number start next : ℕ) → HasNoBorrows (fresh {T = T} number start next) }
     ensures stays { (S R : State T) (call : Action T) (answer : Answer T) →
-        Meets S call answer R → BeginsNoBorrow call → IsUnborrowed S → IsUnborrowed R }
+        Meets S call answer R → BeginsNoBorrow call → HasNoBorrows S → HasNoBorrows R }
     ensures read { (S R Q : State T) (b : GenerationalPointer) (l : Location) (g : Guard)
         (known : Bool) → IsSound S → Meets S (Read b l) (Reads g) R →
-        Meets R (ReleaseReader g) (Flag known) Q → IsUnborrowed S → IsUnborrowed Q }
+        Meets R (ReleaseReader g) (Flag known) Q → HasNoBorrows S → HasNoBorrows Q }
     ensures written { (S Q : State T) (b : GenerationalPointer) (v : T) → IsSet S b v Q →
-        IsUnborrowed S → IsUnborrowed Q }
+        HasNoBorrows S → HasNoBorrows Q }
     ensures ends { (S R : State T) (b : GenerationalPointer)
-        (r : Result (Unit {0}) (Refused BorrowMutError)) → IsUnborrowed S →
+        (r : Result (Unit {0}) (Refused BorrowMutError)) → HasNoBorrows S →
         Meets S (End b) (end_answer r) R → IsOk r }
     ensures releases { (S R : State T) (o : OwnerName) (h : Ownership)
         (r : Result (Unit {0}) (OwnerName × Refused BorrowMutError)) →
-        ownership S o ≡ Some h → IsUnborrowed S →
+        ownership S o ≡ Some h → HasNoBorrows S →
         Meets S (ReleaseOwner o) (release_answer r) R → IsOk r }
     ensures owned { (S R : State T) (o : OwnerName) (h : Ownership)
         (r : Result (Unit {0}) (OwnerName × Refused BorrowMutError)) →
@@ -240,7 +240,7 @@ pub fn names_are_listed_once<T>()
     ensures released { (S R : State T) (o p : OwnerName) (h : Ownership) (answer : Answer T) →
         IsSound S → AreListedOnce S → Meets S (ReleaseOwner o) answer R → o ≢ p →
         ownership S p ≡ Some h → (b : GenerationalPointer) →
-        among h.names (name_of b) ≡ true → IsLeft S b R }
+        among h.names (name_of b) ≡ true → IsUnchanged S b R }
 {}
 
 /// The name of a box is one that was given, and no shared value's own: so it is of each box that a

@@ -36,7 +36,7 @@ use Rattle.generational_sync.proofs.Placing as placing
 use Rattle.shared_records.specs.declared.step.Step.{Step}
 use Rattle.shared_records.specs.declared.step.StepReply.{StepReply}
 use Rattle.shared_records.specs.declared.step.StepReply.TheVariants as reply
-use Rattle.shared_history.specs.Replies.{is_recorded, made_reply, reply_of, same_box, same_id, same_reply}
+use Rattle.shared_history.specs.Replies.{is_recorded, made_reply, recorded_reply, same_box, same_id, same_reply}
 use Rattle.shared_history.specs.History.{Plain, action_of, are_new, first_name, fits, gives_new, guard_at, is_lawful, is_new, names_of_reply, reader_cell, replay_from, replay_on, step_by, writer_cell}
 unfoldable use Rattle.shared_history.specs.History.{plain_step}
 
@@ -190,7 +190,7 @@ module _ (p : Location → Location) where
     made_kept (CanWrite c) b = refl
 
     given_kept : (a : Action (Unit {0})) (answer : Answer (Unit {0}))
-        → reply_of (record A { cells = C }) (place_action p a) (place_answer p answer) ≡ option_map (place_reply p) (reply_of A a answer)
+        → recorded_reply (record A { cells = C }) (place_action p a) (place_answer p answer) ≡ option_map (place_reply p) (recorded_reply A a answer)
     given_kept a (Made b) = made_kept a b
     given_kept a (Owned o) = refl
     given_kept a (Reads g) = refl
@@ -407,12 +407,12 @@ module _ (p : Location → Location) where
           let h : IsTurned p x v =
           limited _ _ (subst (λ f. IsTurned p (act S (place_action p a) f) (act A a (names_of_reply r))) (sym (names_same r))
           (placing.act_turned p A C t a (names_of_reply r))) in
-          let given : reply_of x.1 (place_action p a) x.0 ≡ option_map (place_reply p) (reply_of v.1 a v.0) =
-          (λ i. reply_of (h.is i) (place_action p a) (h.answer i)) ∙ given_kept v.1 h.cells h.turned a v.0 in
-          let recorded : is_recorded (reply_of x.1 (place_action p a) x.0) (place_reply p r) ≡ is_recorded (reply_of v.1 a v.0) r =
-          ap (λ g. is_recorded g (place_reply p r)) given ∙ recorded_kept keeps (reply_of v.1 a v.0) r in
-          let lawful : is_lawful S (place_call p c) (place_action p a) (place_reply p r) (reply_of x.1 (place_action p a) x.0)
-          ≡ is_lawful A c a r (reply_of v.1 a v.0) =
+          let given : recorded_reply x.1 (place_action p a) x.0 ≡ option_map (place_reply p) (recorded_reply v.1 a v.0) =
+          (λ i. recorded_reply (h.is i) (place_action p a) (h.answer i)) ∙ given_kept v.1 h.cells h.turned a v.0 in
+          let recorded : is_recorded (recorded_reply x.1 (place_action p a) x.0) (place_reply p r) ≡ is_recorded (recorded_reply v.1 a v.0) r =
+          ap (λ g. is_recorded g (place_reply p r)) given ∙ recorded_kept keeps (recorded_reply v.1 a v.0) r in
+          let lawful : is_lawful S (place_call p c) (place_action p a) (place_reply p r) (recorded_reply x.1 (place_action p a) x.0)
+          ≡ is_lawful A c a r (recorded_reply v.1 a v.0) =
           λ i. ready_kept A C t c i && (gives_kept a r i && recorded i) in
           either _ _ x.1 v.1 lawful (record { cells = h.cells; is = h.is; turned = h.turned })
 

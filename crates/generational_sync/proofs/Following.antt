@@ -33,7 +33,7 @@ use Rattle.generational_core.specs.StepCalls.{is_ready, recorded_as, is_hindered
 use Rattle.generational_sessions.specs.History.{plain, plain_call, plain_answer}
 use Rattle.shared_records.specs.declared.step.StepReply.{StepReply}
 use Rattle.shared_records.specs.declared.step.StepReply.TheVariants as reply
-use Rattle.shared_history.specs.Replies.{made_reply, reply_of}
+use Rattle.shared_history.specs.Replies.{made_reply, recorded_reply}
 use Rattle.shared_history.specs.History.{Plain, plain_step, step_by, action_of, names_of_reply}
 use Rattle.shared_history.specs.History.{gives_new, guard_at}
 use Rattle.generational_sync.proofs.Replying.{plain_reply, recorded_is}
@@ -55,7 +55,7 @@ IsPlain T = (S R : State T) (a : Action T) (answer : Answer T) → Meets S a ans
 
 -- how an outcome is recorded
 abbrev recorded_of : Plain → Action (Unit {0}) → Outcome (Unit {0}) → Option StepReply
-recorded_of P a out = reply_of (limit_tickets P out).1 a (limit_tickets P out).0
+recorded_of P a out = recorded_reply (limit_tickets P out).1 a (limit_tickets P out).0
 
 -- an answer that is recorded tells of no borrow
 unhindered : (P : Plain) (a : Action (Unit {0})) (out : Outcome (Unit {0})) (r : StepReply)
@@ -76,7 +76,7 @@ unhindered P a (Refused e, Q) r h = refl
 -- a call that makes no box is recorded without one
 unmade : (P Q : Plain) (a : Action (Unit {0})) (answer : Answer (Unit {0}))
     → ((b : GenerationalPointer) → made_reply a Q b ≡ None)
-    → IfSome (reply_of Q a answer) (λ r. gives_new P a r ≡ true)
+    → IfSome (recorded_reply Q a answer) (λ r. gives_new P a r ≡ true)
 unmade P Q a (Made b) none = subst (λ o. IfSome o (λ r. gives_new P a r ≡ true)) (sym (none b)) tt
 unmade P Q a (Owned o) none = refl
 unmade P Q a (Reads g) none = refl
@@ -107,7 +107,7 @@ module _ (tell : IsTold) (P : Plain) where
       let free = ap not (unhindered P a (act P a (names_of_reply r)) r h) in
       let ready = tell P a c (names_of_reply r) as_call ∙ free in
       ap (step_by P c r) action ∙ ap (λ b. cond b (Some out.1) None)
-      (and_from _ _ ready (and_from _ _ new (recorded_is (reply_of out.1 a out.0) r h)))
+      (and_from _ _ ready (and_from _ _ new (recorded_is (recorded_reply out.1 a out.0) r h)))
 
   -- what a recorded call leads to
   abbrev Leads : StepCall → Action (Unit {0}) → Outcome (Unit {0}) → Type 0
@@ -303,14 +303,14 @@ module _ (tell : IsTold) (P : Plain) where
 
   follows : (a : Action (Unit {0})) (c : StepCall) (answer : Answer (Unit {0})) (Q : Plain)
       (r : StepReply) → IsSound P → recorded_as a ≡ Some c → Meets P a answer Q
-      → reply_of Q a answer ≡ Some r → plain_step P c r ≡ Some Q
+      → recorded_reply Q a answer ≡ Some r → plain_step P c r ≡ Some Q
   follows a c answer Q r sound e (inl m) h =
       let takes = subst (λ (o : Outcome (Unit {0})). Takes P a o.0 m.0) m.2 m.1 in
       subst (λ o. IfSome o (λ c. Leads c a (act P a m.0))) e (does a m.0 sound takes) r
-      (ap (λ (o : Outcome (Unit {0})). reply_of o.1 a o.0) (sym m.2) ∙ h)
+      (ap (λ (o : Outcome (Unit {0})). recorded_reply o.1 a o.0) (sym m.2) ∙ h)
       ∙ ap (λ (o : Outcome (Unit {0})). Some o.1) (sym m.2)
   follows a c answer Q r sound e (inr m) h =
-      let none : reply_of Q a answer ≡ None = ap (reply_of Q a) m.1 in absurd cc
+      let none : recorded_reply Q a answer ≡ None = ap (recorded_reply Q a) m.1 in absurd cc
 
 -- ---- a step of the store, without values
 
@@ -326,7 +326,7 @@ module _ {T : Type 0} where
 
   pub plain_follows : IsTold → IsPlain T → (S R : State T) (a : Action T) (c : StepCall)
       (answer : Answer T) (r : StepReply) → IsSound (plain S) → recorded_as a ≡ Some c
-      → Meets S a answer R → reply_of R a answer ≡ Some r
+      → Meets S a answer R → recorded_reply R a answer ≡ Some r
       → plain_step (plain S) c r ≡ Some (plain R)
   plain_follows tell without S R a c answer r sound e m h =
       follows tell (plain S) (plain_call a) c (plain_answer answer) (plain R) r sound

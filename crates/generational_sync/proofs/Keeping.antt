@@ -32,11 +32,11 @@ use Rattle.generational_sessions.specs.History.{plain}
 use Rattle.shared_records.specs.declared.step.Step.{Step}
 use Rattle.shared_records.specs.declared.step.StepReply.{StepReply}
 use Rattle.shared_records.specs.declared.step.StepReply.TheVariants as reply
-use Rattle.shared_records.specs.Kinds.{kind_of, step_of}
+use Rattle.shared_records.specs.Kinds.{step_kind, step_of}
 use Rattle.shared_records.specs.Records.{HasRecord}
 use Rattle.generational_sync.specs.Answering.{GivesBox, MayAnswer}
 use Rattle.shared_history.specs.Counts.{Counts}
-use Rattle.shared_history.specs.Replies.{Records, kind_in, made_reply, raised_by, reply_of, tallied}
+use Rattle.shared_history.specs.Replies.{Records, kind_in, made_reply, raised_by, recorded_reply, tallied}
 use Rattle.shared_history.specs.History.{Plain, start, plain_step, replay_from}
 use Rattle.shared_history.specs.Standing.{borrows, borrows_in, ends_borrow, given_by, leaves, lent_by}
 use Rattle.shared_history.specs.Standing.{lent_in}
@@ -62,7 +62,7 @@ no_borrows (e ∷ es) none = absurd (omega arith)
 -- with the number of their start
 abbrev AreLawful : Type 0 → Type 0
 AreLawful T = (S R : State T) (a : Action T) (c : StepCall) (answer : Answer T) (r : StepReply)
-    → IsSound (plain S) → recorded_as a ≡ Some c → Meets S a answer R → reply_of R a answer ≡ Some r
+    → IsSound (plain S) → recorded_as a ≡ Some c → Meets S a answer R → recorded_reply R a answer ≡ Some r
     → plain_step (plain S) c r ≡ Some (plain R)
 
 abbrev LeadTo : (Plain → Plain → Type 0) → Type 0
@@ -91,7 +91,7 @@ KeepNumber T = (S R : State T) (a : Action T) (answer : Answer T) → Meets S a 
 
 -- an answer is counted and kept as its record is; one that isn't recorded leaves all as it was
 record Tells {T : Type 0} (answer : Answer T) (r : Option StepReply) : Type 0 where
-  kind : option_map kind_of r ≡ kind_in answer
+  kind : option_map step_kind r ≡ kind_in answer
   lent : lent_in r ≡ given_by answer
   left : r ≡ None → leaves answer ≡ true
 
@@ -102,7 +102,7 @@ no_step steps after worker None is = is
 no_step steps after worker (Some c) is = is
 
 module _ {T : Type 0} where
-  tells : (answer : Answer T) (r : StepReply) → Some (kind_of r) ≡ kind_in answer
+  tells : (answer : Answer T) (r : StepReply) → Some (step_kind r) ≡ kind_in answer
       → lent_by r ≡ given_by answer → Tells answer (Some r)
   tells answer r kind lent = record { kind = kind; lent = lent; left = λ e. absurd cc }
 
@@ -124,7 +124,7 @@ module _ {T : Type 0} where
   made_tells S R _ b m gives = absurd gives
 
   told : (number : ℕ) (S R : State T) (a : Action T) (answer : Answer T) → Meets S a answer R
-      → MayAnswer number a answer → Tells answer (reply_of R a answer)
+      → MayAnswer number a answer → Tells answer (recorded_reply R a answer)
   told number S R a (Made b) m may = made_tells S R a b m may.2
   told number S R a (Owned o) m may = tells (Owned o) _ refl refl
   told number S R a (Reads g) m may = tells (Reads g) _ refl refl
@@ -143,7 +143,7 @@ module _ {T : Type 0} where
 
   -- a borrow that was ended stood
   stood : (S R : State T) (a : Action T) (answer : Answer T) → ends_borrow a ≡ true
-      → Meets S a answer R → is_some (reply_of R a answer) ≡ true → borrows R + 1 ≤ borrows S
+      → Meets S a answer R → is_some (recorded_reply R a answer) ≡ true → borrows R + 1 ≤ borrows S
   stood S R (ReleaseReader g) answer ends (inl m) is = at (knows_reader S g) refl m.2
     where
       at : (b : Bool) → knows_reader S g ≡ b → (answer, R) ≡ limit_tickets S (cond b
@@ -155,7 +155,7 @@ module _ {T : Type 0} where
           (and_parts (nat_eq g.store S.number) _ known).1 in
           omega arith
       at false known e = absurd (true≢false (sym is
-          ∙ ap (λ (o : Outcome T). is_some (reply_of o.1 (ReleaseReader g) o.0)) e))
+          ∙ ap (λ (o : Outcome T). is_some (recorded_reply o.1 (ReleaseReader g) o.0)) e))
   stood S R (ReleaseWriter g v) answer ends (inl m) is = at (knows_writer S g) refl m.2
     where
       at : (b : Bool) → knows_writer S g ≡ b → (answer, R)
@@ -166,9 +166,9 @@ module _ {T : Type 0} where
           let less = written_stand S g v known in
           omega arith
       at false known e = absurd (true≢false (sym is
-          ∙ ap (λ (o : Outcome T). is_some (reply_of o.1 (ReleaseWriter g v) o.0)) e))
+          ∙ ap (λ (o : Outcome T). is_some (recorded_reply o.1 (ReleaseWriter g v) o.0)) e))
   stood S R a answer ends (inr m) is =
-      absurd (true≢false (sym is ∙ ap (λ x. is_some (reply_of R a x)) m.1))
+      absurd (true≢false (sym is ∙ ap (λ x. is_some (recorded_reply R a x)) m.1))
   stood S R _ answer ends (inl m) is = absurd (true≢false (sym ends))
 
   -- the state is of the store whose history's start it is, with the same first generation
@@ -239,7 +239,7 @@ module _ {T : Type 0} where
   abbrev pub answered : {number : ℕ} {R : State T} {log room : LogState} {c : StepCall}
       {r : Option StepReply} (S : State T) (a : Action T) (answer : Answer T) → IsKept number S log
       → room.base ≡ log.base → room.steps ≡ log.steps → room.standing ≡ log.standing
-      → recorded_as a ≡ Some c → is_ready S c ≡ true → Meets S a answer R → r ≡ reply_of R a answer
+      → recorded_as a ≡ Some c → is_ready S c ≡ true → Meets S a answer R → r ≡ recorded_reply R a answer
       → WasAnswered number room c r R
   answered S a answer kept base steps stay asked ready met replied = record {
     before = S;

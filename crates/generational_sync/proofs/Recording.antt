@@ -26,7 +26,7 @@ use Rattle.shared_records.specs.declared.step.StepReply.{StepReply}
 use Rattle.shared_records.specs.declared.step.StepReply.TheVariants as reply
 use Rattle.shared_records.specs.Records.{HasDropped, HasRecord, IsShort}
 use Rattle.generational_sync.specs.Answering.{MayAnswer}
-use Rattle.shared_history.specs.Replies.{made_reply, reply_of}
+use Rattle.shared_history.specs.Replies.{made_reply, recorded_reply}
 
 dropped_short : (number : ℕ) (c : StepCall) (l : Location) → IsShort c → HasDropped number c l
 dropped_short number (call.PointTo a b) l short = absurd short
@@ -35,7 +35,7 @@ dropped_short number _ l short = tt
 module _ {T : Type 0} (number : ℕ) (R : State T) where
   -- what is known of a call's reply, if it is recorded
   abbrev Known : Action T → StepCall → Answer T → Type 0
-  Known a c answer = IfSome (reply_of R a answer) (λ r. HasRecord number c r)
+  Known a c answer = IfSome (recorded_reply R a answer) (λ r. HasRecord number c r)
 
   -- of a call that names one box at most
   short_known : (a : Action T) (c : StepCall) (answer : Answer T) → IsShort c
@@ -143,7 +143,7 @@ module _ {T : Type 0} (number : ℕ) (R : State T) where
   -- and so of each recorded step
   pub has_record : (a : Action T) (c : StepCall) (answer : Answer T) (r : Option StepReply)
       → R.number ≡ number → MayAnswer number a answer → recorded_as a ≡ Some c
-      → r ≡ reply_of R a answer → IfSome r (λ x. HasRecord number c x)
+      → r ≡ recorded_reply R a answer → IfSome r (λ x. HasRecord number c x)
   has_record a c answer r same may e is =
       subst (λ o. IfSome o (λ x. HasRecord number c x)) (sym is)
       (subst (λ o. IfSome o (λ d. Known a d answer)) e (known a answer same

@@ -12,7 +12,7 @@ use Rattle.generational_core.specs.declared.boxes.GenerationalPointer.{Generatio
 use Rattle.generational_core.specs.Machine.Answer.{Made}
 use Rattle.generational_core.specs.Steps.{AreNew, Takes, Meets, limit_tickets}
 use Rattle.generational_core.specs.StepCalls.{is_ready, target_of}
-use Rattle.shared_history.specs.Replies.{is_recorded, made_reply, reply_of}
+use Rattle.shared_history.specs.Replies.{is_recorded, made_reply, recorded_reply}
 use Rattle.generational_sessions.specs.History.{plain}
 use Rattle.shared_records.specs.declared.step.Step.{Step}
 use Rattle.shared_records.specs.declared.step.StepReply.{StepReply}
@@ -60,7 +60,7 @@ recorded_box (Some s) r box none h = absurd (true≢false (sym box))
 
 -- the names of a recorded reply are those that the call takes
 takes_named : (P Q : Plain) (a : Action (Unit {0})) (answer : Answer (Unit {0})) (r : StepReply)
-    → gives_new P a r ≡ true → is_recorded (reply_of Q a answer) r ≡ true
+    → gives_new P a r ≡ true → is_recorded (recorded_reply Q a answer) r ≡ true
     → Takes P a answer (names_of_reply r)
 takes_named P Q a answer (reply.Made b) new h = takes_any P a answer _ (are_from P a _ new)
 takes_named P Q a answer (reply.MadeShared i b) new h =
@@ -71,12 +71,12 @@ takes_named P Q a _ r new h = tt
 -- a step that is lawful is taken
 taken_by : (P Q : Plain) (c : StepCall) (r : StepReply) (a : Action (Unit {0}))
     → action_of P c ≡ Some a → step_by P c r (Some a) ≡ Some Q → IsTaken P c r Q
-taken_by P Q c r a asks e = at (is_lawful P c a r (reply_of out.1 a out.0)) refl e
+taken_by P Q c r a asks e = at (is_lawful P c a r (recorded_reply out.1 a out.0)) refl e
   where
     out : Outcome (Unit {0})
     out = limit_tickets P (act P a (names_of_reply r))
 
-    at : (b : Bool) → is_lawful P c a r (reply_of out.1 a out.0) ≡ b
+    at : (b : Bool) → is_lawful P c a r (recorded_reply out.1 a out.0) ≡ b
         → cond b (Some out.1) None ≡ Some Q → IsTaken P c r Q
     at true is e =
         let ready = and_parts (is_ready P c) _ is in
@@ -92,7 +92,7 @@ taken_by P Q c r a asks e = at (is_lawful P c a r (reply_of out.1 a out.0)) refl
             takes_named P out.1 a out.0 r gives.0 gives.1,
             λ i. (out.0, sym same i),
           );
-          replied = ap (λ R. is_recorded (reply_of R a out.0) r) (sym same) ∙ gives.1;
+          replied = ap (λ R. is_recorded (recorded_reply R a out.0) r) (sym same) ∙ gives.1;
           named = gives_from P a r gives.0;
         }
     at false is e = absurd cc

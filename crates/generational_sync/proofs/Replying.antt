@@ -28,7 +28,7 @@ unfoldable use Rattle.generational_sessions.specs.History.{bare_cells}
 use Rattle.generational_sessions.proofs.carrying.Plain.{get_bare}
 use Rattle.shared_records.specs.declared.step.StepReply.{StepReply}
 use Rattle.shared_records.specs.declared.step.StepReply.TheVariants as reply
-use Rattle.shared_history.specs.Replies.{reply_of, same_box, same_reply, same_error, is_recorded}
+use Rattle.shared_history.specs.Replies.{recorded_reply, same_box, same_reply, same_error, is_recorded}
 
 same_number : (n : ℕ) → nat_eq n n ≡ true
 same_number n = eq-eqb n n refl
@@ -88,7 +88,7 @@ plain_target R b = at (nat_eq b.id.store R.number)
     at false = refl
 
 pub plain_reply : {T : Type 0} (R : State T) (a : Action T) (answer : Answer T)
-    → reply_of (plain R) (plain_call a) (plain_answer answer) ≡ reply_of R a answer
+    → recorded_reply (plain R) (plain_call a) (plain_answer answer) ≡ recorded_reply R a answer
 plain_reply R (MakeShared o v l) (Made b) =
     ap (option_map (λ id. reply.MadeShared id b)) (plain_target R b)
 plain_reply R _ (Made b) = refl

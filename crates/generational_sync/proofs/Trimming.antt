@@ -11,7 +11,7 @@ use Rattle.generational_sync.specs.Keeping.{shared}
 use Rattle.generational_sync.specs.Shared.{IsCheckpoint, SharedState}
 use Rattle.shared_history.specs.Logs.{LogState}
 use Rattle.shared_history.specs.declared.base.TrimmedSteps.{TrimmedSteps}
-use Rattle.shared_records.specs.Kinds.{count, kind_of, same_kind}
+use Rattle.shared_records.specs.Kinds.{count, step_kind, same_kind}
 use Rattle.shared_records.specs.declared.step.Kind.{Kind}
 use Rattle.shared_records.specs.declared.step.Kind.TheVariants.{Made, Lent, Changed, Refused}
 use Rattle.shared_records.specs.declared.step.Step.{Step}
@@ -45,8 +45,8 @@ abbrev bit : Kind → Kind → ℕ
 bit k l = cond (same_kind k l) 1 0
 
 count-cons : (k : Kind) (x : Step) (xs : List Step)
-    → count k (x ∷ xs) ≡ bit k (kind_of x.reply) + count k xs
-count-cons k x xs = sum_by-cons (λ (s : Step). bit k (kind_of s.reply)) x xs
+    → count k (x ∷ xs) ≡ bit k (step_kind x.reply) + count k xs
+count-cons k x xs = sum_by-cons (λ (s : Step). bit k (step_kind s.reply)) x xs
 
 -- a kind is one of the four
 one_kind : (k : Kind) → bit Made k + bit Lent k + bit Changed k + bit Refused k ≡ 1
@@ -61,7 +61,7 @@ all_kinds : (steps : List Step)
     ≡ length steps
 all_kinds [] = refl
 all_kinds (x ∷ xs) =
-    let rest = all_kinds xs in let one = one_kind (kind_of x.reply) in
+    let rest = all_kinds xs in let one = one_kind (step_kind x.reply) in
     let made = count-cons Made x xs in let lent = count-cons Lent x xs in
     let changed = count-cons Changed x xs in let refused = count-cons Refused x xs in
     omega arith

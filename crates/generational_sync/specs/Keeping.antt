@@ -9,7 +9,7 @@ use Rattle.generational_sessions.specs.History.{plain}
 use Rattle.shared_records.specs.declared.step.StepReply.{StepReply}
 use Rattle.shared_history.specs.Bases.{plain_of}
 use Rattle.shared_history.specs.Counts.{Counts}
-use Rattle.shared_history.specs.Replies.{reply_of}
+use Rattle.shared_history.specs.Replies.{recorded_reply}
 use Rattle.shared_history.specs.Logs.{LogState}
 use Rattle.shared_history.specs.Standing.{borrows, ends_borrow}
 use Rattle.generational_sync.specs.Placing.{LeadsTo}
@@ -37,7 +37,7 @@ pub record IsAnswered {T : Type 0} (number : ℕ) (S : State T) (log : LogState)
   pub asked : recorded_as action ≡ Some call
   pub ready : is_ready S call ≡ true
   pub met : Meets S action answer R
-  pub replied : reply ≡ reply_of R action answer
+  pub replied : reply ≡ recorded_reply R action answer
 
 -- some call was answered so; and it was one that ends a borrow
 pub record WasAnswered {T : Type 0} (number : ℕ) (log : LogState) (call : StepCall)

@@ -18,7 +18,7 @@ use Rattle.shared_records.specs.declared.step.Step.{Step}
 use Rattle.shared_records.specs.declared.step.StepReply.{StepReply}
 use Rattle.shared_history.specs.Bases.{BaseState, Trims, all_trimmed, plain_of}
 use Rattle.shared_history.specs.Counts.{Counts}
-use Rattle.shared_history.specs.Replies.{Records, kind_in, raised_by, reply_of}
+use Rattle.shared_history.specs.Replies.{Records, kind_in, raised_by, recorded_reply}
 use Rattle.shared_history.specs.History.{replay_from}
 use Rattle.generational_sync.specs.Answering.{MayAnswer}
 use Rattle.generational_sync.specs.Placing.{LeadsTo}
@@ -52,7 +52,7 @@ pub record IsStep {T : Type 0} (number : ℕ) (old : SharedState T) (counts : Co
       ⊎ ((answer ≡ refuses OutOfMemory) × (new.state ≡ old.state))
   -- the step of the tally's worker is appended, if its reply is recorded, on the same base
   pub history : RecordsCall old.history counts.worker (recorded_as action)
-      (reply_of new.state action answer) new.history
+      (recorded_reply new.state action answer) new.history
   pub base : new.base ≡ old.base
   -- and the count of its kind is raised by one
   pub tally : raised ≡ raised_by (kind_in answer) counts

@@ -21,7 +21,7 @@ ghost use Rattle.shared_records.specs.declared.step.Step.{Step};
 ghost use Rattle.shared_records.specs.declared.step.StepReply.{StepReply};
 ghost use Rattle.shared_history.specs.Bases.{BaseState, plain_of};
 ghost use Rattle.shared_history.specs.Counts.{Counts};
-ghost use Rattle.shared_history.specs.Replies.{reply_of};
+ghost use Rattle.shared_history.specs.Replies.{recorded_reply};
 ghost use Rattle.shared_history.specs.History.{Plain, IsTaken, LeadsOver, plain_step, start};
 ghost use Rattle.shared_history.specs.History.{replay_from};
 
@@ -46,7 +46,7 @@ pub fn recorded_calls_are_lawful<T>()
     ensures step { (S R : State T) (action : Action T) (call : StepCall) (answer : Answer T)
         (reply : StepReply) →
         IsSound (plain S) → recorded_as action ≡ Some call → Meets S action answer R →
-        reply_of R action answer ≡ Some reply → plain_step (plain S) call reply ≡ Some (plain R) }
+        recorded_reply R action answer ≡ Some reply → plain_step (plain S) call reply ≡ Some (plain R) }
 {
     laws::fresh_states_are_plain::<T>();
     laws::plain_states_step::<T>();

@@ -15,7 +15,7 @@ use Rattle.scene_tree.specs.declared.node.Node.{Node}
 use Rattle.scene_tree.specs.Families.{Family, IsInLevels, IsRooted, IsUnder, alone, children_at, count_at, family_at, parent_at, slot_of}
 use Rattle.scene_tree.specs.Keeping.{IsKept, IsLiveIn}
 use Rattle.scene_tree.specs.Nodes.{IsSame, is_same, pointer_in, slot_in, times}
-use Rattle.scene_tree.specs.Trees.{IsLeft, IsRootedIn, IsStepsBelow, IsSubtree, IsTree, TreeState, children_of, family_of, is_live}
+use Rattle.scene_tree.specs.Trees.{NodeIsUnchanged, IsRootedIn, IsStepsBelow, IsSubtree, IsTree, TreeState, children_of, family_of, is_live}
 use Rattle.scene_tree.specs.Trees.{parent_of, value_of}
 use Rattle.scene_tree.proofs.Counting.{is_id, same_id, times_at, times_none}
 use Rattle.scene_tree.proofs.Forests.{above_parent}
@@ -46,11 +46,11 @@ module _ {T : Type 0} where
   -- a node is left that shows what it showed, and has the family that it had where it is live
   pub left_with : (t u : TreeState T) (n : Node T) → value_of u n ≡ value_of t n
       → (is_live t n ≡ true → family_at u.families (slot_in n) ≡ family_at t.families (slot_in n))
-      → IsLeft t n u
+      → NodeIsUnchanged t n u
   left_with t u n value family =
       record { value = value; family = part_with (λ f. f) t u n value family }
 
-  pub left_still : (t u : TreeState T) (n : Node T) → u ≡ t → IsLeft t n u
+  pub left_still : (t u : TreeState T) (n : Node T) → u ≡ t → NodeIsUnchanged t n u
   left_still t u n same =
       record { value = ap (λ x. value_of x n) same; family = ap (λ x. family_of x n) same }
 

@@ -51,7 +51,7 @@ module _ {T : Type 0} where
   parent_for t (spot.After sibling) = parent_of t sibling
 
   -- from one tree to another a node is left: it shows what it showed, and has the family that it had
-  pub record IsLeft (old : TreeState T) (n : Node T) (new : TreeState T) : Type 0 where
+  pub record NodeIsUnchanged (old : TreeState T) (n : Node T) (new : TreeState T) : Type 0 where
     pub value : value_of new n ≡ value_of old n
     pub family : family_of new n ≡ family_of old n
 

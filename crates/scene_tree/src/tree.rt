@@ -14,7 +14,7 @@ ghost use Rattle.generational_sessions.specs.PlainStores.{IsSimple};
 ghost use Rattle.scene_tree.specs.Keeping.{HasLost, IsLiveIn};
 ghost use Rattle.scene_tree.specs.Nodes.{made_at, times, without, IsOther};
 ghost use Rattle.scene_tree.specs.Trees.{TreeState, value_of, is_live, family_of, parent_of};
-ghost use Rattle.scene_tree.specs.Trees.{children_of, WasMade, IsBelow, IsLeft, CanMove};
+ghost use Rattle.scene_tree.specs.Trees.{children_of, WasMade, IsBelow, NodeIsUnchanged, CanMove};
 ghost use Rattle.scene_tree.specs.Trees.{AreAncestors, IsRootedIn, IsSubtree, IsTree, count_of, outline_of, parent_for};
 ghost use Rattle.scene_tree.specs.Spots.{named, placed};
 
@@ -83,8 +83,8 @@ impl<T, S: Storage<T>> SceneTree<T, S> {
         ensures alone { IfOk result (λ n. family_of self.new n ≡ alone) }
         ensures count { OnOk result (count_of self.new ≡ count_of self.old + 1) }
         ensures others { IfOk result (λ n. (f : Node T) → IsOther n f →
-            IsLeft self.old f self.new) }
-        ensures left { (f : Node T) → WasMade self.old f → IsLeft self.old f self.new }
+            NodeIsUnchanged self.old f self.new) }
+        ensures left { (f : Node T) → WasMade self.old f → NodeIsUnchanged self.old f self.new }
         ensures new { IfOk result (λ n. WasMade self.old n → ⊥) }
         ensures made { IfOk result (λ n. WasMade self.new n) }
         ensures here { IfOk result (λ n. made_at n ≡ here) }
@@ -125,7 +125,7 @@ impl<T, S: Storage<T>> SceneTree<T, S> {
         ensures count { OnOk result (count_of self.new ≡ count_of self.old + 1) }
         ensures parent { value_of self.new parent ≡ value_of self.old parent }
         ensures others { IfOk result (λ n. (f : Node T) → IsOther n f → IsOther parent f →
-            IsLeft self.old f self.new) }
+            NodeIsUnchanged self.old f self.new) }
         ensures new { IfOk result (λ n. WasMade self.old n → ⊥) }
         ensures made { IfOk result (λ n. WasMade self.new n) }
         ensures here { IfOk result (λ n. made_at n ≡ here) }
@@ -164,7 +164,7 @@ impl<T, S: Storage<T>> SceneTree<T, S> {
         ensures count { OnOk result (count_of self.new ≡ count_of self.old + 1) }
         ensures others { IfOk result (λ n. (f : Node T) → IsOther n f →
             ((up : Node T) → parent_for self.old spot ≡ Some up → IsOther up f) →
-            IsLeft self.old f self.new) }
+            NodeIsUnchanged self.old f self.new) }
         ensures new { IfOk result (λ n. WasMade self.old n → ⊥) }
         ensures made { IfOk result (λ n. WasMade self.new n) }
         ensures here { IfOk result (λ n. made_at n ≡ here) }
@@ -260,7 +260,7 @@ impl<T, S: Storage<T>> SceneTree<T, S> {
         ensures shown { OnOk result (value_of self.new node ≡ Some value) }
         ensures family { family_of self.new node ≡ family_of self.old node }
         ensures count { count_of self.new ≡ count_of self.old }
-        ensures others { (f : Node T) → IsOther node f → IsLeft self.old f self.new }
+        ensures others { (f : Node T) → IsOther node f → NodeIsUnchanged self.old f self.new }
         ensures kept { (f : Node T) → WasMade self.old f → WasMade self.new f }
         ensures stale { IsErr result ↔ value_of self.old node ≡ None }
         ensures told { IfErr result (λ back. back.1.made_at ≡ made_at node) }
@@ -290,7 +290,7 @@ impl<T, S: Storage<T>> SceneTree<T, S> {
             (value_of self.new node ≡ Some changed)) }
         ensures family { family_of self.new node ≡ family_of self.old node }
         ensures count { count_of self.new ≡ count_of self.old }
-        ensures others { (n : Node T) → IsOther node n → IsLeft self.old n self.new }
+        ensures others { (n : Node T) → IsOther node n → NodeIsUnchanged self.old n self.new }
         ensures kept { (n : Node T) → WasMade self.old n → WasMade self.new n }
         ensures stale { IsErr result ↔ value_of self.old node ≡ None }
         ensures told { IfErr result (λ stale. stale.made_at ≡ made_at node) }
@@ -613,7 +613,7 @@ impl<T, S: Storage<T>> SceneTree<T, S> {
             })) }
         ensures others { IfOk result (λ list. (n : Node T) → times n list.items ≡ 0 →
             ((up : Node T) → parent_of self.old node ≡ Some up → IsOther up n) →
-            IsLeft self.old n self.new) }
+            NodeIsUnchanged self.old n self.new) }
         ensures kept { (f : Node T) → WasMade self.old f → WasMade self.new f }
         ensures stale { value_of self.old node ≡ None →
             result ≡ Err (error.Stale (made_at node)) }

@@ -12,7 +12,7 @@ use Rattle.generational_core.specs.Answers.{pointer_of}
 use Rattle.generational_core.specs.Borrowing.{reach, leads_to}
 use Rattle.generational_core.specs.Boxes.{name_of}
 use Rattle.generational_core.specs.Conditions.{fresh, names_in}
-use Rattle.generational_core.specs.Leaving.{GivesOther, IsLeft, LeavesOwner}
+use Rattle.generational_core.specs.Leaving.{GivesOther, IsUnchanged, LeavesOwner}
 use Rattle.generational_core.specs.Machine.{Action, Answer, OwnerName, ownership}
 use Rattle.generational_core.specs.Machine.Action.{Make, NewOwner, ReleaseOwner, SetValue}
 use Rattle.generational_core.specs.Machine.Answer.{Made, Owned, Done, Old}
@@ -318,7 +318,7 @@ module _ {I T : Type 0} {eq : I → I → Bool} (S R : State T) (s : IsSound S) 
     pub ended_shows : (b : GenerationalPointer) → among x.names (name_of b) ≡ true → value_in R b ≡ None
     ended_shows b was = unseen R b (ended_reach b was)
 
-    pub ended_left : (b : GenerationalPointer) → among x.names (name_of b) ≡ false → IsLeft S b R
+    pub ended_left : (b : GenerationalPointer) → among x.names (name_of b) ≡ false → IsUnchanged S b R
     ended_left b out = release_leaves S R x.owner Done s m _ held_there b out
 
     -- the rows that are left were there

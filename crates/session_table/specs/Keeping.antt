@@ -3,7 +3,7 @@ use Rattle.std.specs.Prelude.{◌≡◌, Bool, List, Option, Some, true, option_
 use Rattle.std.specs.Map.{lookup}
 use Rattle.generational_core.specs.Borrowing.{reach}
 use Rattle.generational_core.specs.Boxes.{name_of}
-use Rattle.generational_core.specs.Leaving.{IsUnborrowed}
+use Rattle.generational_core.specs.Leaving.{HasNoBorrows}
 use Rattle.generational_core.specs.Machine.{OwnerName, ownership}
 use Rattle.generational_core.specs.Names.{Name, among}
 use Rattle.generational_core.specs.State.{State, Ownership}
@@ -30,7 +30,7 @@ module _ {I T : Type 0} where
   -- those of the rows' owners, which list the rows' entries; two ids have two owners, what a box
   -- reaches is an entry of a row, and an entry of a row reaches something
   pub record IsKept (S : State T) (eq : I → I → Bool) (rows : I → Option Held) : Type 0 where
-    pub unborrowed : IsUnborrowed S
+    pub unborrowed : HasNoBorrows S
     pub plain : IsPlain S
     pub listed : AreListedOnce S
     pub apart : (i j : I) (h g : Held) → rows i ≡ Some h → rows j ≡ Some g → h.owner ≡ g.owner

@@ -4,7 +4,7 @@
 ghost use Rattle.std.specs.Prelude.{◌≡◌, ◌⊎◌, ◌++◌, ◌∷◌, [], ℕ, true, Some, is_some, IfOk, IfErr, IsErrAnd, OnErr};
 ghost use Rattle.std.specs.Iterator.{YieldsFirstBy, item_count};
 ghost use Rattle.std.specs.Map.{lookup};
-ghost use Rattle.generational_core.specs.Leaving.{IsUnborrowed};
+ghost use Rattle.generational_core.specs.Leaving.{HasNoBorrows};
 ghost use Rattle.generational_core.specs.Machine.{ownership};
 ghost use Rattle.generational_core.specs.Machine.Action.{Make, ReleaseOwner};
 ghost use Rattle.generational_core.specs.Machine.Answer.{Made, Done};
@@ -101,7 +101,7 @@ impl<K: Eq + Hash, T> Session<K, T> {
     pub(crate) fn end<S: Storage<T>>(self, store: &mut S)
     where
         K: Drop,
-        requires quiet { IsUnborrowed (S.state store.old) }
+        requires quiet { HasNoBorrows (S.state store.old) }
         requires held { ownership (S.state store.old) self.owner
             ≡ Some (record { names = (held_of self).names; count = 1 }) }
         ensures { Meets (S.state store.old) (ReleaseOwner self.owner) Done (S.state store.new) }

@@ -8,7 +8,7 @@ ghost use Rattle.std.specs.Borrow.{MutBor};
 ghost use Rattle.std.specs.Fn.{FnOnceReturnsAtMut};
 ghost use Rattle.generational_core.specs.Boxes.{name_of};
 ghost use Rattle.generational_core.specs.Conditions.{IsFresh};
-ghost use Rattle.generational_core.specs.Leaving.{IsUnborrowed};
+ghost use Rattle.generational_core.specs.Leaving.{HasNoBorrows};
 ghost use Rattle.generational_core.specs.Machine.{OwnerName, ownership};
 ghost use Rattle.generational_core.specs.Names.{among};
 ghost use Rattle.generational_core.specs.Seeing.{value_in};
@@ -374,7 +374,7 @@ impl<I: Eq + Hash, K: Eq + Hash, T, S: Storage<T>> SessionTable<I, K, T, S> {
         I: Drop,
         K: Drop,
         ensures gone { (e : Entry T) → value_in (S.state result) (pointer_in e) ≡ None }
-        ensures borrows { IsUnborrowed (S.state result) }
+        ensures borrows { HasNoBorrows (S.state result) }
         ensures owners { (o : OwnerName) → ownership (S.state result) o ≡ None }
     {
         'places: while self.len() > 0 {

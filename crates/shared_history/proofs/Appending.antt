@@ -3,14 +3,14 @@ use Rattle.std.proofs.Common.{◌≡◌, ℕ, ◌+◌, ◌≤◌, List, [], ◌�
 use Rattle.std.proofs.Common.{arith, length-append}
 use Rattle.std.specs.Prelude.{sum_by}
 use Rattle.std.proofs.lemmas.List.Sums.{count_by-le-length, sum_by-append, sum_by-cons}
-use Rattle.shared_records.specs.Kinds.{count, kind_of, same_kind}
+use Rattle.shared_records.specs.Kinds.{count, step_kind, same_kind}
 use Rattle.shared_records.specs.Letters.{Appends, lettered, place_reply}
 use Rattle.shared_records.specs.declared.step.Kind.{Kind}
 use Rattle.shared_records.specs.declared.step.Step.{Step}
 use Rattle.shared_records.specs.declared.step.StepReply.{StepReply}
 use Rattle.shared_records.specs.declared.step.StepReply.TheVariants as reply
 
-kind_stays : (r : StepReply) → kind_of (place_reply lettered r) ≡ kind_of r
+kind_stays : (r : StepReply) → step_kind (place_reply lettered r) ≡ step_kind r
 kind_stays (reply.Made b) = refl
 kind_stays (reply.MadeShared id b) = refl
 kind_stays (reply.Owner o) = refl
@@ -21,10 +21,10 @@ kind_stays (reply.Dropped l) = refl
 kind_stays (reply.Store e) = refl
 
 -- a step counts by the kind of its reply
-one_step : (kind : Kind) (x y : Step) → kind_of x.reply ≡ kind_of y.reply
+one_step : (kind : Kind) (x y : Step) → step_kind x.reply ≡ step_kind y.reply
     → count kind (x ∷ []) ≡ count kind (y ∷ [])
 one_step kind x y same =
-    let f : Step → ℕ = λ s. cond (same_kind kind (kind_of s.reply)) 1 0 in
+    let f : Step → ℕ = λ s. cond (same_kind kind (step_kind s.reply)) 1 0 in
     sum_by-cons f x []
     ∙ (ap (λ k. cond (same_kind kind k) 1 0 + sum_by f []) same ∙ sym (sum_by-cons f y []))
 
@@ -32,9 +32,9 @@ pub one_more : (kind : Kind) (before after : List Step) (step : Step) → Append
     → count kind after ≡ count kind before + count kind (step ∷ [])
 one_more kind before after step more =
     let same = sym (kind_stays more.last.reply)
-    ∙ (ap (λ (x : Step). kind_of x.reply) more.same ∙ kind_stays step.reply) in
+    ∙ (ap (λ (x : Step). step_kind x.reply) more.same ∙ kind_stays step.reply) in
     ap (count kind) more.is
-    ∙ (sum_by-append (λ (x : Step). cond (same_kind kind (kind_of x.reply)) 1 0) before
+    ∙ (sum_by-append (λ (x : Step). cond (same_kind kind (step_kind x.reply)) 1 0) before
     (more.last ∷ [])
     ∙ ap (λ n. count kind before + n) (one_step kind more.last step same))
 
@@ -42,6 +42,6 @@ one_more kind before after step more =
 pub fewer : (kind : Kind) (before after : List Step) (step : Step) → Appends before step after
     → count kind before + 1 ≤ length after
 fewer kind before after step more =
-    let few = count_by-le-length (λ (s : Step). same_kind kind (kind_of s.reply)) before in
+    let few = count_by-le-length (λ (s : Step). same_kind kind (step_kind s.reply)) before in
     let all = ap length more.is ∙ length-append before (more.last ∷ []) in
     omega (arith, few, all)

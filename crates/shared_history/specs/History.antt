@@ -24,7 +24,7 @@ use Rattle.generational_core.specs.StepCalls.{is_ready, owner_of}
 use Rattle.shared_records.specs.declared.step.Step.{Step}
 use Rattle.shared_records.specs.declared.step.StepReply.{StepReply}
 use Rattle.shared_records.specs.declared.step.StepReply.TheVariants as reply
-use Rattle.shared_history.specs.Replies.{reply_of, is_recorded}
+use Rattle.shared_history.specs.Replies.{recorded_reply, is_recorded}
 
 -- where a history starts: a store of this number in which nothing was made
 abbrev pub start : ℕ → Plain
@@ -110,7 +110,7 @@ abbrev pub step_by : Plain → StepCall → StepReply → Option (Action (Unit {
 step_by P c r None = None
 step_by P c r (Some a) =
     let out : Outcome (Unit {0}) = limit_tickets P (act P a (names_of_reply r)) in
-    if is_lawful P c a r (reply_of out.1 a out.0) then Some out.1 else None
+    if is_lawful P c a r (recorded_reply out.1 a out.0) then Some out.1 else None
 
 -- what a recorded step makes of a state without values; none where it isn't lawful
 unfoldable pub plain_step : Plain → StepCall → StepReply → Option Plain
@@ -143,7 +143,7 @@ pub record IsTaken (P : Plain) (c : StepCall) (r : StepReply) (Q : Plain) : Type
   pub answer : Answer (Unit {0})
   pub met : Meets P action answer Q
   -- the recorded reply is this answer
-  pub replied : is_recorded (reply_of Q action answer) r ≡ true
+  pub replied : is_recorded (recorded_reply Q action answer) r ≡ true
   -- and names that it gives were new
   pub named : GivesNew P action r
 

@@ -27,7 +27,7 @@ use Rattle.shared_records.specs.declared.step.StepReply.TheVariants as reply
 use Rattle.shared_records.specs.declared.step.Kind.{Kind}
 use Rattle.shared_records.specs.declared.step.Kind.TheVariants as kind
 use Rattle.shared_history.specs.Counts.{Counts, raised}
-use Rattle.shared_records.specs.Kinds.{kind_of, step_of}
+use Rattle.shared_records.specs.Kinds.{step_kind, step_of}
 use Rattle.shared_records.specs.Letters.{Appends}
 
 module _ {T : Type 0} where
@@ -41,18 +41,18 @@ module _ {T : Type 0} where
   -- How the answer of the machine to a call is recorded, after which its state is R. An answer that
   -- tells of a borrow or of want of memory isn't recorded, and neither is the release of a guard
   -- that the store doesn't know.
-  abbrev pub reply_of : State T → Action T → Answer T → Option StepReply
-  reply_of R call (Made b) = made_reply call R b
-  reply_of R call (Owned o) = Some (reply.Owner (id_of_owner o))
-  reply_of R call (Reads g) = Some (reply.Reader g.ticket)
-  reply_of R call (Writes g v) = Some (reply.Writer g.ticket)
-  reply_of R call Done = Some reply.Done
-  reply_of R call (Old v) = Some reply.Done
-  reply_of R call (Flag true) = Some reply.Done
-  reply_of R call (BorrowRefused (Dropped l)) = Some (reply.Dropped l)
-  reply_of R call (Refused NumbersExhausted) = Some (reply.Store NumbersExhausted)
-  reply_of R call (Refused UnknownOwner) = Some (reply.Store UnknownOwner)
-  reply_of R call _ = None
+  abbrev pub recorded_reply : State T → Action T → Answer T → Option StepReply
+  recorded_reply R call (Made b) = made_reply call R b
+  recorded_reply R call (Owned o) = Some (reply.Owner (id_of_owner o))
+  recorded_reply R call (Reads g) = Some (reply.Reader g.ticket)
+  recorded_reply R call (Writes g v) = Some (reply.Writer g.ticket)
+  recorded_reply R call Done = Some reply.Done
+  recorded_reply R call (Old v) = Some reply.Done
+  recorded_reply R call (Flag true) = Some reply.Done
+  recorded_reply R call (BorrowRefused (Dropped l)) = Some (reply.Dropped l)
+  recorded_reply R call (Refused NumbersExhausted) = Some (reply.Store NumbersExhausted)
+  recorded_reply R call (Refused UnknownOwner) = Some (reply.Store UnknownOwner)
+  recorded_reply R call _ = None
 
 -- the history after a call of this worker: one step more, if its reply is recorded
 abbrev pub Records : List Step → ℕ → StepCall → Option StepReply → List Step → Type 0
@@ -79,7 +79,7 @@ raised_by None c = c
 raised_by (Some k) c = raised k c
 
 abbrev pub tallied : Option StepReply → Counts → Counts
-tallied r c = raised_by (option_map kind_of r) c
+tallied r c = raised_by (option_map step_kind r) c
 
 -- whether two refusals of the store are the same
 abbrev pub same_error : StoreError → StoreError → Bool

@@ -4,7 +4,7 @@ ghost use Rattle.std.specs.Prelude.{◌≡◌, ◌+◌, ◌^◌, ◌<◌, ◌≤
 ghost use Rattle.std.specs.Prelude.{OnErr, OnSome, IfNone, length, option_to_list};
 ghost use Rattle.shared_history.specs.Bases.{IsCounted, Trims, all_trimmed, counts_of, new_base};
 ghost use Rattle.shared_history.specs.Counts.{raised};
-ghost use Rattle.shared_records.specs.Kinds.{count, kind_of, step_of};
+ghost use Rattle.shared_records.specs.Kinds.{count, step_kind, step_of};
 ghost use Rattle.shared_records.specs.declared.step.Kind.TheVariants.{Made, Lent, Changed, Refused};
 ghost use Rattle.shared_records.specs.Letters.{Appends};
 ghost use Rattle.shared_records.specs.Records.{HasRecord};
@@ -127,7 +127,7 @@ impl<const NUMBER: u64, M: Count, L: Count, C: Count, R: Count> Log<NUMBER, M, L
         ensures standing { self.new.standing ≡ self.old.standing }
         ensures room { self.old.room ≤ self.new.room + 1 }
         ensures bounded { self.new.standing + self.new.room < 2 ^ 64 }
-        ensures tally { tally.new ≡ raised (kind_of reply) tally.old }
+        ensures tally { tally.new ≡ raised (step_kind reply) tally.old }
     {
         self.history.append(tally.number(), call, reply);
         match reply.kind() {
@@ -217,7 +217,7 @@ impl<const NUMBER: u64, M: Count, L: Count, C: Count, R: Count> Log<NUMBER, M, L
         ensures steps { Appends self.old.steps (step_of tally.old.worker call reply)
             self.new.steps }
         ensures standing { self.new.standing + 1 ≡ self.old.standing }
-        ensures tally { tally.new ≡ raised (kind_of reply) tally.old }
+        ensures tally { tally.new ≡ raised (step_kind reply) tally.old }
     {
         self.standing -= 1;
         self.append(call, reply, tally);

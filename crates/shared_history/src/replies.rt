@@ -13,8 +13,8 @@ ghost use Rattle.generational_core.specs.State.{State};
 ghost use Rattle.generational_core.specs.StepCalls.{target_of};
 ghost use Rattle.std.specs.Prelude.{IfOk, None, Option, is_some, option_map, true};
 ghost use Rattle.shared_history.specs.Standing.{given_by, leaves, lent_in};
-ghost use Rattle.shared_history.specs.Replies.{kind_in, reply_of, set_answer};
-ghost use Rattle.shared_records.specs.Kinds.{kind_of};
+ghost use Rattle.shared_history.specs.Replies.{kind_in, recorded_reply, set_answer};
+ghost use Rattle.shared_records.specs.Kinds.{step_kind};
 
 use generational_core::{
     BorrowError, BorrowMutError, BorrowMutResult, BorrowResult, GenerationalBoxId,
@@ -24,8 +24,8 @@ use shared_records::StepReply;
 
 // How a refusal of the store is recorded.
 fn store_reply<T>(error: StoreError) -> Option<StepReply>
-    ensures reply { (R : State T) (call : Action T) → result ≡ reply_of R call (refuses error) }
-    ensures kind { option_map kind_of result ≡ kind_in {T = T} (refuses error) }
+    ensures reply { (R : State T) (call : Action T) → result ≡ recorded_reply R call (refuses error) }
+    ensures kind { option_map step_kind result ≡ kind_in {T = T} (refuses error) }
     ensures lent { lent_in result ≡ given_by {T = T} (refuses error) }
     ensures left { result ≡ None → leaves {T = T} (refuses error) ≡ true }
 {
@@ -38,8 +38,8 @@ fn store_reply<T>(error: StoreError) -> Option<StepReply>
 // How the refusal of a read is recorded, and that of a write or an end.
 fn read_refusal<T>(refused: &Refused<BorrowError>) -> Option<StepReply>
     ensures reply { (R : State T) (call : Action T)
-        → result ≡ reply_of R call (read_refused refused.now) }
-    ensures kind { option_map kind_of result ≡ kind_in {T = T} (read_refused refused.now) }
+        → result ≡ recorded_reply R call (read_refused refused.now) }
+    ensures kind { option_map step_kind result ≡ kind_in {T = T} (read_refused refused.now) }
     ensures lent { lent_in result ≡ given_by {T = T} (read_refused refused.now) }
     ensures left { result ≡ None → leaves {T = T} (read_refused refused.now) ≡ true }
 {
@@ -54,8 +54,8 @@ fn read_refusal<T>(refused: &Refused<BorrowError>) -> Option<StepReply>
 
 fn end_refusal<T>(refused: &Refused<BorrowMutError>) -> Option<StepReply>
     ensures reply { (R : State T) (call : Action T)
-        → result ≡ reply_of R call (end_refused refused.now) }
-    ensures kind { option_map kind_of result ≡ kind_in {T = T} (end_refused refused.now) }
+        → result ≡ recorded_reply R call (end_refused refused.now) }
+    ensures kind { option_map step_kind result ≡ kind_in {T = T} (end_refused refused.now) }
     ensures lent { lent_in result ≡ given_by {T = T} (end_refused refused.now) }
     ensures left { result ≡ None → leaves {T = T} (end_refused refused.now) ≡ true }
 {
@@ -71,8 +71,8 @@ fn end_refusal<T>(refused: &Refused<BorrowMutError>) -> Option<StepReply>
 /// How the answer of a making is recorded.
 pub fn make_reply<T>(made: &Result<GenerationalPointer, Refusal<T>>) -> Option<StepReply>
     ensures reply { (R : State T) (owner : Option OwnerName) (value : T) (l : Location)
-        → result ≡ reply_of R (Make owner value l) (make_answer made.now) }
-    ensures kind { option_map kind_of result ≡ kind_in {T = T} (make_answer made.now) }
+        → result ≡ recorded_reply R (Make owner value l) (make_answer made.now) }
+    ensures kind { option_map step_kind result ≡ kind_in {T = T} (make_answer made.now) }
     ensures lent { lent_in result ≡ given_by {T = T} (make_answer made.now) }
     ensures left { result ≡ None → leaves {T = T} (make_answer made.now) ≡ true }
 {
@@ -90,8 +90,8 @@ pub fn shared_reply<T>(
     requires { IfOk made.now (λ b. is_some shared ≡ true) }
     ensures reply { (R : State T) (owner : Option OwnerName) (value : T) (l : Location)
         → IfOk made.now (λ b. shared ≡ target_of R b)
-        → result ≡ reply_of R (MakeShared owner value l) (make_answer made.now) }
-    ensures kind { option_map kind_of result ≡ kind_in {T = T} (make_answer made.now) }
+        → result ≡ recorded_reply R (MakeShared owner value l) (make_answer made.now) }
+    ensures kind { option_map step_kind result ≡ kind_in {T = T} (make_answer made.now) }
     ensures lent { lent_in result ≡ given_by {T = T} (make_answer made.now) }
     ensures left { result ≡ None → leaves {T = T} (make_answer made.now) ≡ true }
 {
@@ -104,8 +104,8 @@ pub fn shared_reply<T>(
 /// How the answer of a making of a reference is recorded.
 pub fn reference_reply<T>(made: &BorrowResult<GenerationalPointer>) -> Option<StepReply>
     ensures reply { (R : State T) (owner : Option OwnerName) (b : GenerationalPointer)
-        → result ≡ reply_of R (Refer owner b) (reference_answer made.now) }
-    ensures kind { option_map kind_of result ≡ kind_in {T = T} (reference_answer made.now) }
+        → result ≡ recorded_reply R (Refer owner b) (reference_answer made.now) }
+    ensures kind { option_map step_kind result ≡ kind_in {T = T} (reference_answer made.now) }
     ensures lent { lent_in result ≡ given_by {T = T} (reference_answer made.now) }
     ensures left { result ≡ None → leaves {T = T} (reference_answer made.now) ≡ true }
 {
@@ -118,8 +118,8 @@ pub fn reference_reply<T>(made: &BorrowResult<GenerationalPointer>) -> Option<St
 /// How the answer of a making of an owner is recorded.
 pub fn owner_reply<T>(made: &Result<Owner, StoreError>) -> Option<StepReply>
     ensures reply { (R : State T) (call : Action T)
-        → result ≡ reply_of R call (owner_answer made.now) }
-    ensures kind { option_map kind_of result ≡ kind_in {T = T} (owner_answer made.now) }
+        → result ≡ recorded_reply R call (owner_answer made.now) }
+    ensures kind { option_map step_kind result ≡ kind_in {T = T} (owner_answer made.now) }
     ensures lent { lent_in result ≡ given_by {T = T} (owner_answer made.now) }
     ensures left { result ≡ None → leaves {T = T} (owner_answer made.now) ≡ true }
 {
@@ -131,8 +131,8 @@ pub fn owner_reply<T>(made: &Result<Owner, StoreError>) -> Option<StepReply>
 
 /// How the answer of a read is recorded.
 pub fn read_reply<T>(read: &BorrowResult<GenerationalRef<T>>) -> Option<StepReply>
-    ensures reply { (R : State T) (call : Action T) → result ≡ reply_of R call (read_answer read.now) }
-    ensures kind { option_map kind_of result ≡ kind_in {T = T} (read_answer read.now) }
+    ensures reply { (R : State T) (call : Action T) → result ≡ recorded_reply R call (read_answer read.now) }
+    ensures kind { option_map step_kind result ≡ kind_in {T = T} (read_answer read.now) }
     ensures lent { lent_in result ≡ given_by {T = T} (read_answer read.now) }
     ensures left { result ≡ None → leaves {T = T} (read_answer read.now) ≡ true }
 {
@@ -145,8 +145,8 @@ pub fn read_reply<T>(read: &BorrowResult<GenerationalRef<T>>) -> Option<StepRepl
 /// How the answer of a write is recorded.
 pub fn write_reply<T>(written: &BorrowMutResult<GenerationalRefMut<T>>) -> Option<StepReply>
     ensures reply { (R : State T) (call : Action T)
-        → result ≡ reply_of R call (write_answer written.now) }
-    ensures kind { option_map kind_of result ≡ kind_in (write_answer written.now) }
+        → result ≡ recorded_reply R call (write_answer written.now) }
+    ensures kind { option_map step_kind result ≡ kind_in (write_answer written.now) }
     ensures lent { lent_in result ≡ given_by (write_answer written.now) }
     ensures left { result ≡ None → leaves (write_answer written.now) ≡ true }
 {
@@ -158,8 +158,8 @@ pub fn write_reply<T>(written: &BorrowMutResult<GenerationalRefMut<T>>) -> Optio
 
 /// How the answer of an end is recorded.
 pub fn end_reply<T>(ended: &BorrowMutResult<()>) -> Option<StepReply>
-    ensures reply { (R : State T) (call : Action T) → result ≡ reply_of R call (end_answer ended.now) }
-    ensures kind { option_map kind_of result ≡ kind_in {T = T} (end_answer ended.now) }
+    ensures reply { (R : State T) (call : Action T) → result ≡ recorded_reply R call (end_answer ended.now) }
+    ensures kind { option_map step_kind result ≡ kind_in {T = T} (end_answer ended.now) }
     ensures lent { lent_in result ≡ given_by {T = T} (end_answer ended.now) }
     ensures left { result ≡ None → leaves {T = T} (end_answer ended.now) ≡ true }
 {
@@ -174,8 +174,8 @@ pub fn release_reply<T>(
     released: &Result<(), (Owner, Refused<BorrowMutError>)>,
 ) -> Option<StepReply>
     ensures reply { (R : State T) (call : Action T)
-        → result ≡ reply_of R call (release_answer released.now) }
-    ensures kind { option_map kind_of result ≡ kind_in {T = T} (release_answer released.now) }
+        → result ≡ recorded_reply R call (release_answer released.now) }
+    ensures kind { option_map step_kind result ≡ kind_in {T = T} (release_answer released.now) }
     ensures lent { lent_in result ≡ given_by {T = T} (release_answer released.now) }
     ensures left { result ≡ None → leaves {T = T} (release_answer released.now) ≡ true }
 {
@@ -188,8 +188,8 @@ pub fn release_reply<T>(
 /// How the setting of a value is recorded.
 pub fn set_reply<T>(set: &Result<(), (T, Refused<BorrowMutError>)>) -> Option<StepReply>
     ensures reply { (R : State T) (call : Action T) (old : T)
-        → result ≡ reply_of R call (set_answer old set.now) }
-    ensures kind { (old : T) → option_map kind_of result ≡ kind_in (set_answer old set.now) }
+        → result ≡ recorded_reply R call (set_answer old set.now) }
+    ensures kind { (old : T) → option_map step_kind result ≡ kind_in (set_answer old set.now) }
     ensures lent { (old : T) → lent_in result ≡ given_by (set_answer old set.now) }
     ensures left { (old : T) → result ≡ None → leaves (set_answer old set.now) ≡ true }
 {
@@ -201,8 +201,8 @@ pub fn set_reply<T>(set: &Result<(), (T, Refused<BorrowMutError>)>) -> Option<St
 
 /// How the end of a read is recorded.
 pub fn flag_reply<T>(known: bool) -> Option<StepReply>
-    ensures reply { (R : State T) (call : Action T) → result ≡ reply_of R call (Flag known) }
-    ensures kind { option_map kind_of result ≡ kind_in {T = T} (Flag known) }
+    ensures reply { (R : State T) (call : Action T) → result ≡ recorded_reply R call (Flag known) }
+    ensures kind { option_map step_kind result ≡ kind_in {T = T} (Flag known) }
     ensures lent { lent_in result ≡ given_by {T = T} (Flag known) }
     ensures left { result ≡ None → leaves {T = T} (Flag known) ≡ true }
 {
@@ -212,8 +212,8 @@ pub fn flag_reply<T>(known: bool) -> Option<StepReply>
 /// How the end of a write is recorded.
 pub fn back_reply<T>(released: &Result<(), T>) -> Option<StepReply>
     ensures reply { (R : State T) (call : Action T)
-        → result ≡ reply_of R call (back_answer released.now) }
-    ensures kind { option_map kind_of result ≡ kind_in (back_answer released.now) }
+        → result ≡ recorded_reply R call (back_answer released.now) }
+    ensures kind { option_map step_kind result ≡ kind_in (back_answer released.now) }
     ensures lent { lent_in result ≡ given_by (back_answer released.now) }
     ensures left { result ≡ None → leaves (back_answer released.now) ≡ true }
 {

@@ -12,15 +12,15 @@ abbrev pub step_of : ℕ → StepCall → StepReply → Step
 step_of worker call r = record { worker = worker; call = call; reply = r }
 
 -- the kind of a step with this reply
-abbrev pub kind_of : StepReply → Kind
-kind_of (reply.Made b) = Made
-kind_of (reply.MadeShared id b) = Made
-kind_of (reply.Owner o) = Made
-kind_of (reply.Reader t) = Lent
-kind_of (reply.Writer t) = Lent
-kind_of reply.Done = Changed
-kind_of (reply.Dropped l) = Refused
-kind_of (reply.Store e) = Refused
+abbrev pub step_kind : StepReply → Kind
+step_kind (reply.Made b) = Made
+step_kind (reply.MadeShared id b) = Made
+step_kind (reply.Owner o) = Made
+step_kind (reply.Reader t) = Lent
+step_kind (reply.Writer t) = Lent
+step_kind reply.Done = Changed
+step_kind (reply.Dropped l) = Refused
+step_kind (reply.Store e) = Refused
 
 -- whether two kinds are the same
 abbrev pub same_kind : Kind → Kind → Bool
@@ -32,4 +32,4 @@ same_kind k l = false
 
 -- how many of the steps are of this kind
 abbrev pub count : Kind → List Step → ℕ
-count kind steps = count_by (λ (s : Step). same_kind kind (kind_of s.reply)) steps
+count kind steps = count_by (λ (s : Step). same_kind kind (step_kind s.reply)) steps

@@ -1,7 +1,7 @@
 //! Steps and their kinds.
 
 ghost use Rattle.std.specs.Prelude.{◌≡◌};
-ghost use Rattle.shared_records.specs.Kinds.{kind_of};
+ghost use Rattle.shared_records.specs.Kinds.{step_kind};
 
 use generational_core::{
     GenerationalBoxId, GenerationalPointer, Location, OwnerId, StepCall, StoreError,
@@ -59,7 +59,7 @@ impl StepReply {
     /// The kind of a step that was answered so. Takes no memory.
     #[inline(always)]
     pub fn kind(&self) -> Kind
-        ensures { result ≡ kind_of self.now }
+        ensures { result ≡ step_kind self.now }
     {
         match self {
             StepReply::Made(_) | StepReply::MadeShared(_, _) | StepReply::Owner(_) => Kind::Made,
@@ -73,7 +73,7 @@ impl StepReply {
 impl Step {
     /// The step's kind. Takes no memory.
     pub fn kind(&self) -> Kind
-        ensures { result ≡ kind_of self.now.reply }
+        ensures { result ≡ step_kind self.now.reply }
     {
         self.reply.kind()
     }

@@ -7,7 +7,7 @@ ghost use Rattle.generational_core.specs.Answers.{owner_answer, release_answer};
 ghost use Rattle.generational_core.specs.Borrowing.{reach};
 ghost use Rattle.generational_core.specs.Boxes.{name_of};
 ghost use Rattle.generational_core.specs.Conditions.{IsEnded};
-ghost use Rattle.generational_core.specs.Leaving.{IsLeft};
+ghost use Rattle.generational_core.specs.Leaving.{IsUnchanged};
 ghost use Rattle.generational_core.specs.Machine.{OwnerName, ownership};
 ghost use Rattle.generational_core.specs.Machine.Action.{NewOwner, MakeShared, Refer, ReleaseOwner};
 ghost use Rattle.generational_core.specs.Names.{Name, among};
@@ -77,7 +77,7 @@ impl Scope {
         ensures empty { IfOk result (λ scope. HasSignals (S.state store.new) scope []) }
         ensures unknown { IfOk result (λ scope. ownership (S.state store.old) scope ≡ None) }
         ensures others { (b : GenerationalPointer) →
-            IsLeft (S.state store.old) b (S.state store.new) }
+            IsUnchanged (S.state store.old) b (S.state store.new) }
         ensures scopes { LeavesScopes (S.state store.old) (S.state store.new) }
         ensures refused { OnErr result (S.state store.new ≡ S.state store.old) }
     {
@@ -106,7 +106,7 @@ impl Scope {
             value_in (S.state store.new) (pointer_in signal) ≡ Some value) }
         ensures others { IfOk result (λ signal. (b : GenerationalPointer) →
             name_of (pointer_in signal) ≢ name_of b →
-            IsLeft (S.state store.old) b (S.state store.new)) }
+            IsUnchanged (S.state store.old) b (S.state store.new)) }
         ensures listed { IfOk result (λ signal. (names : List Name) →
             HasSignals (S.state store.old) self.now names →
             HasSignals (S.state store.new) self.now (names ++ name_of (pointer_in signal) ∷ [])) }
@@ -148,7 +148,7 @@ impl Scope {
             value_in (S.state store.old) (pointer_in of)) }
         ensures others { IfOk result (λ signal. (b : GenerationalPointer) →
             name_of (pointer_in signal) ≢ name_of b →
-            IsLeft (S.state store.old) b (S.state store.new)) }
+            IsUnchanged (S.state store.old) b (S.state store.new)) }
         ensures listed { IfOk result (λ signal. (names : List Name) →
             HasSignals (S.state store.old) self.now names →
             HasSignals (S.state store.new) self.now (names ++ name_of (pointer_in signal) ∷ [])) }
@@ -187,7 +187,7 @@ impl Scope {
         ensures others { OnOk result ((names : List Name) →
             HasSignals (S.state store.old) self names →
             (b : GenerationalPointer) → among names (name_of b) ≡ false →
-            IsLeft (S.state store.old) b (S.state store.new)) }
+            IsUnchanged (S.state store.old) b (S.state store.new)) }
         ensures scopes { LeavesOtherScopes (S.state store.old) self (S.state store.new) }
         ensures refused { OnErr result (S.state store.new ≡ S.state store.old) }
         ensures back { IfErr result (λ refusal. refusal.0 ≡ self) }

@@ -8,7 +8,7 @@ ghost use Rattle.generational_core.specs.declared.boxes.GenerationalPointer.{Gen
 ghost use Rattle.generational_core.specs.Answers.{read_refused, end_refused, end_answer};
 ghost use Rattle.generational_core.specs.Boxes.{name_of};
 ghost use Rattle.generational_core.specs.Borrowing.{reach, can_read, can_write, take_ticket};
-ghost use Rattle.generational_core.specs.Leaving.{IsLeft, IsSet};
+ghost use Rattle.generational_core.specs.Leaving.{IsUnchanged, IsSet};
 ghost use Rattle.generational_core.specs.Machine.Action.{Read, Write, Point, SetValue};
 ghost use Rattle.generational_core.specs.Machine.Answer.{Old};
 ghost use Rattle.generational_core.specs.Seeing.{value_in};
@@ -170,7 +170,7 @@ impl<T> Signal<T> {
             AllSee (S.state store.old) (pointer_in self) value (S.state store.new)) }
         ensures others { OnOk result ((b : GenerationalPointer) →
             reach (S.state store.old) b ≢ reach (S.state store.old) (pointer_in self) →
-            IsLeft (S.state store.old) b (S.state store.new)) }
+            IsUnchanged (S.state store.old) b (S.state store.new)) }
         ensures scopes { LeavesScopes (S.state store.old) (S.state store.new) }
         ensures refused { IfErr result (λ refusal. (S.state store.new ≡ S.state store.old) ×
             Meets (S.state store.old) (Write (pointer_in self) location) (end_refused refusal.1)
@@ -215,7 +215,7 @@ impl<T> Signal<T> {
         ensures free { is_ok result ≡ can_write (S.state store.old) (pointer_in self) }
         ensures others { OnOk result ((b : GenerationalPointer) →
             reach (S.state store.old) b ≢ reach (S.state store.old) (pointer_in self) →
-            IsLeft (S.state store.old) b (S.state store.new)) }
+            IsUnchanged (S.state store.old) b (S.state store.new)) }
         ensures scopes { LeavesScopes (S.state store.old) (S.state store.new) }
         ensures refused { IfErr result (λ cause. (S.state store.new ≡ S.state store.old) ×
             Meets (S.state store.old) (Write (pointer_in self) location) (end_refused cause)
@@ -289,7 +289,7 @@ impl<T> Signal<T> {
         ensures seen { OnOk result (value_in (S.state store.new) (pointer_in self) ≡
             value_in (S.state store.old) (pointer_in to)) }
         ensures others { (b : GenerationalPointer) → name_of (pointer_in self) ≢ name_of b →
-            IsLeft (S.state store.old) b (S.state store.new) }
+            IsUnchanged (S.state store.old) b (S.state store.new) }
         ensures scopes { LeavesScopes (S.state store.old) (S.state store.new) }
         ensures refused { OnErr result (S.state store.new ≡ S.state store.old) }
     {

@@ -35,8 +35,8 @@ pub use specs.Entries.{AreIndexed, AreRoomy, entries_of, entry_of, entry_with, E
 pub use specs.Entries.{has_index, HasListIndex, is_lent_data, IsListable, IsListed, lent_data}
 pub use specs.Entries.{listed_beside}
 pub use specs.Entries.{HasListIndexIn, index_in, index_of, is_unborrowed_data, IsUnborrowed}
-pub use specs.Entries.{kept_data, kind_of, lead_of, lent_kept, target_of, unread_data, unread_in}
-pub use specs.Entry.{cell_at, cell_in, cell_of, change_entry, change_entry_if, content_in, Entry}
+pub use specs.Entries.{kept_data, kind_of, lead_of, lent_kept, named_by, unread_data, unread_in}
+pub use specs.Entry.{cell_under, cell_in, cell_of, change_entry, change_entry_if, content_in, Entry}
 pub use specs.Entry.{FoundBorrowed, FoundReaders, has_no_borrow, is_lent, is_unborrowed_value, Kept}
 pub use specs.Entry.{IsAlone, IsReadable, kind_in, lend_to, readers_of, referring, target_in}
 pub use specs.Entry.{value_for, with_content}

@@ -85,9 +85,9 @@ module _ {T : Type 0} where
   HasListIndex _ = Unit {0}
 
   -- what a reference names
-  abbrev pub target_of : StorageEntryData T → Option Name
-  target_of (slot.Reference s g) = Some (record { slot = s; generation = g })
-  target_of _ = None
+  abbrev pub named_by : StorageEntryData T → Option Name
+  named_by (slot.Reference s g) = Some (record { slot = s; generation = g })
+  named_by _ = None
 
   -- what a box of this name reaches where its cell is such
   abbrev pub lead_of : StorageEntryData T → Name → Option Name

@@ -64,8 +64,8 @@ module _ {T : Type 0} where
   cell_in (Some e) g = if nat_eq g e.generation then cell_of e.kept else None
 
   -- what stands at a name
-  abbrev pub cell_at : List (Entry T) → Name → Option (Cell T)
-  cell_at slots n = cell_in (slice_get slots n.slot) n.generation
+  abbrev pub cell_under : List (Entry T) → Name → Option (Cell T)
+  cell_under slots n = cell_in (slice_get slots n.slot) n.generation
 
   -- the slots with the i-th one changed by f, if there is one
   abbrev pub change_entry_if : List (Entry T) → ℕ → (Entry T → Entry T)

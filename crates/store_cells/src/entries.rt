@@ -25,7 +25,7 @@ ghost use Rattle.store_parts.specs.CellNames.{name_of_cell};
 ghost use Rattle.store_parts.specs.Table.{no_index, list_at, IsClosed, IsUsed};
 ghost use Rattle.store_cells.specs.Entries.{index_of, kept_data, listed_beside};
 ghost use Rattle.store_cells.specs.Entries.{IsListable, IsListed, IsUnborrowed};
-ghost use Rattle.store_cells.specs.Entry.{cell_at, cell_of, change_entry, content_in};
+ghost use Rattle.store_cells.specs.Entry.{cell_under, cell_of, change_entry, content_in};
 ghost use Rattle.store_cells.specs.Entry.{has_no_borrow, is_unborrowed_value, kind_in};
 ghost use Rattle.store_cells.specs.Entry.{lend_to, readers_of, referring, target_in};
 ghost use Rattle.store_cells.specs.Entry.{value_for, with_reader, with_value};
@@ -142,7 +142,7 @@ impl<T> Entries<T> {
     #[inline(always)]
     pub fn reach(&self, name: CellName) -> Option<CellName>
         ensures { option_map name_of_cell result ≡ leads_to
-            (cell_at self.now.slots (name_of_cell name)) (name_of_cell name) }
+            (cell_under self.now.slots (name_of_cell name)) (name_of_cell name) }
     {
         match self.entries.get(name.slot) {
             Some(entry) => entry.reach(name),
@@ -153,7 +153,7 @@ impl<T> Entries<T> {
     /// Whose the value of this name is, also one that is lent.
     #[inline(always)]
     pub fn kind(&self, name: CellName) -> Option<Kind>
-        ensures { result ≡ kind_in (cell_at self.now.slots (name_of_cell name)) }
+        ensures { result ≡ kind_in (cell_under self.now.slots (name_of_cell name)) }
     {
         match self.entries.get(name.slot) {
             Some(entry) => entry.kind(name.generation),
@@ -165,7 +165,7 @@ impl<T> Entries<T> {
     #[inline(always)]
     pub fn target(&self, name: CellName) -> Option<CellName>
         ensures { option_map name_of_cell result
-            ≡ target_in (cell_at self.now.slots (name_of_cell name)) }
+            ≡ target_in (cell_under self.now.slots (name_of_cell name)) }
     {
         match self.entries.get(name.slot) {
             Some(entry) => entry.target(name.generation),
@@ -208,7 +208,7 @@ impl<T> Entries<T> {
     #[inline(always)]
     pub fn holds(&self, name: CellName) -> bool
         ensures { result
-            ≡ is_some (content_of (cell_at self.now.slots (name_of_cell name))) }
+            ≡ is_some (content_of (cell_under self.now.slots (name_of_cell name))) }
     {
         if self.last.is_at(name.slot) && self.last.generation == name.generation {
             return true;
@@ -219,7 +219,7 @@ impl<T> Entries<T> {
     /// Whether the cell of this name is a value that isn't shared and has no borrow.
     #[inline(always)]
     pub fn has_unborrowed_value(&self, name: CellName) -> bool
-        ensures { result ≡ is_unborrowed_value (cell_at self.now.slots (name_of_cell name)) }
+        ensures { result ≡ is_unborrowed_value (cell_under self.now.slots (name_of_cell name)) }
     {
         if self.last.is_at(name.slot) {
             return false;

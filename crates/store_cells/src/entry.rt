@@ -8,7 +8,7 @@ ghost use Rattle.std.specs.Prelude.{false, true};
 ghost use Rattle.store_cells.specs.Entries.{full_data, is_lent_data, is_unborrowed_data};
 ghost use Rattle.store_cells.specs.Entries.{lent_data};
 ghost use Rattle.store_cells.specs.Entries.{read_data, unread_data, unread_in};
-ghost use Rattle.store_cells.specs.Entries.{index_of, lead_of, kind_of, target_of};
+ghost use Rattle.store_cells.specs.Entries.{index_of, lead_of, kind_of, named_by};
 ghost use Rattle.store_cells.specs.Entries.{data_value};
 ghost use Rattle.store_parts.specs.CellNames.{name_of_cell};
 
@@ -111,7 +111,7 @@ impl<T> StorageEntry<T> {
     #[inline(always)]
     pub fn target(&self, generation: u64) -> Option<CellName>
         ensures { option_map name_of_cell result ≡ if nat_eq self.now.generation generation
-            then target_of self.now.content else None }
+            then named_by self.now.content else None }
     {
         if self.generation != generation {
             return None;
@@ -149,7 +149,7 @@ impl<T> StorageEntryData<T> {
     /// What the cell names, if it is a reference.
     #[inline(always)]
     pub fn target(&self) -> Option<CellName>
-        ensures { option_map name_of_cell result ≡ target_of self.now }
+        ensures { option_map name_of_cell result ≡ named_by self.now }
     {
         match self {
             StorageEntryData::Reference(slot, generation) => Some(CellName {

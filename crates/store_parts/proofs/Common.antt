@@ -34,7 +34,7 @@ pub use specs.OwnerPlaces.{HasDistinctKeys, HasRecord, HasRoom, is_vacant, IsPla
 pub use specs.OwnerPlaces.{keyed_ownerships, KeyedOwnership, Place, place_rows, record_at}
 pub use specs.OwnerPlaces.{record_in, Records, with_ownership, with_rooms}
 pub use specs.OwnerRecords.{add_to_list_in, knows, record_of}
-pub use specs.Queues.{HasTicketAt, IsKept, IsOwnPlace, IsQueue, standing_at, StandsAt, TicketsAscend}
+pub use specs.Queues.{HasTicketAt, AreKept, IsOwnPlace, IsQueue, standing_at, StandsAt, TicketsAscend}
 pub use specs.Table.{IsTable}
 pub use Rattle.generational_core.proofs.maps.Maps.{by_number, changed_there, get-changed_none}
 pub use Rattle.generational_core.proofs.maps.Maps.{get-remove_apart, insert_there, key_same}

@@ -26,8 +26,8 @@ abbrev pub IsOwnPlace : ℕ → List Place → ℕ → Type 0
 IsOwnPlace t ps i = (i < length ps) × HasTicketAt t ps i × StandsAt i ps
 
 -- the places are those that there were, or those of them that live
-abbrev pub IsKept : List Place → List Place → Type 0
-IsKept before after = (after ≡ before) ⊎ (after ≡ filter (λ p. p.stands) before)
+abbrev pub AreKept : List Place → List Place → Type 0
+AreKept before after = (after ≡ before) ⊎ (after ≡ filter (λ p. p.stands) before)
 
 -- tickets ascend, the first place and the last live, and so do half of all at least
 pub record IsQueue (places : List Place) (live : ℕ) : Type 0 where

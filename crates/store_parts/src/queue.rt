@@ -7,7 +7,7 @@ ghost use Rattle.std.specs.VecDeque.{deque_len, deque_capacity};
 ghost use Rattle.std.specs.List.{list_any, filter};
 ghost use Rattle.generational_core.specs.Rows.{reader_row};
 ghost use Rattle.store_parts.specs.Borrows.{AreBelow};
-ghost use Rattle.store_parts.specs.Queues.{standing_at, TicketsAscend, StandsAt, IsOwnPlace, IsKept};
+ghost use Rattle.store_parts.specs.Queues.{standing_at, TicketsAscend, StandsAt, IsOwnPlace, AreKept};
 
 use generational_core::parts::Borrow;
 use generational_core::{BaseRow, GenerationalBoxId, Location};
@@ -161,7 +161,7 @@ pub fn reader_row(id: GenerationalBoxId, borrow: &Borrow) -> BaseRow
 // refused, the dead places are taken away first.
 fn make_room(places: &mut VecDeque<Place>) -> Result<(), AllocError>
     ensures ok { OnOk result (deque_len places.new < deque_capacity places.new) }
-    ensures kept { IsKept places.old.items places.new.items }
+    ensures kept { AreKept places.old.items places.new.items }
 {
     if places.reserve(1).is_ok() {
         return Ok(());

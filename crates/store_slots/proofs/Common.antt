@@ -52,8 +52,8 @@ pub use specs.State.{content_at, HasTargets, is_named, State}
 pub use specs.StepCalls.{is_hindered, may_set, tells_of_borrow}
 pub use specs.declared.{boxes.GenerationalPointer.GenerationalPointer, rows.BaseRow.BaseRow}
 pub use Rattle.store_cells.proofs.states.Outcomes.{err_from, ok_then, readable, unrefused}
-pub use Rattle.store_cells.specs.Entries.{EntryList, IsUnborrowed, kept_data, target_of}
-pub use Entry.{cell_at, cell_in, cell_of, change_entry, change_entry_if, content_in, Entry}
+pub use Rattle.store_cells.specs.Entries.{EntryList, IsUnborrowed, kept_data, named_by}
+pub use Entry.{cell_under, cell_in, cell_of, change_entry, change_entry_if, content_in, Entry}
 pub use Entry.{FoundBorrowed, has_no_borrow, is_live, is_unborrowed_value, Kept, kind_in, less_read}
 pub use Entry.{one_read, referring, target_in, with_content}
 pub use Entry.Kept.{Empty, Live, Refers}

@@ -27,7 +27,7 @@ use Rattle.generational_core.specs.Slots.{last_generation}
 use Rattle.generational_core.specs.Steps.{IsNew}
 use Rattle.store_cells.specs.Entry.{Entry, FoundBorrowed, cell_of, is_live}
 use Rattle.store_parts.specs.Lists.{how_many}
-use Rattle.store_cells.specs.Entry.{cell_at, change_entry}
+use Rattle.store_cells.specs.Entry.{cell_under, change_entry}
 use Rattle.store_parts.specs.CellNames.{name_of_cell}
 use Rattle.store_parts.specs.declared.names.CellName.{CellName}
 use Rattle.store_slots.specs.declared.found.Found.{Found}
@@ -244,7 +244,7 @@ module _ {T : Type 0} where
   -- a target that is live, and shared
   abbrev pub shared_target : List (Entry T) → Option Name → Option Name
   shared_target slots None = None
-  shared_target slots (Some m) = if is_shared (cell_at slots m) then Some m else None
+  shared_target slots (Some m) = if is_shared (cell_under slots m) then Some m else None
 
   -- whether a name's slot counts another number of references
   abbrev pub has_other_count_in : ℕ → Option (Entry T) → Bool
@@ -262,7 +262,7 @@ module _ {T : Type 0} where
 
   -- how many of some names are of references to a cell
   abbrev pub refers_among : List (Entry T) → List Name → Name → ℕ
-  refers_among slots names m = count_by (λ n. refers_to m (cell_at slots n)) names
+  refers_among slots names m = count_by (λ n. refers_to m (cell_under slots n)) names
 
   -- what hinders the end of a value, if there is one: a borrow of it
   abbrev pub refusal_of : NameMap (Cell T) → Option Name → Option BorrowRefusal
@@ -275,7 +275,7 @@ module _ {T : Type 0} where
   if_borrowed cells (Some m) = if is_some (refusal_of cells (Some m)) then Some m else None
 
   abbrev pub borrowed_at : List (Entry T) → Name → Option Name
-  borrowed_at slots n = if_borrowed (cells_of slots) (leads_to (cell_at slots n) n)
+  borrowed_at slots n = if_borrowed (cells_of slots) (leads_to (cell_under slots n) n)
 
   -- a cell more, under a new name, for which there was room or memory
   pub record IsMade (s r : SlotsState T) (cell : Option (Cell T)) (n : Name) : Type 0 where

@@ -8,7 +8,7 @@ ghost use Rattle.generational_core.specs.Conditions.{IsLinked};
 ghost use Rattle.generational_core.specs.Ending.{cells_after, first_hindrance, take_away};
 ghost use Rattle.generational_core.specs.Names.{is_name};
 ghost use Rattle.generational_core.specs.State.{is_named};
-ghost use Rattle.store_cells.specs.Entry.{FoundBorrowed, cell_at, is_unborrowed_value};
+ghost use Rattle.store_cells.specs.Entry.{FoundBorrowed, cell_under, is_unborrowed_value};
 ghost use Rattle.store_cells.specs.Entry.{target_in};
 ghost use Rattle.store_parts.specs.CellNames.{name_of_cell};
 ghost use Rattle.store_slots.specs.SlotsState.{AreReferred, cells_of, would_end, has_other_count};
@@ -29,9 +29,9 @@ pub fn would_end<T: Drop>(
 ) -> Option<CellName>
     requires linked { IsLinked (cells_of entries.now.slots) }
     requires target { option_map name_of_cell target
-        ≡ target_in (cell_at entries.now.slots (name_of_cell name)) }
+        ≡ target_in (cell_under entries.now.slots (name_of_cell name)) }
     ensures { option_map name_of_cell result ≡ would_end (has_other_count entries.now.slots 1)
-        (cell_at entries.now.slots (name_of_cell name)) (name_of_cell name) }
+        (cell_under entries.now.slots (name_of_cell name)) (name_of_cell name) }
 {
     if let Some(target) = target {
         if entries.details(target.slot).references == 1 {
@@ -49,7 +49,7 @@ pub fn would_end<T: Drop>(
 #[inline(always)]
 pub fn are_unborrowed_values<T: Drop>(entries: &Entries<T>, names: &[CellName]) -> bool
     ensures { result ≡ list_all
-        (λ n. is_unborrowed_value (cell_at entries.now.slots (name_of_cell n))) names.now }
+        (λ n. is_unborrowed_value (cell_under entries.now.slots (name_of_cell n))) names.now }
 {
     names.iter().all(|name| entries.has_unborrowed_value(*name))
 }
@@ -130,7 +130,7 @@ fn borrowed_value<T: Drop>(entries: &Entries<T>, name: CellName) -> Option<CellN
 fn lives_on<T: Drop>(entries: &Entries<T>, names: &[CellName], value: CellName) -> bool
     requires referred { AreReferred (λ m. 0) entries.now.slots }
     requires apart { IsDistinct is_name (list_map name_of_cell names.now) }
-    ensures { result ≡ (is_shared (cell_at entries.now.slots (name_of_cell value))
+    ensures { result ≡ (is_shared (cell_under entries.now.slots (name_of_cell value))
         && is_named (take_away (cells_of entries.now.slots) (list_map name_of_cell names.now))
         (name_of_cell value)) }
 {
@@ -145,7 +145,7 @@ fn lives_on<T: Drop>(entries: &Entries<T>, names: &[CellName], value: CellName) 
 // How many names of a list are of references to a cell.
 fn references_among<T: Drop>(entries: &Entries<T>, names: &[CellName], target: CellName) -> usize
     ensures { result ≡ count_by (λ n. refers_to (name_of_cell target)
-        (cell_at entries.now.slots (name_of_cell n))) names.now }
+        (cell_under entries.now.slots (name_of_cell n))) names.now }
 {
     names
         .iter()
@@ -156,7 +156,7 @@ fn references_among<T: Drop>(entries: &Entries<T>, names: &[CellName], target: C
 // Whether a name is that of a reference to a cell.
 fn refers_to<T: Drop>(entries: &Entries<T>, name: CellName, target: CellName) -> bool
     ensures { result ≡ refers_to (name_of_cell target)
-        (cell_at entries.now.slots (name_of_cell name)) }
+        (cell_under entries.now.slots (name_of_cell name)) }
 {
     match entries.target(name) {
         Some(named) => named == target,

@@ -5,7 +5,7 @@ ghost use Rattle.generational_core.specs.Borrowing.{leads_to};
 ghost use Rattle.generational_core.specs.Cells.{is_shared};
 ghost use Rattle.generational_core.specs.Keeping.{boxed_at};
 ghost use Rattle.store_parts.specs.CellNames.{name_of_cell};
-ghost use Rattle.store_cells.specs.Entry.{cell_at};
+ghost use Rattle.store_cells.specs.Entry.{cell_under};
 ghost use Rattle.store_slots.specs.SlotsState.{count_less, count_more};
 
 use store_cells::entries::Entries;
@@ -14,7 +14,7 @@ use store_parts::names::CellName;
 
 // Whether a live cell of this name has a box: a shared value has none.
 pub(crate) fn is_boxed<T: Drop>(entries: &Entries<T>, name: CellName) -> bool
-    ensures { result ≡ is_some (boxed_at (cell_at entries.now.slots (name_of_cell name))) }
+    ensures { result ≡ is_some (boxed_at (cell_under entries.now.slots (name_of_cell name))) }
 {
     match entries.kind(name) {
         Some(kind) => matches!(kind, Kind::Value),

@@ -3,7 +3,7 @@
 ghost use Rattle.std.specs.Prelude.{◌≡◌, ◌<◌, ◌++◌, IfSome, OnOk, length, slice_get};
 ghost use Rattle.generational_core.specs.Rows.{cell_rows};
 ghost use Rattle.store_parts.specs.CellNames.{name_of_cell};
-ghost use Rattle.store_cells.specs.Entry.{cell_at};
+ghost use Rattle.store_cells.specs.Entry.{cell_under};
 ghost use Rattle.store_slots.specs.SlotRows.{entry_rows, rows_from};
 
 use generational_core::BaseRow;
@@ -53,7 +53,7 @@ fn push_cell<T: Drop>(
 ) -> Result<(), AllocError>
     requires { name.slot < length entries.now.slots }
     ensures { OnOk result (rows.new.items ≡ rows.old.items ++ cell_rows number
-        (name_of_cell name) (cell_at entries.now.slots (name_of_cell name))) }
+        (name_of_cell name) (cell_under entries.now.slots (name_of_cell name))) }
 {
     let id = name.id(number);
     let created_at = entries.details(name.slot).created_at;

@@ -3,7 +3,7 @@
 ghost use Rattle.std.specs.Prelude.{◌≡◌, ◌+◌, ◌-◌, ◌<◌, ◌≤◌, ◌∷◌, ◌++◌, [], true, Some, None};
 ghost use Rattle.std.specs.Prelude.{Err, IfSome, IfOk, IfErr, IsSome, OnOk, OnErr, IsTrue, ◌↔◌};
 ghost use Rattle.std.specs.Prelude.{is_none, is_ok, option_copied, option_map, length, not};
-ghost use Rattle.std.specs.Prelude.{false, is_some};
+ghost use Rattle.std.specs.Prelude.{IfNone, false, is_some};
 ghost use Rattle.std.specs.Prelude.{map as list_map};
 ghost use Rattle.std.specs.List.{IsDistinct, list_all};
 ghost use Rattle.std.specs.FinMap as map;
@@ -24,13 +24,13 @@ ghost use Rattle.generational_core.specs.Machine.{has_reader, has_writer, point,
 ghost use Rattle.generational_core.specs.Machine.Action.{Point};
 ghost use Rattle.generational_core.specs.Keeping.{boxed_at};
 ghost use Rattle.generational_core.specs.Names.{is_name};
-ghost use Rattle.generational_core.specs.Seeing.{value_reached};
+ghost use Rattle.generational_core.specs.Seeing.{unborrowed_value, value_reached};
 ghost use Rattle.generational_core.specs.Slots.{slots, free, retired};
 ghost use Rattle.generational_core.specs.State.{content_at, is_named};
 ghost use Rattle.generational_core.specs.StepCalls.{is_hindered, may_set, tells_of_borrow};
 ghost use Rattle.store_cells.specs.declared.entry.StorageEntryData.TheVariants as content;
 ghost use Rattle.store_parts.specs.Borrows.{AreBelow};
-ghost use Rattle.store_cells.specs.Entries.{IsUnborrowed, kept_data, target_of};
+ghost use Rattle.store_cells.specs.Entries.{IsUnborrowed, kept_data, named_by};
 ghost use Rattle.store_cells.specs.Entry.{FoundBorrowed, cell_of, has_no_borrow};
 ghost use Rattle.store_cells.specs.Entry.{is_unborrowed_value};
 ghost use Rattle.store_cells.specs.Entry.{less_read, one_read, readers_of};
@@ -567,7 +567,7 @@ impl<T: Drop, P: SlotPool> Slots<T, P> {
         created_at: Location,
     ) -> Result<CellName, StorageEntryData<T>>
         requires unborrowed { IsUnborrowed content }
-        requires target { IfSome (target_of content)
+        requires target { IfSome (named_by content)
             (λ m. is_shared (map.get self.old.state.cells m) ≡ true) }
         requires linked { HasTargets self.old.state.cells }
         ensures ok { IfOk result (λ n. IsMade self.old self.new
@@ -598,7 +598,7 @@ impl<T: Drop, P: SlotPool> Slots<T, P> {
         requires none { free self.old.state ≡ 0 }
         requires room { 0 < self.old.spare }
         requires unborrowed { IsUnborrowed content }
-        requires target { IfSome (target_of content)
+        requires target { IfSome (named_by content)
             (λ m. is_shared (map.get self.old.state.cells m) ≡ true) }
         requires linked { HasTargets self.old.state.cells }
         ensures { IsMade self.old self.new (cell_of (kept_data [] created_at content))
@@ -686,6 +686,33 @@ impl<T: Drop, P: SlotPool> Slots<T, P> {
             return Ok(());
         }
         self.end_refused(name)
+    }
+
+    /// Ends a name and hands its value back, exactly where that isn't shared and has no borrow. The
+    /// value is lent for that, and the writer ends with the cell.
+    pub fn take_value(&mut self, name: CellName) -> Option<T>
+        requires { IsLinked self.old.state.cells }
+        ensures value { result
+            ≡ unborrowed_value (map.get self.old.state.cells (name_of_cell name)) }
+        ensures free { IfSome result
+            (λ value. hindrance_to self.old.state (name_of_cell name ∷ []) ≡ None) }
+        ensures ended { IfSome result
+            (λ value. self.new.state ≡ close self.old.state (name_of_cell name ∷ [])) }
+        ensures none { IfNone result (self.new.state ≡ self.old.state) }
+    {
+        if !self.entries.has_unborrowed_value(name) {
+            return None;
+        }
+        let location = self.entries.details(name.slot).created_at;
+        let value = self.begin_write(
+            name,
+            Borrow {
+                ticket: 0,
+                location,
+            },
+        );
+        self.remove(name, None, false);
+        Some(value)
     }
 
     // Ends a name of any cell, unless a borrow stands in the way. The answer is whether it ended: so

@@ -11,7 +11,7 @@ use Common.{names_in, names_under, nat_tests, needs_memory, NewNames, no_names, 
 use Common.{NumbersExhausted, Option, option_or, or_parts, OutOfMemory, OwnerName, Owners}
 use Common.{Ownership, permits, reach, reached, read_refusal, Ref, refer, Refer, refl, refusal_at}
 use Common.{refusal_to_read, refusal_to_refer_at, Shared, shared_reached, SlotsState, Some, State}
-use Common.{StorageEntryData, StoreError, subst, sym, target_of, true, UnknownOwner}
+use Common.{StorageEntryData, StoreError, subst, sym, named_by, true, UnknownOwner}
 use Common.{unless, Value, with_records, ℕ, [], ⊎_elim, ◌<◌, ◌∙◌, ◌∷◌, ◌≡◌, ◌≢◌, ◌⊎◌}
 use Rattle.generational_box.proofs.calls.Calls.{reach_here, reach_own, read_own}
 use Rattle.generational_box.proofs.records.Counts.{counted_listed}
@@ -220,7 +220,7 @@ module _ {T : Type 0} where
 
       -- and a reference to it names a shared value
       pub pair_target : (d : StorageEntryData T) → d ≡ slot.Reference m.slot m.generation
-          → IfSome (target_of d) (λ k. is_shared (map.get r.state.cells k) ≡ true)
+          → IfSome (named_by d) (λ k. is_shared (map.get r.state.cells k) ≡ true)
       pair_target d is = rw (is, stands)
 
       -- each Ref still names a Shared cell

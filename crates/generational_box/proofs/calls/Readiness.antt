@@ -2,7 +2,7 @@
 use Rattle.generational_box.proofs.Common
 use Rattle.generational_box.proofs.{Common.◌≤◌, calls.EndCalls.end_tells, calls.Points.points}
 use Common.{ap, arith, Bool, BorrowRefusal, Cell, close, cond, Done, eq-eqb}
-use Common.{false, GenerationalPointer, has_same_id, hindrance_at, hindrance_to, is_free}
+use Common.{false, GenerationalPointer, has_same_id, hindrance_at, hindrance_to, meets_no_borrow}
 use Common.{is_hindered, is_name, is_none, le-ltb, List, lt-ltb, Name, name_of, NameMap}
 use Common.{ne_eqb, None, not, Option, Outcome, OwnerName, Owners, ownership, Ownership, point}
 use Common.{Point, reach, Ref, refl, refusal_to_read, ReleaseOwner, Shared, Some}
@@ -12,18 +12,18 @@ use Rattle.std.specs.FinMap as map
 module _ {T : Type 0} where
   module _ (S : State T) (a b : GenerationalPointer) where
     -- a box that names itself changes nothing
-    pub same_free : true ≡ has_same_id a b → true ≡ is_free S (Point a b)
+    pub same_free : true ≡ has_same_id a b → true ≡ meets_no_borrow S (Point a b)
     same_free same = rw (← same)
 
     module _ (other : false ≡ has_same_id a b) where
       -- the other box reaches nothing
-      pub gone_free : None ≡ reach S b → true ≡ is_free S (Point a b)
+      pub gone_free : None ≡ reach S b → true ≡ meets_no_borrow S (Point a b)
       unfolding refusal_to_read
       gone_free none = rw (← other, ← none)
 
       -- or is refused a read
       pub read_told : (t : BorrowRefusal) → refusal_to_read S b ≡ Some t
-          → not (tells_of_borrow (Some t)) ≡ is_free S (Point a b)
+          → not (tells_of_borrow (Some t)) ≡ meets_no_borrow S (Point a b)
       read_told t is = rw (← other, is)
 
       module _ (X : State T) {number next : ℕ} {owners : Owners} {m : Name}
@@ -33,7 +33,7 @@ module _ {T : Type 0} where
         V = with_records X number owners next
 
         -- the box's own cell is another store's
-        pub strange_free : a.id.store ≢ number → true ≡ is_free S (Point a b)
+        pub strange_free : a.id.store ≢ number → true ≡ meets_no_borrow S (Point a b)
         strange_free strange =
             rw (← view, points a b other X view to free, ne_eqb a.id.store number strange)
 
@@ -41,7 +41,7 @@ module _ {T : Type 0} where
         pub own_free : (flag : Bool) (n : Name) → n ≡ name_of a → a.id.store ≡ number
             → flag ≡ not (is_hindered (Point a b) (point X a b (map.get X.cells n)
             (Some m) (map.get X.cells m)).0)
-            → flag ≡ is_free S (Point a b)
+            → flag ≡ meets_no_borrow S (Point a b)
         own_free flag n at own is =
             rw (← view, points a b other X view to free, eq-eqb a.id.store number own)
             ((rw at at is) ∙ by (map.get X.cells (name_of a)) (map.get X.cells m))
@@ -66,14 +66,14 @@ module _ {T : Type 0} where
   module _ (S : State T) (o : OwnerName) where
     -- of a record with others
     pub several_free : (h : Ownership) → Some h ≡ ownership S o → 1 < h.count
-        → true ≡ is_free S (ReleaseOwner o)
+        → true ≡ meets_no_borrow S (ReleaseOwner o)
     several_free h found several = rw (← found, lt-ltb 1 h.count several)
 
     -- and the last one, whose boxes end
     pub last_free : (X : State T) {number next : ℕ} {owners : Owners}
         → with_records X number owners next ≡ S → (h : Ownership) (names : List Name) (free : Bool)
         → Some h ≡ ownership S o → h.count ≤ 1 → names ≡ h.names
-        → free ≡ is_none (hindrance_to X names) → free ≡ is_free S (ReleaseOwner o)
+        → free ≡ is_none (hindrance_to X names) → free ≡ meets_no_borrow S (ReleaseOwner o)
     unfolding hindrance_to
     last_free X {number = number} {next = next} {owners = owners} view h names free found few are
         is = let V = with_records X number owners next in
@@ -82,7 +82,7 @@ module _ {T : Type 0} where
         ∙ (told V (hindrance_to X h.names) (end_tells X h.names) _
         ∙ sym (last V here))))
       where
-        last : (V : State T) → Some h ≡ ownership V o → is_free V (ReleaseOwner o)
+        last : (V : State T) → Some h ≡ ownership V o → meets_no_borrow V (ReleaseOwner o)
             ≡ not (is_hindered (ReleaseOwner o) (unless (hindrance_to V h.names) V
             (Done, record (close V h.names) { owners = map.remove V.owners o.key })).0)
         last V here = rw (← here, le-ltb 1 h.count few)

@@ -15,7 +15,7 @@ use Rattle.generational_core.specs.Borrowing.{take_ticket}
 use Rattle.generational_core.specs.Cells.{Content, Cell, content_of, refill}
 use Rattle.generational_core.specs.Cells.Cell.{Value}
 use Rattle.generational_core.specs.Cells.Content.{Here, Lent}
-use Rattle.generational_core.specs.Leaving.{LeavesGuard, IsLeft, IsSet}
+use Rattle.generational_core.specs.Leaving.{LeavesGuard, IsUnchanged, IsSet}
 use Rattle.generational_core.specs.Machine.{Action, Answer, NewNames, Outcome, OwnerName, act}
 use Rattle.generational_core.specs.Machine.{unless, cell_at, has_reader, has_writer, knows_reader}
 use Rattle.generational_core.specs.Machine.{knows_writer, next_borrow, next_guard, ownership}
@@ -262,16 +262,16 @@ module _ {T : Type 0} where
   -- ---- what boxes see then
 
   -- a ticket more leaves each box
-  ticket_leaves : (S : State T) (b : GenerationalPointer) → IsLeft S b (take_ticket S)
+  ticket_leaves : (S : State T) (b : GenerationalPointer) → IsUnchanged S b (take_ticket S)
   unfolding reach value_in
   ticket_leaves S b = record { reached = refl; content = λ m to. refl; seen = refl }
 
   -- so a read that was released leaves each box
   pub read_leaves : {S R Q : State T} (b : GenerationalPointer) (l : Location) (g : Guard)
       (flag : Bool) → IsSound S → Meets S (Read b l) (Reads g) R
-      → Meets R (ReleaseReader g) (Flag flag) Q → (c : GenerationalPointer) → IsLeft S c Q
+      → Meets R (ReleaseReader g) (Flag flag) Q → (c : GenerationalPointer) → IsUnchanged S c Q
   read_leaves {S} b l g flag s read release c =
-      subst (IsLeft S c) (sym (reads_back b l g flag s read release)) (ticket_leaves S c)
+      subst (IsUnchanged S c) (sym (reads_back b l g flag s read release)) (ticket_leaves S c)
 
   -- a value that is filled in is seen by each box that reaches it, and other boxes are left
   module _ (S : State T) (n : Name) (k : Content T) (c : GenerationalPointer) where
@@ -281,7 +281,7 @@ module _ {T : Type 0} where
         value_in_reached (fill S n k) c n (filled_reach S n k c ∙ to)
         ∙ ap value_of (filled_content S n k old had)
 
-    filled_beside : reach S c ≢ Some n → IsLeft S c (fill S n k)
+    filled_beside : reach S c ≢ Some n → IsUnchanged S c (fill S n k)
     filled_beside apart =
         record { reached = filled_reach S n k c; content = content; seen = seen }
       where
@@ -295,8 +295,8 @@ module _ {T : Type 0} where
             (λ m to. let after = value_in_reached (fill S n k) c m (filled_reach S n k c ∙ to) in
             cc (content m to, value_in_reached S c m to))
 
-  left_twice : (S R Q : State T) (c : GenerationalPointer) → IsLeft S c R → IsLeft R c Q
-      → IsLeft S c Q
+  left_twice : (S R Q : State T) (c : GenerationalPointer) → IsUnchanged S c R → IsUnchanged R c Q
+      → IsUnchanged S c Q
   left_twice S R Q c first second = record {
     reached = second.reached ∙ first.reached;
     content = λ m to. second.content m (first.reached ∙ to) ∙ first.content m to;
@@ -312,10 +312,10 @@ module _ {T : Type 0} where
         ∙ filled_seen S it.name (Here v []) c _ it.content (same ∙ it.reached))
 
     -- another box is left
-    pub set_beside : (c : GenerationalPointer) → reach S c ≢ reach S b → IsLeft S c Q
+    pub set_beside : (c : GenerationalPointer) → reach S c ≢ reach S b → IsUnchanged S c Q
     set_beside c apart =
         let filled = fill S it.name (Here v []) in
-        subst (IsLeft S c) (sym it.after) (left_twice S filled (take_ticket filled) c
+        subst (IsUnchanged S c) (sym it.after) (left_twice S filled (take_ticket filled) c
         (filled_beside S it.name (Here v []) c (λ to. apart (to ∙ sym it.reached)))
         (ticket_leaves filled c))
 

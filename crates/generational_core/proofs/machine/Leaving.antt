@@ -11,7 +11,7 @@ use Rattle.generational_core.specs.Cells.{Content, Cell, content_of}
 use Rattle.generational_core.specs.Cells.Cell.{Value, Shared, Ref}
 use Rattle.generational_core.specs.Cells.Content.{Here}
 use Rattle.generational_core.specs.Conditions.{names_in}
-use Rattle.generational_core.specs.Leaving.{GivesOther, IsBeside, IsLeft, LeavesContent}
+use Rattle.generational_core.specs.Leaving.{GivesOther, IsBeside, IsUnchanged, LeavesContent}
 use Rattle.generational_core.specs.Machine.{Action, Answer, NewNames, Outcome, OwnerName, act, unless}
 use Rattle.generational_core.specs.Machine.{add_cell, cell_at, is_known, make, ownership, refer}
 use Rattle.generational_core.specs.Machine.Action.{Make, MakeShared, Refer, Read, ReleaseOwner}
@@ -190,7 +190,7 @@ module _ {T : Type 0} where
 
     -- so a box is left
     pub leaves : IsSound S → Meets S call answer R → (b : GenerationalPointer)
-        → LeavesContent S call b → GivesOther call answer b → IsLeft S b R
+        → LeavesContent S call b → GivesOther call answer b → IsUnchanged S b R
     leaves s m b h other =
         let value = leaves_value S call b h in
         let reach = same_reach S R call answer s m b (leaves_box S call b value) other in
@@ -204,12 +204,12 @@ module _ {T : Type 0} where
   -- which is so of each box that isn't in the list, where an owner is released
   pub release_leaves : (S R : State T) (o : OwnerName) (answer : Answer T) → IsSound S
       → Meets S (ReleaseOwner o) answer R → (h : Ownership) → ownership S o ≡ Some h
-      → (b : GenerationalPointer) → among h.names (name_of b) ≡ false → IsLeft S b R
+      → (b : GenerationalPointer) → among h.names (name_of b) ≡ false → IsUnchanged S b R
   release_leaves S R o answer s m h held b out = leaves S R (ReleaseOwner o) answer s m b
       (ap (λ r. among (names_in r) (name_of b)) (held_record S o h held) ∙ out) tt
 
   -- what a borrow of a box that is left would be answered is the same
-  pub left_refusals : (S R : State T) (b : GenerationalPointer) → IsLeft S b R
+  pub left_refusals : (S R : State T) (b : GenerationalPointer) → IsUnchanged S b R
       → (refusal_to_read R b ≡ refusal_to_read S b) × (refusal_to_write R b ≡ refusal_to_write S b)
   unfolding refusal_to_read refusal_to_write
   left_refusals S R b left = (at read_refusal, at write_refusal)

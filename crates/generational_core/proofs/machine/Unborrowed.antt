@@ -17,7 +17,7 @@ use Rattle.generational_core.specs.Cells.Content.{Here, Lent}
 use Rattle.generational_core.specs.Conditions.{fresh}
 use Rattle.generational_core.specs.Ending.{cells_after, first_hindrance, hindrance_at, hindrance_of}
 use Rattle.generational_core.specs.Ending.{hindrance_to}
-use Rattle.generational_core.specs.Leaving.{AreFree, BeginsNoBorrow, IsSet, IsUnborrowed}
+use Rattle.generational_core.specs.Leaving.{AreFree, BeginsNoBorrow, IsSet, HasNoBorrows}
 use Rattle.generational_core.specs.Machine.{Action, Answer, NewNames, Outcome, OwnerName, act}
 use Rattle.generational_core.specs.Machine.{own_name, ownership}
 use Rattle.generational_core.specs.Machine.Action.{Read, Write, ReleaseReader, ReleaseOwner, End}
@@ -69,7 +69,7 @@ module _ {T : Type 0} where
   unrefused (Some (Here v [])) h = refl
   unrefused _ h = cc
 
-  module _ (S : State T) (quiet : IsUnborrowed S) (b : GenerationalPointer) where
+  module _ (S : State T) (quiet : HasNoBorrows S) (b : GenerationalPointer) where
     -- a box that reaches something may be written
     pub quiet_free : (m : Name) → reach S b ≡ Some m → can_write S b ≡ true
     quiet_free m to =
@@ -88,7 +88,7 @@ module _ {T : Type 0} where
 
   -- ---- which calls leave a store so
 
-  pub quiet_fresh : (number start next : ℕ) → IsUnborrowed (fresh {T = T} number start next)
+  pub quiet_fresh : (number start next : ℕ) → HasNoBorrows (fresh {T = T} number start next)
   quiet_fresh number start next = record {
     none = λ n. ap (λ (c : Option (Cell T)). tickets_of (content_of c)) (map.get-empty name_cmp n);
   }
@@ -96,7 +96,7 @@ module _ {T : Type 0} where
   module _ {S R : State T} where
     -- each that asks for no borrow
     pub quiet_stays : (call : Action T) (answer : Answer T) → Meets S call answer R
-        → BeginsNoBorrow call → IsUnborrowed S → IsUnborrowed R
+        → BeginsNoBorrow call → HasNoBorrows S → HasNoBorrows R
     quiet_stays call answer m begins quiet = record {
       none = λ n.
           keep_each (meets_follows S R call answer m) n
@@ -122,12 +122,12 @@ module _ {T : Type 0} where
     -- a read that was released, and a write
     pub quiet_read : {Q : State T} (b : GenerationalPointer) (l : Location) (g : Guard)
         (flag : Bool) → IsSound S → Meets S (Read b l) (Reads g) R
-        → Meets R (ReleaseReader g) (Flag flag) Q → IsUnborrowed S → IsUnborrowed Q
+        → Meets R (ReleaseReader g) (Flag flag) Q → HasNoBorrows S → HasNoBorrows Q
     quiet_read b l g flag s read release quiet =
         rw (reads_back b l g flag s read release) (record { none = quiet.none })
 
     pub quiet_set : (b : GenerationalPointer) (v : T) → IsSet S b v R
-        → IsUnborrowed S → IsUnborrowed R
+        → HasNoBorrows S → HasNoBorrows R
     quiet_set b v it quiet = rw it.after (record {
       none = λ n. by_keys by_name n it.name
           (λ is. rw (is, filled_content S it.name (Here v []) (Here it.old []) it.content))
@@ -218,7 +218,7 @@ module _ {T : Type 0} where
 
     -- nor is an end in a store without borrows, or an owner's release
     pub quiet_ends : (b : GenerationalPointer) {U : Type 0}
-        (r : Result U (error.Refused BorrowMutError)) → IsUnborrowed S
+        (r : Result U (error.Refused BorrowMutError)) → HasNoBorrows S
         → Meets S (End b) (end_answer r) R → IsOk r
     quiet_ends b {U} r quiet m = ended_ok {U = U} r (done_always S R (End b) _ goes m)
       where
@@ -228,6 +228,6 @@ module _ {T : Type 0} where
 
     pub quiet_releases : (o : OwnerName) (h : Ownership) {U V : Type 0}
         (r : Result U (V × error.Refused BorrowMutError)) → ownership S o ≡ Some h
-        → IsUnborrowed S → Meets S (ReleaseOwner o) (release_answer r) R → IsOk r
+        → HasNoBorrows S → Meets S (ReleaseOwner o) (release_answer r) R → IsOk r
     quiet_releases o h {U} {V} r held quiet =
         frees_owned o h {U = U} {V = V} r held (λ a m there to gone. quiet_free S quiet a m to)

@@ -4,24 +4,24 @@ use Rattle.std.specs.Prelude.{IsOk}
 use Rattle.generational_core.proofs.machine.{Changes.filled_content, Telling.filled_reach}
 use Rattle.generational_core.specs.{Answers.WriteGuard, Leaving.IsSet, Leaving.LeavesContent}
 use proofs.{Action, Answer, ap, back_answer, can_write, fill, GenerationalPointer, given_other}
-use proofs.{Here, IsGiven, IsLeft, IsSound, leaves, Location, Meets, name_of, reach, refl}
+use proofs.{Here, IsGiven, IsUnchanged, IsSound, leaves, Location, Meets, name_of, reach, refl}
 use proofs.{ReleaseWriter, rests_free, Result, State, take_ticket, true, value_in, Write}
 use proofs.{write_refusal, Writes, writes_back, [], ◌∙◌, ◌≡◌}
 use proofs.callers.Rows.{ticket_keeps}
 
 module _ {T : Type 0} where
   -- a box is left where nothing changed
-  pub left_still : {S R : State T} (b : GenerationalPointer) → R ≡ S → IsLeft S b R
+  pub left_still : {S R : State T} (b : GenerationalPointer) → R ≡ S → IsUnchanged S b R
   left_still b is = rw is (record { reached = refl; content = λ m to. refl; seen = refl })
 
   -- and where a ticket alone was given
-  pub left_ticket : (S : State T) (b : GenerationalPointer) → IsLeft S b (take_ticket S)
+  pub left_ticket : (S : State T) (b : GenerationalPointer) → IsUnchanged S b (take_ticket S)
   unfolding reach value_in
   left_ticket S b = record { reached = refl; content = λ m to. refl; seen = refl }
 
   -- and where it is left twice
-  pub left_twice : {S R Q : State T} {b : GenerationalPointer} → IsLeft S b R → IsLeft R b Q
-      → IsLeft S b Q
+  pub left_twice : {S R Q : State T} {b : GenerationalPointer} → IsUnchanged S b R → IsUnchanged R b Q
+      → IsUnchanged S b Q
   left_twice first second = record {
     reached = second.reached ∙ first.reached;
     content = λ m to. second.content m (first.reached ∙ to) ∙ first.content m to;
@@ -31,7 +31,7 @@ module _ {T : Type 0} where
   -- and by a call that leaves it, where its name was given before
   pub left_given : {S R : State T} (call : Action T) (answer : Answer T) → IsSound S
       → Meets S call answer R → (b : GenerationalPointer) → LeavesContent S call b
-      → IsGiven S (name_of b) → IsLeft S b R
+      → IsGiven S (name_of b) → IsUnchanged S b R
   left_given {S} {R} call answer s m b leaving given =
       leaves S R call answer s m b leaving (given_other S R call answer b m given)
 

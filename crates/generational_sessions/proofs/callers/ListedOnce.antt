@@ -10,7 +10,7 @@ use Rattle.generational_sessions.{proofs.callers.Lefts.left_still, specs.ListedO
 use proofs.{act, Action, among, Answer, ap, AreNew, Bool, BorrowRefusal, by_cond, by_number, by_run}
 use proofs.{by_step, Call, Cell, cell_at, change, clone_owner, CloneOwner, close, cond, false}
 use proofs.{fresh, GenerationalPointer, get-insert_here, hindrance_to, inl, inr, is_known, is_name}
-use proofs.{IsDistinct, IsLeft, IsSound, IsSoundSession, keeps_record, key_cases, List}
+use proofs.{IsDistinct, IsUnchanged, IsSound, IsSoundSession, keeps_record, key_cases, List}
 use proofs.{list_any-append, Make, MakeShared, Meets, meets_cases, meets_sound, Name, name_apart}
 use proofs.{name_of, name_total, nat_cmp, nat_eq, nat_lt, new_fresh, NewNames, NewOwner, None}
 use proofs.{one_less, one_listed, one_more, Option, or_cases, Outcome, OwnerName, Owners, Ownership}
@@ -265,10 +265,10 @@ module _ {T : Type 0} where
   pub release_beside : {S R : State T} (o p : OwnerName) (h : Ownership) (answer : Answer T)
       → IsSound S → AreListedOnce S → Meets S (ReleaseOwner o) answer R → o ≢ p
       → ownership S p ≡ Some h → (b : GenerationalPointer) → among h.names (name_of b) ≡ true
-      → IsLeft S b R
+      → IsUnchanged S b R
   release_beside {S} {R} o p h answer s l m ne held b there = at (ownership S o) refl
     where
-      at : (x : Option Ownership) → ownership S o ≡ x → IsLeft S b R
+      at : (x : Option Ownership) → ownership S o ≡ x → IsUnchanged S b R
       at None is = left_still b (⊎_elim (λ refused. refused.1)
           (λ acts. ap (λ (out : Outcome T). out.1) acts.2
           ∙ ap (λ x. (release_owner S o x).1) is) (meets_cases S R (ReleaseOwner o) answer m))

@@ -6,7 +6,7 @@ use proofs.{GenerationalPointer, Here, is_some, IsSound, Location, Made, Make, M
 use proofs.{meets_cases, meets_sound, Name, name_of, None, Old, Option, Outcome, reach, refl, Some}
 use proofs.{State, subst, sym, true, true≢false, unseen, Value, value_in, ℕ, [], ⊎_elim, ◌∙◌, ◌≡◌}
 use Rattle.std.specs.FinMap as map
-use Rattle.generational_core.specs.Leaving.{BeginsNoBorrow, IsUnborrowed}
+use Rattle.generational_core.specs.Leaving.{BeginsNoBorrow, HasNoBorrows}
 use Rattle.generational_core.specs.Machine.Action.{SetValue}
 use Rattle.generational_core.specs.Slots.{Fits}
 use Rattle.generational_core.proofs.machine.Leaving.{same_reach}
@@ -59,7 +59,7 @@ module _ {T : Type 0} where
 
   -- and what a box reaches does
   pub reached_alike : (S R : State T) (b : GenerationalPointer) → IsSound S → IsSound R
-      → IsUnborrowed S → IsUnborrowed R → reach R b ≡ reach S b
+      → HasNoBorrows S → HasNoBorrows R → reach R b ≡ reach S b
       → is_some (value_in R b) ≡ is_some (value_in S b)
   reached_alike S R b s r quiet still same = at (reach S b) refl
     where
@@ -82,7 +82,7 @@ module _ {T : Type 0} where
           ∙ ap is_some (map.get-empty _ _)))
 
   -- a set leaves which boxes see a value
-  pub set_seen : {S R : State T} → IsSound S → IsUnborrowed S → (a : GenerationalPointer) (v old : T)
+  pub set_seen : {S R : State T} → IsSound S → HasNoBorrows S → (a : GenerationalPointer) (v old : T)
       → Meets S (SetValue a v) (Old old) R → (b : GenerationalPointer)
       → is_some (value_in R b) ≡ is_some (value_in S b)
   set_seen {S} {R} s quiet a v old m b =

@@ -54,7 +54,7 @@ pub use machine.Stepping.{meets_next, meets_number, meets_says, meets_sound, mee
 pub use machine.Stepping.{meets_value, reader_stays, reads_known, takes_new, writer_stays}
 pub use Rattle.generational_core.proofs.maps.Maps.{changed_there, contains-insert_apart}
 pub use Rattle.generational_core.proofs.maps.Maps.{get-insert_name, name_test}
-pub use Rattle.generational_core.specs.{Machine.own_cell, Names.change_if, Leaving.IsLeft}
+pub use Rattle.generational_core.specs.{Machine.own_cell, Names.change_if, Leaving.IsUnchanged}
 pub use Rattle.generational_core.specs.{Steps.answer_to}
 pub use Rattle.generational_core.specs.Answers.{back_answer, end_refused, pointer_of}
 pub use Rattle.generational_core.specs.Conditions.{count_in, count_under, IsFresh}

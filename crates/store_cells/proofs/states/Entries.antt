@@ -14,7 +14,7 @@ use Common.{is_unborrowed_data, is_unborrowed_value, is_writer, kept_data, kind_
 use Common.{lead_of, leads_to, length, length-set, lent_kept, list_any, list_at, location_of}
 use Common.{may_note, nat_eq, nat_tests, ne_eqb, no_index, read_refusal, referring, refl, set-own}
 use Common.{set_written, slice_get, slice_get_cases, slice_get_past, slice_get_read}
-use Common.{slice_get_within, slice_set, subst, suc, sym, target_in, target_of, true, true≢false}
+use Common.{slice_get_within, slice_set, subst, suc, sym, target_in, named_by, true, true≢false}
 use Common.{unread_in, value_for, value_of, without_reader_in, write_refusal, zero, ℕ, ⊎_elim}
 use Common.{◌&&◌, ◌++◌, ◌+◌, ◌<◌, ◌∙◌, ◌∷◌, ◌≡◌, ◌≢◌, ◌≤◌}
 use Rattle.store_cells.proofs.lists.TableChanges.{none_some}
@@ -192,7 +192,7 @@ module _ {T : Type 0} (e : StorageEntry T) (d : EntryDetails) (bs : List Borrow)
       ≡ leads_to (cell_in (Some (entry_with bs e d)) n.generation) n
   lead_seen n = grind (arith, nat_tests, lent)
 
-  pub target_seen : (g : ℕ) → cond (nat_eq e.generation g) (target_of e.content) None
+  pub target_seen : (g : ℕ) → cond (nat_eq e.generation g) (named_by e.content) None
       ≡ target_in (cell_in (Some (entry_with bs e d)) g)
   target_seen g = grind (arith, nat_tests, lent)
 

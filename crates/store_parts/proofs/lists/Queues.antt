@@ -8,7 +8,7 @@ use Common.{get_or_append_left, Greater, HasTicketAt, HoldsAt, IsBinarySearchRes
 use Common.{IsNonDecreasingBy, IsPartitionPoint, IsOwnPlace, IsQueue, length, length-append}
 use Common.{length-map, Less, List, list_any, map, map-append, Mut, nat_cmp}
 use Common.{nat_eq, nat_tests, ne_eqb, not, Ok, or_parts, ordering_index, ranked, refl, slice_set}
-use Common.{false≢true, IsKept, option_to_list, Option, slice_get, Some, standing_at, StandsAt}
+use Common.{false≢true, AreKept, option_to_list, Option, slice_get, Some, standing_at, StandsAt}
 use Common.{subst, suc, sym, TicketsAscend, true, zero, ℕ, [], ⊎_elim, ◌++◌, ◌+◌}
 use Common.{◌-◌, ◌<◌, ◌||◌, ◌∙◌, ◌∷◌, ◌≡◌, ◌≢◌, ◌≤◌}
 use Rattle.store_parts.specs.declared.queue.Place.{Place}
@@ -316,7 +316,7 @@ kept_queue ps n up count = record {
 }
 
 -- room is made
-pub roomy : (ps qs : List Place) (n : ℕ) → IsQueue ps n → IsKept ps qs
+pub roomy : (ps qs : List Place) (n : ℕ) → IsQueue ps n → AreKept ps qs
     → IsQueue qs n × (standing_at qs ≡ standing_at ps)
 roomy ps qs n q = ⊎_elim
     (λ same. rw same (q, refl))

@@ -2,7 +2,7 @@
 use Rattle.store_slots.proofs.Common
 use Rattle.store_slots.proofs.states
 use Common.{and_parts, ap, AreReferred, arith, at_drop_more, Bool, borrowed_at, BorrowRefusal, Cell}
-use Common.{cell_at, cell_of, CellName, cells_after, cells_of, cond, cond_some, content_in}
+use Common.{cell_under, cell_of, CellName, cells_after, cells_of, cond, cond_some, content_in}
 use Common.{content_of, would_end, drop, Entry, false, first_borrowed_end, first_hindered}
 use Common.{first_hindrance, get_or-map, has_other_count, HasTargets, how_many, if_borrowed, is_name}
 use Common.{is_named, is_none, is_shared, is_some, is_unborrowed_value, IsDistinct, IsLinked, Kept}
@@ -46,7 +46,7 @@ some_or (Some t) u is = refl
 
 module _ {T : Type 0} (slots : List (Entry T)) (named : Name → Bool) where
   abbrev own : Name → Option BorrowRefusal  -- what hinders the end of a name
-  own n = refusal_of (cells_of slots) (would_end named (cell_at slots n) n)
+  own n = refusal_of (cells_of slots) (would_end named (cell_under slots n) n)
 
   -- what is borrowed is what a name leads to, and refused; what isn't, hinders nothing
   borrowed_leads : (o : Option Name) (m : Name) → Some m ≡ if_borrowed (cells_of slots) o
@@ -64,7 +64,7 @@ module _ {T : Type 0} (slots : List (Entry T)) (named : Name → Bool) where
 
   -- so a name that reaches no borrowed value is hindered by nothing
   free_own : (n : Name) → None ≡ borrowed_at slots n → own n ≡ None
-  free_own n = by (cell_at slots n)
+  free_own n = by (cell_under slots n)
     where
       by : (cell : Option (Cell T)) → None ≡ if_borrowed (cells_of slots) (leads_to cell n)
           → refusal_of (cells_of slots) (would_end named cell n) ≡ None
@@ -75,14 +75,14 @@ module _ {T : Type 0} (slots : List (Entry T)) (named : Name → Bool) where
       by _ e = refl
 
   -- nor is one that reaches a shared value which is named still
-  spared_own : (n m : Name) → Some m ≡ leads_to (cell_at slots n) n
-      → (is_shared (cell_at slots m) && named m) ≡ true → own n ≡ None
-  spared_own n m leads lives = by (cell_at slots n) refl leads
+  spared_own : (n m : Name) → Some m ≡ leads_to (cell_under slots n) n
+      → (is_shared (cell_under slots m) && named m) ≡ true → own n ≡ None
+  spared_own n m leads lives = by (cell_under slots n) refl leads
     where
-      both : (is_shared (cell_at slots m) ≡ true) × (named m ≡ true)
-      both = and_parts (is_shared (cell_at slots m)) (named m) lives
+      both : (is_shared (cell_under slots m) ≡ true) × (named m ≡ true)
+      both = and_parts (is_shared (cell_under slots m)) (named m) lives
 
-      by : (cell : Option (Cell T)) → cell_at slots n ≡ cell → Some m ≡ leads_to cell n
+      by : (cell : Option (Cell T)) → cell_under slots n ≡ cell → Some m ≡ leads_to cell n
           → refusal_of (cells_of slots) (would_end named cell n) ≡ None
       by (Some (Value c l)) at e =
           let same : m ≡ n = cc in let no = rw (same, at) at both.0 in cc
@@ -91,12 +91,12 @@ module _ {T : Type 0} (slots : List (Entry T)) (named : Name → Bool) where
 
   -- one that reaches another is hindered by what stands there
   ending_own : HasTargets (cells_of slots) → (n m : Name)
-      → Some m ≡ leads_to (cell_at slots n) n
-      → (is_shared (cell_at slots m) && named m) ≡ false
+      → Some m ≡ leads_to (cell_under slots n) n
+      → (is_shared (cell_under slots m) && named m) ≡ false
       → own n ≡ refusal_of (cells_of slots) (Some m)
-  ending_own targets n m leads dies = by (cell_at slots n) refl leads
+  ending_own targets n m leads dies = by (cell_under slots n) refl leads
     where
-      by : (cell : Option (Cell T)) → cell_at slots n ≡ cell → Some m ≡ leads_to cell n
+      by : (cell : Option (Cell T)) → cell_under slots n ≡ cell → Some m ≡ leads_to cell n
           → refusal_of (cells_of slots) (would_end named cell n)
           ≡ refusal_of (cells_of slots) (Some m)
       by (Some (Value c l)) at e = ap (refusal_of (cells_of slots)) (sym e)
@@ -131,14 +131,14 @@ module _ {T : Type 0} (slots : List (Entry T)) (named : Name → Bool) where
     passed_free free = rw (rest_of, free_own name free) refl
 
     pub passed_spared : (m : Name) → Some m ≡ borrowed_at slots name
-        → (is_shared (cell_at slots m) && named m) ≡ true
+        → (is_shared (cell_under slots m) && named m) ≡ true
         → all (drop (i + 1) names) ≡ all (drop i names)
     passed_spared m reached lives =
         rw (rest_of, spared_own name m (borrowed_leads _ m reached).0 lives) refl
 
     -- and where it reaches one that goes, it is this
     pub stopped : HasTargets (cells_of slots) → (m : Name) → Some m ≡ borrowed_at slots name
-        → (is_shared (cell_at slots m) && named m) ≡ false
+        → (is_shared (cell_under slots m) && named m) ≡ false
         → all (drop i names) ≡ refusal_of (cells_of slots) (Some m)
     stopped targets m reached dies =
         let leads = borrowed_leads _ m reached in
@@ -153,7 +153,7 @@ module _ {T : Type 0} where
   pub living : (slots : List (Entry T)) (names : List Name) → AreReferred (λ m. 0) slots
       → IsDistinct is_name names → (m : Name) (t : HasShared slots m)
       → nat_lt (refers_among slots names m) t.references
-      ≡ (is_shared (cell_at slots m) && is_named (take_away (cells_of slots) names) m)
+      ≡ (is_shared (cell_under slots m) && is_named (take_away (cells_of slots) names) m)
   living slots names referred apart m t =
       let count = count_of referred t in
       let same : t.references ≡ how_many (refers m) slots = omega arith in
@@ -162,12 +162,12 @@ module _ {T : Type 0} where
   -- the value that goes where one name ends
   pub ending_alone : (slots : List (Entry T)) → HasTargets (cells_of slots)
       → AreReferred (λ m. 0) slots → (n : Name)
-      → would_end (has_other_count slots 1) (cell_at slots n) n
+      → would_end (has_other_count slots 1) (cell_under slots n) n
       ≡ would_end (is_named (map.remove (cells_of slots) n)) (map.get (cells_of slots) n) n
   ending_alone slots targets referred n =
-      rw (get_cells slots n) (by (cell_at slots n) refl)
+      rw (get_cells slots n) (by (cell_under slots n) refl)
     where
-      by : (cell : Option (Cell T)) → cell_at slots n ≡ cell
+      by : (cell : Option (Cell T)) → cell_under slots n ≡ cell
           → would_end (has_other_count slots 1) cell n
           ≡ would_end (is_named (map.remove (cells_of slots) n)) cell n
       by (Some (Ref m l)) at =
@@ -201,10 +201,10 @@ module _ {T : Type 0} where
 
   -- what a name reaches is live
   pub reached_live : (slots : List (Entry T)) → HasTargets (cells_of slots) → (n m : Name)
-      → Some m ≡ leads_to (cell_at slots n) n → IsFound slots m
-  reached_live slots targets n m leads = by (cell_at slots n) refl leads
+      → Some m ≡ leads_to (cell_under slots n) n → IsFound slots m
+  reached_live slots targets n m leads = by (cell_under slots n) refl leads
     where
-      by : (cell : Option (Cell T)) → cell_at slots n ≡ cell → Some m ≡ leads_to cell n
+      by : (cell : Option (Cell T)) → cell_under slots n ≡ cell → Some m ≡ leads_to cell n
           → IsFound slots m
       by (Some (Value c l)) at e =
           let same : m ≡ n = cc in
@@ -214,7 +214,7 @@ module _ {T : Type 0} where
       by _ at e = cc
 
   -- whether it is borrowed, is told by its slot
-  pub reached_borrow : (slots : List (Entry T)) (n m : Name) → Some m ≡ leads_to (cell_at slots n) n
+  pub reached_borrow : (slots : List (Entry T)) (n m : Name) → Some m ≡ leads_to (cell_under slots n) n
       → (f : IsFound slots m)
       → cond (is_none (write_refusal (content_in f.kept))) None (Some m) ≡ borrowed_at slots n
   reached_borrow slots n m leads f =
@@ -227,14 +227,14 @@ module _ {T : Type 0} where
 
   -- the name of a value of its own without borrows reaches no borrowed one
   pub reached_free : (slots : List (Entry T)) (n : Name)
-      → is_unborrowed_value (cell_at slots n) ≡ true → None ≡ borrowed_at slots n
-  reached_free slots n free = by (cell_at slots n) refl free
+      → is_unborrowed_value (cell_under slots n) ≡ true → None ≡ borrowed_at slots n
+  reached_free slots n free = by (cell_under slots n) refl free
     where
       none : (t : Option BorrowRefusal) → is_none t ≡ true → None ≡ cond (is_some t) (Some n) None
       none None free = refl
       none (Some t) free = cc
 
-      by : (cell : Option (Cell T)) → cell_at slots n ≡ cell → is_unborrowed_value cell ≡ true
+      by : (cell : Option (Cell T)) → cell_under slots n ≡ cell → is_unborrowed_value cell ≡ true
           → None ≡ if_borrowed (cells_of slots) (leads_to cell n)
       by (Some (Value c l)) at free = rw (get_cells slots n, at) (none _ free)
       by (Some (Ref m l)) at free = cc
@@ -242,11 +242,11 @@ module _ {T : Type 0} where
 
   -- so nothing hinders a list of such names
   pub none_hindered : (slots : List (Entry T)) (named : Name → Bool) (items : List CellName)
-      → list_all (λ n. is_unborrowed_value (cell_at slots (name_of_cell n))) items ≡ true
+      → list_all (λ n. is_unborrowed_value (cell_under slots (name_of_cell n))) items ≡ true
       → first_refusal (cells_of slots) named (list_map name_of_cell items) ≡ None
   none_hindered slots named [] free = refl
   none_hindered slots named (item ∷ items) free =
       let n = name_of_cell item in
-      let both = and_parts (is_unborrowed_value (cell_at slots n)) _ free in
+      let both = and_parts (is_unborrowed_value (cell_under slots n)) _ free in
       rw (get_cells slots n, free_own slots named n (reached_free slots n both.0))
       (none_hindered slots named items both.1)

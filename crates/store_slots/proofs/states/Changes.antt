@@ -1,6 +1,6 @@
 -- What a write to a slot, or a new slot, is in the state for which the slots stand.
 use Rattle.store_slots.proofs.Common
-use Common.{shared_target, target_in, Ref, live_target, ap, AreReferred, arith, bit, Bool, by_name, cases_eq, Cell, cell_at, cell_in, cell_of}
+use Common.{shared_target, target_in, Ref, live_target, ap, AreReferred, arith, bit, Bool, by_name, cases_eq, Cell, cell_under, cell_in, cell_of}
 use Common.{cells_of, change_entry, changed_there, cond, contains-insert_at, contains-insert_name}
 use Common.{contains_own, Content, content_at, content_of, Count, count_of, Empty, Entry, EntryList}
 use Common.{eq-eqb, eqb-true, Err, false, fill, get-insert_name, given_in, given_of, HasBegun}
@@ -434,7 +434,7 @@ located k l live h = grind arith
 
 module _ {T : Type 0} {now : SlotsState T} {start peak spare : ℕ} (slots : List (Entry T))
     (view : record { state = state_of start peak slots; spare = spare } ≡ now) where
-  pub cell_seen : (n : Name) → cell_at slots n ≡ map.get now.state.cells n
+  pub cell_seen : (n : Name) → cell_under slots n ≡ map.get now.state.cells n
   cell_seen n = rw (← view) (sym (get_cells slots n))
 
   -- a shared value that a cell names is live where the slots tell of it
@@ -444,7 +444,7 @@ module _ {T : Type 0} {now : SlotsState T} {start peak spare : ℕ} (slots : Lis
   live_seen _ = refl
 
   -- where the slots tell of no content the state sees none
-  pub not_told : (n : Name) → false ≡ is_some (content_of (cell_at slots n))
+  pub not_told : (n : Name) → false ≡ is_some (content_of (cell_under slots n))
       → content_at now.state n ≡ None
   not_told n h = nothing _ (rw (cell_seen n) at (sym h))
 
@@ -465,7 +465,7 @@ module _ {T : Type 0} {now : SlotsState T} {start peak spare : ℕ} {slots : Lis
       record { held = f; seen = rw (← view, cell_is f) (content_live f.kind f.content f.created) }
 
   -- a slot holds a content of which the slots tell
-  pub held_told : (n : Name) → true ≡ is_some (content_of (cell_at slots n))
+  pub held_told : (n : Name) → true ≡ is_some (content_of (cell_under slots n))
       → IsSeen slots now.state n
   held_told n h = held_in n (rw (cell_seen slots view n) at (sym h))
 

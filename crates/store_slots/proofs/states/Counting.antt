@@ -1,6 +1,6 @@
 -- The counts of references where a cell comes or goes.
 use Rattle.store_slots.proofs.Common
-use Common.{ap, AreReferred, arith, bit, Bool, Cell, cell_at, cell_in, cell_of, CellName, cells_of}
+use Common.{ap, AreReferred, arith, bit, Bool, Cell, cell_under, cell_in, cell_of, CellName, cells_of}
 use Common.{change_entry, change_entry_if, cond, cond_same, cond_some, count_less, count_more, Empty, Entry}
 use Common.{eq-eqb, Err, false, HasTargets, how_many, IfSome, IfSome_then, is_err, is_live, is_name}
 use Common.{is_named, is_shared, is_some, IsReferred, IsSlotTable, IsUnborrowed, IsWritten, Kept}
@@ -8,7 +8,7 @@ use Common.{kept_data, length, length-set, List, Location, lt-ltb, many_some, ma
 use Common.{name_apart, name_here, name_of_cell, named_gives, nat_lt, ne_eqb, None, Ok, OnErr}
 use Common.{Option, option_map, passes, Ref, refers, refers_to, refl, Result, set_written}
 use Common.{shared_target, slice_get, SlotTable, Some, state_of, StorageEntryData, suc, sym}
-use Common.{target_in, target_of, true, zero, ℕ, [], ◌+◌, ◌-◌, ◌<◌, ◌∙◌, ◌≡◌, ◌≢◌}
+use Common.{target_in, named_by, true, zero, ℕ, [], ◌+◌, ◌-◌, ◌<◌, ◌∙◌, ◌≡◌, ◌≢◌}
 use Rattle.store_slots.proofs.states.{States.get_cells, States.not_named}
 use Rattle.store_slots.proofs.states.Changes.{emptied, ended, found, found_within, IsFound}
 use Rattle.store_slots.proofs.states.Changes.{referred, slotted_still, state_same}
@@ -163,7 +163,7 @@ module _ {T : Type 0} where
   unborrowed_cell _ l free = absurd free
 
   data_refers : (d : StorageEntryData T) (l : Location) (q : Name)
-      → refers_to q (cell_of (kept_data [] l d)) ≡ is_target (target_of d) q
+      → refers_to q (cell_of (kept_data [] l d)) ≡ is_target (named_by d) q
   data_refers d l q = grind arith
 
   -- where it's written in a slot that had no cell, its target, if it has one, doesn't count it yet
@@ -172,8 +172,8 @@ module _ {T : Type 0} where
       → IsWritten slots after i (record { generation = g; kept = kept_data [] l d; references = 0 })
       → passes (λ e. is_live e.kept) (slice_get slots i) ≡ false → AreReferred (λ m. 0) slots
       → HasTargets (cells_of slots)
-      → IfSome (target_of d) (λ m. is_shared (map.get (cells_of slots) m) ≡ true)
-      → IsUncounted after (target_of d)
+      → IfSome (named_by d) (λ m. is_shared (map.get (cells_of slots) m) ≡ true)
+      → IsUncounted after (named_by d)
   uncounted_made {slots} {after} {i} {g} d l w dead r targets target = record {
     counted = referred w r
         (λ q other. rw (dead_refers q _ dead, data_refers d l q) (omega arith))
@@ -182,7 +182,7 @@ module _ {T : Type 0} where
           none_refer slots targets n (new_fresh slots i g dead),
           data_refers d l n,
         ) (omega arith));
-    shared = IfSome_then (target_of d) target still;
+    shared = IfSome_then (named_by d) target still;
   }
     where
       still : (m : Name) → is_shared (map.get (cells_of slots) m) ≡ true
@@ -257,7 +257,7 @@ module _ {T : Type 0} (slots : List (Entry T)) (r : AreReferred (λ m. 0) slots)
   forgotten None is = record { some = tt; counted = r }
   forgotten (Some m) is =
       let ref = reference_to _ m (sym is) in
-      by ref.0 ref.1 (is_shared (cell_at slots m)) (ap is_shared (get_cells slots m))
+      by ref.0 ref.1 (is_shared (cell_under slots m)) (ap is_shared (get_cells slots m))
     where
       by : (l : Location) → map.get (cells_of slots) n ≡ Some (Ref m l) → (b : Bool)
           → is_shared (map.get (cells_of slots) m) ≡ b
@@ -274,7 +274,7 @@ pub may_fall : {T : Type 0} {slots : List (Entry T)} (target : Option Name) (o :
 may_fall target None is f = (tt, tt)
 may_fall None (Some m) is f = cc
 may_fall {slots} (Some k) (Some m) is f =
-    let both = cond_some (is_shared (cell_at slots k)) k (name_of_cell m) (sym is) in
+    let both = cond_some (is_shared (cell_under slots k)) k (name_of_cell m) (sym is) in
     let at : is_shared (map.get (cells_of slots) k) ≡ true = rw (get_cells slots k) both.0 in
     let t = has_shared slots k at in
     let within = found_within t.slot in

@@ -1,6 +1,6 @@
 -- The end of a list of values that aren't shared and have no borrow.
 use Rattle.store_slots.proofs.Common
-use Common.{AllByRecursion, and_parts, ap, Bool, by_name, cell_at, CellName, cells_of}
+use Common.{AllByRecursion, and_parts, ap, Bool, by_name, cell_under, CellName, cells_of}
 use Common.{close, close_each, close_nothing, closing_linked, Entry, false, get-remove_apart}
 use Common.{hindrance_to, is_name, is_named, is_unborrowed_value, IsDistinct, IsDistinct-head}
 use Common.{IsDistinct-tail, IsLinked, List, list_all, Name, name_here, name_of_cell, NameMap, None, refl}
@@ -69,7 +69,7 @@ module _ {T : Type 0} where
   module _ {now : SlotsState T} {start peak spare : ℕ} (slots : List (Entry T))
       (view : record { state = state_of start peak slots; spare = spare } ≡ now)
       (items : List CellName)
-      (free : list_all (λ n. is_unborrowed_value (cell_at slots (name_of_cell n))) items ≡ true)
+      (free : list_all (λ n. is_unborrowed_value (cell_under slots (name_of_cell n))) items ≡ true)
     where
       -- the state sees such values as the slots tell them
       pub unborrowed_seen : are_unborrowed now.state items ≡ true

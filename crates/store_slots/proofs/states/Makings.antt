@@ -7,7 +7,7 @@ use Common.{IsSlotTable, IsUnborrowed, IsWritten, Kept, kept_data, last_generati
 use Common.{length-append, length-set, List, Location, max, nat_cmp, nat_cmp_total, nat_eq, nat_lt}
 use Common.{nat_tests, None, not, not_left, Option, passes, push_written, put_back, refl}
 use Common.{Retirements, set_written, slice_get, slice_get_past, slice_get_within, slice_set}
-use Common.{SlotTable, Some, State, state_of, StorageEntryData, sym, target_of, true, ℕ, [], ◌&&◌}
+use Common.{SlotTable, Some, State, state_of, StorageEntryData, sym, named_by, true, ℕ, [], ◌&&◌}
 use Common.{◌++◌, ◌+◌, ◌<◌, ◌||◌, ◌∙◌, ◌∷◌, ◌≡◌, ◌≤◌}
 use Rattle.store_slots.proofs.states.Changes.{cells_put, given_put, slotted}
 use Rattle.store_slots.proofs.states.Counting.{IsUncounted, unborrowed_cell, uncounted_made}
@@ -221,11 +221,11 @@ module _ {T : Type 0} {p : SlotTable T} (s : IsSlotTable p) where
   module _ {S : State T} {peak : ℕ} (view : state_of p.start peak p.slots ≡ S)
       (r : AreReferred (λ m. 0) p.slots) (linked : HasTargets S.cells) (d : StorageEntryData T)
       (l : Location) (free : IsUnborrowed d)
-      (target : IfSome (target_of d) (λ m. is_shared (map.get S.cells m) ≡ true)) where
+      (target : IfSome (named_by d) (λ m. is_shared (map.get S.cells m) ≡ true)) where
     uncounted : {after : List (Entry T)} {i g : ℕ} → IsWritten p.slots after i
         (record { generation = g; kept = kept_data [] l d; references = 0 })
         → passes (λ e. is_live e.kept) (slice_get p.slots i) ≡ false
-        → IsUncounted after (target_of d)
+        → IsUncounted after (named_by d)
     uncounted w dead =
         uncounted_made d l w dead r (rw (← view) at linked) (rw (← view) at target)
 
@@ -235,12 +235,12 @@ module _ {T : Type 0} {p : SlotTable T} (s : IsSlotTable p) where
     pub uncounted_reused : (i : ℕ) → set.contains p.free i ≡ true → (g : ℕ)
         → IfSome (slice_get p.slots i) (λ e. g ≡ e.generation + 1) → IsUncounted
         (slice_set p.slots i (record { generation = g; kept = kept_data [] l d; references = 0 }))
-        (target_of d)
+        (named_by d)
     uncounted_reused i member g is = uncounted (reused _ cell.0 cell.1 i member g is)
         (none_before (kept_data [] l d) cell.0 cell.1 i member g is)
 
     pub uncounted_pushed : p.free ≡ set.empty → IsUncounted (p.slots
         ++ record { generation = p.start; kept = kept_data [] l d; references = 0 } ∷ [])
-        (target_of d)
+        (named_by d)
     uncounted_pushed none =
         uncounted (pushed _ cell.0 cell.1 none) (none_after (kept_data [] l d) cell.0 cell.1 none)

@@ -1,6 +1,6 @@
 -- What the box of a name reaches, as the slots tell it and as the state sees it.
 use Rattle.store_slots.proofs.Common
-use Common.{arith, Bool, Cell, cell_at, CellName, cond, Content, content_at, content_of, would_end, Entry}
+use Common.{arith, Bool, Cell, cell_under, CellName, cond, Content, content_at, content_of, would_end, Entry}
 use Common.{false, Here, is_named, is_none, is_shared, is_some, is_unborrowed_value, IsLinked}
 use Common.{BorrowRefusal, leads_to, List, Location, Name, None, not, Option}
 use Common.{name_of_cell, NameMap, option_map, reached, read_refusal, read_refusal_of, Ref, refl, refusal_at, SlotsState, Some, State}
@@ -86,19 +86,19 @@ module _ {T : Type 0} where
   module _ {now : SlotsState T} {start peak spare : ℕ} (slots : List (Entry T))
       (view : record { state = state_of start peak slots; spare = spare } ≡ now) where
     -- where the slots lead is what the state sees reached
-    pub reached_seen : (n : Name) {o : Option Name} → o ≡ leads_to (cell_at slots n) n
+    pub reached_seen : (n : Name) {o : Option Name} → o ≡ leads_to (cell_under slots n) n
         → o ≡ reached now.state n
     reached_seen n to = rw (cell_seen slots view n) at to
 
     -- a value without borrows that isn't shared is the state's
-    pub unborrowed_told : (n : Name) {b : Bool} → b ≡ is_unborrowed_value (cell_at slots n)
+    pub unborrowed_told : (n : Name) {b : Bool} → b ≡ is_unborrowed_value (cell_under slots n)
         → b ≡ true → is_unborrowed_value (map.get now.state.cells n) ≡ true
     unborrowed_told n is free = sym (rw (cell_seen slots view n) at is) ∙ free
 
   module _ {now : SlotsState T} {start peak spare : ℕ} {slots : List (Entry T)}
       (view : record { state = state_of start peak slots; spare = spare } ≡ now) where
     -- what a box of a name reaches, a slot holds
-    pub reached_in : IsLinked now.state.cells → (n m : Name) → Some m ≡ leads_to (cell_at slots n) n
+    pub reached_in : IsLinked now.state.cells → (n m : Name) → Some m ≡ leads_to (cell_under slots n) n
         → IsReached slots now.state n m
     reached_in linked n m to =
         let leads = reached_seen slots view n to in
@@ -166,22 +166,22 @@ module _ {T : Type 0} where
   module _ {now : SlotsState T} {start peak spare : ℕ} {slots : List (Entry T)}
       (view : record { state = state_of start peak slots; spare = spare } ≡ now)
       (linked : IsLinked now.state.cells) (n : Name) (m : CellName) where
-    pub led_reference : Some (name_of_cell m) ≡ target_in (cell_at slots n)
+    pub led_reference : Some (name_of_cell m) ≡ target_in (cell_under slots n)
         → IsLed slots now.state n (m, true)
     led_reference named =
         let ref = reference_to (map.get now.state.cells n) (name_of_cell m)
         (sym (rw (cell_seen slots view n) at named)) in
         record {
           reached = reached_in view linked n (name_of_cell m)
-              (leads_named (cell_at slots n) n (name_of_cell m) named);
+              (leads_named (cell_under slots n) n (name_of_cell m) named);
           shared = sym (linked.targets n (name_of_cell m) ref.0 ref.1);
         }
 
-    pub led_own : None ≡ target_in (cell_at slots n)
-        → Some (name_of_cell m) ≡ leads_to (cell_at slots n) n
+    pub led_own : None ≡ target_in (cell_under slots n)
+        → Some (name_of_cell m) ≡ leads_to (cell_under slots n) n
         → IsLed slots now.state n (m, false)
     led_own none leads =
-        let own = leads_own (cell_at slots n) n (name_of_cell m) none leads in
+        let own = leads_own (cell_under slots n) n (name_of_cell m) none leads in
         record {
           reached = reached_in view linked n (name_of_cell m) leads;
           shared = rw (own.0, ← cell_seen slots view n) (sym own.1);

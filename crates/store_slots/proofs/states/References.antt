@@ -1,7 +1,7 @@
 -- How many references name a cell, also where some names end.
 use Rattle.store_slots.proofs.Common
 use Common.{AllByRecursion, among, ap, AreReferred, arith, away_absent, away_each, away_nothing}
-use Common.{away_one, away_shared, bit, both_ways, Cell, cell_at, cell_of, cells_of, Entry, eq-eqb}
+use Common.{away_one, away_shared, bit, both_ways, Cell, cell_under, cell_of, cells_of, Entry, eq-eqb}
 use Common.{eq_by_cmp_equiv, false, HasTargets, how_many, is_name, is_named, is_ref, is_shared}
 use Common.{is_some, IsDistinct, IsDistinct-head, IsDistinct-tail, List, Location, lt-ltb, ltb-true}
 use Common.{many_some, Name, name_here, name_total, named_from, named_gives, nat_lt, nat_tests}
@@ -57,7 +57,7 @@ module _ {T : Type 0} (slots : List (Entry T)) where
       record { left = slots; cells = same; counts = λ m. omega (arith, none m) }
 
   -- the slot of a Value or a Ref is left empty
-  one_away : (n : Name) (c : Cell T) → cell_at slots n ≡ Some c → is_shared (Some c) ≡ false
+  one_away : (n : Name) (c : Cell T) → cell_under slots n ≡ Some c → is_shared (Some c) ≡ false
       → IsAway slots (n ∷ [])
   one_away n c at plain =
       let there = get_cells slots n ∙ at in
@@ -74,9 +74,9 @@ module _ {T : Type 0} (slots : List (Entry T)) where
 
   -- what is left where one name ends
   pub first_away : (n : Name) → IsAway slots (n ∷ [])
-  first_away n = by (cell_at slots n) refl
+  first_away n = by (cell_under slots n) refl
     where
-      by : (cell : Option (Cell T)) → cell_at slots n ≡ cell → IsAway slots (n ∷ [])
+      by : (cell : Option (Cell T)) → cell_under slots n ≡ cell → IsAway slots (n ∷ [])
       by None at = same_away (n ∷ []) (away_absent (cells_of slots) n (get_cells slots n ∙ at))
           (λ m. rw at refl)
       by (Some (Shared c l)) at = same_away (n ∷ [])
@@ -86,7 +86,7 @@ module _ {T : Type 0} (slots : List (Entry T)) where
 
   -- other names keep their cells
   kept_away : {names : List Name} (a : IsAway slots names) (q : Name) → among names q ≡ false
-      → cell_at a.left q ≡ cell_at slots q
+      → cell_under a.left q ≡ cell_under slots q
   kept_away {names} a q other =
       rw (← get_cells a.left q, ← get_cells slots q, ← a.cells)
       (⊎_elim (λ e. e) (λ e. absurd cc) (without_view (cells_of slots) names q))
@@ -98,9 +98,9 @@ module _ {T : Type 0} (slots : List (Entry T)) where
   among_away a m [] apart = refl
   among_away a m (q ∷ others) apart =
       let own = ap (refers_to m) (kept_away a q apart.0) in
-      sum_by-cons (λ n. bit (refers_to m (cell_at a.left n))) q others
+      sum_by-cons (λ n. bit (refers_to m (cell_under a.left n))) q others
       ∙ ((λ i. bit (own i) + among_away a m others apart.1 i)
-      ∙ sym (sum_by-cons (λ n. bit (refers_to m (cell_at slots n))) q others))
+      ∙ sym (sum_by-cons (λ n. bit (refers_to m (cell_under slots n))) q others))
 
 -- names end one after the other
 pub all_away : {T : Type 0} (names : List Name) → IsDistinct is_name names
@@ -118,7 +118,7 @@ all_away (n ∷ names) apart slots =
           let others = rest.counts m in
           let same = among_away slots one m names
           (apart_each n names (IsDistinct-head is_name n names apart)) in
-          let both = sum_by-cons (λ q. bit (refers_to m (cell_at slots q))) n names in
+          let both = sum_by-cons (λ q. bit (refers_to m (cell_under slots q))) n names in
           omega arith;
     }
 
@@ -136,7 +136,7 @@ module _ {T : Type 0} (slots : List (Entry T)) where
       rw (a.cells, named_count a.left m) (rest_left _ _ _ (a.counts m))
 
   -- without one reference to it a cell is named where it had two
-  pub named_without : (n m : Name) (l : Location) → cell_at slots n ≡ Some (Ref m l)
+  pub named_without : (n m : Name) (l : Location) → cell_under slots n ≡ Some (Ref m l)
       → is_named (map.remove (cells_of slots) n) m ≡ nat_lt 1 (how_many (refers m) slots)
   named_without n m l at =
       let a = first_away slots n in
@@ -170,7 +170,7 @@ reference_to _ m h = cc
 
 -- each reference of linked cells names a shared value
 pub found_target : {T : Type 0} (slots : List (Entry T)) → HasTargets (cells_of slots)
-    → (n m : Name) → Some m ≡ target_in (cell_at slots n) → HasShared slots m
+    → (n m : Name) → Some m ≡ target_in (cell_under slots n) → HasShared slots m
 found_target slots targets n m target =
-    let it = reference_to (cell_at slots n) m (sym target) in
+    let it = reference_to (cell_under slots n) m (sym target) in
     has_shared slots m (targets n m it.0 (get_cells slots n ∙ it.1))

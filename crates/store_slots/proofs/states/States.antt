@@ -1,7 +1,7 @@
 -- The state for which a store's slots stand: what is at a name, which names were given, and how
 -- many slots are live, free and retired.
 use Rattle.store_slots.proofs.Common
-use Common.{and_from, and_parts, ap, arith, bit, Bool, by_number, Cell, cell_at, cell_in, cell_of}
+use Common.{and_from, and_parts, ap, arith, bit, Bool, by_number, Cell, cell_under, cell_in, cell_of}
 use Common.{cells_of, cond, cond_same, count_all, Entry, eq-eqb, eq_by_cmp, false, free, fresh}
 use Common.{get-keep, get_lasts, given_from, given_in, given_of, HasBegun, how_many, inl, inr}
 use Common.{is_free, is_live, is_name, is_retired, is_some, is_spent, IsFresh, IsLast, IsNew}
@@ -56,7 +56,7 @@ module _ {T : Type 0} where
 
   -- what the machine's map has at a name
   pub get_cells : (slots : List (Entry T)) (n : Name)
-      → map.get (cells_of slots) n ≡ cell_at slots n
+      → map.get (cells_of slots) n ≡ cell_under slots n
   unfolding cells_of
   get_cells slots n =
       map.get-from_entries name_total (live_from 0 slots) n

@@ -1,5 +1,5 @@
 use Rattle.std.proofs.Common.{inr, ap, subst, sym, ◌∙◌}
-use Rattle.generational_core.specs.Leaving.{IsLeft}
+use Rattle.generational_core.specs.Leaving.{IsUnchanged}
 use Rattle.generational_errors.specs.Texts.{as_refused_mut}
 use Rattle.generational_core.proofs.machine.Calling.{keeps_free}
 use Rattle.generational_sessions.proofs.callers.Lefts.{left_ticket, left_twice}
@@ -18,5 +18,5 @@ returns-in_err-seen-clause-refused g c =
 
 pub returns-clause-others : goal.returns-clause-others
 returns-clause-others g c b apart =
-    let read = subst (IsLeft _ b) (sym c.in_ok-seen.ensures.ticket) (left_ticket _ b) in
+    let read = subst (IsUnchanged _ b) (sym c.in_ok-seen.ensures.ticket) (left_ticket _ b) in
     left_twice (c.in_ok-update.ensures.others b apart) read

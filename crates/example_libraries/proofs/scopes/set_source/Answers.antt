@@ -1,5 +1,5 @@
 use Rattle.std.proofs.Common.{inl, inr, ap, subst, sym, ◌∙◌, refl}
-use Rattle.generational_core.specs.Leaving.{IsLeft}
+use Rattle.generational_core.specs.Leaving.{IsUnchanged}
 use Rattle.generational_errors.specs.Texts.{as_refused_mut}
 use Rattle.generational_sessions.proofs.callers.Lefts.{left_ticket, left_twice, set_free}
 use Rattle.generational_sessions.proofs.callers.Results.{err_so}
@@ -23,5 +23,5 @@ returns-clause-others g c b apart ne =
     let turn = c.in_ok-swap_source.ensures in
     let left = turn.others b apart in
     let set = c.in-Ok.ensures.others b (λ is. ne (sym left.reached ∙ (is ∙ turn.reached))) in
-    let read = subst (IsLeft _ b) (sym c.in_ok-seen.ensures.ticket) (left_ticket _ b) in
+    let read = subst (IsUnchanged _ b) (sym c.in_ok-seen.ensures.ticket) (left_ticket _ b) in
     left_twice (left_twice left set) read

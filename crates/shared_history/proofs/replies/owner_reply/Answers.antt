@@ -1,9 +1,9 @@
 use Rattle.std.proofs.Common.{ap, sym, ◌∙◌}
 use Rattle.generational_core.specs.Answers.{owner_answer}
-use Rattle.shared_history.specs.Replies.{reply_of}
+use Rattle.shared_history.specs.Replies.{recorded_reply}
 use Rattle.shared_history.proofs.replies.owner_reply.Goals as goal
 
 pub returns-in-Err-clause-reply : goal.returns-in-Err-clause-reply
 returns-in-Err-clause-reply g c R call =
     c.store_reply.ensures.reply R call
-    ∙ ap (λ m. reply_of R call (owner_answer m)) (sym c.in-Err.is)
+    ∙ ap (λ m. recorded_reply R call (owner_answer m)) (sym c.in-Err.is)

@@ -1,5 +1,5 @@
 use Rattle.store_slots.proofs
-use proofs.{all, and_parts, ap, arith, as_listed, at_drop_all, Bool, cell_at, CellName, cells_of}
+use proofs.{all, and_parts, ap, arith, as_listed, at_drop_all, Bool, cell_under, CellName, cells_of}
 use proofs.{eqb-true, IfSome, is_named, is_shared, length, length-map, Name, name_of_cell, None}
 use proofs.{Option, option_eq, passed_free, passed_spared, Some, stopped, sym, take_away, true}
 use proofs.{◌&&◌, ◌∙◌, ◌≡◌, ◌≤◌}
@@ -37,7 +37,7 @@ loop-name-preserved-then-eq g c =
     let lives = spared_same _ (λ a b e. let both = and_parts _ _ e in λ j. record {
       slot = eqb-true a.slot b.slot both.0 j;
       generation = eqb-true a.generation b.generation both.1 j;
-    }) (λ m. is_shared (cell_at slots m) && named m) c.loop-name.spared c.in-Some.value
+    }) (λ m. is_shared (cell_under slots m) && named m) c.loop-name.spared c.in-Some.value
     c.loop-name.invariant.1 (sym c.eq.ensures ∙ c.if-eq.true) in (
       passed_spared slots named items _ none c.loop-name-test.true _
           (rw c.in-Some.is at c.borrowed_value.ensures) lives

@@ -1,4 +1,4 @@
-use Rattle.store_slots.proofs.{ap, bit, Cell, cell_at, CellName, count_by, Entry, get_cells}
+use Rattle.store_slots.proofs.{ap, bit, Cell, cell_under, CellName, count_by, Entry, get_cells}
 use Rattle.store_slots.proofs.{has_shared, is_shared, kind_in, List, living, Name}
 use Rattle.store_slots.proofs.{name_of_cell, Option, refers_among, refers_to, refl, Shared}
 use Rattle.store_slots.proofs.{Some, sum_by-cons, sym, true, [], ◌+◌, ◌∙◌, ◌∷◌, ◌≡◌}
@@ -14,14 +14,14 @@ kind_shared _ e = cc
 
 -- how many of a list's names refer to a cell
 listed : {T : Type 0} (slots : List (Entry T)) (items : List CellName) (m : Name)
-    → count_by (λ n. refers_to m (cell_at slots (name_of_cell n))) items
+    → count_by (λ n. refers_to m (cell_under slots (name_of_cell n))) items
     ≡ refers_among slots (list_map name_of_cell items) m
 listed slots [] m = refl
 listed slots (item ∷ items) m =
-    let one = refers_to m (cell_at slots (name_of_cell item)) in
-    sum_by-cons (λ n. bit (refers_to m (cell_at slots (name_of_cell n)))) item items
+    let one = refers_to m (cell_under slots (name_of_cell item)) in
+    sum_by-cons (λ n. bit (refers_to m (cell_under slots (name_of_cell n)))) item items
     ∙ (ap (λ k. bit one + k) (listed slots items m)
-    ∙ sym (sum_by-cons (λ n. bit (refers_to m (cell_at slots n))) (name_of_cell item)
+    ∙ sym (sum_by-cons (λ n. bit (refers_to m (cell_under slots n))) (name_of_cell item)
     (list_map name_of_cell items)))
 
 pub returns-in-Some-Shared : goal.returns-in-Some-Shared

@@ -2,7 +2,7 @@
 use Rattle.store_slots.proofs.{ap, arith, counted_more, free_seen, kept_data, length}
 use Rattle.store_slots.proofs.{length-append, may_rise, more_length, more_slotted}
 use Rattle.store_slots.proofs.{more_state, new_pushed, one_made, slotted_pushed, state_is}
-use Rattle.store_slots.proofs.{state_pushed, target_of, unborrowed_cell, uncounted_pushed}
+use Rattle.store_slots.proofs.{state_pushed, named_by, unborrowed_cell, uncounted_pushed}
 use Rattle.store_slots.proofs.{[], ◌∙◌}
 use Rattle.std.specs.FinSet as set
 use Rattle.store_slots.proofs.slots.Slots.extend.Goals as goal
@@ -42,7 +42,7 @@ invariant_of-self g c =
     let counts = one_made c.self.inside.counts (length slots) inv.3 in
     rw (long, counts, c.refer.ensures.slots, c.push.ensures.pushed, c.target-target.ensures) (
       more_slotted (slotted_pushed inv.0 (kept_data [] l d) cell.0 cell.1 none _
-          (omega (arith, c.requires.room, c.requires.none))) (target_of d),
+          (omega (arith, c.requires.room, c.requires.none))) (named_by d),
       rw (c.refer.ensures.rooms, c.push.ensures.rooms) inv.1,
       counted_more _ (uncounted_pushed inv.0 view inv.2 c.requires.linked d l
           c.requires.unborrowed c.requires.target none),

@@ -3,7 +3,7 @@ use Rattle.store_slots.proofs
 use proofs.{ap, arith, counted_more, err_holds, free, free_are, free_seen, kept_data, length}
 use proofs.{length-set, may_rise, more_length, more_slotted, more_state, nat_cmp, new_reused}
 use proofs.{next_generation, slotted_reused, state_is, state_reused, sym, taken_less, taken_within}
-use proofs.{target_of, unborrowed_cell, uncounted_reused, [], ◌∙◌}
+use proofs.{named_by, unborrowed_cell, uncounted_reused, [], ◌∙◌}
 use Rattle.std.specs.FinSet as set
 use Rattle.store_slots.proofs.slots.Slots.make.Goals as goal
 
@@ -62,7 +62,7 @@ invariant_of-self-2 g c =
       c.take.ensures.rooms,
     ) (
       more_slotted (slotted_reused inv.0 (kept_data [] l d) cell.0 cell.1 _ m _
-          c.refill.ensures.generation) (target_of d),
+          c.refill.ensures.generation) (named_by d),
       rw (c.refer.ensures.rooms, c.refill.ensures.rooms) inv.1,
       counted_more _ (uncounted_reused inv.0 (state_is c.self.view_is) inv.2 c.requires.linked d l
           c.requires.unborrowed c.requires.target _ m _ c.refill.ensures.generation),
