@@ -1,7 +1,8 @@
 //! What calls leave as it was: other boxes, guards, owners, and the whole store where a call is
 //! refused.
 
-ghost use Rattle.std.specs.Prelude.{◌≡◌, ◌≢◌, IfOk, IfErr, OnOk, OnErr, IsTrue, IsFalse, Some, is_some};
+ghost use Rattle.std.specs.Prelude.{◌≡◌, ◌≢◌, IfErr, IfNone, IfOk, IfSome, IsFalse, IsTrue, OnErr, OnOk};
+ghost use Rattle.std.specs.Prelude.{Some, is_some};
 ghost use Rattle.generational_core.specs.declared.boxes.GenerationalPointer.{GenerationalPointer};
 ghost use Rattle.generational_core.specs.Answers.{pointer_of};
 ghost use Rattle.generational_core.specs.Borrowing.{reach};
@@ -31,6 +32,23 @@ pub fn end_value<S: Storage<u64>>(
         IsUnchanged (S.state store.old) b (S.state store.new) }
 {
     target.manually_drop(store)
+}
+
+/// Moves a value out of the store, and its box ends. None where the value is shared, borrowed or gone,
+/// and then nothing changes. A box of another name is unchanged in either case.
+pub fn move_out<S: Storage<String>>(
+    store: &mut S,
+    target: GenerationalBox<String>,
+) -> Option<String>
+    ensures seen { IfSome result (λ value.
+        value_in (S.state store.old) (pointer_of target) ≡ Some value) }
+    ensures ended { IfSome result (λ value.
+        IsEnded (S.state store.new) (name_of (pointer_of target))) }
+    ensures others { (b : GenerationalPointer) → name_of (pointer_of target) ≢ name_of b →
+        IsUnchanged (S.state store.old) b (S.state store.new) }
+    ensures unchanged { IfNone result (S.state store.new ≡ S.state store.old) }
+{
+    target.take(store)
 }
 
 /// Lets a reference lead to where another box leads, and so see what that saw. Where that is refused

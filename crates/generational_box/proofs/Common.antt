@@ -7,6 +7,7 @@ pub use Rattle.std.proofs.Common.{arith, Bool, cond, Err, false, IfErr, IfSome, 
 pub use Rattle.std.proofs.Common.{is_ok, is_some, IsSome, IsTrue, List, nat_eq, None, not, Ok}
 pub use Rattle.std.proofs.Common.{OnErr, OnOk, Option, option_copied, refl, Result, Some, subst}
 pub use Rattle.std.proofs.Common.{sym, true, ℕ, [], ⊎_elim, ◌+◌, ◌<◌, ◌||◌, ◌↔◌, ◌∙◌}
+pub use Rattle.std.proofs.Common.{IfNone}
 pub use Rattle.std.proofs.Common.{ap, ◌∷◌, ◌≡◌, ◌≢◌, ◌≤◌, ◌⊎◌}
 pub use Rattle.std.proofs.lemmas.{Bool.cond_both, Bool.Decides.nat_tests, Bool.lt-ltb, Bool.ne_eqb}
 pub use Rattle.std.proofs.lemmas.{Bool.or_parts, Cmp.eq_by_cmp_equiv, Map.Keys.IsDistinct-push}
@@ -27,7 +28,9 @@ pub use proofs.maps.Maps.{by_name, by_number, changed_there, contains-insert_nam
 pub use proofs.maps.Maps.{get-insert_here, insert_there, key_same, name_apart, name_cases}
 pub use specs.{Borrowing.BorrowRefusal.BeingRead, Borrowing.BorrowRefusal.Dropped, Slots.free}
 pub use specs.{Conditions.names_under, State.Owners, State.Ownership, State.State}
-pub use specs.{Seeing.value_reached, Sound.IsBounded-prop, Sound.IsSound-prop, Sound.SoundState}
+pub use specs.{Seeing.unborrowed_value, Seeing.value_reached}
+unfoldable pub use specs.{Seeing.value_to_take}
+pub use specs.{Sound.IsBounded-prop, Sound.IsSound-prop, Sound.SoundState}
 pub use specs.Answers.{back_answer, end_answer, end_refused, refusal_of_error}
 pub use specs.Answers.{refusal_of_read_error, WriteGuard}
 pub use specs.Borrowing.{BorrowRefusal, can_read, can_write, fill, Guard, leads_to, read_refusal}

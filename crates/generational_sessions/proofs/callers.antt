@@ -9,4 +9,5 @@ pub mod Results
 pub mod Rows
 pub mod Shortage
 pub mod SimpleStores
+pub mod Taking
 pub mod Tickets

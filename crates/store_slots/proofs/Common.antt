@@ -35,6 +35,7 @@ pub use proofs.machine.Closing.{borrowed_end, close_each, close_nothing, close_o
 pub use proofs.machine.Closing.{first_borrowed_end, first_hindered, one_hindered, turn_hindered}
 pub use proofs.machine.Rows.{AreApart, cell_read, contains_up_to, find_bare, get_bare_cell, put}
 pub use proofs.maps.Maps.{by_name, by_number, changed_there, contains-insert_name, get-insert_apart}
+pub use proofs.maps.Maps.{get-changed_here, name_cases}
 pub use proofs.maps.Maps.{get-insert_name, get-keep, get-remove_apart, get-remove_here, is_ref, name_exact}
 pub use proofs.maps.Maps.{name_apart, name_here, name_test, name_total, named_from, named_gives}
 pub use specs.{Steps.IsNew, Names.among, Names.Name, Names.name_cmp, Names.NameMap, Names.Names}
@@ -49,7 +50,9 @@ pub use specs.Machine.{Action, add_cell, point, turn, unless}
 pub use specs.Rows.{cell_rows, give_up_to, read_rows, slot_rows}
 pub use specs.Slots.{free, is_free, is_retired, last_generation, last_name, retired, slots}
 pub use specs.State.{content_at, HasTargets, is_named, State}
+pub use specs.Seeing.{unborrowed_value}
 pub use specs.StepCalls.{is_hindered, may_set, tells_of_borrow}
+pub use specs.declared.borrow.Borrow.{Borrow}
 pub use specs.declared.{boxes.GenerationalPointer.GenerationalPointer, rows.BaseRow.BaseRow}
 pub use Rattle.store_cells.proofs.states.Outcomes.{err_from, ok_then, readable, unrefused}
 pub use Rattle.store_cells.specs.Entries.{EntryList, IsUnborrowed, kept_data, named_by}

@@ -3,6 +3,7 @@ use Rattle.generational_box.proofs.Common
 use Common.{arith, Bool, BorrowMutError, BorrowRefusal, Cell, cells_after, close, close_nothing}
 use Common.{Content, content_of, Done, End, end_answer, eq-eqb, Err, first_hindrance}
 use Common.{GenerationalPointer, HasEnded, hindrance_at, hindrance_to, inl, is_none, is_ready, IsLinked}
+use Common.{IfNone, IfSome, IsBounded, meets_kept, None, Some, unborrowed_value, value_to_take}
 use Common.{IsSound, List, ManuallyDrop, Meets, Name, name_of, NameMap, ne_eqb, no_names, not, Ok}
 use Common.{Option, Owners, refl, Refused, Result, sound_linked, State, subst, sym}
 use Common.{tells_of_borrow, true, with_records, write_refusal, ℕ, [], ◌∙◌, ◌∷◌, ◌≡◌, ◌≢◌}
@@ -45,6 +46,33 @@ module _ {T : Type 0} where
       end_own n Y (Err e) at own ended = rw (← view, ended.1)
           (hindered_step state (End b) e (hindrance_to X (n ∷ [])) (Done, close state (n ∷ []))
           (rw (at, eq-eqb b.id.store number own) refl) ended.0)
+
+      -- a value that is handed back as its box ends
+      pub taken_strange : b.id.store ≢ number → None ≡ value_to_take S b
+      unfolding value_to_take
+      taken_strange strange = rw (← view, ne_eqb b.id.store number strange) refl
+
+      module _ (n : Name) (at : n ≡ name_of b) (own : b.id.store ≡ number) where
+        pub taken_own : (r : Option T) → r ≡ unborrowed_value (map.get X.cells n)
+            → r ≡ value_to_take S b
+        unfolding value_to_take
+        taken_own r is = is ∙ rw (← view, eq-eqb b.id.store number own, at) refl
+
+        pub taken_ends : (Y : State T) (r : Option T)
+            → IfSome r (λ v. hindrance_to X (n ∷ []) ≡ None)
+            → IfSome r (λ v. Y ≡ close X (n ∷ []))
+            → IfSome r (λ v. Meets S (End b) Done (with_records Y number owners next))
+        taken_ends Y (Some v) free ended = end_own n Y (Ok tt) at own (free, ended)
+        taken_ends Y None free ended = tt
+
+        pub taken_kept : (Y : State T) (r : Option T) → IsBounded S
+            → IfSome r (λ v. hindrance_to X (n ∷ []) ≡ None)
+            → IfSome r (λ v. Y ≡ close X (n ∷ [])) → IfNone r (Y ≡ X)
+            → IsSound (with_records Y number owners next)
+            × (IsBounded (with_records Y number owners next) × Unit {0})
+        taken_kept Y (Some v) bounded free ended none = meets_kept _ _ (End b) Done sound bounded
+            (taken_ends Y (Some v) free ended)
+        taken_kept Y None bounded free ended none = rw (none, view) (sound, (bounded, tt))
 
   -- ---- which calls no borrow hinders
 

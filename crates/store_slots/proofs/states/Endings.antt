@@ -1,5 +1,7 @@
 -- The end of one name, by the value that goes with it.
 use Rattle.store_slots.proofs.Common
+use Common.{Borrow, changed_there, fill, get-changed_here, get-insert_apart, has_no_borrow, Here}
+use Common.{Lent, name_cases, refill, subst, sym, unborrowed_value, ⊎_elim}
 use Common.{ap, Bool, borrowed_end, BorrowMutError, by_name, Cell, cells_after, close, close_one, cond, Content}
 use Common.{content_at, content_of, would_end, Err, false, first_hindrance, FoundBorrowed, get-remove_apart}
 use Common.{get-remove_here, HasEnded, live_target, hindrance_to, is_named, is_none, is_some, is_unborrowed_value, IsLinked}
@@ -110,6 +112,23 @@ module _ {T : Type 0} where
         at (Some (Ref m l)) is own h = cc
         at c is own h = rw (own, close_one S.cells n linked c is) refl
 
+  -- what isn't such a value hands nothing back
+  pub none_to_take : (c : Option (Cell T)) → is_unborrowed_value c ≡ false
+      → None ≡ unborrowed_value c
+  none_to_take (Some (Value (Here v []) l)) h = cc
+  none_to_take _ h = refl
+
+  -- an insertion at a key that is then removed changes nothing
+  removed_again : (cells : NameMap (Cell T)) (n : Name) (c : Cell T)
+      → map.remove (map.insert cells n c) n ≡ map.remove cells n
+  removed_again cells n c = map.same_map by_name.total by_name.exact _ _ (λ q. ⊎_elim
+      (λ same. subst (λ k. map.get (map.remove (map.insert cells n c) n) k
+      ≡ map.get (map.remove cells n) k) (sym same)
+      (get-remove_here by_name (map.insert cells n c) n ∙ sym (get-remove_here by_name cells n)))
+      (λ ne. get-remove_apart by_name (map.insert cells n c) n q ne
+      ∙ get-insert_apart by_name cells n c q ne ∙ sym (get-remove_apart by_name cells n q ne))
+      (name_cases q n))
+
   -- a value of its own without borrows is there and names nothing; it ends by itself, and nothing
   -- hinders that
   module _ (S : State T) (n : Name) (linked : IsLinked S.cells)
@@ -142,3 +161,33 @@ module _ {T : Type 0} where
 
     pub free_closes : record S { cells = map.remove S.cells n } ≡ close S (n ∷ [])
     free_closes = rw (close_one S.cells n linked _ own.2) refl
+
+    -- its value can be lent, and is what the name hands back as it ends
+    pub free_unborrowed : has_no_borrow (content_at S n) ≡ true
+    free_unborrowed = rw own.2 (at own.0 own.3)
+      where
+        at : (k : Content T) → write_refusal (Some k) ≡ None → has_no_borrow (Some k) ≡ true
+        at (Here v []) h = refl
+        at _ h = cc
+
+    pub free_value : (v : T) → content_at S n ≡ Some (Here v [])
+        → Some v ≡ unborrowed_value (map.get S.cells n)
+    free_value v is = let same : Some own.0 ≡ Some (Here v []) = rw own.2 at is in
+        let here : own.0 ≡ Here v [] = cc in rw (own.2, here) refl
+
+    -- while it is lent, its cell is there and names nothing, and goes as it would have gone
+    module _ (w : Borrow) where
+      lent_cell : map.get (fill S n (Lent w)).cells n ≡ Some (Value (Lent w) own.1)
+      lent_cell = get-changed_here by_name S.cells n (refill (Lent w)) _ own.2
+
+      pub lent_there : is_some (map.get (fill S n (Lent w)).cells n) ≡ true
+      lent_there = rw lent_cell refl
+
+      pub lent_names_none : None ≡ live_target (fill S n (Lent w)).cells
+          (map.get (fill S n (Lent w)).cells n)
+      lent_names_none = rw lent_cell refl
+
+      pub lent_closes : record S { cells = map.remove (fill S n (Lent w)).cells n }
+          ≡ close S (n ∷ [])
+      lent_closes = rw (changed_there by_name S.cells n (refill (Lent w)) _ own.2,
+          removed_again S.cells n (Value (Lent w) own.1)) free_closes

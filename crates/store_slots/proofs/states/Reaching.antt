@@ -90,9 +90,9 @@ module _ {T : Type 0} where
         → o ≡ reached now.state n
     reached_seen n to = rw (cell_seen slots view n) at to
 
-    -- a value without borrows that isn't shared is the state's
-    pub unborrowed_told : (n : Name) {b : Bool} → b ≡ is_unborrowed_value (cell_under slots n)
-        → b ≡ true → is_unborrowed_value (map.get now.state.cells n) ≡ true
+    -- whether a cell is a value without borrows that isn't shared, as the state sees it
+    pub unborrowed_told : (n : Name) {b d : Bool} → b ≡ is_unborrowed_value (cell_under slots n)
+        → b ≡ d → is_unborrowed_value (map.get now.state.cells n) ≡ d
     unborrowed_told n is free = sym (rw (cell_seen slots view n) at is) ∙ free
 
   module _ {now : SlotsState T} {start peak spare : ℕ} {slots : List (Entry T)}
