@@ -302,6 +302,63 @@ fn a_value_that_is_handed_back(rt: HostRuntime) {
     play_in_two_stores::<Counted, HandedBack>(&rt, rt.alloc());
 }
 
+/// Ends a read.
+fn end_read<S: Storage<Counted>>(
+    rt: &impl Abort,
+    store: &mut S,
+    guard: GenerationalRef<Counted>,
+) {
+    assert!(rt; guard.release(store));
+}
+
+/// Ends a box and lets the value go that it hands back.
+fn take_away<S: Storage<Counted>>(
+    rt: &impl Abort,
+    store: &mut S,
+    asked: GenerationalBox<Counted>,
+    value: &Counted,
+) {
+    let taken = asked.take(store).expect(rt, "a value");
+    assert_count(rt, value, 2);
+    assert!(rt; Rc::ptr_eq(&taken, value));
+}
+
+/// Asserts that a box hands nothing back.
+fn assert_none_taken<S: Storage<Counted>>(
+    rt: &impl Abort,
+    store: &mut S,
+    asked: GenerationalBox<Counted>,
+) {
+    assert!(rt; asked.take(store).is_none());
+}
+
+struct HandsOut;
+
+impl Scenario<Counted> for HandsOut {
+    fn play<R: Abort, S: Storage<Counted>>(rt: &R, alloc: Global, store: &mut S) {
+        let value = counted(rt, alloc);
+        let own = leak(rt, store, another(rt, &value), made());
+        let guard = begin(rt, store, own, read());
+        assert_none_taken(rt, store, own);
+        end_read(rt, store, guard);
+        take_away(rt, store, own, &value);
+        assert_none_taken(rt, store, own);
+        assert_count(rt, &value, 1);
+        let shared = leak_rc(rt, store, another(rt, &value), made());
+        assert_none_taken(rt, store, shared);
+        assert_count(rt, &value, 2);
+        end(rt, store, shared);
+        assert_count(rt, &value, 1);
+    }
+}
+
+// It is the caller's alone. One that somebody reads, or that is shared, isn't handed back.
+#[test]
+fn a_value_that_its_box_hands_back(rt: HostRuntime) {
+    play::<Counted, HandsOut>(&rt, rt.alloc());
+    play_at_last_generation::<Counted, HandsOut>(&rt, rt.alloc());
+}
+
 struct Shares;
 
 impl Scenario<Counted> for Shares {
