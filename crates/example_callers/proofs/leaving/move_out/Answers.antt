@@ -26,7 +26,7 @@ pub returns-clause-ended : goal.returns-clause-ended
 returns-clause-ended g c = each c.take.result (λ v is.
     let to = seen_reached _ _ v (taken_seen _ _ v (sym c.take.ensures.value ∙ is)) in
     let boxed = reached_boxed _ _ to.0 (g.met.S.AnyStorage.sound _) to.1 in
-    ended _ (Ok tt) (rw is at c.take.ensures.ended) boxed.0 boxed.1)
+    ended _ {U = Unit {0}} (Ok tt) (rw is at c.take.ensures.ended) boxed.0 boxed.1)
 
 pub returns-clause-others : goal.returns-clause-others
 returns-clause-others g c b other =
