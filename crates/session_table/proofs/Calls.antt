@@ -1,26 +1,30 @@
 -- What a caller sees after one row has changed.
-use Rattle.std.proofs.Common.{◌≡◌, Bool, true, false, cond, List, [], ◌∷◌, ◌++◌, map}
+use Rattle.std.proofs.Common.{◌≡◌, ◌≢◌, ◌||◌, Bool, true, false, cond, List, [], ◌∷◌, ◌++◌, map}
 use Rattle.std.proofs.Common.{Option, None, Some, refl, sym, ap, subst, ◌∙◌, ⊎_elim}
 use Rattle.std.specs.Prelude.{is_some, option_map}
 use Rattle.std.specs.Cmp.{IsEquivalence}
 use Rattle.std.specs.HashMap.Eq.{lookup_congr}
 use Rattle.std.specs.Map.{lookup, set_value}
-use Rattle.std.proofs.lemmas.Bool.{cases_Bool, true≢false}
+use Rattle.std.proofs.lemmas.Bool.{cases_Bool, false_from_ne_true, or_cases, true≢false}
 use Rattle.std.proofs.lemmas.List.{map-append}
+use Rattle.std.proofs.lemmas.List.Folds.{list_any-append}
 use Rattle.std.proofs.lemmas.Map.Made.{lookup-map_values}
 use Rattle.std.proofs.lemmas.Map.Steps.{set_value_same}
 use Rattle.generational_core.specs.Boxes.{name_of}
 use Rattle.generational_core.specs.Machine.Action.{Make}
 use Rattle.generational_core.specs.Machine.Answer.{Made}
+use Rattle.generational_core.specs.Names.{among, is_name}
 use Rattle.generational_core.specs.State.{State, IsSound}
 use Rattle.generational_core.specs.Steps.{Meets}
+use Rattle.generational_core.proofs.machine.Calling.{listed_last}
+use Rattle.generational_core.proofs.maps.Maps.{name_same}
 use Rattle.generational_errors.specs.declared.error.Location.{Location}
 use Rattle.session_table.specs.declared.entry.Entry.{Entry}
 use Rattle.session_table.specs.declared.session.Session.{Session}
 use Rattle.session_table.specs.Entries.{pointer_in}
 use Rattle.session_table.specs.Keeping.{Held, IsKept, held_in, held_of}
-use Rattle.session_table.specs.Sessions.{LiveSession, names_of, with_entry}
-use Rattle.session_table.specs.Tables.{has_session, live, live_row, session_in, table_of}
+use Rattle.session_table.specs.Sessions.{LiveSession, names_in, names_of, with_entry}
+use Rattle.session_table.specs.Tables.{has_session, keeps, live, live_row, session_in, table_of}
 use Rattle.session_table.proofs.Keeping.{put_kept}
 use Rattle.session_table.proofs.Rows.{session_row}
 
@@ -120,6 +124,10 @@ module _ {I K T : Type 0} {eq : I → I → Bool} (laws : IsEquivalence eq) (S R
     (update : (q : I) → lookup (eq q) new ≡ cond (eq k q) (Some w) (lookup (eq q) old)) (key : K)
     (e : Entry T) (owner : w.owner ≡ s.owner)
     (entries : w.entries.entries ≡ s.entries.entries ++ (key, e) ∷ []) where
+  grown_names : names_of w.entries.entries ≡ names_of s.entries.entries ++ name_of (pointer_in e) ∷ []
+  grown_names = ap names_of entries
+      ∙ map-append (λ (x : K × Entry T). name_of (pointer_in x.1)) s.entries.entries ((key, e) ∷ [])
+
   pub put_rows : (v : T) (l : Location) → Meets S (Make (Some s.owner) v l) (Made (pointer_in e)) R
       → IsKept R eq (held_in eq new)
   put_rows v l m = put_kept S R sound kept laws k (held_of s) v l e.raw
@@ -127,13 +135,9 @@ module _ {I K T : Type 0} {eq : I → I → Bool} (laws : IsEquivalence eq) (S R
       ∙ ap (λ h. cond (eq k q) (Some h) (held_in eq old q)) grown)
       (λ q t. one_held laws old k q t found) m
     where
-      names : names_of w.entries.entries ≡ names_of s.entries.entries ++ name_of (pointer_in e) ∷ []
-      names = ap names_of entries
-          ∙ map-append (λ (x : K × Entry T). name_of (pointer_in x.1)) s.entries.entries ((key, e) ∷ [])
-
       grown : held_of w
           ≡ record { owner = s.owner; names = names_of s.entries.entries ++ name_of (pointer_in e) ∷ [] }
-      grown j = record { owner = owner j; names = names j }
+      grown j = record { owner = owner j; names = grown_names j }
 
   pub put_session : w.used_at ≡ s.used_at → session_in eq (table_of R new) k
       ≡ option_map (with_entry key e) (session_in eq (table_of S old) k)
@@ -142,3 +146,47 @@ module _ {I K T : Type 0} {eq : I → I → Bool} (laws : IsEquivalence eq) (S R
     where
       grown : live w ≡ with_entry key e (live s)
       grown j = record { used_at = used j; entries = entries j }
+
+  -- the id keeps the new entry
+  pub put_keeps : keeps eq (table_of R new) k e ≡ true
+  put_keeps = ap (λ o. among (names_in o) (name_of (pointer_in e)))
+      (own_session laws old new k (Some w) update S R)
+      ∙ (ap (λ names. among names (name_of (pointer_in e))) grown_names
+      ∙ listed_last (names_of s.entries.entries) (name_of (pointer_in e)))
+
+  -- what is kept of the others
+  module _ (q : I) (f : Entry T) where
+    kept_here : eq k q ≡ true
+        → keeps eq (table_of S old) q f ≡ among (names_of s.entries.entries) (name_of (pointer_in f))
+    kept_here t = ap (λ o. among (names_in o) (name_of (pointer_in f))) (session_row eq S old q
+        ∙ ap (option_map live) (sym (lookup_congr eq laws.congr old k q t) ∙ found))
+
+    keeps_here : eq k q ≡ true → keeps eq (table_of R new) q f
+        ≡ keeps eq (table_of S old) q f || among (name_of (pointer_in e) ∷ []) (name_of (pointer_in f))
+    keeps_here t = ap (λ o. among (names_in o) (name_of (pointer_in f)))
+        (now_session laws old new k (Some w) update S R q
+        ∙ ap (λ b. cond b (Some (live w)) (session_in eq (table_of S old) q)) t)
+        ∙ (ap (λ names. among names (name_of (pointer_in f))) grown_names
+        ∙ (list_any-append (is_name (name_of (pointer_in f))) (names_of s.entries.entries) _
+        ∙ ap (λ b. b || among (name_of (pointer_in e) ∷ []) (name_of (pointer_in f))) (sym (kept_here t))))
+
+    keeps_beside : eq k q ≡ false → keeps eq (table_of R new) q f ≡ keeps eq (table_of S old) q f
+    keeps_beside apart = ap (λ o. among (names_in o) (name_of (pointer_in f)))
+        (other_sessions laws old new k (Some w) update S R q apart)
+
+    pub put_still : keeps eq (table_of S old) q f ≡ true → keeps eq (table_of R new) q f ≡ true
+    put_still was = ⊎_elim
+        (λ t. keeps_here t ∙ ap (λ b. b || among (name_of (pointer_in e) ∷ []) (name_of (pointer_in f))) was)
+        (λ apart. keeps_beside apart ∙ was) (cases_Bool (eq k q))
+
+    pub put_unkept : name_of (pointer_in e) ≢ name_of (pointer_in f)
+        → keeps eq (table_of S old) q f ≡ false → keeps eq (table_of R new) q f ≡ false
+    put_unkept ne was = ⊎_elim
+        (λ t. keeps_here t
+        ∙ (ap (λ b. b || among (name_of (pointer_in e) ∷ []) (name_of (pointer_in f))) was ∙ unlisted))
+        (λ apart. keeps_beside apart ∙ was) (cases_Bool (eq k q))
+      where
+        unlisted : among (name_of (pointer_in e) ∷ []) (name_of (pointer_in f)) ≡ false
+        unlisted = false_from_ne_true _ (λ listed. ⊎_elim
+            (λ same. ne (sym (name_same (name_of (pointer_in f)) (name_of (pointer_in e)) same)))
+            (λ none. true≢false (sym none)) (or_cases _ _ listed))

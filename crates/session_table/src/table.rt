@@ -136,6 +136,11 @@ impl<I: Eq + Hash, K: Eq + Hash, T, S: Storage<T>> SessionTable<I, K, T, S> {
         ensures shown { IfOk result (λ e. shown_in self.new e ≡ Some value) }
         ensures kept { IfOk result (λ e. session_in I.eq self.new id.now
             ≡ option_map (with_entry key e) (session_in I.eq self.old id.now)) }
+        ensures keeps { IfOk result (λ e. keeps I.eq self.new id.now e ≡ true) }
+        ensures still { (other : I) (f : Entry T) → keeps I.eq self.old other f ≡ true →
+            keeps I.eq self.new other f ≡ true }
+        ensures unkept { (other : I) (f : Entry T) → WasPut self.old f →
+            keeps I.eq self.old other f ≡ false → keeps I.eq self.new other f ≡ false }
         ensures others { (other : I) → I.eq id.now other ≡ false →
             session_in I.eq self.new other ≡ session_in I.eq self.old other }
         ensures count { length self.new.sessions ≡ length self.old.sessions }

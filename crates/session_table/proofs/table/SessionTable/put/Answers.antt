@@ -8,10 +8,11 @@ use Rattle.generational_sessions.proofs.callers.Tickets.{put_next}
 use Rattle.session_table.specs.Entries.{pointer_in}
 use Rattle.session_table.specs.Keeping.{IsKept, held_in, held_of}
 use Rattle.session_table.specs.Sessions.{entry_in, names_of}
-use Rattle.session_table.specs.Tables.{TableState, WasPut, live_row}
-use Rattle.session_table.proofs.Calls.{has_row, other_sessions, same_held, put_rows, put_session, same_sessions, same_table}
+use Rattle.session_table.specs.Tables.{TableState, WasPut, keeps, live_row}
+use Rattle.session_table.proofs.Calls.{has_row, other_sessions, put_keeps, put_rows, put_session, put_still, put_unkept}
+use Rattle.session_table.proofs.Calls.{same_held, same_sessions, same_table}
 use Rattle.session_table.proofs.Keeping.{same_kept}
-use Rattle.session_table.proofs.Storing.{put_beside_others, put_given_others}
+use Rattle.session_table.proofs.Storing.{put_apart, put_beside_others, put_given_others}
 use Rattle.session_table.proofs.table.SessionTable.put.Goals as goal
 
 pub keep-requires : goal.keep-requires
@@ -47,6 +48,38 @@ returns-clause-kept g c =
     rw (← c.self.view_is) (put_session g.met.I.Eq.laws S (g.S.AnyStorage.state c.keep.new.store)
     (g.met.S.AnyStorage.sound c.self.inside.store) rows _ c.args.id.now _ c.keep.new.self c.self.invariant
     found update c.args.key c.in-Ok.entry c.keep.ensures.owner c.in-Ok.ensures.entries c.keep.ensures.used)
+
+pub returns-clause-keeps : goal.returns-clause-keeps
+returns-clause-keeps g c =
+    let found = sym c.in-Some.ensures.value in
+    let S = g.S.AnyStorage.state c.self.inside.store in
+    let rows = c.self.inside.rows.entries in
+    let update = ((c.get_mut.follows.holds c.keep.new.self).3 (ap is_some found)).0 in
+    put_keeps g.met.I.Eq.laws S (g.S.AnyStorage.state c.keep.new.store)
+    (g.met.S.AnyStorage.sound c.self.inside.store) rows _ c.args.id.now _ c.keep.new.self c.self.invariant
+    found update c.args.key c.in-Ok.entry c.keep.ensures.owner c.in-Ok.ensures.entries
+
+pub returns-clause-still : goal.returns-clause-still
+returns-clause-still g c other f =
+    let found = sym c.in-Some.ensures.value in
+    let S = g.S.AnyStorage.state c.self.inside.store in
+    let rows = c.self.inside.rows.entries in
+    let update = ((c.get_mut.follows.holds c.keep.new.self).3 (ap is_some found)).0 in
+    rw (← c.self.view_is) (put_still g.met.I.Eq.laws S (g.S.AnyStorage.state c.keep.new.store)
+    (g.met.S.AnyStorage.sound c.self.inside.store) rows _ c.args.id.now _ c.keep.new.self c.self.invariant
+    found update c.args.key c.in-Ok.entry c.keep.ensures.owner c.in-Ok.ensures.entries other f)
+
+pub returns-clause-unkept : goal.returns-clause-unkept
+returns-clause-unkept g c other f given =
+    let found = sym c.in-Some.ensures.value in
+    let S = g.S.AnyStorage.state c.self.inside.store in
+    let rows = c.self.inside.rows.entries in
+    let update = ((c.get_mut.follows.holds c.keep.new.self).3 (ap is_some found)).0 in
+    rw (← c.self.view_is) (put_unkept g.met.I.Eq.laws S (g.S.AnyStorage.state c.keep.new.store)
+    (g.met.S.AnyStorage.sound c.self.inside.store) rows _ c.args.id.now _ c.keep.new.self c.self.invariant
+    found update c.args.key c.in-Ok.entry c.keep.ensures.owner c.in-Ok.ensures.entries other f
+    (put_apart S (g.S.AnyStorage.state c.keep.new.store) _ _ _ c.in-Ok.entry.raw c.in-Ok.ensures.step (pointer_in f)
+    (subst (λ (t : TableState _ _ _). WasPut t f) (sym c.self.view_is) given)))
 
 pub returns-clause-others : goal.returns-clause-others
 returns-clause-others g c =
@@ -143,3 +176,11 @@ returns-in-Err-clause-others g c =
 pub returns-in-Err-clause-count : goal.returns-in-Err-clause-count
 returns-in-Err-clause-count g c = rw (← c.self.view_is) (length-map _ _
     ∙ ((c.get_mut.follows.holds c.keep.new.self).2 ∙ sym (length-map _ _)))
+
+pub returns-in-Err-clause-still : goal.returns-in-Err-clause-still
+returns-in-Err-clause-still g c other f was =
+    ap (λ (t : TableState _ _ _). keeps g.I.PartialEq.eq t other f) (returns-in-Err-clause-refused g c) ∙ was
+
+pub returns-in-Err-clause-unkept : goal.returns-in-Err-clause-unkept
+returns-in-Err-clause-unkept g c other f given was =
+    ap (λ (t : TableState _ _ _). keeps g.I.PartialEq.eq t other f) (returns-in-Err-clause-refused g c) ∙ was
