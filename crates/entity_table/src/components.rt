@@ -313,6 +313,30 @@ impl<T, C, S: Storage<C>> ComponentTable<T, C, S> {
         true
     }
 
+    /// Ends an entity's component, and hands it back: it goes from the store too. Every other entity
+    /// keeps its own.
+    ///
+    /// None where the entity has no component: the table stays as it was. Takes no memory, and is O(1).
+    ///
+    /// ```rust
+    /// let worn: Hat = hats.take(entity)?;
+    /// ```
+    pub fn take(&mut self, entity: Entity<T>) -> Option<C>
+        ensures taken { result ≡ component_in self.old entity }
+        ensures gone { component_in self.new entity ≡ None }
+        ensures others { (e : Entity T) → IsOther entity e →
+            component_in self.new e ≡ component_in self.old e }
+        ensures none { IfNone result (self.new ≡ self.old) }
+        ensures listed { AreListed self.new.state self.new.parts }
+    {
+        let part = part_for(&self.parts, entity)?;
+        let Some(component) = part.raw.take(&mut self.store) else {
+            unreachable!();
+        };
+        self.parts[entity.raw.raw_ptr()] = None;
+        Some(component)
+    }
+
     /// Ends the components of all entities that aren't live in a table: those of entities that were
     /// despawned since the last sweep. Every live one keeps its own. Never refused; takes no memory, and
     /// is O(n) for n slots.

@@ -125,6 +125,39 @@ impl<T, S: Storage<T>> EntityTable<T, S> {
         Ok(())
     }
 
+    /// Ends an entity, and hands its element back: it shows nothing from then on, and no later entity
+    /// is mistaken for it. The last row takes the place of its own. Every other entity shows what it
+    /// showed.
+    ///
+    /// Refused where the entity is gone, or is another table's; the table stays as it was then.
+    /// Takes no memory, and is O(1).
+    ///
+    /// ```rust
+    /// let name: String = table.take(entity)?;
+    /// ```
+    pub fn take(&mut self, entity: Entity<T>) -> Result<T, Stale>
+        ensures taken { IfOk result (λ element. element_in self.old entity ≡ Some element) }
+        ensures gone { element_in self.new entity ≡ None }
+        ensures others { (f : Entity T) → IsOther entity f →
+            element_in self.new f ≡ element_in self.old f }
+        ensures row { OnOk result ((row : ℕ) × (e : Entity T) × IsSame e entity
+            × (slice_get self.old.rows row ≡ Some e)
+            × (self.new.rows ≡ swap_remove self.old.rows row e)) }
+        ensures kept { (f : Entity T) → WasSpawned self.old f → WasSpawned self.new f }
+        ensures stale { IsErr result ↔ element_in self.old entity ≡ None }
+        ensures told { IfErr result (λ stale. stale.spawned_at ≡ spawned_at entity) }
+        ensures refused { OnErr result (self.new ≡ self.old) }
+    {
+        let Some(element) = entity.raw.take(&mut self.store) else {
+            return Err(Stale {
+                spawned_at: entity.spawned_at(),
+            });
+        };
+        let row = self.places[entity.raw.raw_ptr()];
+        remove_row(&mut self.rows, &mut self.places, row);
+        Ok(element)
+    }
+
     /// Puts another element in the place of an entity's, which is let go. Every other entity shows
     /// what it showed, and the rows stay.
     ///
