@@ -130,3 +130,12 @@ module _ {T : Type 0} where
         → children_at after s ≡ without node (children_at before s)
     pub others : (s : ℕ) → above before (slot_in node) ≢ Some s
         → children_at after s ≡ children_at before s
+
+  -- a node was taken out with all below it, which a list has level by level: first it was taken out of
+  -- its parent's children, and then each of the list was left alone
+  pub record IsCut (before : List (Family T)) (node : Node T) (list : List (Node T)) (after : List (Family T)) : Type 0 where
+    pub level : IsInLevels before node list
+    pub left : List (Family T)
+    pub detached : IsDetached before node left
+    pub long : length after ≡ length left
+    pub cleared : IsCleared left after list

@@ -1,12 +1,12 @@
 //! The links of each slot's node: its parent, its first and last child, and the siblings beside it.
 
-ghost use Rattle.std.specs.Prelude.{◌≡◌, ◌≢◌, ◌<◌, ◌≤◌, ◌+◌, ◌++◌, ◌∷◌, [], ℕ, length, true, None, Some, IfOk, OnOk, IsTrue, ◌↔◌, slice_get};
+ghost use Rattle.std.specs.Prelude.{◌≡◌, ◌≢◌, ◌<◌, ◌≤◌, ◌+◌, ◌++◌, ◌∷◌, [], ℕ, length, true, None, Some, IfOk, OnOk, OnErr, IsTrue, ◌↔◌, slice_get};
 ghost use Rattle.std.specs.Vec.{vec_capacity};
 ghost use Rattle.scene_tree.specs.Chains.{after_put, before_put, changed, tie_of};
 ghost use Rattle.scene_tree.specs.Nodes.{slot_in, is_same};
 ghost use Rattle.scene_tree.specs.Families.{families, family_at, parent_at, children_at, above, alone};
 ghost use Rattle.scene_tree.specs.Families.{IsForest, IsLinked, IsInLevels, IsUnder, IsOpened, IsAttached};
-ghost use Rattle.scene_tree.specs.Families.{IsDetached, IsCleared, IsRooted, count_at, IsGap, IsSpotIn};
+ghost use Rattle.scene_tree.specs.Families.{IsDetached, IsCleared, IsCut, IsRooted, count_at, IsGap, IsSpotIn};
 ghost use Rattle.scene_tree.specs.Rows.{IsPlaced, IsRow, behind, rows_at, waiting};
 ghost use Rattle.scene_tree.specs.declared.links.Link.{Link};
 ghost use Rattle.scene_tree.specs.declared.node.Node.{Node};
@@ -194,8 +194,31 @@ fn put_before<T>(links: &mut Vec<Link<T>>, slot: usize, child: Option<usize>, ne
     }
 }
 
-/// Leaves each node of a list without parent and children.
-pub(crate) fn clear_all<T>(links: &mut Vec<Link<T>>, nodes: &Vec<Node<T>>)
+/// Takes a node with all below it out of the links, and answers them, level by level.
+pub(crate) fn cut<T>(
+    alloc: Global,
+    links: &mut Vec<Link<T>>,
+    top: Node<T>,
+) -> Result<Vec<Node<T>>, AllocError>
+    requires linked { IsLinked links.old.items }
+    requires forest { IsForest (families links.old.items) }
+    requires within { slot_in top < length links.old.items }
+    requires alike { (s k : ℕ) (n : Node T) →
+        slice_get (children_at (families links.old.items) s) k ≡ Some n →
+        slot_in n ≡ slot_in top → is_same n top ≡ true }
+    ensures linked { IsLinked links.new.items }
+    ensures cut { IfOk result (λ list.
+        IsCut (families links.old.items) top list.items (families links.new.items)) }
+    ensures refused { OnErr result (links.new.items ≡ links.old.items) }
+{
+    let list = gather(alloc, links, top)?;
+    detach(links, top);
+    clear_all(links, &list);
+    Ok(list)
+}
+
+// Leaves each node of a list without parent and children.
+fn clear_all<T>(links: &mut Vec<Link<T>>, nodes: &Vec<Node<T>>)
     requires linked { IsLinked links.old.items }
     requires within { (s : ℕ) → 0 < count_at s nodes.now.items → s < length links.old.items }
     ensures linked { IsLinked links.new.items }

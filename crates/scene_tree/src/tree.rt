@@ -1,6 +1,6 @@
 //! Trees of nodes.
 
-ghost use Rattle.std.specs.Prelude.{ℕ, ◌<◌, ◌≤◌, ◌+◌, true, length, slice_get};
+ghost use Rattle.std.specs.Prelude.{ℕ, ◌<◌, ◌≤◌, ◌+◌, true, List, length, slice_get};
 ghost use Rattle.std.specs.Prelude.{◌≡◌, ◌↔◌, ◌⊎◌, ◌++◌, ◌∷◌, [], None, Some, Err, is_some};
 ghost use Rattle.std.specs.Prelude.{IfOk, OnOk, IfErr, OnErr, IsErr};
 ghost use Rattle.std.specs.Borrow.{MutBor};
@@ -12,14 +12,15 @@ ghost use Rattle.scene_tree.specs.declared.node.TreeError.TheVariants as error;
 ghost use Rattle.scene_tree.specs.Families.{alone};
 ghost use Rattle.generational_sessions.specs.PlainStores.{IsSimple};
 ghost use Rattle.scene_tree.specs.Keeping.{HasLost, IsLiveIn};
-ghost use Rattle.scene_tree.specs.Nodes.{made_at, times, without, IsOther};
+ghost use Rattle.generational_core.specs.Seeing.{value_in};
+ghost use Rattle.scene_tree.specs.Nodes.{made_at, pointer_in, times, without, IsOther};
 ghost use Rattle.scene_tree.specs.Trees.{TreeState, value_of, is_live, family_of, parent_of};
 ghost use Rattle.scene_tree.specs.Trees.{children_of, WasMade, IsBelow, NodeIsUnchanged, CanMove};
 ghost use Rattle.scene_tree.specs.Trees.{AreAncestors, IsRootedIn, IsSubtree, IsTree, count_of, outline_of, parent_for};
 ghost use Rattle.scene_tree.specs.Spots.{named, placed};
 
 use crate::links::{
-    Link, attach, children_at, clear_all, depth_at, detach, gather, is_under, open_slot, parent_at,
+    Link, attach, children_at, cut, depth_at, detach, gather, is_under, open_slot, parent_at,
     reserve_one,
 };
 use crate::node::{Node, Stale, TreeError};
@@ -624,14 +625,86 @@ impl<T, S: Storage<T>> SceneTree<T, S> {
         if !self.is_alive(node) {
             return Err(TreeError::Stale(node.made_at()));
         }
-        let list = match gather(self.alloc, &self.links, node) {
+        let list = match cut(self.alloc, &mut self.links, node) {
             Ok(list) => list,
             Err(_) => return Err(TreeError::Store(StoreError::OutOfMemory)),
         };
-        detach(&mut self.links, node);
-        clear_all(&mut self.links, &list);
         end_all(&mut self.store, &list);
         Ok(list)
+    }
+
+    /// Removes a node and all below it as `remove_subtree` does, and hands the node's value back. The
+    /// values of those below are let go: `detach` or `move_to` keeps one of them from that.
+    ///
+    /// Refused, in this order: `Stale`, where the node is gone, or is another tree's; `Store` of
+    /// `OutOfMemory`. The tree stays as it was then. Takes memory for a list of what goes, and O(k) time
+    /// for k nodes, but for finding room and for letting the values go.
+    ///
+    /// ```rust
+    /// let name: String = tree.take(node)?;
+    /// ```
+    pub fn take(&mut self, node: Node<T>) -> Result<T, TreeError>
+        ensures taken { IfOk result (λ value. value_of self.old node ≡ Some value) }
+        ensures gone { OnOk result ((n : Node T) → IsBelow self.old node n →
+            value_of self.new n ≡ None) }
+        ensures count { OnOk result ((list : List (Node T)) × IsSubtree self.old node list
+            × (count_of self.new + length list ≡ count_of self.old)) }
+        ensures lost { OnOk result ((up : Node T) → parent_of self.old node ≡ Some up →
+            (value_of self.new up ≡ value_of self.old up) × (family_of self.new up ≡ record {
+              parent = parent_of self.old up;
+              children = without node (children_of self.old up);
+            })) }
+        ensures others { OnOk result ((n : Node T) → (IsBelow self.old node n → ⊥) →
+            ((up : Node T) → parent_of self.old node ≡ Some up → IsOther up n) →
+            NodeIsUnchanged self.old n self.new) }
+        ensures kept { (f : Node T) → WasMade self.old f → WasMade self.new f }
+        ensures stale { value_of self.old node ≡ None →
+            result ≡ Err (error.Stale (made_at node)) }
+        ensures short { IfErr result (λ e. (value_of self.old node ≡ None)
+            ⊎ (e ≡ error.Store OutOfMemory)) }
+        ensures refused { OnErr result (self.new ≡ self.old) }
+    {
+        if !self.is_alive(node) {
+            return Err(TreeError::Stale(node.made_at()));
+        }
+        let list = match cut(self.alloc, &mut self.links, node) {
+            Ok(list) => list,
+            Err(_) => return Err(TreeError::Store(StoreError::OutOfMemory)),
+        };
+        Ok(take_first(&mut self.store, &list))
+    }
+}
+
+// Ends the values of nodes, and hands the first one's back.
+fn take_first<T, S: Storage<T>>(store: &mut S, nodes: &Vec<Node<T>>) -> T
+    requires some { 0 < length nodes.now.items }
+    requires simple { IsSimple (S.state store.old) }
+    requires live { (i : ℕ) (n : Node T) → slice_get nodes.now.items i ≡ Some n →
+        IsLiveIn (S.state store.old) n }
+    requires once { (n : Node T) → times n nodes.now.items ≤ 1 }
+    ensures value { (n : Node T) → slice_get nodes.now.items 0 ≡ Some n →
+        value_in (S.state store.old) (pointer_in n) ≡ Some result }
+    ensures lost { HasLost (S.state store.old) nodes.now.items (S.state store.new) }
+{
+    let value = take_value(store, nodes[0]);
+    let mut next = 1;
+    'rest: while next < nodes.len() {
+        end(store, nodes[next]);
+        next += 1;
+    }
+    value
+}
+
+// Ends a node, and hands its value back.
+fn take_value<T, S: Storage<T>>(store: &mut S, node: Node<T>) -> T
+    requires simple { IsSimple (S.state store.old) }
+    requires live { IsLiveIn (S.state store.old) node }
+    ensures value { value_in (S.state store.old) (pointer_in node) ≡ Some result }
+    ensures lost { HasLost (S.state store.old) (node ∷ []) (S.state store.new) }
+{
+    match node.raw.take(store) {
+        Some(value) => value,
+        None => unreachable!(),
     }
 }
 

@@ -1,0 +1,47 @@
+use Rattle.std.proofs.Common.{ap, arith, rules, refl, sym, subst, ◌∙◌, ◌≡◌, ◌<◌, ◌≤◌, length, Some}
+use Rattle.std.proofs.lemmas.List.{take_all}
+use Rattle.std.proofs.lemmas.Option.{get_or_from_slice_get, slice_get-get_or}
+use Rattle.generational_core.specs.Seeing.{value_in}
+use Rattle.scene_tree.specs.Keeping.{HasLost, IsLiveIn}
+use Rattle.scene_tree.specs.Nodes.{pointer_in}
+use Rattle.scene_tree.proofs.Losing.{lost_more, lost_none, still_live}
+use Rattle.scene_tree.proofs.tree.take_first.Goals as goal
+
+pub take_value-value-requires-clause-live : goal.take_value-value-requires-clause-live
+take_value-value-requires-clause-live g c = c.requires.live 0 _ (slice_get-get_or c.args.nodes.now.items 0 _ c.requires.some
+    ∙ ap Some (sym c.index.ensures))
+
+pub rest-init : goal.rest-init
+rest-init g c = (
+  omega (arith, c.requires.some),
+  lost_more c.args.nodes.now.items c.args.nodes.now.items 0 _ _ refl c.requires.some c.index.ensures
+      (lost_none c.requires.simple) c.take_value-value.ensures.lost,
+)
+
+pub end-requires-clause-simple : goal.end-requires-clause-simple
+end-requires-clause-simple g c = c.rest.invariant.1.simple
+
+pub end-requires-clause-live : goal.end-requires-clause-live
+end-requires-clause-live g c =
+    let lt : c.rest.next < length c.args.nodes.now.items = search (rules, arith) in
+    subst (IsLiveIn (g.S.AnyStorage.state c.rest.store)) (sym c.index-in-rest.ensures)
+    (still_live _ c.rest.invariant.1 refl lt c.requires.live c.requires.once)
+
+pub rest-preserved : goal.rest-preserved
+rest-preserved g c =
+    let lt : c.rest.next < length c.args.nodes.now.items = search (rules, arith) in (
+      omega (arith, lt),
+      lost_more c.args.nodes.now.items c.args.nodes.now.items c.rest.next _ _ refl lt c.index-in-rest.ensures
+          c.rest.invariant.1 c.end.ensures,
+    )
+
+pub returns-clause-value : goal.returns-clause-value
+returns-clause-value g c n at =
+    subst (λ x. value_in (g.S.AnyStorage.state c.args.store.now) (pointer_in x) ≡ Some c.take_value-value.result)
+    (c.index.ensures ∙ get_or_from_slice_get c.args.nodes.now.items 0 n _ at) c.take_value-value.ensures.value
+
+pub returns-clause-lost : goal.returns-clause-lost
+returns-clause-lost g c =
+    let all : length c.args.nodes.now.items ≤ c.rest.next = search (rules, arith) in
+    subst (λ xs. HasLost (g.S.AnyStorage.state c.args.store.now) xs (g.S.AnyStorage.state c.rest.store))
+    (take_all c.rest.next c.args.nodes.now.items all) c.rest.invariant.1
