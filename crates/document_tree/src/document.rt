@@ -2,7 +2,7 @@
 
 ghost use Rattle.std.specs.Prelude.{◌≡◌, ◌≢◌, ◌↔◌, ◌⊎◌, [], None, Some, true, is_some, option_copied};
 ghost use Rattle.std.specs.Prelude.{Err, IfOk, OnOk, IfErr, OnErr, IsErr, IsTrue, IsFalse, ◌++◌, ◌∷◌, ◌<◌, ◌≤◌, map, reverse};
-ghost use Rattle.std.specs.Prelude.{List, length, slice_get};
+ghost use Rattle.std.specs.Prelude.{List, length, slice_get, IfNone, IfSome};
 ghost use Rattle.std.specs.List.{insert, remove};
 ghost use Rattle.std.specs.Fn.{FnOnceReturnsAtMut};
 ghost use Rattle.generational_core.specs.Slots.{free};
@@ -355,8 +355,6 @@ impl<T, S: Storage<Part<T>>> Document<T, S> {
     /// where the part has no child at the index. The document stays as it was then. Takes no memory, and
     /// O(c) time for c children behind.
     pub fn take_child(&mut self, parent: Place, index: usize) -> Result<Place, PlaceError>
-    where
-        T: Drop,
         ensures taken { IfOk result (λ child. (list : List Place) →
             children_of (shown_in self.old parent) ≡ Some list →
             slice_get list index ≡ Some child) }
@@ -380,12 +378,13 @@ impl<T, S: Storage<Part<T>>> Document<T, S> {
         if self.children(parent)?.len() <= index {
             return Err(PlaceError::OutOfRange);
         }
-        let Some(mut body) = self.swap(parent, None) else {
-            unreachable!();
-        };
-        let child = body.children.remove(index);
-        self.swap(parent, Some(body));
-        Ok(child)
+        match self
+            .store
+            .change_value(parent.raw, |part: &mut Part<T>| remove_child(part, index))
+        {
+            Some(child) => Ok(child),
+            None => unreachable!(),
+        }
     }
 
     /// Takes those that are gone out of the children of the parent's part, at each place that leads there.
@@ -582,6 +581,22 @@ fn insert_place(places: &mut Vec<Place>, index: usize, place: Place) -> bool
     ensures same { IsFalse result → places.new.items ≡ places.old.items }
 {
     places.insert(index, place).is_ok()
+}
+
+// Takes the child at an index out of a part's, if there is one.
+fn remove_child<T>(part: &mut Part<T>, index: usize) -> Option<Place>
+    ensures removed { IfSome result (λ child. (list : List Place)
+        × (children_of (shown_by part.old.body) ≡ Some list)
+        × (slice_get list index ≡ Some child)
+        × (shown_by part.new.body
+        ≡ with_children (λ list. remove list index) (shown_by part.old.body))) }
+    ensures none { IfNone result ((list : List Place) →
+        children_of (shown_by part.old.body) ≡ Some list → length list ≤ index) }
+{
+    match &mut part.body {
+        Some(body) if index < body.children.len() => Some(body.children.remove(index)),
+        _ => None,
+    }
 }
 
 // Puts another content in the place of a part's.
