@@ -319,7 +319,10 @@ impl<T, C, S: Storage<C>> ComponentTable<T, C, S> {
     /// None where the entity has no component: the table stays as it was. Takes no memory, and is O(1).
     ///
     /// ```rust
-    /// let worn: Hat = hats.take(entity)?;
+    /// match coats.take(from) {
+    ///     Some(coat) => coats.insert(to, coat, here).is_ok(),
+    ///     None => false,
+    /// }
     /// ```
     pub fn take(&mut self, entity: Entity<T>) -> Option<C>
         ensures taken { result ≡ component_in self.old entity }
@@ -333,7 +336,8 @@ impl<T, C, S: Storage<C>> ComponentTable<T, C, S> {
         let Some(component) = part.raw.take(&mut self.store) else {
             unreachable!();
         };
-        self.parts[entity.raw.raw_ptr()] = None;
+        let slot = entity.raw.raw_ptr();
+        self.parts[slot] = None;
         Some(component)
     }
 

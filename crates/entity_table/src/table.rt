@@ -133,7 +133,7 @@ impl<T, S: Storage<T>> EntityTable<T, S> {
     /// Takes no memory, and is O(1).
     ///
     /// ```rust
-    /// let name: String = table.take(entity)?;
+    /// let element = table.take(entity).ok()?;
     /// ```
     pub fn take(&mut self, entity: Entity<T>) -> Result<T, Stale>
         ensures taken { IfOk result (λ element. element_in self.old entity ≡ Some element) }
@@ -153,7 +153,8 @@ impl<T, S: Storage<T>> EntityTable<T, S> {
                 spawned_at: entity.spawned_at(),
             });
         };
-        let row = self.places[entity.raw.raw_ptr()];
+        let slot = entity.raw.raw_ptr();
+        let row = self.places[slot];
         remove_row(&mut self.rows, &mut self.places, row);
         Ok(element)
     }

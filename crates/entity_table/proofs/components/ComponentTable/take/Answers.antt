@@ -20,7 +20,7 @@ pub invariant_of-self : goal.invariant_of-self
 invariant_of-self g c =
     let found : c.part_for.result ≡ Some c.in_ok-part.part = search rules in
     let there = part_there _ c.args.entity c.in_ok-part.part (sym c.part_for.ensures ∙ found) in
-    rw c.raw_ptr.ensures (attached_gone (g.met.S.AnyStorage.sound _) c.self.invariant _ _ there.0
+    rw c.raw_ptr-slot.ensures (attached_gone (g.met.S.AnyStorage.sound _) c.self.invariant _ _ there.0
     c.in-Some.ensures.ended)
 
 pub returns-clause-taken : goal.returns-clause-taken
@@ -35,7 +35,7 @@ returns-clause-others g c e other =
     let is = sym c.part_for.ensures ∙ found in
     let there = part_there _ c.args.entity c.in_ok-part.part is in
     let within = part_within _ _ _ there.0 in
-    rw (← c.self.view_is, c.raw_ptr.ensures) (⊎_elim
+    rw (← c.self.view_is, c.raw_ptr-slot.ensures) (⊎_elim
     (λ same. emptied_here _ _ _ e same within
     ∙ sym (ap (shown_by _) (other_part _ c.args.entity e c.in_ok-part.part is same other)))
     (λ ne. written_apart _ _ _ _ None e ne (λ p at. gone_beside (g.met.S.AnyStorage.sound _)
@@ -46,5 +46,5 @@ pub returns-clause-listed : goal.returns-clause-listed
 returns-clause-listed g c =
     let found : c.part_for.result ≡ Some c.in_ok-part.part = search rules in
     let there = part_there _ c.args.entity c.in_ok-part.part (sym c.part_for.ensures ∙ found) in
-    rw c.raw_ptr.ensures (attached_gone (g.met.S.AnyStorage.sound _) c.self.invariant _ _ there.0
+    rw c.raw_ptr-slot.ensures (attached_gone (g.met.S.AnyStorage.sound _) c.self.invariant _ _ there.0
     c.in-Some.ensures.ended).listed

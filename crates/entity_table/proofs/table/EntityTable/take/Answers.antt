@@ -25,7 +25,7 @@ pub remove_row-requires-clause-within : goal.remove_row-requires-clause-within
 remove_row-requires-clause-within g c =
     let seen = ap is_some (taken_seen _ _ _ (sym c.in-Some.ensures.value)) in
     let at = stands c.self.invariant c.args.entity seen in
-    row_within at _ (row_is at _ _ c.raw_ptr.ensures c.index-row.ensures)
+    row_within at _ (row_is at _ _ c.raw_ptr-slot.ensures c.index-row.ensures)
 
 pub invariant_of-self : goal.invariant_of-self
 invariant_of-self g c = subst (λ S. IsKept S c.self.inside.rows.items c.self.inside.places.items)
@@ -35,7 +35,7 @@ pub invariant_of-self-2 : goal.invariant_of-self-2
 invariant_of-self-2 g c =
     let seen = ap is_some (taken_seen _ _ _ (sym c.in-Some.ensures.value)) in
     let at = stands c.self.invariant c.args.entity seen in
-    let row = row_is at _ _ c.raw_ptr.ensures c.index-row.ensures in
+    let row = row_is at _ _ c.raw_ptr-slot.ensures c.index-row.ensures in
     let gone = c.remove_row.ensures.rows in
     kept_removed (g.met.S.AnyStorage.sound _) c.self.invariant c.args.entity gone.0 _ _ _ seen
     c.in-Some.ensures.ended gone.1 (stands_same at _ gone.0 row gone.1) gone.2 c.remove_row.ensures.placed
@@ -57,7 +57,7 @@ pub returns-clause-row : goal.returns-clause-row
 returns-clause-row g c =
     let seen = ap is_some (taken_seen _ _ _ (sym c.in-Some.ensures.value)) in
     let at = stands c.self.invariant c.args.entity seen in
-    let row = row_is at _ _ c.raw_ptr.ensures c.index-row.ensures in
+    let row = row_is at _ _ c.raw_ptr-slot.ensures c.index-row.ensures in
     let gone = c.remove_row.ensures.rows in
     rw (← c.self.view_is) (_, gone.0, stands_same at _ gone.0 row gone.1, gone.1, gone.2)
 
