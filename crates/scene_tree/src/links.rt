@@ -6,7 +6,7 @@ ghost use Rattle.scene_tree.specs.Chains.{after_put, before_put, changed, tie_of
 ghost use Rattle.scene_tree.specs.Nodes.{slot_in, is_same};
 ghost use Rattle.scene_tree.specs.Families.{families, family_at, parent_at, children_at, above, alone};
 ghost use Rattle.scene_tree.specs.Families.{IsForest, IsLinked, IsInLevels, IsUnder, IsOpened, IsAttached};
-ghost use Rattle.scene_tree.specs.Families.{IsDetached, IsCleared, IsCut, IsRooted, count_at, IsGap, IsSpotIn};
+ghost use Rattle.scene_tree.specs.Families.{IsDetached, IsCleared, IsCut, IsRooted, count_at, slot_of, IsGap, IsSpotIn};
 ghost use Rattle.scene_tree.specs.Rows.{IsPlaced, IsRow, behind, rows_at, waiting};
 ghost use Rattle.scene_tree.specs.declared.links.Link.{Link};
 ghost use Rattle.scene_tree.specs.declared.node.Node.{Node};
@@ -251,11 +251,16 @@ pub(crate) fn is_under<T>(links: &Vec<Link<T>>, slot: usize, top: usize) -> bool
     requires within { slot < length links.now.items }
     ensures { IsTrue result ↔ (steps : ℕ) × IsUnder (families links.now.items) top steps slot }
 {
+    let above = parent_at(links, top);
     let mut at = slot;
     // No way to a root is longer than there are slots.
     for _ in 0..links.len() {
         if at == top {
             return true;
+        }
+        // What is above the other isn't below it: so a sibling is told at its parent.
+        if is_at(above, at) {
+            return false;
         }
         match parent_at(links, at) {
             Some(parent) => at = parent.slot(),
@@ -263,6 +268,16 @@ pub(crate) fn is_under<T>(links: &Vec<Link<T>>, slot: usize, top: usize) -> bool
         }
     }
     unreachable!()
+}
+
+// Whether there is a node, and it lives at a slot.
+fn is_at<T>(node: Option<Node<T>>, slot: usize) -> bool
+    ensures { IsTrue result → slot_of node ≡ Some slot }
+{
+    match node {
+        Some(node) => node.slot() == slot,
+        None => false,
+    }
 }
 
 /// How many steps a root is above a slot.

@@ -487,7 +487,8 @@ impl<T, S: Storage<T>> SceneTree<T, S> {
     /// Refused, in this order: `Stale`, where the node is gone, or is another tree's; `Stale`, where
     /// the node that the spot names is; `Cycle`, where that is the node or below it; `NoParent`, where it
     /// is to be a sibling and has no parent. The tree stays as it was then. Takes no memory, and O(d) time
-    /// for d steps from the spot to its root.
+    /// for d steps from the spot to its root, or O(1) where it is among the node's siblings: so children
+    /// are put in another order.
     pub fn move_at(&mut self, node: Node<T>, spot: Spot<T>) -> Result<(), TreeError>
         ensures state { self.new.state ≡ self.old.state }
         ensures moved { OnOk result (parent_of self.new node ≡ parent_for self.old spot) }
@@ -641,7 +642,7 @@ impl<T, S: Storage<T>> SceneTree<T, S> {
     /// for k nodes, but for finding room and for letting the values go.
     ///
     /// ```rust
-    /// let name: String = tree.take(node)?;
+    /// let value = tree.take(node).ok()?;
     /// ```
     pub fn take(&mut self, node: Node<T>) -> Result<T, TreeError>
         ensures taken { IfOk result (λ value. value_of self.old node ≡ Some value) }

@@ -3,7 +3,7 @@ use Rattle.std.proofs.lemmas.Bool.{true≢false}
 use Rattle.std.proofs.lemmas.List.{length-map}
 use Rattle.scene_tree.specs.Families.{above, families, family_in, slot_of}
 use Rattle.scene_tree.proofs.Gathering.{above_within}
-use Rattle.scene_tree.proofs.Paths.{depth_within, root_under, rooted_up, step_under, under_up}
+use Rattle.scene_tree.proofs.Paths.{depth_within, no_cycle, root_under, rooted_up, step_under, under_up}
 use Rattle.scene_tree.proofs.links.is_under.Goals as goal
 
 pub loop-init : goal.loop-init
@@ -41,3 +41,14 @@ loop-preserved g c =
             (suc under.0, step_under fs c.args.top under.0 c.loop.at c.slot-at.result up under.1),
       );
     }
+
+pub returns-then-is_at : goal.returns-then-is_at
+returns-then-is_at g c =
+    let fs = families c.args.links.now.items in
+    let r = c.requires.forest.rooted c.args.top in (
+      λ is. absurd (true≢false (sym is)),
+      λ under.
+          let here = c.loop.invariant.same.0 under in
+          absurd (no_cycle fs r.0 c.args.top c.loop.at here.0 r.1 (ap slot_of (sym c.parent_at-above.ensures)
+          ∙ c.is_at.ensures (grind arith)) here.1),
+    )
