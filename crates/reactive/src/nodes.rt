@@ -1,7 +1,7 @@
 //! The nodes of a store.
 
 ghost use Rattle.std.specs.Prelude.{◌≡◌, ◌≢◌, ◌≤◌, ◌<◌, ◌+◌, ◌^◌, ℕ, List, Option, Some, None, IfSome, IfNone, option_copied, take, IsTrue, slice_get};
-ghost use Rattle.std.specs.Prelude.{IfOk, IfErr, OnOk, OnErr};
+ghost use Rattle.std.specs.Prelude.{[], true, is_some, Ok, IsOk, IfOk, IfErr, OnOk, OnErr};
 ghost use Rattle.std.specs.Prelude.{map as list_map, ◌⊎◌};
 ghost use Rattle.generational_core.specs.Slots.{free};
 ghost use Rattle.generational_sessions.specs.PlainStores.{IsSimple};
@@ -18,8 +18,10 @@ ghost use Rattle.reactive.specs.Meaning.{Graph};
 ghost use Rattle.reactive.specs.Plans.{Asked, Ran};
 ghost use Rattle.reactive.specs.Refreshing.{IsAdvanced, IsOnTheWay, Refreshed, Went};
 ghost use Rattle.reactive.specs.declared.look.Frame.{Frame};
+ghost use Rattle.reactive.specs.declared.look.Look.TheVariants as look;
+ghost use Rattle.reactive.specs.declared.look.Step.TheVariants as step;
 ghost use Rattle.reactive.specs.Settling.{IsSettled};
-ghost use Rattle.reactive.specs.Tables.{AllStand, AreKnown, IsPut, IsSound, known_of, nodes_in};
+ghost use Rattle.reactive.specs.Tables.{AllStand, AreKnown, IsPut, IsSound, known_by, known_of, nodes_in};
 
 use crate::fault::Fault;
 use crate::key::Key;
@@ -229,11 +231,12 @@ impl<T: Value + Drop, R: Rule<T>, S: Storage<Node<T, R>>> Nodes<T, R, S> {
 
     // A look at a node.
     fn judge(&self, node: &Node<T, R>, place: Option<usize>) -> Look<T>
-        ensures { (G : Graph T) (k : Key) →
+        ensures looked { (G : Graph T) (k : Key) →
             IsSound R.plan G self.now.revision (nodes_in (S.state self.now.store)) →
             nodes_in (S.state self.now.store) k ≡ Some node.now →
             GoesOn G self.now.revision (nodes_in (S.state self.now.store)) k place →
             Looked G self.now.revision (nodes_in (S.state self.now.store)) k result }
+        ensures known { is_some (known_by self.now.revision (Some node.now)) ≡ true → result ≡ look.Known }
     {
         if node.is_known(self.revision) {
             return Look::Known;
@@ -257,10 +260,12 @@ impl<T: Value + Drop, R: Rule<T>, S: Storage<Node<T, R>>> Nodes<T, R, S> {
 
     // A look at a key's node, which goes on at a place of its kept questions, or runs its rule.
     fn look(&self, key: Key, place: Option<usize>) -> Look<T>
-        ensures { (G : Graph T) →
+        ensures looked { (G : Graph T) →
             IsSound R.plan G self.now.revision (nodes_in (S.state self.now.store)) →
             GoesOn G self.now.revision (nodes_in (S.state self.now.store)) key place →
             Looked G self.now.revision (nodes_in (S.state self.now.store)) key result }
+        ensures known { is_some (known_of (nodes_in (S.state self.now.store)) self.now.revision key) ≡ true →
+            result ≡ look.Known }
     {
         match node_of(&self.store, key) {
             Some(node) => self.judge(node, place),
@@ -279,6 +284,8 @@ impl<T: Value + Drop, R: Rule<T>, S: Storage<Node<T, R>>> Nodes<T, R, S> {
             IsAdvanced R.plan G self.old.revision (nodes_in (S.state self.old.store)) key result
             (nodes_in (S.state self.new.store)) }
         ensures kinds { kinds_of (nodes_in (S.state self.new.store)) ≡ kinds_of (nodes_in (S.state self.old.store)) }
+        ensures known { is_some (known_of (nodes_in (S.state self.old.store)) self.old.revision key) ≡ true →
+            result ≡ step.Settled }
     {
         match self.look(key, place) {
             Look::Known => Step::Settled,
@@ -346,6 +353,8 @@ impl<T: Value + Drop, R: Rule<T>, S: Storage<Node<T, R>>> Nodes<T, R, S> {
             Went R.plan G self.old.revision (nodes_in (S.state self.new.store)) start
             path.new.items result }
         ensures kinds { kinds_of (nodes_in (S.state self.new.store)) ≡ kinds_of (nodes_in (S.state self.old.store)) }
+        ensures known { is_some (known_of (nodes_in (S.state self.old.store)) self.old.revision top.key) ≡ true →
+            path.old.items ≡ [] → result ≡ Ok None }
     {
         match self.advance(top.key, top.place) {
             Step::Settled => match path.pop() {
@@ -385,11 +394,13 @@ impl<T: Value + Drop, R: Rule<T>, S: Storage<Node<T, R>>> Nodes<T, R, S> {
             IsSound R.plan G self.old.revision (nodes_in (S.state self.old.store)) →
             Refreshed G self.old.revision (nodes_in (S.state self.new.store)) key result }
         ensures kinds { kinds_of (nodes_in (S.state self.new.store)) ≡ kinds_of (nodes_in (S.state self.old.store)) }
+        ensures known { is_some (known_of (nodes_in (S.state self.old.store)) self.old.revision key) ≡ true →
+            IsOk result }
     {
         let mut path: Vec<Frame> = Vec::new(self.alloc);
         let place = Some(0);
         let mut top = Frame { key, place };
-        for _ in 0..u64::MAX {
+        for _step in 0..u64::MAX {
             match self.go_on(&mut path, top) {
                 Ok(Some(next)) => top = next,
                 Ok(None) => return Ok(()),

@@ -1,6 +1,6 @@
 //! Graphs of sources and memos.
 
-ghost use Rattle.std.specs.Prelude.{◌≡◌, ◌≢◌, ℕ, Some, None, IfOk, IfErr, IfSome, OnOk, OnErr, IsTrue, option_copied};
+ghost use Rattle.std.specs.Prelude.{◌≡◌, ◌≢◌, ℕ, Some, None, IsOk, IfOk, IfErr, IfSome, OnOk, OnErr, IsTrue, option_copied};
 ghost use Rattle.generational_core.specs.Conditions.{IsFresh};
 ghost use Rattle.generational_core.specs.Slots.{free};
 ghost use Rattle.reactive.specs.declared.fault.Fault.TheVariants as fault;
@@ -162,6 +162,7 @@ impl<T: Value + Drop, R: Rule<T>, S: Storage<Node<T, R>>> Reactive<T, R, S> {
         ensures blames { IfErr result (Blames (plans_in R.plan self.old) (kind_in self.old) key) }
         ensures plans { plans_in R.plan self.new ≡ plans_in R.plan self.old }
         ensures kinds { kind_in self.new ≡ kind_in self.old }
+        ensures known { shown_in self.old key ≢ None → IsOk result }
     {
         self.nodes.refresh(key)
     }

@@ -5,13 +5,13 @@ use Rattle.reactive.proofs.Looks.{asked_goes, asked_needs, ended_needs, goes_on_
 use Rattle.reactive.proofs.Looks.{some_value}
 use Rattle.reactive.proofs.nodes.Nodes.judge.Goals as goal
 
-pub returns-then-is_known : goal.returns-then-is_known
-returns-then-is_known g c = λ G k s at goes.
+pub returns-then-is_known-clause-looked : goal.returns-then-is_known-clause-looked
+returns-then-is_known-clause-looked g c = λ G k s at goes.
     known_here g.R.Rule.plan G c.args.self.now.revision _ s k c.args.node.now at
     (sym c.is_known.ensures ∙ c.if-is_known.true)
 
-pub returns-in-Same : goal.returns-in-Same
-returns-in-Same g c = λ G k s at goes.
+pub returns-in-Same-clause-looked : goal.returns-in-Same-clause-looked
+returns-in-Same-clause-looked g c = λ G k s at goes.
     let n = c.args.node.now in
     let now = c.args.self.now.revision in
     let nodes = nodes_in (g.S.AnyStorage.state c.args.self.now.store) in
@@ -24,8 +24,8 @@ returns-in-Same g c = λ G k s at goes.
     let known = c.in-Same.ensures walk.0.answers asked walk.0.stand walk.1 in
     (n, at, (v.0, v.1, kept_leads plan G now nodes s k n at v.0 v.1 walk.0 c.in-Some.rule c.in-Some.is known))
 
-pub returns-in-Unknown : goal.returns-in-Unknown
-returns-in-Unknown g c = λ G k s at goes.
+pub returns-in-Unknown-clause-looked : goal.returns-in-Unknown-clause-looked
+returns-in-Unknown-clause-looked g c = λ G k s at goes.
     let n = c.args.node.now in
     let now = c.args.self.now.revision in
     let nodes = nodes_in (g.S.AnyStorage.state c.args.self.now.store) in
@@ -40,8 +40,8 @@ returns-in-Unknown g c = λ G k s at goes.
       asked_goes plan G now nodes s k n at v.0 v.1 walk.0 c.in-Unknown.other c.in-Unknown.at is,
     )
 
-pub returns-in-Gone : goal.returns-in-Gone
-returns-in-Gone g c = λ G k s at goes.
+pub returns-in-Gone-clause-looked : goal.returns-in-Gone-clause-looked
+returns-in-Gone-clause-looked g c = λ G k s at goes.
     let n = c.args.node.now in
     let now = c.args.self.now.revision in
     let nodes = nodes_in (g.S.AnyStorage.state c.args.self.now.store) in
