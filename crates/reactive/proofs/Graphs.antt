@@ -68,6 +68,18 @@ module _ {T R : Type 0} (plan : R → Plan T) where
       → IsSound plan (graph_of plan nodes) now nodes
   own_graph G now nodes s = subst (λ H. IsSound plan H now nodes) (λ i k. sym (s.same k) i) s
 
+  known_by_fields : (r : Option R) (kept : Option T) (checked now : ℕ) (v : T) → kind_by_rule r ≡ Source
+      → plan_by plan r kept ≡ Give v → (if is_none r || nat_eq checked now then kept else None) ≡ Some v
+  known_by_fields None None checked now v kind is = cc
+  known_by_fields None (Some w) checked now v kind is = cc
+  known_by_fields (Some r) kept checked now v kind is = cc
+
+  -- a source with a value is known
+  pub source_known : (now : ℕ) (o : Option (Node T R)) (v : T) → kind_by o ≡ Source
+      → plan_at plan o ≡ Give v → known_by now o ≡ Some v
+  source_known now None v kind is = cc
+  source_known now (Some n) v kind is = known_by_fields n.rule n.value n.checked now v kind is
+
   -- ---- a fresh graph
 
   pub fresh_stops : (S : State (Node T R)) → IsFresh S → (k : Key) → nodes_in S k ≡ None

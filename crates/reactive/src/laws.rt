@@ -6,7 +6,8 @@ ghost use Rattle.reactive.specs.declared.effects.Told.{Told};
 ghost use Rattle.reactive.specs.declared.fault.Fault.{Fault};
 ghost use Rattle.reactive.specs.declared.key.Key.{Key};
 ghost use Rattle.reactive.specs.Meaning.{Graph, Means};
-ghost use Rattle.reactive.specs.Graphs.{GraphState, HasPlan, plans_in};
+ghost use Rattle.reactive.specs.Graphs.{GraphState, HasPlan, kind_in, plans_in, shown_in};
+ghost use Rattle.reactive.specs.Graphs.Kind.{Source};
 ghost use Rattle.reactive.specs.Hearing.{AllHear, Says};
 ghost use Rattle.reactive.specs.Plans.{Ask, Give, Plan};
 
@@ -21,6 +22,12 @@ pub fn nodes_mean_one_value<T>()
     ensures source { (G : Graph T) (k : Key) (v : T) → G k ≡ Give v → Means G k v }
     ensures memo { (G : Graph T) (k j : Key) (next : T → Plan T) (a v : T) → G k ≡ Ask j next →
         Means G j a → next a ≡ Give v → Means G k v }
+{}
+
+/// A source of a value is known, so that a `get` of it isn't refused where copies take no memory.
+pub fn sources_are_known<T, R: Rule<T>>()
+    ensures { (g : GraphState T R) (k : Key) (v : T) → kind_in g k ≡ Source → plans_in R.plan g k ≡ Give v →
+        shown_in g k ≡ Some v }
 {}
 
 /// What a memo of one source means after that was set: what its rule makes of the value that was set.

@@ -71,7 +71,8 @@ impl<T: Value + Drop, R: Rule<T>, S: Storage<Node<T, R>>> Reactive<T, R, S> {
         }
     }
 
-    /// How often a rule has come to a value: from that a test knows what was computed. Takes no memory.
+    /// How often a rule has come to a value, modulo 2^64: from that a test knows what was computed. Takes
+    /// no memory.
     ///
     /// ```rust
     /// println!(rt; "total {}, {} runs", graph.get(total)?, graph.runs())?;
@@ -144,7 +145,8 @@ impl<T: Value + Drop, R: Rule<T>, S: Storage<Node<T, R>>> Reactive<T, R, S> {
     ///
     /// Refused, and then the node means nothing, by `Gone`, where it or a node that it needs has ended;
     /// by `Cycle`, where one of them needs itself; by `NoValue`, where a rule gives none. Refused too
-    /// where memory runs out, and after 2^64 steps by `NumbersExhausted`. A later call begins again.
+    /// where memory runs out, and after 2^64 steps by `NumbersExhausted`. A later call begins again. A
+    /// node that is known already, as a source always is, is never refused.
     ///
     /// A rule is run only where something that it read has changed since its last run. Time is linear in
     /// the questions of the nodes that are looked at, and takes memory for a path of them.
@@ -186,7 +188,8 @@ impl<T: Value + Drop, R: Rule<T>, S: Storage<Node<T, R>>> Reactive<T, R, S> {
     /// A copy of what a node means now, which is brought up to date for it. No node means something else
     /// afterwards.
     ///
-    /// Refused as `refresh`, and where memory runs out for the copy.
+    /// Refused as `refresh`, and where memory runs out for the copy: so a node that is known, as a source
+    /// always is, is never refused where copies take no memory.
     ///
     /// ```rust
     /// let twice = scope.memo(graph, Formula::Add(source, source), here)?;
@@ -197,6 +200,7 @@ impl<T: Value + Drop, R: Rule<T>, S: Storage<Node<T, R>>> Reactive<T, R, S> {
         ensures plans { plans_in R.plan self.new ≡ plans_in R.plan self.old }
         ensures kinds { kind_in self.new ≡ kind_in self.old }
         ensures shown { IfOk result (λ v. shown_in self.new key ≡ Some v) }
+        ensures known { ((v : T) → T.is_plain v) → shown_in self.old key ≢ None → IsOk result }
     {
         match self.refresh(key) {
             Ok(()) => {}
