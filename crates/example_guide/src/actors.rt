@@ -1,0 +1,48 @@
+//! Entities: actors with a strength each, and some with a score beside.
+
+use anyhow::Result;
+use entity_table::{ComponentTable, EntityTable};
+use generational_box::{Location, Storage, UnsyncStorage};
+
+pub fn main(rt: HostRuntime) -> Result<()> {
+    let strengths = UnsyncStorage::<u64>::new(rt.alloc(), 1);
+    let scores = UnsyncStorage::<u64>::new(rt.alloc(), 2);
+    let mut actors = EntityTable::new(rt.alloc(), strengths);
+    play(
+        &rt,
+        &mut actors,
+        &mut ComponentTable::new(rt.alloc(), scores),
+    )
+}
+
+fn play<R: Print, A: Storage<u64>, C: Storage<u64>>(
+    rt: &R,
+    actors: &mut EntityTable<u64, A>,
+    scores: &mut ComponentTable<u64, u64, C>,
+) -> Result<()> {
+    let here = Location::new("actors.rt", 23, 16);
+    let cat = actors.spawn(9, here)?;
+    let dog = actors.spawn(7, here)?;
+    scores.attach(actors, cat, 100, here)?;
+    scores.attach(actors, dog, 50, here)?;
+    actors.update(
+        cat,
+        |strength: &mut u64| *strength = strength.wrapping_add(1),
+    )?;
+
+    // The dog goes, and its score with it. Its handle finds nobody, whoever takes its slot.
+    actors.despawn(dog)?;
+    scores.sweep(actors);
+    let bird = actors.spawn(2, here)?;
+    for (actor, strength) in actors.iter() {
+        println!(rt;
+            "{actor:?}: strength {strength}, score {:?}",
+            scores.get(actor)
+        )?;
+    }
+    println!(rt; "the bird is the dog: {}", bird == dog)?;
+    if let Err(stale) = actors.get(dog) {
+        println!(rt; "{stale}")?;
+    }
+    Ok(())
+}

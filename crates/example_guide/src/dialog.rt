@@ -1,0 +1,43 @@
+//! Signals: a page keeps what was counted in a dialog.
+
+use anyhow::Result;
+use generational_box::{Location, Storage, UnsyncStorage};
+use signals::{Scope, Signal};
+
+pub fn main(rt: HostRuntime) -> Result<()> {
+    let mut store = UnsyncStorage::<u64>::new(rt.alloc(), 1);
+    visit(&rt, &mut store)
+}
+
+// Makes the scope of a page, lends it, and ends it with its signals.
+fn visit<R: Print, S: Storage<u64>>(rt: &R, store: &mut S) -> Result<()> {
+    let page = Scope::new(store)?;
+    let shown = show(rt, store, &page);
+    if let Err((page, _)) = page.end(store) {
+        page.leak();
+    }
+    let count = shown?;
+    println!(rt; "after the page: {:?}", count.peek(store))?;
+    Ok(())
+}
+
+// A dialog has a scope of its own, which ends first.
+fn show<R: Print, S: Storage<u64>>(rt: &R, store: &mut S, page: &Scope) -> Result<Signal<u64>> {
+    let dialog = Scope::new(store)?;
+    let kept = count(store, page, &dialog);
+    if let Err((dialog, _)) = dialog.end(store) {
+        dialog.leak();
+    }
+    let kept = kept?;
+    println!(rt; "after the dialog: {:?}", kept.peek(store))?;
+    Ok(kept)
+}
+
+// Counts in a signal of the dialog, and answers an alias of it that the page keeps.
+fn count<S: Storage<u64>>(store: &mut S, page: &Scope, dialog: &Scope) -> Result<Signal<u64>> {
+    let here = Location::new("dialog.rt", 38, 16);
+    let clicks = dialog.signal(store, 6, here)?;
+    let kept = page.alias(store, clicks)?;
+    clicks.update(store, here, |count| *count = count.wrapping_add(1))?;
+    Ok(kept)
+}
