@@ -5,9 +5,9 @@
     .ci/map.py --try             does so, and shows that pages with a wrong line are refused
     .ci/map.py --files CRATE..   prints each file of these crates with its first line, and what it uses
 
-The page has the crates of crates.txt in tables, one for each kind; a crate's name tells its kind. It
-has a table of each crate's sources, but for tests, in the order in which they are read. Each source,
-definition and file of lemmas says in its first line what it is. And each test that
+The page has the crates of crates.txt in tables, one for each kind; a crate's name tells its kind. What
+users take, and what stores are made of, stands there with its sources, in the order in which they are
+read. Each source, definition and file of lemmas says in its first line what it is. And each test that
 .ci/planted.md names as what refuses a bug is there.
 """
 import os
@@ -17,7 +17,6 @@ import sys
 ROOT = os.path.join(os.path.dirname(os.path.abspath(__file__)), "..")
 PAGE = os.path.join(ROOT, "docs", "maintaining", "map.md")
 PLANTED = os.path.join(ROOT, ".ci", "planted.md")
-SOURCES = "## In which order to read"
 # The kinds of crates, each by the heading of its table and what its names are.
 KINDS = {
     "### What users take": r"generational_\w+|signals|reactive|\w+_table|\w+_tree",
@@ -27,7 +26,8 @@ KINDS = {
     "### Tests": r"test_\w+",
     "### What is measured": r"bench_\w+",
 }
-# Of crates of tests the order of the sources is nobody's matter.
+# The kinds whose tables have the sources too, in the order of reading.
+ORDERED = ("### What users take", "### What stores are made of")
 TESTS = "test_"
 # Files that only name others, or answer the goals of one function.
 PLAIN = re.compile(r"(/|^)(Lib|Answers|Invariants)\.antt$")
@@ -132,9 +132,8 @@ def compare_kinds(page):
 def compare(page):
     crates = compare_kinds(page)
     wanted(sorted(crates) == sorted(all_crates()), f"the crates are {all_crates()}, and on the page {crates}")
-    order = {names(it[0])[0]: names(it[1]) for it in rows(section(page, SOURCES))}
-    for crate in [it for it in crates if not it.startswith(TESTS)]:
-        on_page, there = sorted(order.get(crate, [])), sorted(sources_of(crate))
+    for crate, _, listed in (row for title in ORDERED for row in rows(section(page, title))):
+        on_page, there = sorted(names(listed)), sorted(sources_of(names(crate)[0]))
         wanted(on_page == there, f"{crate} has the sources {there}, and on the page {on_page}")
 
 
