@@ -24,7 +24,7 @@ PAGES += [it for it in sorted((ROOT / "docs").rglob("*.md")) if it.parent.name !
 WITH_CODE = ["README.md", *(it.name for it in (ROOT / "docs/guide").glob("*.md") if it.name != "faq.md")]
 USES = ["example_callers", "example_libraries", "example_guide"]
 # What the gate runs.
-RUN = ["test_boxes", "test_libraries", "test_reactive", "example_guide"]
+RUN = ["test_boxes", "test_libraries", "test_reactive", "test_shared", "test_shared_workers", "bench_shared", "example_guide"]
 SOURCES = [
     path
     for crate in dict.fromkeys(USES + RUN)
@@ -33,7 +33,8 @@ SOURCES = [
 
 
 # The crates whose calls have examples.
-CALLS = ["generational_errors", "generational_core", "generational_box", "generational_sessions", "reactive"]
+CALLS = ["generational_errors", "generational_core", "generational_box", "generational_sessions", "generational_sync",
+         "signals", "reactive"]
 
 
 def lines_of(path):

@@ -9,15 +9,17 @@ pub fn main(rt: HostRuntime) -> Result<()> {
     visit(&rt, &mut store)
 }
 
-// Makes the scope of a page, lends it, and ends it with its signals.
+// Begins the scope of a page, lends it, and ends it with its signals.
 fn visit<R: Print, S: Storage<u64>>(rt: &R, store: &mut S) -> Result<()> {
     let page = Scope::new(store)?;
+    let key = page.id().key;
     let shown = show(rt, store, &page);
     if let Err((page, _)) = page.end(store) {
         page.leak();
     }
-    let count = shown?;
-    println!(rt; "after the page: {:?}", count.peek(store))?;
+    let kept = shown?;
+    let is_live = kept.as_box().is_live(store);
+    println!(rt; "after scope {key}: live {is_live}")?;
     Ok(())
 }
 
@@ -29,13 +31,17 @@ fn show<R: Print, S: Storage<u64>>(rt: &R, store: &mut S, page: &Scope) -> Resul
         dialog.leak();
     }
     let kept = kept?;
-    println!(rt; "after the dialog: {:?}", kept.peek(store))?;
+    let id = kept.id();
+    if kept.is_readable(store) {
+        let twice = kept.with(store, |count| count.wrapping_mul(2));
+        println!(rt; "{id:?} has {:?}, twice {twice:?}", kept.peek(store))?;
+    }
     Ok(kept)
 }
 
 // Counts in a signal of the dialog, and answers an alias of it that the page keeps.
 fn count<S: Storage<u64>>(store: &mut S, page: &Scope, dialog: &Scope) -> Result<Signal<u64>> {
-    let here = Location::new("dialog.rt", 38, 16);
+    let here = Location::new("dialog.rt", 44, 16);
     let clicks = dialog.signal(store, 6, here)?;
     let kept = page.alias(store, clicks)?;
     clicks.update(store, here, |count| *count = count.wrapping_add(1))?;

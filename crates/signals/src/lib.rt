@@ -3,7 +3,7 @@
 //!
 //! A [`Scope`] is an owner, and a [`Signal`] the box of a reference to a shared value. Each call is
 //! a few calls of the store beneath, for every storage and every element type: its contract says
-//! what signals read afterwards, and which are left.
+//! what signals read afterwards, and which are unchanged.
 #![tactic(auto)]
 
 mod scope;

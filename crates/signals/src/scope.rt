@@ -61,16 +61,29 @@ impl fmt::Debug for Scope {
 
 impl Scope {
     /// The id of the scope, which no other ever has. Takes no memory.
+    ///
+    /// ```rust
+    /// let key = page.id().key;
+    /// ```
     pub fn id(&self) -> OwnerId
         ensures { result ≡ id_of_owner self.now }
     {
         self.owner.id()
     }
 
-    /// A scope without signals.
+    /// A scope without signals. It takes a ticket, one of the numbers that a store gives to its
+    /// borrows and owners.
     ///
     /// Refused, in this order: `NumbersExhausted`, where no ticket is left; `OutOfMemory`. The store
-    /// stays as it was then. Takes memory for the scope's record.
+    /// is unchanged then. Takes memory for the scope's record, and is O(1), but for finding room.
+    ///
+    /// ```rust
+    /// let dialog = Scope::new(store)?;
+    ///
+    /// if let Err((dialog, _)) = dialog.end(store) {
+    ///     dialog.leak();
+    /// }
+    /// ```
     pub fn new<T, S: AnyStorage<T>>(store: &mut S) -> Result<Scope, StoreError>
         ensures step { Meets (S.state store.old) NewOwner (owner_answer result)
             (S.state store.new) }
@@ -88,12 +101,16 @@ impl Scope {
         Ok(Scope { owner })
     }
 
-    /// Makes a signal of a value, which ends with the scope and with no other. The signal sees the
-    /// value, and each other box is left as it was.
+    /// A new signal of a value, which ends with the scope and with no other. The signal sees the
+    /// value, and each other box is unchanged.
     ///
     /// Refused, in this order: `UnknownOwner`, where the scope is another store's; `OutOfMemory`.
-    /// The value comes back then, and the store stays as it was. Takes memory where fewer than two
+    /// The value comes back then, and the store is unchanged. Takes memory where fewer than two
     /// slots are free, or the scope's list has no room. O(1), but for finding room.
+    ///
+    /// ```rust
+    /// let clicks = dialog.signal(store, 6, here)?;
+    /// ```
     pub fn signal<T, S: Storage<T>>(
         &self,
         store: &mut S,
@@ -126,14 +143,19 @@ impl Scope {
         Ok(Signal { raw })
     }
 
-    /// Makes a signal of the value to which another signal leads. It reaches and sees what the other
-    /// does, and each other box is left as it was. It ends with the scope and with no other, and
-    /// the value lives at least as long.
+    /// A new signal of the value to which another signal leads. It reaches and sees what the other
+    /// does, and each other box is unchanged. It ends with the scope and with no other, and the
+    /// value lives at least as long.
     ///
     /// Refused, in this order: `UnknownOwner`, where the scope is another store's; `Dropped`, where
-    /// the other has ended; `AlreadyBorrowedMut`, where its value is written; `OutOfMemory`. The
-    /// store stays as it was then. Takes memory where no slot is free, or the scope's list has no
+    /// the other has ended; `AlreadyBorrowedMut`, where its value is being written; `OutOfMemory`.
+    /// The store is unchanged then. Takes memory where no slot is free, or the scope's list has no
     /// room. O(1), but for finding room.
+    ///
+    /// ```rust
+    /// let clicks = dialog.signal(store, 6, here)?;
+    /// let kept = page.alias(store, clicks)?;
+    /// ```
     pub fn alias<T, S: Storage<T>>(&self, store: &mut S, of: Signal<T>) -> BorrowResult<Signal<T>>
         ensures step { Meets (S.state store.old) (Refer (Some self.now) (pointer_in of))
             (alias_answer result) (S.state store.new) }
@@ -168,13 +190,19 @@ impl Scope {
     }
 
     /// Ends the scope and all of its signals: each name of its list has ended, and each other box is
-    /// left as it was. A value ends with the last signal that leads to it, so one to which a signal
-    /// of another scope leads lives on.
+    /// unchanged. A value ends with the last signal that leads to it, so one to which a signal of
+    /// another scope leads lives on.
     ///
     /// Refused, in this order: `UnknownOwner`, where the scope is another store's; the answer of a
     /// write at the first signal of the scope, in the order in which they were made, whose value
-    /// would end and is borrowed. The scope comes back then, and the store stays as it was. Takes
+    /// would end and is borrowed. The scope comes back then, and the store is unchanged. Takes
     /// memory for a refusal's locations alone. O(k) for k signals.
+    ///
+    /// ```rust
+    /// if let Err((dialog, _)) = dialog.end(store) {
+    ///     dialog.leak();
+    /// }
+    /// ```
     pub fn end<T, S: AnyStorage<T>>(
         self,
         store: &mut S,
@@ -203,8 +231,14 @@ impl Scope {
         }
     }
 
-    /// Spends the scope and leaves its signals as they are: they never end by a scope from then on.
-    /// So it lets go of a scope whose end was refused.
+    /// Spends the scope, and its signals are unchanged: they never end by a scope from then on. So it
+    /// lets go of a scope whose end was refused. Takes no memory, and is O(1).
+    ///
+    /// ```rust
+    /// if let Err((dialog, _)) = dialog.end(store) {
+    ///     dialog.leak();
+    /// }
+    /// ```
     pub fn leak(self) {
         let Scope { owner } = self;
         owner.leak();

@@ -104,6 +104,10 @@ impl<T> fmt::Debug for Signal<T> {
 
 impl<T> Signal<T> {
     /// The signal's box, with which each call of a box may be made.
+    ///
+    /// ```rust
+    /// let is_live = kept.as_box().is_live(store);
+    /// ```
     pub fn as_box(self) -> GenerationalBox<T>
         ensures { result ≡ box_in self }
     {
@@ -111,18 +115,26 @@ impl<T> Signal<T> {
     }
 
     /// The id of the signal, which no other ever has. Copies of one signal have one id. Takes no memory.
+    ///
+    /// ```rust
+    /// let id = kept.id();
+    /// ```
     pub fn id(self) -> GenerationalBoxId
         ensures { result ≡ (pointer_in self).id }
     {
         self.raw.id()
     }
 
-    /// Reads the value, and answers what the closure makes of it, which is called once. Nothing is
-    /// left of the read but a ticket that it used up.
+    /// Reads the value, and answers what the closure makes of it, which is called once. The store is
+    /// unchanged, but that a ticket was used: the number by which it knows a borrow.
     ///
     /// Refused as a read of the signal's box is, in this order: `Dropped`, `AlreadyBorrowedMut`,
     /// `NumbersExhausted`, `OutOfMemory`, only beside another reader. The closure isn't called then,
-    /// and the store stays as it was.
+    /// and the store is unchanged. O(1), but for the closure.
+    ///
+    /// ```rust
+    /// let seen = signal.get(store, here, |seen| *seen)?;
+    /// ```
     pub fn get<S: Storage<T>, R, F: FnOnce(&T) -> R>(
         self,
         store: &mut S,
@@ -150,12 +162,20 @@ impl<T> Signal<T> {
         Ok(answer)
     }
 
-    /// Sets the value, and lets the old one go: each box that reaches the same sees the value, the
-    /// others are left, and nothing else changes but a ticket that is used up.
+    /// Sets the value, and lets the old one go: each box that reaches the same sees the value, and
+    /// nothing else changes, but that a ticket was used.
     ///
     /// Refused as a write of the signal's box is, in this order: `Dropped`, `AlreadyBorrowedMut`,
     /// `AlreadyBorrowed`, in whose place `OutOfMemory` is answered if its list of locations finds
-    /// no memory, `NumbersExhausted`. The value comes back then, and the store stays as it was.
+    /// no memory, `NumbersExhausted`. The value comes back then, and the store is unchanged. O(1),
+    /// but for letting the old value go, and for that list.
+    ///
+    /// ```rust
+    /// let alias = scope.alias(store, signal).ok()?;
+    /// let Ok(()) = alias.set(store, value, here) else {
+    ///     return None;
+    /// };
+    /// ```
     pub fn set<S: Storage<T>>(
         self,
         store: &mut S,
@@ -191,13 +211,17 @@ impl<T> Signal<T> {
     }
 
     /// Changes the value in its place by a closure, which is called once on it, and answers what that
-    /// answers: each box that reaches the same sees what the closure left, the others are left, and
-    /// nothing else changes. No ticket is used up, and the value isn't moved.
+    /// answers: each box that reaches the same sees what the closure made of it, and nothing else
+    /// changes. No ticket is used, and the value isn't moved.
     ///
     /// Refused where the value has ended or is borrowed, as a write of the signal's box is, in this
     /// order: `Dropped`, `AlreadyBorrowedMut`, `AlreadyBorrowed`, in whose place `OutOfMemory` is
     /// answered if its list of locations finds no memory. The closure isn't called then, and the store
-    /// stays as it was.
+    /// is unchanged. O(1), but for the closure, and for that list.
+    ///
+    /// ```rust
+    /// clicks.update(store, here, |count| *count = count.wrapping_add(1))?;
+    /// ```
     pub fn update<S: Storage<T>, R, F: FnOnce(&mut T) -> R>(
         self,
         store: &mut S,
@@ -245,6 +269,10 @@ impl<T> Signal<T> {
     ///
     /// None where the signal has ended or is of another store, or a writer has the value: the closure
     /// isn't called. Takes no memory of its own, and is O(1), but for the closure.
+    ///
+    /// ```rust
+    /// let twice = kept.with(store, |count| count.wrapping_mul(2));
+    /// ```
     pub fn with<S: Storage<T>, R, F: FnOnce(&T) -> R>(self, store: &S, f: F) -> Option<R>
         requires { F.IsAlwaysCallable f }
         ensures read { IfSome result (λ answer. (v : T) ×
@@ -261,6 +289,12 @@ impl<T> Signal<T> {
     /// The value, looked at in passing: without a ticket or a location. The store is lent meanwhile.
     /// None where the signal has ended or is of another store, or a writer has the value. Takes no
     /// memory, and is O(1).
+    ///
+    /// ```rust
+    /// if let Some(value) = kept.peek(store) {
+    ///     println!(rt; "{kept:?} is {value}")?;
+    /// }
+    /// ```
     pub fn peek<S: Storage<T>>(self, store: &S) -> Option<&T>
         ensures { option_copied result ≡ value_in (S.state store.now) (pointer_in self) }
     {
@@ -269,6 +303,13 @@ impl<T> Signal<T> {
 
     /// Whether a read of the signal is free: false where it has ended or is of another store, or a
     /// writer has the value. Takes no memory, and is O(1).
+    ///
+    /// ```rust
+    /// if kept.is_readable(store) {
+    ///     let twice = kept.with(store, |count| count.wrapping_mul(2));
+    ///     println!(rt; "{id:?} has {:?}, twice {twice:?}", kept.peek(store))?;
+    /// }
+    /// ```
     pub fn is_readable<S: Storage<T>>(self, store: &S) -> bool
         ensures { result ≡ can_read (S.state store.now) (pointer_in self) }
     {
@@ -276,11 +317,15 @@ impl<T> Signal<T> {
     }
 
     /// Lets the signal lead to the value to which another leads: it reaches and sees what the other
-    /// did, and each other box is left as it was. The value to which it led before ends where no
-    /// signal leads there any more.
+    /// did, and each other box is unchanged. The value to which it led before ends where no signal
+    /// leads there any more.
     ///
-    /// Answered as `GenerationalBox::point_to` is; where it is refused, the store stays as it was.
+    /// Answered as `GenerationalBox::point_to` is; where it is refused, the store is unchanged.
     /// Takes memory for a refusal's locations alone. O(1), but for that list.
+    ///
+    /// ```rust
+    /// signal.swap_source(store, other)?;
+    /// ```
     pub fn swap_source<S: Storage<T>>(self, store: &mut S, to: Signal<T>) -> BorrowMutResult<()>
         ensures step { Meets (S.state store.old) (Point (pointer_in self) (pointer_in to))
             (end_answer result) (S.state store.new) }
