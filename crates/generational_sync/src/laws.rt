@@ -74,7 +74,7 @@ pub fn histories_lead_to_sound_states()
 
 /// A call in whose way no borrow stands is granted only where the owner, the boxes and the guard by
 /// which it goes are of this store, and so is what it gives. It is refused, if it is, as `Dropped`,
-/// for the last ticket, for an owner that the store doesn't know, or for want of memory; each only
+/// for the last ticket, for an owner that the store doesn't know, or if memory runs out; each only
 /// where such a call may be.
 pub fn free_calls_are_answered_so<T>()
     ensures { (S R : State T) (action : Action T) (call : StepCall) (answer : Answer T) →
@@ -97,8 +97,8 @@ pub fn releases_tell_of_guards<T>()
         × (is_ok released ≡ knows_writer old.state g) }
 {}
 
-/// A call that takes no ticket and goes by no owner is refused by the store for want of memory
-/// alone.
+/// A call that takes no ticket and goes by no owner is refused by the store only if memory
+/// runs out.
 pub fn memory_alone_may_lack<T>()
     ensures { (number : ℕ) (action : Action T) (cause : StoreError) →
         (TakesTicket number action → ⊥) → needs_owner action ≡ false →

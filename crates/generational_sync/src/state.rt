@@ -128,9 +128,16 @@ impl<T: Drop, const NUMBER: u64, M: Count, L: Count, C: Count, R: Count> SyncSta
         let _ = &self.log;
     }
 
-    /// Whether no borrow stands in the call's way. A read, or a making of a reference, meets no
+    /// Whether no borrow stands in the call's way. A read, or a new reference, meets no
     /// writer; a write, or another value, no borrow; an end, or a box that is pointed elsewhere, no
     /// borrow of a value that would end. Takes no memory.
+    ///
+    /// ```rust
+    /// if !state.ready(&StepCall::ManuallyDrop(made.pointer())) {
+    ///     return None;
+    /// }
+    /// state.manually_drop(made, tally).ok()?;
+    /// ```
     pub fn ready(&self, call: &StepCall) -> bool
         ensures { result ≡ is_ready self.now.state call.now }
     {
@@ -147,6 +154,10 @@ impl<T: Drop, const NUMBER: u64, M: Count, L: Count, C: Count, R: Count> SyncSta
 
     /// The value that a reader's guard opens, exactly where the state knows the guard. It isn't a
     /// step. Takes no memory.
+    ///
+    /// ```rust
+    /// let same = state.open(&guard).copied() == Some(value);
+    /// ```
     pub fn open(&self, guard: &GenerationalRef<T>) -> Option<&T>
         ensures { option_copied result ≡ value_behind self.now.state guard.now }
     {
@@ -161,6 +172,10 @@ impl<T: Drop, const NUMBER: u64, M: Count, L: Count, C: Count, R: Count> SyncSta
     /// the history together would be more than fit into 64 bits; `OutOfMemory`. A refusal changes
     /// nothing. It takes time and memory for each slot, borrow and owner's box that there is, and
     /// the rows of the old base are kept until the new ones are made.
+    ///
+    /// ```rust
+    /// rt.compare(&state.checkpoint(), &Ok(2));
+    /// ```
     pub fn checkpoint(&mut self) -> Result<u64, StoreError>
         ensures ok { IfOk result (IsCheckpoint self.old self.new) }
         ensures err { OnErr result (self.new ≡ self.old) }
@@ -198,6 +213,10 @@ impl<T: Drop, const NUMBER: u64, M: Count, L: Count, C: Count, R: Count> SyncSta
     ///
     /// Refused by `OutOfMemory` at most: nothing changes. It takes time and memory for each row of
     /// the base and each step.
+    ///
+    /// ```rust
+    /// let (base, steps) = rt.expect(state.audit(tally), "an audit");
+    /// ```
     pub fn audit(&mut self, whole: &mut Tally<M, L, C, R>) -> Result<(Base, Vec<Step>), StoreError>
         requires { whole.old.parts ≡ M.workers }
         ensures base { IfOk result (λ r. r.0 ≡ self.old.base) }

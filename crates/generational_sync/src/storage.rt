@@ -29,8 +29,8 @@ use std::sync::{Arc, Condvar, Mutex, MutexGuard, Wait};
 /// call that takes a tally is a step of the store, whose states its contract doesn't show: it raises
 /// that tally's count of its reply's kind by one, goes by what is of the store, gives what is of it,
 /// and is refused only as it may be. `OutOfMemory` and the release of a guard that the store doesn't
-/// know raise no count. A call waits while a borrow
-/// stands in its way, and looks at everything anew after each wake. The calls that wait are woken
+/// know raise no count. A call waits while a borrow stands in its way, and looks at everything anew
+/// after each wake. The calls that wait are woken
 /// after each end of a borrow, of a box or of an owner, after a box is pointed elsewhere, and after
 /// a reference is made. A thread that waits for a guard of its own waits for ever. That a call that
 /// waits is woken, that calls are handed on with their own boxes, locations and guards, and that an
@@ -52,6 +52,12 @@ impl<T: Drop + Send, const NUMBER: u64, M: Count, L: Count, C: Count, R: Count> 
     ///
     /// Each blank is of its kind's ledger and has a part for each worker. Refused by `OutOfMemory`
     /// at most, also for 2^32 workers or more, and the blanks are spent then.
+    ///
+    /// ```rust
+    /// let (store, tallies) = SyncStorage::<u64, 7, M, L, C, R>::new(
+    ///     alloc, WORKERS, made, lent, changed, refused,
+    /// )?;
+    /// ```
     pub fn new(
         alloc: Global,
         workers: usize,
@@ -87,6 +93,14 @@ impl<T: Drop + Send, const NUMBER: u64, M: Count, L: Count, C: Count, R: Count> 
     }
 
     /// Another handle of the same store. Doesn't wait. Refused by `OutOfMemory` at most.
+    ///
+    /// ```rust
+    /// let mut workers = Vec::new(alloc);
+    /// for tally in tallies {
+    ///     let store = store.try_clone()?;
+    ///     workers.push(Worker { store, tally })?;
+    /// }
+    /// ```
     pub fn try_clone(&self) -> Result<Self, StoreError>
         ensures { IfErr result (λ e. e ≡ OutOfMemory) }
     {
@@ -152,6 +166,13 @@ impl<T: Drop + Send, const NUMBER: u64, M: Count, L: Count, C: Count, R: Count> 
 
     /// The store's lock, under which a closure makes several calls at once. Takes no memory and
     /// doesn't wait.
+    ///
+    /// ```rust
+    /// let Worker { store, tally } = self;
+    /// store
+    ///     .together()
+    ///     .run(rt, |state| read_at_once(state, tally, value))
+    /// ```
     pub fn together(&self) -> Together<'_, SyncState<T, NUMBER, M, L, C, R>> {
         Together::of(&self.shared)
     }
@@ -159,6 +180,12 @@ impl<T: Drop + Send, const NUMBER: u64, M: Count, L: Count, C: Count, R: Count> 
     /// Runs `f` on the value that a reader's guard opens, under the lock, and answers what it
     /// answers; None where the store doesn't know the guard. It isn't a step. `f` must not call
     /// the store: it would wait for ever. Takes no memory beyond what `f` takes.
+    ///
+    /// ```rust
+    /// let reader = store.read(rt, total, here, &mut whole)?;
+    /// let sum = store.open(rt, &reader, |value| *value);
+    /// store.release_read(rt, reader, &mut whole);
+    /// ```
     pub fn open<A, F: FnOnce(&T) -> A>(
         &self,
         rt: &impl Wait,
@@ -186,6 +213,10 @@ impl<T: Drop + Send, const NUMBER: u64, M: Count, L: Count, C: Count, R: Count> 
     /// the history together would be more than fit into 64 bits; `OutOfMemory`. A refusal changes
     /// nothing. While the rows are made, no other call goes on: it takes time for each slot, borrow
     /// and owner's box that there is.
+    ///
+    /// ```rust
+    /// self.store.checkpoint(rt, &mut self.tally).is_ok()
+    /// ```
     pub fn checkpoint(
         &self,
         rt: &impl Wait,
@@ -210,6 +241,13 @@ impl<T: Drop + Send, const NUMBER: u64, M: Count, L: Count, C: Count, R: Count> 
     /// stand elsewhere in memory.
     ///
     /// Refused by `OutOfMemory` at most: nothing changes.
+    ///
+    /// ```rust
+    /// if !whole.is_whole() {
+    ///     return Err(anyhow!("a tally is missing"));
+    /// }
+    /// let (_, steps) = store.audit(rt, &mut whole)?;
+    /// ```
     pub fn audit(
         &self,
         rt: &impl Wait,

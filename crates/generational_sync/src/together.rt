@@ -50,6 +50,13 @@ impl<'a, S> Together<'a, S> {
     /// are woken at its end. `f` must not call the store by a handle: it would wait for ever.
     ///
     /// Nothing is refused here, and no memory is taken beyond what `f` takes.
+    ///
+    /// ```rust
+    /// let Worker { store, tally } = self;
+    /// store
+    ///     .together()
+    ///     .run(rt, |state| read_at_once(state, tally, value))
+    /// ```
     pub fn run<A, F: FnOnce(&mut S) -> A>(&self, rt: &impl Wait, f: F) -> A
         requires { F.IsAlwaysCallable f }
         ensures { (old new : S) × FnOnceReturnsAtMut F.FnOnce f old result new }

@@ -38,6 +38,13 @@ impl<T: Drop, const NUMBER: u64, M: Count, L: Count, C: Count, R: Count> SyncSta
     /// `OutOfMemory` comes before both where the history finds no room, and after them for a
     /// reader beside another. Memory is taken for that reader, for the step and for the step of
     /// its release.
+    ///
+    /// ```rust
+    /// if !state.ready(&StepCall::Read(asked.pointer(), place())) {
+    ///     return None;
+    /// }
+    /// state.try_read(asked, place(), tally).ok()
+    /// ```
     pub fn try_read(
         &mut self,
         asked: GenerationalBox<T>,
@@ -118,6 +125,10 @@ impl<T: Drop, const NUMBER: u64, M: Count, L: Count, C: Count, R: Count> SyncSta
     /// Ends a read. The answer is whether the store knew the guard; where it didn't, the guard is
     /// spent and nothing changes. Never refused, and takes no memory: the step's room was reserved
     /// when the guard was given.
+    ///
+    /// ```rust
+    /// let known = state.release_read(guard, tally);
+    /// ```
     pub fn release_read(&mut self, guard: GenerationalRef<T>, tally: &mut Tally<M, L, C, R>) -> bool
         ensures step { IsStep NUMBER self.old tally.old (ReleaseReader guard) (Flag result) self.new
             tally.new }
@@ -149,12 +160,12 @@ impl<T: Drop, const NUMBER: u64, M: Count, L: Count, C: Count, R: Count> SyncSta
 
     /// Puts another value in the place of the one that the box reaches, at which no borrow stands,
     /// and lets the old one go. Every box that reaches the value reaches the new one from then on.
-    /// No ticket is used up.
+    /// No ticket is used.
     ///
     /// Refused, in this order: `Dropped` with the box's own creation location, where its cell has
     /// ended or is of another store, a step; `OutOfMemory`, which comes first, and only where the
     /// history finds no room for the step. The value that was handed in comes back then, and the
-    /// store stays as it was. Nothing else takes memory.
+    /// store is unchanged. Nothing else takes memory.
     pub fn set(
         &mut self,
         asked: GenerationalBox<T>,

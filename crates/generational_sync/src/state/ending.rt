@@ -28,6 +28,13 @@ impl<T: Drop, const NUMBER: u64, M: Count, L: Count, C: Count, R: Count> SyncSta
     ///
     /// Refused by `OutOfMemory`, only where the history finds no room for the step: nothing
     /// changes. Nothing else takes memory.
+    ///
+    /// ```rust
+    /// if !state.ready(&StepCall::ManuallyDrop(made.pointer())) {
+    ///     return None;
+    /// }
+    /// state.manually_drop(made, tally).ok()?;
+    /// ```
     pub fn manually_drop(
         &mut self,
         asked: GenerationalBox<T>,
@@ -87,7 +94,7 @@ impl<T: Drop, const NUMBER: u64, M: Count, L: Count, C: Count, R: Count> SyncSta
     ///
     /// Refused, in this order: `UnknownOwner`, where the store has no record of the owner, a step;
     /// `OutOfMemory`, which comes first, and only where the history finds no room for the step. The
-    /// owner comes back then, and the store stays as it was. Nothing else takes memory.
+    /// owner comes back then, and the store is unchanged. Nothing else takes memory.
     pub fn release_owner(
         &mut self,
         owner: Owner,

@@ -26,11 +26,15 @@ impl<T: Drop, const NUMBER: u64, M: Count, L: Count, C: Count, R: Count> SyncSta
     C,
     R,
 > {
-    /// Makes a box of a value, which lives until it is ended by hand. The box has the store's
+    /// A new box of a value, which lives until it is ended by hand. The box has the store's
     /// number and the location, and its id was never given before.
     ///
     /// Refused by `OutOfMemory`: the value comes back, and nothing changes. Memory is taken for a
     /// slot, if none is free, and for the step.
+    ///
+    /// ```rust
+    /// let made = state.leak(value, place(), tally).ok()?;
+    /// ```
     pub fn leak(
         &mut self,
         value: T,
@@ -44,13 +48,13 @@ impl<T: Drop, const NUMBER: u64, M: Count, L: Count, C: Count, R: Count> SyncSta
         self.make(None, StepCall::Leak(location), value, location, tally)
     }
 
-    /// Makes a box of a value, which ends when the last owner value of this record is released. The
+    /// A new box of a value, which ends when the last owner value of this record is released. The
     /// box has the store's number and the location, its id was never given before, and it stands at
     /// the end of the record's list.
     ///
     /// Refused, in this order: `UnknownOwner`, where the store has no record of the owner, a step;
     /// `OutOfMemory`, which comes first where the history finds no room. The value comes back then,
-    /// and the store stays as it was. Memory is taken for a slot, if none is free, for room on the
+    /// and the store is unchanged. Memory is taken for a slot, if none is free, for room on the
     /// list, and for the step.
     pub fn insert(
         &mut self,
@@ -94,7 +98,7 @@ impl<T: Drop, const NUMBER: u64, M: Count, L: Count, C: Count, R: Count> SyncSta
         }
     }
 
-    /// Makes a shared value, and a first reference to it, whose box is given and lives until it is
+    /// A new shared value, and a first reference to it, whose box is given and lives until it is
     /// ended by hand. The box has the store's number and the location, and its id and that of the
     /// value's cell were never given before. The value lives exactly as long as there is a live
     /// reference to it.
@@ -114,7 +118,7 @@ impl<T: Drop, const NUMBER: u64, M: Count, L: Count, C: Count, R: Count> SyncSta
         self.make_shared(None, StepCall::LeakRc(location), value, location, tally)
     }
 
-    /// Makes a shared value, and a first reference to it, whose box is given. The reference ends
+    /// A new shared value, and a first reference to it, whose box is given. The reference ends
     /// when the last owner value of this record is released, and stands at the end of the record's
     /// list. The box has the store's number and the location, and its id and that of the value's
     /// cell were never given before. The value lives exactly as long as there is a live reference
@@ -122,7 +126,7 @@ impl<T: Drop, const NUMBER: u64, M: Count, L: Count, C: Count, R: Count> SyncSta
     ///
     /// Refused, in this order: `UnknownOwner`, where the store has no record of the owner, a step;
     /// `OutOfMemory`, which comes first where the history finds no room. The value comes back then,
-    /// and the store stays as it was. Memory is taken for two slots, if fewer are free, for room on
+    /// and the store is unchanged. Memory is taken for two slots, if fewer are free, for room on
     /// the list, and for the step.
     pub fn insert_rc(
         &mut self,
@@ -169,13 +173,13 @@ impl<T: Drop, const NUMBER: u64, M: Count, L: Count, C: Count, R: Count> SyncSta
         }
     }
 
-    /// Makes one reference more to the shared value that a box reaches, at which no writer stands.
+    /// One reference more to the shared value that a box reaches, at which no writer stands.
     /// It lives until it is ended by hand. The box has the store's number and the value's location,
     /// and its id was never given before.
     ///
     /// Refused, in this order: `Dropped` with the box's own creation location, where its cell has
     /// ended or is of another store, or where its value isn't shared, a step; `OutOfMemory`, which
-    /// comes first where the history finds no room. A refused call leaves the store as it was.
+    /// comes first where the history finds no room. A refused call changes nothing.
     /// Memory is taken for a slot, if none is free, and for the step.
     pub fn leak_reference(
         &mut self,
@@ -190,7 +194,7 @@ impl<T: Drop, const NUMBER: u64, M: Count, L: Count, C: Count, R: Count> SyncSta
         self.refer(None, StepCall::LeakReference(asked), asked, tally)
     }
 
-    /// Makes one reference more to the shared value that a box reaches, at which no writer stands.
+    /// One reference more to the shared value that a box reaches, at which no writer stands.
     /// It ends when the last owner value of this record is released, and stands at the end of the
     /// record's list. The box has the store's number and the value's location, and its id was never
     /// given before.
@@ -198,7 +202,7 @@ impl<T: Drop, const NUMBER: u64, M: Count, L: Count, C: Count, R: Count> SyncSta
     /// Refused, in this order: `UnknownOwner`, where the store has no record of the owner;
     /// `Dropped` with the box's own creation location, where its cell has ended or is of another
     /// store, or where its value isn't shared; both are steps. `OutOfMemory` comes before both where
-    /// the history finds no room, and else after them. A refused call leaves the store as it was.
+    /// the history finds no room, and else after them. A refused call changes nothing.
     /// Memory is taken for a slot, if none is free, for room on the list, and for the step.
     pub fn insert_reference(
         &mut self,
@@ -245,7 +249,7 @@ impl<T: Drop, const NUMBER: u64, M: Count, L: Count, C: Count, R: Count> SyncSta
     /// An owner without boxes, of a record of its own. It has the store's number.
     ///
     /// Refused, in this order: `NumbersExhausted`, where no ticket is left, a step; `OutOfMemory`,
-    /// which comes first where the history finds no room. A refused call leaves the store as it was.
+    /// which comes first where the history finds no room. A refused call changes nothing.
     /// Memory is taken for the record and for the step.
     pub fn owner(&mut self, tally: &mut Tally<M, L, C, R>) -> Result<Owner, StoreError>
         ensures step { IsStep NUMBER self.old tally.old NewOwner (owner_answer result) self.new
@@ -264,8 +268,8 @@ impl<T: Drop, const NUMBER: u64, M: Count, L: Count, C: Count, R: Count> SyncSta
     ///
     /// Refused, in this order: `UnknownOwner`, where the store has no record of the owner;
     /// `NumbersExhausted`, where no ticket is left; both are steps. `OutOfMemory` comes before both,
-    /// and only where the history finds no room for the step. A refused call leaves the store as it
-    /// was. Nothing else takes memory.
+    /// and only where the history finds no room for the step. A refused call changes
+    /// nothing. Nothing else takes memory.
     pub fn clone_owner(
         &mut self,
         owner: &Owner,

@@ -33,6 +33,10 @@ impl<T: Drop + Send, const NUMBER: u64, M: Count, L: Count, C: Count, R: Count> 
     /// `OutOfMemory` comes before both where the history finds no room, and after them for a
     /// reader beside another. Memory is taken for that reader, for the step and for the step of
     /// its release.
+    ///
+    /// ```rust
+    /// self.store.try_read(rt, asked, at, &mut self.tally)
+    /// ```
     pub fn try_read(
         &self,
         rt: &impl Wait,
@@ -49,6 +53,12 @@ impl<T: Drop + Send, const NUMBER: u64, M: Count, L: Count, C: Count, R: Count> 
     }
 
     /// Calls `try_read`. The sequential store's `read` has a condition in place of the refusals.
+    ///
+    /// ```rust
+    /// let reader = self.store.read(rt, kept, here, &mut self.tally)?;
+    /// let seen = self.store.open(rt, &reader, |value| *value);
+    /// self.store.release_read(rt, reader, &mut self.tally);
+    /// ```
     pub fn read(
         &self,
         rt: &impl Wait,
@@ -69,6 +79,10 @@ impl<T: Drop + Send, const NUMBER: u64, M: Count, L: Count, C: Count, R: Count> 
     /// ended or is of another store; `NumbersExhausted`, where no ticket is left; both are steps.
     /// `OutOfMemory` comes before both, and only where the history finds no room. Memory is taken
     /// for the step and for the step of its release.
+    ///
+    /// ```rust
+    /// self.store.try_write(rt, asked, at, &mut self.tally)
+    /// ```
     pub fn try_write(
         &self,
         rt: &impl Wait,
@@ -85,6 +99,13 @@ impl<T: Drop + Send, const NUMBER: u64, M: Count, L: Count, C: Count, R: Count> 
     }
 
     /// Calls `try_write`. The sequential store's `write` has a condition in place of the refusals.
+    ///
+    /// ```rust
+    /// let mut writer = self.store.write(rt, total, here, &mut self.tally)?;
+    /// let sum = (*writer.deref()).wrapping_add(seen.unwrap_or(0));
+    /// *writer.deref_mut() = sum;
+    /// let _ = self.store.release_write(rt, writer, &mut self.tally);
+    /// ```
     pub fn write(
         &self,
         rt: &impl Wait,
@@ -101,6 +122,10 @@ impl<T: Drop + Send, const NUMBER: u64, M: Count, L: Count, C: Count, R: Count> 
     /// Ends a read, and wakes the calls that wait. The answer is whether the store knew the
     /// guard; where it didn't, the guard is spent and nothing changes. Never refused, and takes no
     /// memory. Waits for no borrow.
+    ///
+    /// ```rust
+    /// self.store.release_read(rt, reader, &mut self.tally);
+    /// ```
     pub fn release_read(
         &self,
         rt: &impl Wait,
@@ -119,6 +144,10 @@ impl<T: Drop + Send, const NUMBER: u64, M: Count, L: Count, C: Count, R: Count> 
     /// Ends a write, puts the guard's value into the cell, and wakes the calls that wait. Where the
     /// store doesn't know the guard, the value comes back and nothing changes. Never refused, and
     /// takes no memory. Waits for no borrow.
+    ///
+    /// ```rust
+    /// let _ = self.store.release_write(rt, writer, &mut self.tally);
+    /// ```
     pub fn release_write(
         &self,
         rt: &impl Wait,
@@ -136,12 +165,16 @@ impl<T: Drop + Send, const NUMBER: u64, M: Count, L: Count, C: Count, R: Count> 
 
     /// Puts another value in the place of the one that the box reaches, once no borrow stands at
     /// it, and lets the old one go. Every box that reaches the value reaches the new one from then
-    /// on. No ticket is used up.
+    /// on. No ticket is used.
     ///
     /// Refused, in this order: `Dropped` with the box's own creation location, where its cell has
     /// ended or is of another store, a step; `OutOfMemory`, which comes first, and only where the
     /// history finds no room for the step. The value that was handed in comes back then, and the
-    /// store stays as it was. Nothing else takes memory.
+    /// store is unchanged. Nothing else takes memory.
+    ///
+    /// ```rust
+    /// self.store.set(rt, asked, value, &mut self.tally)
+    /// ```
     pub fn set(
         &self,
         rt: &impl Wait,

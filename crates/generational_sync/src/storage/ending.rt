@@ -26,6 +26,10 @@ impl<T: Drop + Send, const NUMBER: u64, M: Count, L: Count, C: Count, R: Count> 
     ///
     /// Refused by `OutOfMemory`, only where the history finds no room for the step: nothing
     /// changes. Nothing else takes memory.
+    ///
+    /// ```rust
+    /// self.store.manually_drop(rt, asked, &mut self.tally)
+    /// ```
     pub fn manually_drop(
         &self,
         rt: &impl Wait,
@@ -53,6 +57,10 @@ impl<T: Drop + Send, const NUMBER: u64, M: Count, L: Count, C: Count, R: Count> 
     /// which the other reaches, where this box is no reference or that value isn't shared. Refused
     /// by `OutOfMemory` where the history finds no room for the step. A refused call changes
     /// nothing, and nothing else takes memory.
+    ///
+    /// ```rust
+    /// self.store.point_to(rt, asked, other, &mut self.tally)
+    /// ```
     pub fn point_to(
         &self,
         rt: &impl Wait,
@@ -76,8 +84,14 @@ impl<T: Drop + Send, const NUMBER: u64, M: Count, L: Count, C: Count, R: Count> 
     ///
     /// Refused, in this order: `UnknownOwner`, where the store has no record of the owner, which is
     /// asked before any waiting, a step; `OutOfMemory`, which comes first, and only where the history
-    /// finds no room for the step. The owner comes back then, and the store stays as it was. Nothing
+    /// finds no room for the step. The owner comes back then, and the store is unchanged. Nothing
     /// else takes memory.
+    ///
+    /// ```rust
+    /// if let Err((session, _)) = self.store.release_owner(rt, session, &mut self.tally) {
+    ///     session.leak();
+    /// }
+    /// ```
     pub fn release_owner(
         &self,
         rt: &impl Wait,

@@ -22,11 +22,15 @@ impl<T: Drop + Send, const NUMBER: u64, M: Count, L: Count, C: Count, R: Count> 
     C,
     R,
 > {
-    /// Makes a box of a value, which lives until it is ended by hand. The box has the store's
+    /// A new box of a value, which lives until it is ended by hand. The box has the store's
     /// number and the location, and its id was never given before. Waits for no borrow.
     ///
     /// Refused by `OutOfMemory`: the value comes back, and nothing changes. Memory is taken for a
     /// slot, if none is free, and for the step.
+    ///
+    /// ```rust
+    /// let total = first.store.leak(rt, 0, here, &mut first.tally)?;
+    /// ```
     pub fn leak(
         &self,
         rt: &impl Wait,
@@ -41,13 +45,17 @@ impl<T: Drop + Send, const NUMBER: u64, M: Count, L: Count, C: Count, R: Count> 
         self.shared.held.lock(rt).state.leak(value, location, tally)
     }
 
-    /// Makes a shared value, and a first reference to it, whose box is given and lives until it is
+    /// A new shared value, and a first reference to it, whose box is given and lives until it is
     /// ended by hand. The box has the store's number and the location, and its id was never given
     /// before. The value lives exactly as long as there is a live reference to it. Waits for no
     /// borrow.
     ///
     /// Refused by `OutOfMemory`: the value comes back, and nothing changes. Memory is taken for two
     /// slots, if fewer are free, and for the step.
+    ///
+    /// ```rust
+    /// self.store.leak_rc(rt, value, at, &mut self.tally)
+    /// ```
     pub fn leak_rc(
         &self,
         rt: &impl Wait,
@@ -66,14 +74,18 @@ impl<T: Drop + Send, const NUMBER: u64, M: Count, L: Count, C: Count, R: Count> 
             .leak_rc(value, location, tally)
     }
 
-    /// Makes one reference more to the shared value that a box reaches, once no writer stands at
+    /// One reference more to the shared value that a box reaches, once no writer stands at
     /// it. It lives until it is ended by hand. The box has the store's number and the value's
     /// location, and its id was never given before. Wakes the calls that wait.
     ///
     /// Refused, in this order: `Dropped` with the box's own creation location, where its cell has
     /// ended or is of another store, or where its value isn't shared, a step; `OutOfMemory`, which
-    /// comes first where the history finds no room. A refused call leaves the store as it was.
+    /// comes first where the history finds no room. A refused call changes nothing.
     /// Memory is taken for a slot, if none is free, and for the step.
+    ///
+    /// ```rust
+    /// self.store.leak_reference(rt, of, &mut self.tally)
+    /// ```
     pub fn leak_reference(
         &self,
         rt: &impl Wait,
@@ -94,8 +106,12 @@ impl<T: Drop + Send, const NUMBER: u64, M: Count, L: Count, C: Count, R: Count> 
     /// borrow.
     ///
     /// Refused, in this order: `NumbersExhausted`, where no ticket is left, a step; `OutOfMemory`,
-    /// which comes first where the history finds no room. A refused call leaves the store as it was.
+    /// which comes first where the history finds no room. A refused call changes nothing.
     /// Memory is taken for the record and for the step.
+    ///
+    /// ```rust
+    /// let session = self.store.owner(rt, &mut self.tally)?;
+    /// ```
     pub fn owner(&self, rt: &impl Wait, tally: &mut Tally<M, L, C, R>) -> Result<Owner, StoreError>
         ensures step { IsUnseenStep {T = T} NUMBER tally.old NewOwner (owner_answer result)
             tally.new }
@@ -107,8 +123,12 @@ impl<T: Drop + Send, const NUMBER: u64, M: Count, L: Count, C: Count, R: Count> 
     ///
     /// Refused, in this order: `UnknownOwner`, where the store has no record of the owner;
     /// `NumbersExhausted`, where no ticket is left; both are steps. `OutOfMemory` comes before both,
-    /// and only where the history finds no room for the step. A refused call leaves the store as it
-    /// was. Nothing else takes memory.
+    /// and only where the history finds no room for the step. A refused call changes
+    /// nothing. Nothing else takes memory.
+    ///
+    /// ```rust
+    /// self.store.clone_owner(rt, owner, &mut self.tally)
+    /// ```
     pub fn clone_owner(
         &self,
         rt: &impl Wait,
@@ -121,14 +141,20 @@ impl<T: Drop + Send, const NUMBER: u64, M: Count, L: Count, C: Count, R: Count> 
         self.shared.held.lock(rt).state.clone_owner(owner, tally)
     }
 
-    /// Makes a box of a value, which ends when the last owner value of this record is released. The
+    /// A new box of a value, which ends when the last owner value of this record is released. The
     /// box has the store's number and the location, and its id was never given before. Waits for no
     /// borrow.
     ///
     /// Refused, in this order: `UnknownOwner`, where the store has no record of the owner, a step;
     /// `OutOfMemory`, which comes first where the history finds no room. The value comes back then,
-    /// and the store stays as it was. Memory is taken for a slot, if none is free, for room on the
+    /// and the store is unchanged. Memory is taken for a slot, if none is free, for room on the
     /// owner's list, and for the step.
+    ///
+    /// ```rust
+    /// let kept = self
+    ///     .store
+    ///     .insert(rt, session, value, here, &mut self.tally)?;
+    /// ```
     pub fn insert(
         &self,
         rt: &impl Wait,
@@ -148,15 +174,19 @@ impl<T: Drop + Send, const NUMBER: u64, M: Count, L: Count, C: Count, R: Count> 
             .insert(owner, value, location, tally)
     }
 
-    /// Makes a shared value, and a first reference to it, whose box is given and ends when the last
+    /// A new shared value, and a first reference to it, whose box is given and ends when the last
     /// owner value of this record is released. The box has the store's number and the location, and
     /// its id was never given before. The value lives exactly as long as there is a live reference
     /// to it. Waits for no borrow.
     ///
     /// Refused, in this order: `UnknownOwner`, where the store has no record of the owner, a step;
     /// `OutOfMemory`, which comes first where the history finds no room. The value comes back then,
-    /// and the store stays as it was. Memory is taken for two slots, if fewer are free, for room on
+    /// and the store is unchanged. Memory is taken for two slots, if fewer are free, for room on
     /// the owner's list, and for the step.
+    ///
+    /// ```rust
+    /// self.store.insert_rc(rt, owner, value, at, &mut self.tally)
+    /// ```
     pub fn insert_rc(
         &self,
         rt: &impl Wait,
@@ -176,7 +206,7 @@ impl<T: Drop + Send, const NUMBER: u64, M: Count, L: Count, C: Count, R: Count> 
             .insert_rc(owner, value, location, tally)
     }
 
-    /// Makes one reference more to the shared value that a box reaches, once no writer stands at
+    /// One reference more to the shared value that a box reaches, once no writer stands at
     /// it. It ends when the last owner value of this record is released. The box has the store's
     /// number and the value's location, and its id was never given before. Wakes the calls that
     /// wait.
@@ -184,9 +214,13 @@ impl<T: Drop + Send, const NUMBER: u64, M: Count, L: Count, C: Count, R: Count> 
     /// Refused, in this order: `UnknownOwner`, where the store has no record of the owner, which is
     /// asked before any waiting; `Dropped` with the box's own creation location, where its cell has
     /// ended or is of another store, or where its value isn't shared; both are steps. `OutOfMemory`
-    /// comes before both where the history finds no room, and else after them. A refused call leaves
-    /// the store as it was. Memory is taken for a slot, if none is free, for room on the owner's
+    /// comes before both where the history finds no room, and else after them. A refused call changes
+    /// nothing. Memory is taken for a slot, if none is free, for room on the owner's
     /// list, and for the step.
+    ///
+    /// ```rust
+    /// self.store.insert_reference(rt, owner, of, &mut self.tally)
+    /// ```
     pub fn insert_reference(
         &self,
         rt: &impl Wait,
