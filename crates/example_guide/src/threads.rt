@@ -71,7 +71,8 @@ fn serve_all<
     let Some(first) = workers.first_mut() else {
         return Err(anyhow!("no worker"));
     };
-    let total = first.store.leak(rt, 0, here(74), &mut first.tally)?;
+    let here = Location::new("threads.rt", 74, 16);
+    let total = first.store.leak(rt, 0, here, &mut first.tally)?;
     let served = thread::map_vec(
         rt,
         workers,
@@ -81,7 +82,7 @@ fn serve_all<
         },
     )?;
     let mut whole = gather(served)?;
-    let reader = store.read(rt, total, here(84), &mut whole)?;
+    let reader = store.read(rt, total, here, &mut whole)?;
     let sum = store.open(rt, &reader, |value| *value);
     store.release_read(rt, reader, &mut whole);
     if !whole.is_whole() {
@@ -114,13 +115,14 @@ impl<M: Count, L: Count, C: Count, R: Count> Worker<M, L, C, R> {
         value: u64,
         total: GenerationalBox<u64>,
     ) -> Result<()> {
+        let here = Location::new("threads.rt", 118, 20);
         let kept = self
             .store
-            .insert(rt, session, value, here(119), &mut self.tally)?;
-        let reader = self.store.read(rt, kept, here(120), &mut self.tally)?;
+            .insert(rt, session, value, here, &mut self.tally)?;
+        let reader = self.store.read(rt, kept, here, &mut self.tally)?;
         let seen = self.store.open(rt, &reader, |value| *value);
         self.store.release_read(rt, reader, &mut self.tally);
-        let mut writer = self.store.write(rt, total, here(123), &mut self.tally)?;
+        let mut writer = self.store.write(rt, total, here, &mut self.tally)?;
         let sum = (*writer.deref()).wrapping_add(seen.unwrap_or(0));
         *writer.deref_mut() = sum;
         let _ = self.store.release_write(rt, writer, &mut self.tally);
@@ -143,8 +145,4 @@ fn gather<M: Count, L: Count, C: Count, R: Count>(
         }
     }
     Ok(whole)
-}
-
-fn here(line: u32) -> Location {
-    Location::new("threads.rt", line, 5)
 }
