@@ -17,7 +17,7 @@ use generational_box::{
 };
 
 /// Keeps a value in a store, and reads it: it is the same value. Each box that the store gave before
-/// is left as it was, whatever the answer.
+/// is unchanged, whatever the answer.
 pub fn there_and_back<S: Storage<u64>>(
     store: &mut S,
     value: u64,
