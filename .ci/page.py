@@ -4,8 +4,9 @@
     .ci/page.py           compares
     .ci/page.py --try     compares, and then shows that each block is refused with a line changed
 
-Each block of Rattle on a page must stand in one file of the crates of callers or of tests, and each
-proof in one of callers: its pieces, which blank lines part, line for line and in order.
+Each page of the guide and of a library begins with a `main`. Each block of Rattle on a page must stand
+in one file of the crates of callers or of tests, and each proof in one of callers: its pieces, which
+blank lines part, line for line and in order.
 Each public function of a block must be called in a crate that the gate runs. An example in
 the comment of a public item must stand in one of those files too, whatever its indent. Each link to a
 file or a heading must lead there, a line of `crates.txt` on a page must be that of the file, and what a
@@ -20,11 +21,13 @@ ROOT = pathlib.Path(__file__).resolve().parent.parent
 # Those of docs/api are written from the sources (`.ci/api.py`).
 PAGES = [ROOT / "README.md", ROOT / ".ci/planted.md"]
 PAGES += [it for it in sorted((ROOT / "docs").rglob("*.md")) if it.parent.name != "api"]
-# Each page of the guide, but for the questions, begins with a program.
-WITH_CODE = ["README.md", *(it.name for it in (ROOT / "docs/guide").glob("*.md") if it.name != "faq.md")]
+# Each page of the guide, but for the questions, and each of a library begins with a program.
+WITH_MAIN = [it for it in (ROOT / "docs/guide").glob("*.md") if it.name != "faq.md"]
+WITH_MAIN += [ROOT / f"docs/{it}.md" for it in ("signals", "reactive", "entities", "sessions", "scenes", "documents")]
 USES = ["example_callers", "example_libraries", "example_guide"]
 # What the gate runs.
-RUN = ["test_boxes", "test_libraries", "test_reactive", "test_shared", "test_shared_workers", "bench_shared", "example_guide"]
+RUN = ["test_boxes", "test_libraries", "test_reactive", "test_shared", "test_shared_workers", "bench_shared",
+       "example_guide"]
 SOURCES = [
     path
     for crate in dict.fromkeys(USES + RUN)
@@ -177,6 +180,13 @@ def are_wrong_tellings_found():
     return all(wrong) and bool(crate_faults("    signals: generational_core"))
 
 
+def begins_with_main(page, blocks):
+    """Whether a page begins with a program, where it should; README.md has code at least."""
+    if page not in WITH_MAIN:
+        return bool(blocks) or page.name != "README.md"
+    return bool(blocks) and any(line.startswith("pub fn main") for line in blocks[0])
+
+
 def faults_in(blocks, sources):
     return [fault for fault in (fault_of(block, sources) for block in blocks) if fault]
 
@@ -195,8 +205,8 @@ def main(words):
     status = 0
     for page in PAGES:
         blocks = blocks_in(lines_of(page))
-        if not blocks and page.name in WITH_CODE:
-            print(f"{page}: no code is on the page", file=sys.stderr)
+        if not begins_with_main(page, blocks):
+            print(f"{page}: the page doesn't begin with a program", file=sys.stderr)
             status = 1
         for fault in faults_in(blocks, sources) + told_faults(page):
             print(f"{page}: {fault}", file=sys.stderr)
@@ -213,6 +223,9 @@ def main(words):
         status = 1
     if words == ["--try"] and not example_faults({path: [] for path in sources})[0]:
         print("examples that stand nowhere aren't refused", file=sys.stderr)
+        status = 1
+    if words == ["--try"] and any(begins_with_main(page, blocks) for page in WITH_MAIN for blocks in ([], [["x"]])):
+        print("a page without a program isn't refused", file=sys.stderr)
         status = 1
     if words == ["--try"] and not are_wrong_tellings_found():
         print("a wrong link or line of crates.txt isn't refused", file=sys.stderr)
