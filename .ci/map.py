@@ -1,11 +1,11 @@
 #!/usr/bin/env python3
-"""Compares docs/maintaining/map.md with the sources, and shows what its tables leave out.
+"""Compares docs/maintaining/map.md with the sources, and shows what its lists leave out.
 
     .ci/map.py                   compares, and fails where the pages and the sources differ
     .ci/map.py --try             does so, and shows that pages with a wrong line are refused
     .ci/map.py --files CRATE..   prints each file of these crates with its first line, and what it uses
 
-The page has the crates of crates.txt in tables, one for each kind; a crate's name tells its kind. What
+The page has the crates of crates.txt in lists, one for each kind; a crate's name tells its kind. What
 users take, and what stores are made of, stands there with its sources, in the order in which they are
 read. Each source, definition and file of lemmas says in its first line what it is. And each test that
 .ci/planted.md names as what refuses a bug is there.
@@ -17,7 +17,7 @@ import sys
 ROOT = os.path.join(os.path.dirname(os.path.abspath(__file__)), "..")
 PAGE = os.path.join(ROOT, "docs", "maintaining", "map.md")
 PLANTED = os.path.join(ROOT, ".ci", "planted.md")
-# The kinds of crates, each by the heading of its table and what its names are.
+# The kinds of crates, each by the heading of its list and what its names are.
 KINDS = {
     "### What users take": r"generational_\w+|signals|reactive|\w+_table|\w+_tree",
     "### What stores are made of": r"(store|shared)_\w+",
@@ -26,7 +26,7 @@ KINDS = {
     "### Tests": r"test_\w+",
     "### What is measured": r"bench_\w+",
 }
-# The kinds whose tables have the sources too, in the order of reading.
+# The kinds whose lists have the sources too, in the order of reading.
 ORDERED = ("### What users take", "### What stores are made of")
 TESTS = "test_"
 # Files that only name others, or answer the goals of one function.
@@ -97,6 +97,12 @@ def section(page, title):
     return re.split(r"\n###? ", page.split(f"\n{title}\n")[1])[0]
 
 
+def entries(text):
+    """The entries of a list of crates, each as its crate and the sources in brackets."""
+    found = re.findall(r"(?m)^- `(\w+)`: [^(\n]*(?:\(([^)\n]*)\))?$", text)
+    return [(crate, names(listed)) for crate, listed in found]
+
+
 def rows(text):
     """The rows of a table, each as its cells."""
     lines = [it for it in text.splitlines() if it.startswith("|")]
@@ -123,7 +129,7 @@ def compare_kinds(page):
     """The crates of the page, each of which stands under its kind."""
     crates = []
     for title in KINDS:
-        for crate in (names(it[0])[0] for it in rows(section(page, title))):
+        for crate, _ in entries(section(page, title)):
             wanted(kind_of(crate) == title, f"{crate} stands under {title}")
             crates.append(crate)
     return crates
@@ -132,8 +138,8 @@ def compare_kinds(page):
 def compare(page):
     crates = compare_kinds(page)
     wanted(sorted(crates) == sorted(all_crates()), f"the crates are {all_crates()}, and on the page {crates}")
-    for crate, _, listed in (row for title in ORDERED for row in rows(section(page, title))):
-        on_page, there = sorted(names(listed)), sorted(sources_of(names(crate)[0]))
+    for crate, listed in (entry for title in ORDERED for entry in entries(section(page, title))):
+        on_page, there = sorted(listed), sorted(sources_of(crate))
         wanted(on_page == there, f"{crate} has the sources {there}, and on the page {on_page}")
 
 
@@ -179,9 +185,9 @@ def print_files(crate):
 def wrong_pages(page):
     """Pages of which a line is wrong: a crate less, one twice, one under another kind, a source less, one
     twice, one that isn't there."""
-    yield re.sub(r"(\n\| `boxes` \|[^\n]*)(.*\n\| `example_callers` \|[^\n]*)", r"\2\1", page, count=1, flags=re.S)
-    yield re.sub(r"(\n\| `example_callers` \|[^\n]*)", r"\1\1", page, count=1)
-    yield re.sub(r"\n\| `boxes_parts` \|[^\n]*", "", page, count=1)
+    yield re.sub(r"(\n- `boxes`:[^\n]*)(.*\n- `example_callers`:[^\n]*)", r"\2\1", page, count=1, flags=re.S)
+    yield re.sub(r"(\n- `example_callers`:[^\n]*)", r"\1\1", page, count=1)
+    yield re.sub(r"\n- `boxes_parts`:[^\n]*", "", page, count=1)
     yield page.replace("`borrow`, ", "", 1)
     yield page.replace("`borrow`, ", "`borrow`, `borrow`, ", 1)
     yield page.replace("`borrow`, ", "`borrow`, `lent`, ", 1)
