@@ -26,12 +26,13 @@ const FREE: usize = 128;
 /// size that `empty` frees are kept, and become spare ones again.
 #[derive(Drop)]
 pub struct Chunks<X> {
-    alloc: Global,
-    full: Vec<Vec<X>>,
+    // what each append writes stands together
     last: Vec<X>,
-    spare: Vec<X>,
-    free: Vec<Vec<X>>,
     len: usize,
+    spare: Vec<X>,
+    full: Vec<Vec<X>>,
+    free: Vec<Vec<X>>,
+    alloc: Global,
 }
 
 impl<X> Model for Chunks<X> {

@@ -26,14 +26,15 @@ use std::sync::ledger::Book;
 /// The steps are those of the store with this number.
 #[derive(Drop)]
 pub struct Log<const NUMBER: u64, M: Count, L: Count, C: Count, R: Count> {
-    alloc: Global,
-    base: Base,
-    history: StepList<NUMBER>,
+    // what each step writes stands together up to the beginning of the history
     standing: usize,
     made_steps: u64,
     lent_steps: u64,
     changed_steps: u64,
     refused_steps: u64,
+    history: StepList<NUMBER>,
+    base: Base,
+    alloc: Global,
     made: Book<M>,
     lent: Book<L>,
     changed: Book<C>,

@@ -22,8 +22,8 @@ use generational_core::{
 };
 use shared_records::StepReply;
 
-// How a refusal of the store is recorded.
-fn store_reply<T>(error: StoreError) -> Option<StepReply>
+/// How a refusal of the store is recorded.
+pub fn store_reply<T>(error: StoreError) -> Option<StepReply>
     ensures reply { (R : State T) (call : Action T) → result ≡ recorded_reply R call (refuses error) }
     ensures kind { option_map step_kind result ≡ kind_in {T = T} (refuses error) }
     ensures lent { lent_in result ≡ given_by {T = T} (refuses error) }
@@ -35,8 +35,8 @@ fn store_reply<T>(error: StoreError) -> Option<StepReply>
     }
 }
 
-// How the refusal of a read is recorded, and that of a write or an end.
-fn read_refusal<T>(refused: &Refused<BorrowError>) -> Option<StepReply>
+/// How the refusal of a read is recorded.
+pub fn read_refusal<T>(refused: &Refused<BorrowError>) -> Option<StepReply>
     ensures reply { (R : State T) (call : Action T)
         → result ≡ recorded_reply R call (read_refused refused.now) }
     ensures kind { option_map step_kind result ≡ kind_in {T = T} (read_refused refused.now) }
@@ -52,7 +52,8 @@ fn read_refusal<T>(refused: &Refused<BorrowError>) -> Option<StepReply>
     }
 }
 
-fn end_refusal<T>(refused: &Refused<BorrowMutError>) -> Option<StepReply>
+/// How the refusal of a write or an end is recorded.
+pub fn end_refusal<T>(refused: &Refused<BorrowMutError>) -> Option<StepReply>
     ensures reply { (R : State T) (call : Action T)
         → result ≡ recorded_reply R call (end_refused refused.now) }
     ensures kind { option_map step_kind result ≡ kind_in {T = T} (end_refused refused.now) }

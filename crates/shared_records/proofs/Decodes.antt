@@ -217,10 +217,9 @@ appends_one before longer o step is same =
     }
 
 -- the newest of the long steps
-pub long_at : (f : Record → Step) (records more : List Record) (r : Record)
-    → more ≡ records ++ r ∷ [] → get_or (map f more) (length records) no_step ≡ f r
-long_at f records more r is =
-    ap (λ rs. get_or (map f rs) (length records) no_step) is
-    ∙ ap (λ ss. get_or ss (length records) no_step) (map-append f records (r ∷ []))
-    ∙ ap (λ n. get_or (map f records ++ f r ∷ []) n no_step) (sym (length-map {B = Step} records f))
-    ∙ get_or-append_seam (map f records) (f r) [] no_step
+pub long_last : (f : Record → Step) (records : List Record) (steps : List Step) (step : Step)
+    → steps ≡ map f records ++ step ∷ [] → get_or steps (length records) no_step ≡ step
+long_last f records steps step is =
+    ap (λ ss. get_or ss (length records) no_step) is
+    ∙ ap (λ n. get_or (map f records ++ step ∷ []) n no_step) (sym (length-map {B = Step} records f))
+    ∙ get_or-append_seam (map f records) step [] no_step

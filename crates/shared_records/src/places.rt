@@ -2,6 +2,7 @@
 
 ghost use Rattle.std.specs.Prelude.{◌≡◌, [], IfSome};
 ghost use Rattle.std.specs.Bool.{OnTrue};
+ghost use Rattle.generational_errors.specs.Texts.{same_location};
 ghost use Rattle.shared_records.specs.Decoding.{Extends, IsAt};
 
 use generational_core::Location;
@@ -68,9 +69,18 @@ fn is_at(locations: &[Location], number: u16, at: Location) -> bool
     ensures { OnTrue result (IsAt locations.now number at) }
 {
     match locations.get(number as usize) {
-        Some(kept) => *kept == at,
+        Some(kept) => is_same(*kept, at),
         None => false,
     }
+}
+
+/// Whether two locations are the same by their letters, as `==` says. The numbers are looked at
+/// first, without a call.
+#[inline(always)]
+pub(crate) fn is_same(one: Location, other: Location) -> bool
+    ensures { result ≡ same_location one other }
+{
+    one.line() == other.line() && one.column() == other.column() && one.file() == other.file()
 }
 
 // The number of such a location, which is added if there is none.

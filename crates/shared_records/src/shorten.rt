@@ -8,7 +8,7 @@ ghost use Rattle.shared_records.specs.declared.shorten.Form.TheVariants.{Two};
 ghost use Rattle.shared_records.specs.Decoding.{Extends, IsAt, IsForm};
 ghost use Rattle.shared_records.specs.Kinds.{step_of};
 
-use crate::places::Places;
+use crate::places::{Places, is_same};
 use crate::short::{Reached, Short};
 use crate::step::StepReply;
 use generational_core::{GenerationalBoxId, GenerationalPointer, Location, OwnerId, StepCall};
@@ -110,7 +110,7 @@ fn leak(taken: Taken, places: &mut Places, at: Location, made: GenerationalPoint
     ensures form { IfSome result (IsForm taken.number places.new taken.reached
         (step_of taken.worker (call.Leak at) (reply.Made made))) }
 {
-    if !fits(taken, made) || made.created_at != at {
+    if !fits(taken, made) || !is_same(made.created_at, at) {
         return None;
     }
     let place = places.find_or_add(at)?;
@@ -135,7 +135,7 @@ fn insert(
     ensures form { IfSome result (IsForm taken.number places.new taken.reached
         (step_of taken.worker (call.Insert owner at) (reply.Made made))) }
 {
-    if !fits(taken, made) || made.created_at != at {
+    if !fits(taken, made) || !is_same(made.created_at, at) {
         return None;
     }
     let back = back_to(taken, owner)?;
@@ -188,7 +188,7 @@ fn read_dropped(
     ensures form { IfSome result (IsForm taken.number places.new taken.reached
         (step_of taken.worker (call.Read asked at) (reply.Dropped told))) }
 {
-    if !fits(taken, asked) || told != asked.created_at {
+    if !fits(taken, asked) || !is_same(told, asked.created_at) {
         return None;
     }
     let (made, read) = find_two(places, asked.created_at, at)?;
@@ -302,7 +302,7 @@ fn leak_rc(
     ensures form { IfSome result (IsForm taken.number places.new taken.reached
         (step_of taken.worker (call.LeakRc at) (reply.MadeShared cell made))) }
 {
-    if !fits(taken, made) || made.created_at != at {
+    if !fits(taken, made) || !is_same(made.created_at, at) {
         return None;
     }
     let place = places.find_or_add(at)?;
@@ -328,7 +328,7 @@ fn insert_rc(
     ensures form { IfSome result (IsForm taken.number places.new taken.reached
         (step_of taken.worker (call.InsertRc owner at) (reply.MadeShared cell made))) }
 {
-    if !fits(taken, made) || made.created_at != at {
+    if !fits(taken, made) || !is_same(made.created_at, at) {
         return None;
     }
     let back = back_to(taken, owner)?;

@@ -1,9 +1,10 @@
 //! The list of a history's steps.
 
-ghost use Rattle.std.specs.Prelude.{◌≡◌, ◌+◌, ◌<◌, ◌≤◌, ◌^◌, [], IfOk, OnOk, OnErr, Some, length};
-ghost use Rattle.std.specs.Prelude.{map};
+ghost use Rattle.std.specs.Prelude.{◌≡◌, ◌+◌, ◌<◌, ◌≤◌, ◌^◌, [], ◌∷◌, ◌++◌, IfOk, OnOk, OnErr};
+ghost use Rattle.std.specs.Prelude.{Some, length, map};
 ghost use Rattle.shared_records.specs.Decoding.{AreWithin, advanced, decode, reached_by};
 ghost use Rattle.shared_records.specs.Decoding.{reached_first};
+ghost use Rattle.shared_records.specs.declared.short.Short.TheVariants.{Long};
 ghost use Rattle.shared_records.specs.Kinds.{step_of};
 ghost use Rattle.shared_records.specs.Letters.{Appends};
 ghost use Rattle.shared_records.specs.Records.{HasRecord, unpack};
@@ -25,16 +26,18 @@ use std::marker::Model;
 /// elsewhere in memory.
 #[derive(Drop)]
 pub struct StepList<const NUMBER: u64> {
-    alloc: Global,
-    // how many steps there are, and for how many more there is room
-    len: usize,
+    // for how many more steps there is room, and how many there are
     room: usize,
-    // the next ticket at the first step, and what decoding comes to after the last
-    start: u64,
+    len: usize,
+    // what decoding comes to after the last step; what an append writes stands together up to here,
+    // and at the beginning of the short steps
     reached: Reached,
-    places: Places,
     short: Chunks<Short>,
+    // the next ticket at the first step
+    start: u64,
+    places: Places,
     long: Chunks<Record>,
+    alloc: Global,
 }
 
 impl<const NUMBER: u64> Model for StepList<NUMBER> {
@@ -234,10 +237,55 @@ fn keep(
             taken.reached.named(slot, generation).after(reply)
         }
         None => {
-            let at = long.len() as u64;
-            long.push(pack(taken.number, taken.worker, call, reply));
-            list.push(Short::Long(at));
+            keep_whole(taken.number, taken.worker, list, long, call, reply);
             taken.reached.after(reply)
         }
     }
+}
+
+// Appends a step that has no short form. It is a function of its own that is inlined, so that what is
+// handed to the other is put into memory here, and not where a short step is kept.
+#[inline(always)]
+fn keep_whole(
+    number: u64,
+    worker: u32,
+    list: &mut Chunks<Short>,
+    long: &mut Chunks<Record>,
+    call: StepCall,
+    reply: StepReply,
+)
+    requires room { (0 < list.old.room) × (0 < long.old.room) }
+    requires record { HasRecord number call reply }
+    ensures list { list.new.items ≡ list.old.items ++ Long (length long.old.items) ∷ [] }
+    ensures room { list.new.room + 1 ≡ list.old.room }
+    ensures bounded { length list.new.items + list.new.room < 2 ^ 64 }
+    ensures long { map (unpack number) long.new.items
+        ≡ map (unpack number) long.old.items ++ step_of worker call reply ∷ [] }
+    ensures long_room { long.new.room + 1 ≡ long.old.room }
+{
+    push_whole(number, worker, list, long, call, reply);
+}
+
+#[cold]
+#[inline(never)]
+fn push_whole(
+    number: u64,
+    worker: u32,
+    list: &mut Chunks<Short>,
+    long: &mut Chunks<Record>,
+    call: StepCall,
+    reply: StepReply,
+)
+    requires room { (0 < list.old.room) × (0 < long.old.room) }
+    requires record { HasRecord number call reply }
+    ensures list { list.new.items ≡ list.old.items ++ Long (length long.old.items) ∷ [] }
+    ensures room { list.new.room + 1 ≡ list.old.room }
+    ensures bounded { length list.new.items + list.new.room < 2 ^ 64 }
+    ensures long { map (unpack number) long.new.items
+        ≡ map (unpack number) long.old.items ++ step_of worker call reply ∷ [] }
+    ensures long_room { long.new.room + 1 ≡ long.old.room }
+{
+    let at = long.len() as u64;
+    long.push(pack(number, worker, call, reply));
+    list.push(Short::Long(at));
 }

@@ -1,5 +1,5 @@
 use Rattle.std.proofs.Common.{◌≡◌, ◌≤◌, ◌∷◌, [], ◌++◌, Some, List, length, length-append, map, option_to_list, get_or, ap, sym, subst, ◌∙◌, refl, arith}
-use Rattle.std.proofs.lemmas.List.{append-nil, length-map, map-append}
+use Rattle.std.proofs.lemmas.List.{append-nil, length-map}
 use Rattle.generational_errors.specs.declared.error.Location.{Location}
 use Rattle.shared_records.specs.declared.short.Reached.{Reached}
 use Rattle.shared_records.specs.declared.short.Short.{Short}
@@ -11,7 +11,7 @@ use Rattle.shared_records.specs.Kinds.{step_of}
 use Rattle.shared_records.specs.Records.{unpack}
 use Rattle.shared_records.specs.Letters.{lettered_step}
 use Rattle.shared_records.specs.Decoding.{Extends, IsForm, StandsFor, advanced, decode, named, no_step, reached_by, reached_first, step_at}
-use Rattle.shared_records.proofs.Decodes.{appends_one, grown_reached, grown_steps, grown_within, long_at, within_grows}
+use Rattle.shared_records.proofs.Decodes.{appends_one, grown_reached, grown_steps, grown_within, long_last, within_grows}
 use Rattle.shared_records.proofs.step_list.keep.Goals as goal
 
 stay : (places : List Location) → Extends places places
@@ -136,53 +136,47 @@ returns-in-Some-Two-clause-steps c =
 
 pub returns-in-None-clause-within : goal.returns-in-None-clause-within
 returns-in-None-clause-within c =
-    let f = unpack c.args.taken.number in
-    let ls = map f c.args.long.now.items in
-    let more = map f c.push-in-None.new.self.items in
-    let longer = ap (map f) c.push-in-None.ensures.items
-    ∙ map-append f c.args.long.now.items (c.pack.result ∷ []) in
-    let lengths = ap length longer ∙ length-append ls (f c.pack.result ∷ []) in
-    let old = length-map c.args.long.now.items f in
-    let len = c.len-at.ensures in
-    grown_within c.args.taken.number (reached_first c.args.start) c.args.places.now
-    c.shorten.new.places ls more c.args.list.now.items c.push-in-None-2.new.self.items
-    (short.Long c.len-at.result) c.shorten.ensures.extends (f c.pack.result ∷ []) longer
-    c.push-in-None-2.ensures.items c.requires.within (omega arith)
+    let n = c.args.taken.number in
+    let step = step_of c.args.taken.worker c.args.call c.args.reply in
+    let ls = map (unpack n) c.args.long.now.items in
+    let more = map (unpack n) c.keep_whole.new.long.items in
+    let longer = c.keep_whole.ensures.long in
+    let lengths = ap length longer ∙ length-append ls (step ∷ []) in
+    let old = length-map c.args.long.now.items (unpack n) in
+    grown_within n (reached_first c.args.start) c.args.places.now
+    c.shorten.new.places ls more c.args.list.now.items c.keep_whole.new.list.items
+    (short.Long (length c.args.long.now.items)) c.shorten.ensures.extends (step ∷ []) longer
+    c.keep_whole.ensures.list c.requires.within (omega arith)
 
 pub returns-in-None-clause-reached : goal.returns-in-None-clause-reached
 returns-in-None-clause-reached c =
-    let f = unpack c.args.taken.number in
-    let ls = map f c.args.long.now.items in
-    let more = map f c.push-in-None.new.self.items in
-    let longer = ap (map f) c.push-in-None.ensures.items
-    ∙ map-append f c.args.long.now.items (c.pack.result ∷ []) in
-    let is = ap (λ n. get_or more n no_step) c.len-at.ensures
-    ∙ long_at f c.args.long.now.items c.push-in-None.new.self.items c.pack.result c.push-in-None.ensures.items
-    ∙ c.pack.ensures in
+    let n = c.args.taken.number in
+    let step = step_of c.args.taken.worker c.args.call c.args.reply in
+    let ls = map (unpack n) c.args.long.now.items in
+    let more = map (unpack n) c.keep_whole.new.long.items in
+    let is = long_last (unpack n) c.args.long.now.items more step c.keep_whole.ensures.long in
     c.after-in-None.ensures
     ∙ sym (ap (λ (s : Step). advanced c.args.taken.reached (Some s)) is)
-    ∙ grown_reached c.args.taken.number (reached_first c.args.start) c.args.places.now
-    c.shorten.new.places ls more c.args.list.now.items c.push-in-None-2.new.self.items
-    (short.Long c.len-at.result) c.shorten.ensures.extends (f c.pack.result ∷ []) longer
-    c.push-in-None-2.ensures.items c.requires.within c.args.taken.reached c.requires.reached
+    ∙ grown_reached n (reached_first c.args.start) c.args.places.now
+    c.shorten.new.places ls more c.args.list.now.items c.keep_whole.new.list.items
+    (short.Long (length c.args.long.now.items)) c.shorten.ensures.extends (step ∷ [])
+    c.keep_whole.ensures.long c.keep_whole.ensures.list c.requires.within c.args.taken.reached
+    c.requires.reached
 
 pub returns-in-None-clause-steps : goal.returns-in-None-clause-steps
 returns-in-None-clause-steps c =
     let n = c.args.taken.number in
-    let f = unpack n in
+    let step = step_of c.args.taken.worker c.args.call c.args.reply in
     let start = reached_first c.args.start in
-    let ls = map f c.args.long.now.items in
-    let more = map f c.push-in-None.new.self.items in
-    let longer = ap (map f) c.push-in-None.ensures.items
-    ∙ map-append f c.args.long.now.items (c.pack.result ∷ []) in
-    let is = ap (λ i. get_or more i no_step) c.len-at.ensures
-    ∙ long_at f c.args.long.now.items c.push-in-None.new.self.items c.pack.result c.push-in-None.ensures.items
-    ∙ c.pack.ensures in
+    let ls = map (unpack n) c.args.long.now.items in
+    let more = map (unpack n) c.keep_whole.new.long.items in
+    let is = long_last (unpack n) c.args.long.now.items more step c.keep_whole.ensures.long in
     appends_one (decode n c.args.places.now ls start c.args.list.now.items)
-    (decode n c.shorten.new.places more start c.push-in-None-2.new.self.items)
-    (step_at n c.shorten.new.places more c.args.taken.reached (short.Long c.len-at.result))
-    (step_of c.args.taken.worker c.args.call c.args.reply)
+    (decode n c.shorten.new.places more start c.keep_whole.new.list.items)
+    (step_at n c.shorten.new.places more c.args.taken.reached
+    (short.Long (length c.args.long.now.items))) step
     (grown_steps n start c.args.places.now c.shorten.new.places ls more c.args.list.now.items
-    c.push-in-None-2.new.self.items (short.Long c.len-at.result) c.shorten.ensures.extends
-    (f c.pack.result ∷ []) longer c.push-in-None-2.ensures.items c.requires.within c.args.taken.reached
-    c.requires.reached) (ap (λ (s : Step). Some (lettered_step s)) is)
+    c.keep_whole.new.list.items (short.Long (length c.args.long.now.items))
+    c.shorten.ensures.extends (step ∷ []) c.keep_whole.ensures.long c.keep_whole.ensures.list
+    c.requires.within c.args.taken.reached c.requires.reached)
+    (ap (λ (s : Step). Some (lettered_step s)) is)
