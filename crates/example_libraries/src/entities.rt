@@ -129,3 +129,34 @@ pub fn despawned_bare<E: Storage<u64>, C: Storage<u64>>(
     names.sweep(table);
     ended
 }
+
+/// Takes an entity out of a table with its element, and looks at it once more: that is refused, and the
+/// answer is the element that it showed.
+pub fn taken_out<S: Storage<u64>>(
+    table: &mut EntityTable<u64, S>,
+    entity: Entity<u64>,
+) -> Option<u64>
+    ensures { result ≡ element_in table.old entity }
+{
+    let element = table.take(entity).ok()?;
+    match table.get(entity) {
+        Ok(_) => None,
+        Err(_) => Some(element),
+    }
+}
+
+/// Hands one entity's component to another, which shows it from then on.
+pub fn handed_over<S: Storage<u64>>(
+    coats: &mut ComponentTable<u64, u64, S>,
+    from: Entity<u64>,
+    to: Entity<u64>,
+    here: Location,
+) -> bool
+    ensures { IsTrue result → (coat : ℕ) × (component_in coats.old from ≡ Some coat)
+        × (component_in coats.new to ≡ Some coat) }
+{
+    match coats.take(from) {
+        Some(coat) => coats.insert(to, coat, here).is_ok(),
+        None => false,
+    }
+}

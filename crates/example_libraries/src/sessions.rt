@@ -49,7 +49,8 @@ pub fn seen_beside<S: Storage<u64>>(
 }
 
 /// Keeps a value in a session of its own, looks at it, and logs the session out: it is the same value.
-/// Every other session is as it was, whatever the answer.
+/// Every other session is as it was, and every entry that was put before shows what it showed, whatever
+/// the answer.
 pub fn one_visit<S: Storage<u64>>(
     table: &mut SessionTable<u64, u64, u64, S>,
     id: u64,
@@ -60,12 +61,35 @@ pub fn one_visit<S: Storage<u64>>(
     ensures same { IfSome result (λ seen. seen ≡ value) }
     ensures others { (other : ℕ) → nat_eq id other ≡ false →
         session_in nat_eq table.new other ≡ session_in nat_eq table.old other }
+    ensures left { (e : Entry ℕ) → WasPut table.old e →
+        shown_in table.new e ≡ shown_in table.old e }
 {
     table.login(id, now).ok()?;
     let entry = table.put(&id, 1, value, here).ok();
     let seen = entry.and_then(|entry| table.get(entry).copied().ok());
     let _ = table.logout(&id);
     seen
+}
+
+/// Keeps another value in a session, and logs another session out: what the first kept shows what it
+/// showed. Refused only where it showed nothing.
+pub fn seen_after_put<S: Storage<u64>>(
+    table: &mut SessionTable<u64, u64, u64, S>,
+    id: u64,
+    other: u64,
+    entry: Entry<u64>,
+    next: u64,
+    here: Location,
+) -> Result<u64, Stale>
+    requires apart { nat_eq id other ≡ false }
+    requires put { WasPut table.old entry }
+    requires kept { keeps nat_eq table.old other entry ≡ true }
+    ensures same { IfOk result (λ seen. shown_in table.old entry ≡ Some seen) }
+    ensures none { IfErr result (λ _. shown_in table.old entry ≡ None) }
+{
+    let _ = table.put(&other, 1, next, here);
+    let _ = table.logout(&id);
+    table.get(entry).copied()
 }
 
 /// Adds to an entry's value in its place, and answers what it is then.

@@ -1,11 +1,11 @@
 //! Trees, and handles of their nodes.
 
-ghost use Rattle.std.specs.Prelude.{◌≡◌, ◌≤◌, ◌⊎◌, ◌∷◌, slice_get, ◌++◌, [], List, ℕ, Err, IfOk, IsErr, None, OnOk, Some};
+ghost use Rattle.std.specs.Prelude.{◌≡◌, ◌≤◌, ◌⊎◌, ◌∷◌, slice_get, ◌++◌, [], List, ℕ, Err, IfOk, IsErr, None, OnOk, IfSome, Some};
 ghost use Rattle.generational_errors.specs.declared.error.StoreError.TheVariants.{OutOfMemory};
 ghost use Rattle.scene_tree.specs.declared.node.TreeError.TheVariants as error;
 ghost use Rattle.scene_tree.specs.declared.node.Node.{Node};
 ghost use Rattle.scene_tree.specs.Nodes.{IsOther, made_at, without};
-ghost use Rattle.scene_tree.specs.Trees.{IsBelow, NodeIsUnchanged, WasMade, children_of, outline_of, parent_of};
+ghost use Rattle.scene_tree.specs.Trees.{IsBelow, NodeIsUnchanged, WasMade, children_of, outline_of, parent_of, value_of};
 
 use generational_box::{Location, Storage};
 use scene_tree::{Node, SceneTree, Spot, Stale, TreeError};
@@ -116,6 +116,18 @@ pub fn twin_before<S: Storage<u64>>(
     ensures { IfOk result (λ twin. parent_of tree.new twin ≡ parent_of tree.old node) }
 {
     tree.add_at(Spot::Before(node), value, here)
+}
+
+/// Takes a node out of a tree with its value, and looks at it once more: that is refused, and the answer
+/// is the value that it showed.
+pub fn taken_out<S: Storage<u64>>(tree: &mut SceneTree<u64, S>, node: Node<u64>) -> Option<u64>
+    ensures { IfSome result (λ value. value_of tree.old node ≡ Some value) }
+{
+    let value = tree.take(node).ok()?;
+    match tree.get(node) {
+        Ok(_) => None,
+        Err(_) => Some(value),
+    }
 }
 
 /// Makes a node a root, and tells its depth, which is none.
