@@ -303,11 +303,7 @@ fn a_value_that_is_handed_back(rt: HostRuntime) {
 }
 
 /// Ends a read.
-fn end_read<S: Storage<Counted>>(
-    rt: &impl Abort,
-    store: &mut S,
-    guard: GenerationalRef<Counted>,
-) {
+fn end_read<S: Storage<Counted>>(rt: &impl Abort, store: &mut S, guard: GenerationalRef<Counted>) {
     assert!(rt; guard.release(store));
 }
 

@@ -33,6 +33,21 @@ pub fn length_in<S: Storage<String> + Drop>(mut store: S, text: String) -> Optio
     }
 }
 
+/// A text that is kept in a store and handed back. The store goes then.
+pub fn back_from<S: Storage<String> + Drop>(mut store: S, text: String) -> Option<String> {
+    let made = GenerationalBox::leak(&mut store, text, Location::new("example.rt", 39, 16)).ok()?;
+    let name: String = made.take(&mut store)?;
+    Some(name)
+}
+
+#[test]
+fn a_text_that_is_handed_back(rt: HostRuntime) -> Result<(), Fail> {
+    let text = String::from_str(rt.alloc(), "hello world")?;
+    let back = back_from(UnsyncStorage::new(rt.alloc(), 1), text).map(|name| name.len());
+    assert_same(&rt, &back, &Some(11));
+    Ok(())
+}
+
 #[test]
 fn the_length_of_a_text_that_is_ended(rt: HostRuntime) -> Result<(), Fail> {
     let text = String::from_str(rt.alloc(), "hello world")?;
