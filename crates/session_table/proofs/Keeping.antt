@@ -5,7 +5,7 @@ use Rattle.std.specs.Prelude.{◌⊎◌, nat_eq}
 use Rattle.std.specs.Cmp.{IsEquivalence}
 use Rattle.std.specs.FinMap as map
 use Rattle.std.specs.Ordering.{nat_cmp}
-use Rattle.std.proofs.lemmas.Bool.{true≢false, cases_Bool, or_cases}
+use Rattle.std.proofs.lemmas.Bool.{true≢false, cases_Bool, false_from_ne_true, or_cases}
 use Rattle.std.proofs.lemmas.List.Folds.{list_any-append}
 use Rattle.std.proofs.lemmas.Option.{none-some, same_Some}
 use Rattle.generational_core.specs.Answers.{pointer_of}
@@ -382,4 +382,68 @@ module _ {I T : Type 0} {eq : I → I → Bool} (S R : State T) (s : IsSound S) 
           let was = k.live i h (old_row i h is).1 b listed
           (own ∙ meets_number S R (ReleaseOwner x.owner) Done m) in
           (was.0, (ended_left b (unlisted i h is b listed)).reached ∙ was.1);
+    }
+
+-- ---- a session that gets another id
+
+module _ {I T : Type 0} {eq : I → I → Bool} {S : State T} {rows after : I → Option Held}
+    (kept : IsKept S eq rows) (laws : IsEquivalence eq) (k t : I) (h : Held)
+    (update : (i : I) → after i ≡ cond (eq t i) (Some h) (cond (eq k i) None (rows i)))
+    (there : (i : I) → eq k i ≡ true → rows i ≡ Some h) (free : (i : I) → eq t i ≡ true → rows i ≡ None)
+  where
+    -- a row has the new id, or it is another's
+    is_row : (i : I) (g : Held) → after i ≡ Some g
+        → ((eq t i ≡ true) × (h ≡ g)) ⊎ ((eq k i ≡ false) × (rows i ≡ Some g))
+    is_row i g is = ⊎_elim
+        (λ new. inl (
+          new,
+          same_Some h g (sym (update i
+              ∙ ap (λ b. cond b (Some h) (cond (eq k i) None (rows i))) new) ∙ is),
+        ))
+        (λ apart. let old = update i ∙ ap (λ b. cond b (Some h) (cond (eq k i) None (rows i))) apart in ⊎_elim
+        (λ gone. absurd (none-some g (sym (old ∙ ap (λ b. cond b None (rows i)) gone) ∙ is)))
+        (λ other. inr (other, sym (old ∙ ap (λ b. cond b None (rows i)) other) ∙ is)) (cases_Bool (eq k i)))
+        (cases_Bool (eq t i))
+
+    -- each row was one, and is one
+    was_row : (i : I) (g : Held) → after i ≡ Some g → (j : I) × (rows j ≡ Some g)
+    was_row i g is = ⊎_elim (λ new. (k, there k (laws.refl k) ∙ ap Some new.1)) (λ old. (i, old.1)) (is_row i g is)
+
+    row_still : (i : I) (g : Held) → rows i ≡ Some g → (j : I) × (after j ≡ Some g)
+    row_still i g is = ⊎_elim
+        (λ moved. (
+          t,
+          update t ∙ (ap (λ b. cond b (Some h) (cond (eq k t) None (rows t))) (laws.refl t)
+              ∙ (sym (there i moved) ∙ is)),
+        ))
+        (λ other. (
+          i,
+          update i ∙ (ap (λ b. cond b (Some h) (cond (eq k i) None (rows i)))
+              (false_from_ne_true _ (λ new. none-some g (sym (free i new) ∙ is)))
+              ∙ (ap (λ b. cond b None (rows i)) other ∙ is)),
+        ))
+        (cases_Bool (eq k i))
+
+    pub renamed_kept : IsKept S eq after
+    renamed_kept = record {
+      unborrowed = kept.unborrowed;
+      plain = kept.plain;
+      listed = kept.listed;
+      apart = λ i j g f is on same. ⊎_elim
+          (λ a. ⊎_elim (λ b. sym (laws.congr t i j a.0) ∙ b.0)
+          (λ b. absurd (true≢false (sym (kept.apart k j g f (there k (laws.refl k) ∙ ap Some a.1) b.1 same) ∙ b.0)))
+          (is_row j f on))
+          (λ a. ⊎_elim
+          (λ b. absurd (true≢false (sym (laws.symm k i
+          ∙ kept.apart i k g f a.1 (there k (laws.refl k) ∙ ap Some b.1) same) ∙ a.0)))
+          (λ b. kept.apart i j g f a.1 b.1 same) (is_row j f on))
+          (is_row i g is);
+      held = λ i g is. let was = was_row i g is in kept.held was.0 g was.1;
+      known = λ o r is.
+          let was = kept.known o r is in
+          let now = row_still was.0 was.1 was.2 in (now.0, was.1, now.1, was.3);
+      kept = λ b m to.
+          let was = kept.kept b m to in
+          let now = row_still was.0 was.1 was.2 in (now.0, was.1, now.1, was.3);
+      live = λ i g is. let was = was_row i g is in kept.live was.0 g was.1;
     }

@@ -142,3 +142,31 @@ impl fmt::Display for LoginError {
 }
 
 impl Error for LoginError {}
+
+/// Why a session can't get another id.
+#[derive(Clone, Copy, Debug, PartialEq, Eq)]
+pub enum RenameError {
+    /// The id has no session.
+    NoSession,
+    /// The new id has a session already.
+    IdInUse,
+    /// The store refused.
+    Store(StoreError),
+}
+
+/// Prints which id is why, or the text of the store's refusal.
+impl fmt::Display for RenameError {
+    ghost use Rattle.session_table.specs.Texts.{rename_error_text};
+
+    ghost output = { λ it. Some (rename_error_text it) };
+
+    fn fmt<W: fmt::Write>(&self, f: &mut fmt::Formatter<W>) -> fmt::Result {
+        match self {
+            RenameError::NoSession => write!(f, "the id has no session"),
+            RenameError::IdInUse => write!(f, "the new id has a session already"),
+            RenameError::Store(cause) => write!(f, "{cause}"),
+        }
+    }
+}
+
+impl Error for RenameError {}

@@ -18,6 +18,7 @@ ghost use Rattle.generational_sessions.specs.Lacking.{Lacks};
 ghost use Rattle.session_table.specs.declared.entry.Entry.{Entry};
 ghost use Rattle.session_table.specs.declared.entry.PutError.TheVariants as put;
 ghost use Rattle.session_table.specs.declared.session.LoginError.TheVariants as login;
+ghost use Rattle.session_table.specs.declared.session.RenameError.TheVariants as rename;
 ghost use Rattle.session_table.specs.Entries.{pointer_in, put_at, IsOther};
 ghost use Rattle.session_table.specs.Sessions.{LiveSession, begun, used, with_entry, entry_in};
 ghost use Rattle.session_table.specs.Sessions.{is_young, if_young, names_of};
@@ -25,7 +26,7 @@ ghost use Rattle.session_table.specs.Tables.{EndsAt, TableState, live, shown_in,
 ghost use Rattle.session_table.specs.Tables.{has_session, session_in, WasPut, IsOrderly};
 
 use crate::entry::{Entry, PutError, PutRefusal, Stale};
-use crate::session::{LoginError, Session};
+use crate::session::{LoginError, RenameError, Session};
 use crate::walk::Sessions;
 use generational_core::{Location, Storage, StoreError};
 use indexmap::IndexMap;
@@ -280,6 +281,53 @@ impl<I: Eq + Hash, K: Eq + Hash, T, S: Storage<T>> SessionTable<I, K, T, S> {
         true
     }
 
+    /// Gives an id's session another id: what it keeps, and the time of its last use, stay. Every other
+    /// session is as it was, and every entry shows what it showed. So a session that was begun before a
+    /// user proved who they are goes on under an id that nobody knew before.
+    ///
+    /// Refused, in this order: `NoSession`, where the id has none; `IdInUse`, where the new id has one,
+    /// also where both are one; `Store` of `OutOfMemory`. The table stays as it was then. Takes memory
+    /// where the rows have no room. O(1), but for finding room.
+    ///
+    /// ```rust
+    /// table.rename(&visitor, user).ok()?;
+    /// ```
+    pub fn rename(&mut self, id: &I, to: I) -> Result<(), RenameError>
+    where
+        I: Drop,
+        ensures moved { OnOk result (session_in I.eq self.new to
+            ≡ session_in I.eq self.old id.now) }
+        ensures gone { OnOk result (session_in I.eq self.new id.now ≡ None) }
+        ensures others { (other : I) → I.eq id.now other ≡ false → I.eq to other ≡ false →
+            session_in I.eq self.new other ≡ session_in I.eq self.old other }
+        ensures count { length self.new.sessions ≡ length self.old.sessions }
+        ensures state { self.new.state ≡ self.old.state }
+        ensures unknown { has_session I.eq self.old id.now ≡ false → result ≡ Err rename.NoSession }
+        ensures in_use { has_session I.eq self.old id.now ≡ true →
+            has_session I.eq self.old to ≡ true → result ≡ Err rename.IdInUse }
+        ensures short { IfErr result (λ e. (has_session I.eq self.old id.now ≡ false)
+            ⊎ ((has_session I.eq self.old to ≡ true) ⊎ (e ≡ rename.Store OutOfMemory))) }
+        ensures refused { OnErr result (self.new ≡ self.old) }
+    {
+        if !self.has(id) {
+            return Err(RenameError::NoSession);
+        }
+        if self.has(&to) {
+            return Err(RenameError::IdInUse);
+        }
+        if self.rows.reserve(1).is_err() {
+            return Err(RenameError::Store(StoreError::OutOfMemory));
+        }
+        let Some(moved) = self.rows.swap_remove(id) else {
+            unreachable!();
+        };
+        match self.rows.insert(to, moved) {
+            Ok(None) => Ok(()),
+            Ok(Some(_other)) => unreachable!(),
+            Err(_full) => unreachable!(),
+        }
+    }
+
     /// Ends an id's session, and all that it keeps: those entries show nothing from then on, and no
     /// later value is mistaken for theirs. Every other session is as it was, and what it keeps shows
     /// what it showed. Answers whether the id had a session; where it had none, nothing changes.
@@ -408,8 +456,8 @@ impl<I: Eq + Hash, K: Eq + Hash, T, S: Storage<T>> SessionTable<I, K, T, S> {
         self.rows.get(id)
     }
 
-    /// The sessions with their ids. A login comes last, and a session that ends leaves its place to the
-    /// last one. Takes no memory, and is O(1).
+    /// The sessions with their ids. A login comes last, and so does a session that gets another id. Where
+    /// one ends or gets another id, the last one takes its place. Takes no memory, and is O(1).
     pub fn sessions(&self) -> Sessions<'_, I, K, T>
         ensures { result ≡ self.now.sessions }
     {
