@@ -5,15 +5,11 @@ ghost use Rattle.sheet.specs.Formulas.{plan_of};
 use reactive::{Key, Reads, Rule};
 
 /// What a node computes: nothing where a sum or a product is too large.
-#[derive(Clone, Copy, Debug)]
+#[derive(Clone, Copy)]
 pub enum Formula {
-    /// Nothing yet.
     Blank,
-    /// What another shows.
     Same(Key),
-    /// The sum of two.
     Add(Key, Key),
-    /// The product of two.
     Mul(Key, Key),
 }
 
@@ -24,14 +20,8 @@ impl Rule<u64> for Formula {
         match *self {
             Formula::Blank => None,
             Formula::Same(a) => reader.get(a),
-            Formula::Add(a, b) => {
-                let x = reader.get(a)?;
-                x.checked_add(reader.get(b)?)
-            }
-            Formula::Mul(a, b) => {
-                let x = reader.get(a)?;
-                x.checked_mul(reader.get(b)?)
-            }
+            Formula::Add(a, b) => reader.get(a)?.checked_add(reader.get(b)?),
+            Formula::Mul(a, b) => reader.get(a)?.checked_mul(reader.get(b)?),
         }
     }
 }

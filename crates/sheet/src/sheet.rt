@@ -1,14 +1,13 @@
 //! Sheets: cells by their names, each a memo of the parts that its formula is made of.
 
 use crate::formula::Formula;
-use anyhow::{Error, Result, anyhow};
-use generational_box::{Location, UnsyncStorage};
+use anyhow::{Result, anyhow, bail, ensure};
+use generational_box::{Location, Storage};
 use reactive::{Effects, Fault, Key, Node, Reactive, Told};
 use std::alloc::Global;
 use std::collections::BTreeMap;
-use std::mem;
-
-type Graph = Reactive<u64, Formula, UnsyncStorage<Node<u64, Formula>>>;
+use std::fmt::Write;
+use std::{io, mem};
 
 /// A cell: its node, and those of its formula's parts that are no cells.
 #[derive(Drop)]
@@ -19,74 +18,70 @@ struct Cell {
 
 /// Cells, and those that are watched.
 #[derive(Drop)]
-pub struct Sheet {
-    alloc: Global,
-    graph: Graph,
-    cells: BTreeMap<String, Cell>,
+pub struct Sheet<G> {
+    graph: G,
     watched: Effects<u64>,
+    cells: BTreeMap<String, Cell>,
+    // those of the formula that is being read
+    parts: Vec<Key>,
+    alloc: Global,
 }
 
-impl Sheet {
+impl<S: Storage<Node<u64, Formula>>> Sheet<Reactive<u64, Formula, S>> {
     /// A sheet without cells, over a graph without nodes.
-    pub fn new(alloc: Global, graph: Graph) -> Sheet {
+    pub fn new(alloc: Global, graph: Reactive<u64, Formula, S>) -> Self {
         Sheet {
-            alloc,
             graph,
-            cells: BTreeMap::new(alloc),
             watched: Effects::new(alloc),
+            cells: BTreeMap::new(alloc),
+            parts: Vec::new(alloc),
+            alloc,
         }
     }
 
-    /// What a cell shows, or why it shows nothing.
-    pub fn show(&mut self, name: &str) -> Result<Result<u64, Fault>> {
-        let key = self.cell(name)?;
-        Ok(self.graph.get(key))
-    }
-
-    /// Watches a cell.
-    pub fn watch(&mut self, name: &str) -> Result<()> {
-        let key = self.cell(name)?;
-        Ok(self.watched.watch(key)?)
-    }
-
-    /// What watched cells show that they didn't show at the last call.
-    pub fn flush(&mut self) -> Result<Vec<Told<u64>>> {
+    /// Carries out a line, and tells of each watched cell that shows something else.
+    pub fn carry_out(&mut self, rt: &impl Print, line: &str) -> Result<()> {
+        match (line.split_once('='), line.split_once(' ')) {
+            (Some((name, formula)), _) => self.put(name.trim(), Some(formula.trim()))?,
+            (_, Some(("show", name))) => {
+                let key = self.cell(name)?;
+                let answer = self.graph.get(key);
+                self.tell(rt, "is", &Told { key, answer })?;
+            }
+            (_, Some(("watch", name))) => {
+                let key = self.cell(name)?;
+                self.watched.watch(key)?;
+            }
+            (_, Some(("clear", name))) => self.put(name, None)?,
+            _ => bail!("not understood"),
+        }
         let mut told = Vec::new(self.alloc);
         self.watched.flush(&mut self.graph, &mut told)?;
-        Ok(told)
+        for change in told.iter() {
+            self.tell(rt, "becomes", change)?;
+        }
+        Ok(())
     }
 
-    /// The name of the cell that has a node.
-    pub fn name_of(&self, key: Key) -> &str {
+    // Tells what a cell shows, or why it shows nothing.
+    fn tell(&self, rt: &impl Print, verb: &str, told: &Told<u64>) -> io::Result<()> {
+        let name = self.name_of(told.key);
+        let (at, why) = match told.answer {
+            Ok(value) => return println!(rt; "{name} {verb} {value}"),
+            Err(Fault::Cycle(at)) => (at, "needs itself"),
+            Err(Fault::NoValue(at)) => (at, "has none"),
+            Err(fault) => return println!(rt; "{name} has no value: {fault}"),
+        };
+        println!(rt; "{name} has no value: {} {why}", self.name_of(at))
+    }
+
+    // The name of the cell that has a node.
+    fn name_of(&self, key: Key) -> &str {
         let mut cells = self.cells.iter();
         match cells.find(|(_, cell)| cell.key == key || cell.parts.contains(&key)) {
             Some((name, _)) => name.as_str(),
             None => "?",
         }
-    }
-
-    /// Gives a cell a formula, or none: then it is blank.
-    pub fn put(&mut self, name: &str, formula: Option<&str>) -> Result<()> {
-        let key = self.cell(name)?;
-        let mut parts = Vec::new(self.alloc);
-        let put = self.put_parts(key, formula, &mut parts);
-        if let (Ok(()), Some(cell)) = (&put, self.cells.get_mut(name)) {
-            mem::swap(&mut cell.parts, &mut parts);
-        }
-        // the parts of the old formula, or of one that was refused
-        self.graph.end_all(&parts)?;
-        put
-    }
-
-    fn put_parts(&mut self, key: Key, formula: Option<&str>, parts: &mut Vec<Key>) -> Result<()> {
-        let rule = match formula {
-            None => Formula::Blank,
-            Some(words) => match words.strip_prefix("sum ") {
-                Some(range) => self.range(range, parts)?,
-                None => self.sum(words, parts)?,
-            },
-        };
-        Ok(self.graph.set_rule(key, rule)?)
     }
 
     // The node of a cell. One that is new is blank.
@@ -98,102 +93,98 @@ impl Sheet {
         let owned = String::from_str(self.alloc, name)?;
         let key = self.graph.memo(Formula::Blank, here())?;
         let parts = Vec::new(self.alloc);
-        if let Err(refused) = self.cells.insert(owned, Cell { key, parts }) {
-            self.graph.end_all(&[key])?;
-            return Err(refused.into());
-        }
+        self.cells.insert(owned, Cell { key, parts })?;
         Ok(key)
     }
 
-    // The cells of a column from one to another, as `A1 A9`, summed up.
-    fn range(&mut self, range: &str, parts: &mut Vec<Key>) -> Result<Formula> {
-        let (first, last) = range.split_once(' ').ok_or_else(bad_line)?;
-        let ((column, from), (other, to)) = (row_of(first)?, row_of(last)?);
-        let mut total = None;
-        if column == other {
-            for row in from..=to {
-                let name = format!(in self.alloc; "{column}{row}")?;
-                let cell = Formula::Same(self.cell(name.as_str())?);
-                total = Some(self.plus(total, cell, parts)?);
-            }
+    // Gives a cell a formula, or none: then it is blank.
+    fn put(&mut self, name: &str, formula: Option<&str>) -> Result<()> {
+        let key = self.cell(name)?;
+        let rule = self.rule(formula);
+        if let (Ok(rule), Some(cell)) = (&rule, self.cells.get_mut(name)) {
+            self.graph.set_rule(key, *rule)?;
+            mem::swap(&mut cell.parts, &mut self.parts);
         }
-        total.ok_or_else(bad_line)
+        // the parts of the old formula, or of one that was refused
+        self.graph.end_all(&self.parts)?;
+        self.parts.clear();
+        rule.map(|_| ())
+    }
+
+    fn rule(&mut self, formula: Option<&str>) -> Result<Formula> {
+        let Some(words) = formula else {
+            return Ok(Formula::Blank);
+        };
+        match words.strip_prefix("sum ") {
+            Some(range) => self.sum(range_of(self.alloc, range)?.as_str()),
+            None => self.sum(words),
+        }
     }
 
     // A sum of products.
-    fn sum(&mut self, words: &str, parts: &mut Vec<Key>) -> Result<Formula> {
-        let mut total = None;
+    fn sum(&mut self, words: &str) -> Result<Formula> {
+        let mut sum = Formula::Blank;
         for product in words.split('+') {
-            let product = self.product(product, parts)?;
-            total = Some(self.plus(total, product, parts)?);
-        }
-        total.ok_or_else(bad_line)
-    }
-
-    fn product(&mut self, words: &str, parts: &mut Vec<Key>) -> Result<Formula> {
-        let mut product = None;
-        for word in words.split('*') {
-            let key = self.operand(word.trim(), parts)?;
-            product = Some(match product {
-                Some(before) => Formula::Mul(self.part(before, parts)?, key),
-                None => Formula::Same(key),
-            });
-        }
-        product.ok_or_else(bad_line)
-    }
-
-    fn plus(
-        &mut self,
-        total: Option<Formula>,
-        more: Formula,
-        parts: &mut Vec<Key>,
-    ) -> Result<Formula> {
-        match total {
-            Some(before) => {
-                let before = self.part(before, parts)?;
-                Ok(Formula::Add(before, self.part(more, parts)?))
+            let mut rule = Formula::Blank;
+            for word in product.split('*') {
+                let key = self.operand(word.trim())?;
+                rule = match rule {
+                    Formula::Blank => Formula::Same(key),
+                    before => Formula::Mul(self.node(before)?, key),
+                };
             }
-            None => Ok(more),
+            sum = match sum {
+                Formula::Blank => rule,
+                before => Formula::Add(self.node(before)?, self.node(rule)?),
+            };
         }
+        Ok(sum)
     }
 
     // A number is a source, and any other word names a cell.
-    fn operand(&mut self, word: &str, parts: &mut Vec<Key>) -> Result<Key> {
-        let Ok(number) = word.parse::<u64>() else {
+    fn operand(&mut self, word: &str) -> Result<Key> {
+        let Ok(number) = word.parse() else {
             return self.cell(word);
         };
-        parts.reserve(1)?;
+        self.parts.reserve(1)?;
         let key = self.graph.source(number, here())?;
-        parts.push_reserved(key);
+        self.parts.push_reserved(key);
         Ok(key)
     }
 
     // The node of a part: that which it shows, or a memo of its own.
-    fn part(&mut self, formula: Formula, parts: &mut Vec<Key>) -> Result<Key> {
-        if let Formula::Same(key) = formula {
+    fn node(&mut self, part: Formula) -> Result<Key> {
+        if let Formula::Same(key) = part {
             return Ok(key);
         }
-        parts.reserve(1)?;
-        let key = self.graph.memo(formula, here())?;
-        parts.push_reserved(key);
+        self.parts.reserve(1)?;
+        let key = self.graph.memo(part, here())?;
+        self.parts.push_reserved(key);
         Ok(key)
     }
+}
+
+// The sum of a column's cells from one to another, as of `A1 A9`.
+fn range_of(alloc: Global, words: &str) -> Result<String> {
+    let (first, last) = words.split_once(' ').unwrap_or(("", ""));
+    let ((column, from), (other, to)) = (row_of(first)?, row_of(last)?);
+    ensure!(column == other, "not understood");
+    let mut sum = String::new(alloc);
+    for row in from..=to {
+        write!(sum, "{}{column}{row}", if row == from { "" } else { "+" })?;
+    }
+    Ok(sum)
 }
 
 // The column and the row of a cell's name, as of A12.
 fn row_of(name: &str) -> Result<(char, u16)> {
     let mut letters = name.chars();
     match (letters.next(), letters.as_str().parse()) {
-        (Some(column), Ok(row)) if column.is_ascii_uppercase() => Ok((column, row)),
-        _ => Err(bad_line()),
+        (Some(column @ 'A'..='Z'), Ok(row)) => Ok((column, row)),
+        _ => Err(anyhow!("not understood")),
     }
 }
 
-/// A line isn't understood.
-pub fn bad_line() -> Error {
-    anyhow!("not understood")
-}
-
 fn here() -> Location {
-    Location::new("sheet", 1, 1)
+    Location::new("sheet.rt", 1, 1)
 }
