@@ -24,23 +24,20 @@ fn play<R: Print, A: Storage<u64>, C: Storage<u64>>(
     let cat = actors.spawn(9, here)?;
     let dog = actors.spawn(7, here)?;
     scores.attach(actors, cat, 100, here)?;
-    scores.attach(actors, dog, 50, here)?;
     actors.update(
         cat,
         |strength: &mut u64| *strength = strength.wrapping_add(1),
     )?;
 
-    // The dog goes, and its score with it. Its handle finds nobody, whoever takes its slot.
+    // The dog goes, and its handle finds nobody, whoever takes its slot.
     actors.despawn(dog)?;
     scores.sweep(actors);
-    let bird = actors.spawn(2, here)?;
     for (actor, strength) in actors.iter() {
         println!(rt;
             "{actor:?}: strength {strength}, score {:?}",
             scores.get(actor)
         )?;
     }
-    println!(rt; "the bird is the dog: {}", bird == dog)?;
     if let Err(stale) = actors.get(dog) {
         println!(rt; "{stale}")?;
     }

@@ -21,14 +21,8 @@ fn write<R: Print, S: Storage<Part<u64>>>(rt: &R, document: &mut Document<u64, S
     let next = document.add(20, here)?;
     document.exchange(heading, next)?;
     document.remove(next)?;
-    for page in [first, second] {
-        for place in document.children(page)?.iter() {
-            println!(rt;
-                "page {} has {}",
-                document.get(page)?,
-                document.get(*place)?
-            )?;
-        }
+    for place in document.outline(second, 10)?.iter() {
+        println!(rt; "{}", document.get(*place)?)?;
     }
     document.remove(heading)?;
     if let Err(gone) = document.get(heading) {
