@@ -1,7 +1,7 @@
 //! When memory runs out: a refused insertion hands its value back, and the store goes on.
 
 use anyhow::Result;
-use generational_box::{GenerationalBox, Location, Refusal, Storage, UnsyncStorage};
+use generational_box::{GenerationalBox, Location, Refusal, UnsyncStorage};
 
 pub fn main(rt: HostRuntime) -> Result<()> {
     let mut store = UnsyncStorage::<u64>::new(rt.alloc(), 1);
@@ -11,23 +11,9 @@ pub fn main(rt: HostRuntime) -> Result<()> {
     if let Err(cause) = store.reserve(usize::MAX) {
         println!(rt; "{cause}")?;
     }
-    report(&rt, &mut store)
-}
-
-fn report<R: Print, S: Storage<u64>>(rt: &R, store: &mut S) -> Result<()> {
-    let (kept, back) = keep_all(store, 1000);
-    println!(rt; "{kept} kept, {} live, back: {back:?}", store.len())?;
-    Ok(())
-}
-
-// Keeps the numbers below `count`, until one is refused. How many were kept, and the one that came
-// back.
-fn keep_all<S: Storage<u64>>(store: &mut S, count: u64) -> (u64, Option<u64>) {
-    for value in 0..count {
-        match GenerationalBox::leak(store, value, Location::new("memory.rt", 27, 15)) {
-            Ok(_) => {}
-            Err(Refusal { value, cause: _ }) => return (value, Some(value)),
-        }
+    match GenerationalBox::leak(&mut store, 7, Location::new("memory.rt", 14, 11)) {
+        Ok(kept) => println!(rt; "kept {:?}", kept.peek(&store))?,
+        Err(Refusal { value, cause }) => println!(rt; "{value} comes back: {cause}")?,
     }
-    (count, None)
+    Ok(())
 }
