@@ -92,6 +92,22 @@ pub fn seen_after_put<S: Storage<u64>>(
     table.get(entry).copied()
 }
 
+/// Gives a visitor's session the id of a user who has proved who they are, and finds in it what the
+/// visitor kept under a key. The visitor's id has no session then.
+pub fn signed_in<S: Storage<u64>>(
+    table: &mut SessionTable<u64, u64, u64, S>,
+    visitor: u64,
+    user: u64,
+    key: u64,
+) -> Option<Entry<u64>>
+    ensures found { IfSome result (λ e.
+        entry_in nat_eq (session_in nat_eq table.old visitor) key ≡ Some e) }
+    ensures gone { IfSome result (λ _. session_in nat_eq table.new visitor ≡ None) }
+{
+    table.rename(&visitor, user).ok()?;
+    table.entry(&user, &key)
+}
+
 /// Adds to an entry's value in its place, and answers what it is then.
 pub fn added<S: Storage<u64>>(
     table: &mut SessionTable<u64, u64, u64, S>,
