@@ -1,9 +1,8 @@
 //! A chain of 100,000 memos: no call is a recursion.
 
-use crate::fresh::{Graph, Scene, expect, memo, play_once, set, set_rule, source};
-use example_libraries::memos::Formula;
-use generational_box::Storage;
-use reactive::{Fault, Node};
+use crate::formula::Formula;
+use crate::graph::{Graph, Scene, play};
+use reactive::Fault;
 use std::alloc::Global;
 use std::process::Abort;
 
@@ -12,31 +11,28 @@ const LONG: u64 = 100_000;
 struct Chain;
 
 impl Scene for Chain {
-    fn play<R: Abort, S: Storage<Node<u64, Formula>> + Drop>(
-        &self,
-        rt: &R,
-        _alloc: Global,
-        graph: Graph<S>,
-    ) {
-        let mut graph = graph;
-        let first = source(rt, &mut graph, 1);
-        let zero = source(rt, &mut graph, 0);
+    fn play<R: Abort, G: Graph>(&self, rt: &R, _alloc: Global, graph: &mut G) {
+        let first = graph.source(1).expect(rt, "a source");
+        let zero = graph.source(0).expect(rt, "a source");
         let mut last = first;
         for _ in 0..LONG {
-            last = memo(rt, &mut graph, Formula::Add(last, zero));
+            last = graph.memo(Formula::Add(last, zero)).expect(rt, "a memo");
         }
-        expect(rt, &mut graph, last, 1, LONG);
-        set(rt, &mut graph, first, 2);
-        expect(rt, &mut graph, last, 2, LONG);
+        assert_eq!(rt; graph.get(last), Ok(1));
+        assert_eq!(rt; graph.runs(), LONG);
+        assert_eq!(rt; graph.set(first, 2), Ok(()));
+        assert_eq!(rt; graph.get(last), Ok(2));
+        assert_eq!(rt; graph.runs(), 2 * LONG);
         // closed to a ring, it means nothing
-        set_rule(rt, &mut graph, first, Formula::Same(last));
+        assert_eq!(rt; graph.set_rule(first, Formula::Same(last)), Ok(()));
         assert!(rt; matches!(graph.get(last), Err(Fault::Cycle(_))));
-        set_rule(rt, &mut graph, first, Formula::Same(zero));
-        expect(rt, &mut graph, last, 0, LONG + 1);
+        assert_eq!(rt; graph.set_rule(first, Formula::Same(zero)), Ok(()));
+        assert_eq!(rt; graph.get(last), Ok(0));
+        assert_eq!(rt; graph.runs(), 3 * LONG + 1);
     }
 }
 
 #[test]
 fn a_long_chain_is_no_recursion(rt: HostRuntime) {
-    play_once(&rt, rt.alloc(), &Chain);
+    assert_eq!(rt; play(&rt, rt.alloc(), &Chain), 0);
 }

@@ -1,125 +1,82 @@
 //! How often rules are run.
 
-use crate::fresh::{Graph, Scene, expect, memo, play, set, set_rule, source};
-use example_libraries::memos::Formula;
-use generational_box::Storage;
-use reactive::Node;
+use crate::formula::Formula;
+use crate::graph::{Graph, Scene, play};
+use crate::lines::Line::{Memo, Set, SetRule, Shows, Source};
+use crate::lines::Lines;
+use crate::plain::Plain::{Add, Odd, Pick, Same};
 use std::alloc::Global;
 use std::process::Abort;
 
-struct Fresh;
-
-impl Scene for Fresh {
-    fn play<R: Abort, S: Storage<Node<u64, Formula>> + Drop>(
-        &self,
-        rt: &R,
-        _alloc: Global,
-        graph: Graph<S>,
-    ) {
-        let mut graph = graph;
-        let a = source(rt, &mut graph, 1);
-        let b = memo(rt, &mut graph, Formula::Add(a, a));
-        expect(rt, &mut graph, b, 2, 1);
-        expect(rt, &mut graph, b, 2, 0);
-        // a new node leaves what is fresh
-        let c = memo(rt, &mut graph, Formula::Same(b));
-        expect(rt, &mut graph, b, 2, 0);
-        expect(rt, &mut graph, c, 2, 1);
-        // so does a set to the value that a source has
-        set(rt, &mut graph, a, 1);
-        expect(rt, &mut graph, c, 2, 0);
-    }
-}
-
 #[test]
 fn what_is_fresh_runs_no_rule(rt: HostRuntime) {
-    play(&rt, rt.alloc(), &Fresh);
-}
-
-struct Diamond;
-
-impl Scene for Diamond {
-    fn play<R: Abort, S: Storage<Node<u64, Formula>> + Drop>(
-        &self,
-        rt: &R,
-        _alloc: Global,
-        graph: Graph<S>,
-    ) {
-        let mut graph = graph;
-        let a = source(rt, &mut graph, 1);
-        let left = memo(rt, &mut graph, Formula::Same(a));
-        let right = memo(rt, &mut graph, Formula::Add(a, a));
-        let foot = memo(rt, &mut graph, Formula::Add(left, right));
-        expect(rt, &mut graph, foot, 3, 3);
-        set(rt, &mut graph, a, 5);
-        expect(rt, &mut graph, foot, 15, 3);
-        expect(rt, &mut graph, left, 5, 0);
-        // two sets are one batch
-        set(rt, &mut graph, a, 6);
-        set(rt, &mut graph, a, 7);
-        expect(rt, &mut graph, foot, 21, 3);
-    }
+    let lines = Lines(&[
+        Source(1),
+        Memo(Add(0, 0)),
+        Shows(1, 2, 1),
+        Shows(1, 2, 0),
+        // a new node leaves what is fresh
+        Memo(Same(1)),
+        Shows(1, 2, 0),
+        Shows(2, 2, 1),
+        // so does a set to the value that a source has
+        Set(0, 1),
+        Shows(2, 2, 0),
+    ]);
+    assert_eq!(rt; play(&rt, rt.alloc(), &lines), 0);
 }
 
 #[test]
 fn a_diamond_runs_its_foot_once(rt: HostRuntime) {
-    play(&rt, rt.alloc(), &Diamond);
-}
-
-struct CutOff;
-
-impl Scene for CutOff {
-    fn play<R: Abort, S: Storage<Node<u64, Formula>> + Drop>(
-        &self,
-        rt: &R,
-        _alloc: Global,
-        graph: Graph<S>,
-    ) {
-        let mut graph = graph;
-        let a = source(rt, &mut graph, 3);
-        let other = source(rt, &mut graph, 100);
-        let odd = memo(rt, &mut graph, Formula::Odd(a));
-        let top = memo(rt, &mut graph, Formula::Add(odd, other));
-        expect(rt, &mut graph, top, 101, 2);
-        set(rt, &mut graph, a, 5);
-        expect(rt, &mut graph, top, 101, 1);
-        set(rt, &mut graph, a, 6);
-        expect(rt, &mut graph, top, 100, 2);
-    }
+    let lines = Lines(&[
+        Source(1),
+        Memo(Same(0)),
+        Memo(Add(0, 0)),
+        Memo(Add(1, 2)),
+        Shows(3, 3, 3),
+        Set(0, 5),
+        Shows(3, 15, 3),
+        Shows(1, 5, 0),
+        // two sets are one batch
+        Set(0, 6),
+        Set(0, 7),
+        Shows(3, 21, 3),
+    ]);
+    assert_eq!(rt; play(&rt, rt.alloc(), &lines), 0);
 }
 
 #[test]
 fn what_reads_a_value_that_stays_is_not_run(rt: HostRuntime) {
-    play(&rt, rt.alloc(), &CutOff);
-}
-
-struct Choice;
-
-impl Scene for Choice {
-    fn play<R: Abort, S: Storage<Node<u64, Formula>> + Drop>(
-        &self,
-        rt: &R,
-        _alloc: Global,
-        graph: Graph<S>,
-    ) {
-        let mut graph = graph;
-        let test = source(rt, &mut graph, 1);
-        let a = source(rt, &mut graph, 10);
-        let b = source(rt, &mut graph, 20);
-        let chosen = memo(rt, &mut graph, Formula::Pick(test, a, b));
-        expect(rt, &mut graph, chosen, 10, 1);
-        set(rt, &mut graph, b, 21);
-        expect(rt, &mut graph, chosen, 10, 0);
-        set(rt, &mut graph, test, 0);
-        expect(rt, &mut graph, chosen, 21, 1);
-        set(rt, &mut graph, a, 11);
-        expect(rt, &mut graph, chosen, 21, 0);
-    }
+    let lines = Lines(&[
+        Source(3),
+        Source(100),
+        Memo(Odd(0)),
+        Memo(Add(2, 1)),
+        Shows(3, 101, 2),
+        Set(0, 5),
+        Shows(3, 101, 1),
+        Set(0, 6),
+        Shows(3, 100, 2),
+    ]);
+    assert_eq!(rt; play(&rt, rt.alloc(), &lines), 0);
 }
 
 #[test]
 fn what_was_not_read_runs_nothing(rt: HostRuntime) {
-    play(&rt, rt.alloc(), &Choice);
+    let lines = Lines(&[
+        Source(1),
+        Source(10),
+        Source(20),
+        Memo(Pick(0, 1, 2)),
+        Shows(3, 10, 1),
+        Set(2, 21),
+        Shows(3, 10, 0),
+        Set(0, 0),
+        Shows(3, 21, 1),
+        Set(1, 11),
+        Shows(3, 21, 0),
+    ]);
+    assert_eq!(rt; play(&rt, rt.alloc(), &lines), 0);
 }
 
 struct Ladder;
@@ -128,32 +85,28 @@ struct Ladder;
 const RUNGS: u64 = 40;
 
 impl Scene for Ladder {
-    fn play<R: Abort, S: Storage<Node<u64, Formula>> + Drop>(
-        &self,
-        rt: &R,
-        _alloc: Global,
-        graph: Graph<S>,
-    ) {
-        let mut graph = graph;
-        let foot = source(rt, &mut graph, 1);
+    fn play<R: Abort, G: Graph>(&self, rt: &R, _alloc: Global, graph: &mut G) {
+        let foot = graph.source(1).expect(rt, "a source");
         let (mut left, mut right) = (foot, foot);
         for _ in 0..RUNGS {
-            let sum = memo(rt, &mut graph, Formula::Add(left, right));
-            right = memo(rt, &mut graph, Formula::Add(right, left));
+            let sum = graph.memo(Formula::Add(left, right)).expect(rt, "a memo");
+            right = graph.memo(Formula::Add(right, left)).expect(rt, "a memo");
             left = sum;
         }
-        expect(rt, &mut graph, left, 1 << RUNGS, 2 * RUNGS - 1);
-        set(rt, &mut graph, foot, 2);
-        expect(rt, &mut graph, left, 2 << RUNGS, 2 * RUNGS - 1);
-        // a rule that is put is run, and what reads it only where its value is another
-        set_rule(rt, &mut graph, foot, Formula::Odd(foot));
-        assert!(rt; graph.get(left).is_err());
-        set_rule(rt, &mut graph, foot, Formula::Blank);
-        assert!(rt; graph.get(left).is_err());
+        assert_eq!(rt; graph.get(left), Ok(1 << RUNGS));
+        assert_eq!(rt; graph.runs(), 2 * RUNGS - 1);
+        assert_eq!(rt; graph.set(foot, 2), Ok(()));
+        assert_eq!(rt; graph.get(left), Ok(2 << RUNGS));
+        assert_eq!(rt; graph.runs(), 4 * RUNGS - 2);
+        // a rule that is put is run, and what reads it means nothing
+        for rule in [Formula::Odd(foot), Formula::Blank] {
+            assert_eq!(rt; graph.set_rule(foot, rule), Ok(()));
+            assert!(rt; graph.get(left).is_err());
+        }
     }
 }
 
 #[test]
 fn many_paths_run_each_rule_once(rt: HostRuntime) {
-    play(&rt, rt.alloc(), &Ladder);
+    assert_eq!(rt; play(&rt, rt.alloc(), &Ladder), 0);
 }

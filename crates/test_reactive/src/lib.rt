@@ -1,10 +1,8 @@
 //! Tests of graphs of sources and memos: how often rules are run, what is told of cycles and of nodes
-//! that have ended, effects, callers, a long chain, drawn graphs beside a plain recomputation, and
+//! that have ended, effects, texts, a long chain, drawn graphs beside a plain recomputation, and
 //! refused memory.
 #![tactic(auto)]
 
-#[cfg(test)]
-mod callers;
 #[cfg(test)]
 mod chain;
 #[cfg(test)]
@@ -15,7 +13,14 @@ mod drawn;
 mod effects;
 #[cfg(test)]
 mod faults;
+pub mod formula;
 #[cfg(test)]
-mod fresh;
+mod graph;
 #[cfg(test)]
 mod graph_memory;
+#[cfg(test)]
+mod lines;
+#[cfg(test)]
+mod plain;
+#[cfg(test)]
+mod texts;

@@ -1,0 +1,47 @@
+//! Rules of memos.
+
+ghost use Rattle.test_reactive.specs.Formulas.{plan_of};
+
+use reactive::{Key, Reads, Rule};
+
+/// What a memo computes of other nodes.
+#[derive(Clone, Copy)]
+pub enum Formula {
+    /// Nothing.
+    Blank,
+    /// What a node shows.
+    Same(Key),
+    /// Whether a number is odd.
+    Odd(Key),
+    /// A sum, which wraps at 2^64.
+    Add(Key, Key),
+    /// The second node's number, where the first's is other than zero, or else the third's.
+    Pick(Key, Key, Key),
+}
+
+impl Rule<u64> for Formula {
+    ghost plan = { plan_of };
+
+    fn compute<D: Reads<u64>>(&self, reader: &mut D) -> Option<u64> {
+        match *self {
+            Formula::Blank => None,
+            Formula::Same(a) => reader.get(a),
+            Formula::Odd(a) => {
+                let x = reader.get(a)?;
+                Some(x % 2)
+            }
+            Formula::Add(a, b) => {
+                let x = reader.get(a)?;
+                let y = reader.get(b)?;
+                Some(x.wrapping_add(y))
+            }
+            Formula::Pick(test, a, b) => {
+                if reader.get(test)? != 0 {
+                    reader.get(a)
+                } else {
+                    reader.get(b)
+                }
+            }
+        }
+    }
+}
