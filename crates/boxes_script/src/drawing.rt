@@ -117,27 +117,21 @@ impl<'a> Drawing<'a> {
     // A making of an owner, or by one.
     fn insert(&mut self, location: Location) -> Result<Call<String>, AllocError> {
         let kind = self.below(8);
-        if kind < 2 {
-            let call = self.own(kind);
+        if kind == 0 {
             self.owners.push(self.place)?;
-            return Ok(call);
+            return Ok(Call::Owner);
         }
         let owner = self.owner();
+        if kind == 1 {
+            self.owners.push(self.place)?;
+            return Ok(Call::CloneOwner(owner));
+        }
         self.boxes.push(self.place)?;
         Ok(match kind {
             2 | 3 => Call::InsertRc(owner, self.value()?, location),
             4 | 5 => Call::InsertReference(owner, self.box_at()),
             _ => Call::Insert(owner, self.value()?, location),
         })
-    }
-
-    // A making of an owner.
-    fn own(&mut self, kind: u32) -> Call<String> {
-        if kind == 0 {
-            Call::Owner
-        } else {
-            Call::CloneOwner(self.owner())
-        }
     }
 
     // A borrow, another value, or a borrow's end.
@@ -210,22 +204,24 @@ impl<'a> Drawing<'a> {
         let rest = word / 16;
         match (word % 16, of(self.strangers, rest)) {
             (0, Some(stranger)) => BoxAt::Foreign(stranger),
-            (1, _) => BoxAt::Place(any(self.place, rest)),
-            (2, _) => BoxAt::Place(latest(&self.ended, self.place, rest)),
-            _ => BoxAt::Place(latest(&self.boxes, self.place, rest)),
+            (1, _) => BoxAt::Place(picked(&[], self.place, rest)),
+            (2, _) => BoxAt::Place(picked(&self.ended, self.place, rest)),
+            _ => BoxAt::Place(picked(&self.boxes, self.place, rest)),
         }
     }
 
     // The place of an owner.
     fn owner(&mut self) -> usize {
         let word = self.word();
-        held(&self.owners, &self.spent_owners, self.place, word)
+        let places = held(&self.owners, &self.spent_owners, word);
+        picked(places, self.place, word / 16)
     }
 
     // The place of a guard.
     fn guard(&mut self) -> usize {
         let word = self.word();
-        held(&self.guards, &self.spent_guards, self.place, word)
+        let places = held(&self.guards, &self.spent_guards, word);
+        picked(places, self.place, word / 16)
     }
 }
 
@@ -235,30 +231,26 @@ fn of<X: Copy>(items: &[X], word: u32) -> Option<X> {
     items.get(index).copied()
 }
 
-// A place that a word picks: as often one past the end as an earlier one.
-fn any(place: usize, word: u32) -> usize {
-    let picked = (word / 2) as usize;
+// One of the latest of these places that a word picks. Where there is none, any place: as often one
+// past the end as an earlier one.
+fn picked(places: &[usize], place: usize, word: u32) -> usize {
+    let back = (word as usize).checked_rem(places.len().min(LATEST));
+    if let Some(found) = places.iter().rev().nth(back.unwrap_or(0)) {
+        return *found;
+    }
+    let rest = (word / 2) as usize;
     if word % 2 == 0 {
-        place.saturating_add(picked % 4)
+        place.saturating_add(rest % 4)
     } else {
-        picked.checked_rem(place).unwrap_or(0)
+        rest.checked_rem(place).unwrap_or(0)
     }
 }
 
-// One of the latest places of a list that a word picks, or else any.
-fn latest(places: &Vec<usize>, place: usize, word: u32) -> usize {
-    let count = places.len().min(LATEST);
-    let picked = (word as usize).checked_rem(count);
-    let found = picked.and_then(|back| places.iter().rev().nth(back).copied());
-    found.unwrap_or(any(place, word))
-}
-
-// One of the latest places of a list that a word picks: seldom of those that were spent, or any.
-fn held(places: &Vec<usize>, spent: &Vec<usize>, place: usize, word: u32) -> usize {
-    let rest = word / 16;
+// Which places a word means: seldom those that were spent, or none of its kind.
+fn held<'a>(places: &'a [usize], spent: &'a [usize], word: u32) -> &'a [usize] {
     match word % 16 {
-        0 => any(place, rest),
-        1 | 2 => latest(spent, place, rest),
-        _ => latest(places, place, rest),
+        0 => &[],
+        1 | 2 => spent,
+        _ => places,
     }
 }

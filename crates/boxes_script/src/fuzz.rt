@@ -58,22 +58,6 @@ pub fn fuzz_list(alloc: Global, seed: u64, count: usize) -> Result<Vec<Call<Stri
     fuzz_calls(alloc, &words, &strangers)
 }
 
-/// Draws a list of this many calls from a seed, and compares how two stores answer it.
-pub(crate) fn fuzz<S: Storage<String> + Drop, R: Storage<String> + Drop>(
-    alloc: Global,
-    seed: u64,
-    count: usize,
-    one: S,
-    other: R,
-) -> Result<Verdict, AllocError>
-    requires one { IsFresh (S.state one) }
-    requires other { IsFresh (R.state other) }
-{
-    let calls = fuzz_list(alloc, seed, count)?;
-    let again = fuzz_list(alloc, seed, count)?;
-    compare_stores(alloc, (one, calls), (other, again))
-}
-
 // Adds boxes of a store that goes.
 fn add_strangers<S: Storage<String> + Drop>(
     alloc: Global,

@@ -3,7 +3,7 @@
 ghost use Rattle.generational_core.specs.Conditions.{IsFresh};
 
 use crate::fault::Fault;
-use crate::fuzz::{Pair, fuzz, fuzz_pair};
+use crate::fuzz::{Pair, compare_stores, fuzz_list, fuzz_pair};
 use crate::lines::Lines;
 use crate::script::Script;
 use boxes_parts::Verdict;
@@ -40,10 +40,12 @@ pub fn boxes_run<R: Read, W: Write, E: Write>(
         let ended = run(alloc, UnsyncStorage::new(alloc, 1), input, output);
         return status_of(ended, faults);
     }
-    fuzz_run(alloc, words, fuzz_pair(alloc), output, faults)
+    let Pair { one, other } = fuzz_pair(alloc);
+    let ended = run_fuzz(alloc, words, one, other, output);
+    status_of(ended, faults)
 }
 
-/// Runs the program over another pair of stores, where there are words: `boxes_run` hands in
+/// Runs the program over another pair of stores, where there are words: `boxes_run` takes those of
 /// `fuzz_pair`.
 pub fn fuzz_run<W: Write, E: Write>(
     alloc: Global,
@@ -55,7 +57,8 @@ pub fn fuzz_run<W: Write, E: Write>(
     requires one { IsFresh pair.one.state }
     requires other { IsFresh pair.other.state }
 {
-    let ended = run_fuzz(alloc, words, pair, output);
+    let Pair { one, other } = pair;
+    let ended = run_fuzz(alloc, words, one, other, output);
     status_of(ended, faults)
 }
 
@@ -93,17 +96,21 @@ fn run<S: Storage<String> + Drop, R: Read, W: Write>(
 }
 
 // Runs a drawn list over two stores, or finds the fault in the words.
-fn run_fuzz<W: Write>(
+fn run_fuzz<S: Storage<String> + Drop, R: Storage<String> + Drop, W: Write>(
     alloc: Global,
     words: &[String],
-    pair: Pair,
+    one: S,
+    other: R,
     output: &mut W,
 ) -> Result<u8, Fault>
-    requires one { IsFresh pair.one.state }
-    requires other { IsFresh pair.other.state }
+    requires one { IsFresh (S.state one) }
+    requires other { IsFresh (R.state other) }
 {
     let (seed, count) = seed_and_count(words).ok_or(Fault::Usage)?;
-    let verdict = fuzz(alloc, seed, count, pair.one, pair.other).map_err(|_| Fault::Memory)?;
+    let calls = fuzz_list(alloc, seed, count).map_err(|_| Fault::Memory)?;
+    let again = fuzz_list(alloc, seed, count).map_err(|_| Fault::Memory)?;
+    let verdict = compare_stores(alloc, (one, calls), (other, again));
+    let verdict = verdict.map_err(|_| Fault::Memory)?;
     writeln!(output, "{verdict}").map_err(|_| Fault::Output)?;
     output.flush().map_err(|_| Fault::Output)?;
     match verdict {

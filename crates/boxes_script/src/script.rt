@@ -217,7 +217,7 @@ impl<S: Storage<String>> Script<S> {
 
     // The box that a line gave.
     fn box_at(&self, line: u32) -> BoxAt<String> {
-        BoxAt::Place(self.place(line))
+        BoxAt::Place(self.places.at(line).place)
     }
 
     // The release of the owner or the guard that a line gave.
