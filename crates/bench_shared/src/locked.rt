@@ -1,24 +1,27 @@
 //! The workload's calls over the store that threads share.
 
 use crate::calls::{Calls, place};
-use generational_box::{GenerationalBox, GenerationalRef, GenerationalRefMut, Owner, StepCall};
+use generational_box::{
+    GenerationalBox, GenerationalRef, GenerationalRefMut, Location, Owner, StepCall,
+};
 use generational_sync::{Count, SyncState, SyncStorage, Tally};
 use std::sync::Wait;
 
-/// A worker: a handle of the store, and a tally.
+/// A worker: a handle of the store, a tally, and where its calls are made.
 #[derive(Drop)]
 pub(crate) struct Worker<A: Count, B: Count, C: Count, D: Count> {
     pub(crate) store: SyncStorage<u64, 7, A, B, C, D>,
     pub(crate) tally: Tally<A, B, C, D>,
+    pub(crate) at: Location,
 }
 
 impl<A: Count, B: Count, C: Count, D: Count> Calls for Worker<A, B, C, D> {
     fn leak(&mut self, rt: &impl Wait, value: u64) -> Option<GenerationalBox<u64>> {
-        self.store.leak(rt, value, place(), &mut self.tally).ok()
+        self.store.leak(rt, value, self.at, &mut self.tally).ok()
     }
 
     fn leak_rc(&mut self, rt: &impl Wait, value: u64) -> Option<GenerationalBox<u64>> {
-        self.store.leak_rc(rt, value, place(), &mut self.tally).ok()
+        self.store.leak_rc(rt, value, self.at, &mut self.tally).ok()
     }
 
     fn leak_reference(
@@ -40,7 +43,7 @@ impl<A: Count, B: Count, C: Count, D: Count> Calls for Worker<A, B, C, D> {
         value: u64,
     ) -> Option<GenerationalBox<u64>> {
         self.store
-            .insert(rt, owner, value, place(), &mut self.tally)
+            .insert(rt, owner, value, self.at, &mut self.tally)
             .ok()
     }
 
@@ -51,7 +54,7 @@ impl<A: Count, B: Count, C: Count, D: Count> Calls for Worker<A, B, C, D> {
         value: u64,
     ) -> Option<GenerationalBox<u64>> {
         self.store
-            .insert_rc(rt, owner, value, place(), &mut self.tally)
+            .insert_rc(rt, owner, value, self.at, &mut self.tally)
             .ok()
     }
 
@@ -71,7 +74,7 @@ impl<A: Count, B: Count, C: Count, D: Count> Calls for Worker<A, B, C, D> {
         asked: GenerationalBox<u64>,
     ) -> Option<GenerationalRef<u64>> {
         self.store
-            .try_read(rt, asked, place(), &mut self.tally)
+            .try_read(rt, asked, self.at, &mut self.tally)
             .ok()
     }
 
@@ -89,7 +92,7 @@ impl<A: Count, B: Count, C: Count, D: Count> Calls for Worker<A, B, C, D> {
         asked: GenerationalBox<u64>,
     ) -> Option<GenerationalRefMut<u64>> {
         self.store
-            .try_write(rt, asked, place(), &mut self.tally)
+            .try_write(rt, asked, self.at, &mut self.tally)
             .ok()
     }
 
@@ -117,7 +120,7 @@ impl<A: Count, B: Count, C: Count, D: Count> Calls for Worker<A, B, C, D> {
     }
 
     fn reads_together(&mut self, rt: &impl Wait, value: u64) -> Option<u64> {
-        let Worker { store, tally } = self;
+        let Worker { store, tally, .. } = self;
         store
             .together()
             .run(rt, |state| read_at_once(state, tally, value))

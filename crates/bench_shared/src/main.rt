@@ -16,17 +16,23 @@
 //! | `together` | the same, under one lock |
 //! | `writes` | an owner's boxes are made, written and pointed elsewhere, and end with the owner: 12 calls |
 //! | `keeps`  | a box is made, and stays: 1 call                                       |
+//! | a number | calls drawn from it, over boxes that workers of a shared store hand each other: a few a round |
 //!
+//! Of drawn calls the audits are printed, a base and each step a line (`.ci/replay.py` replays them).
 //! The status is 1 where a call wasn't carried out, as for want of memory, and 2 for other words.
 #![tactic(auto)]
 
 ghost use Rattle.std.specs.Prelude.{◌≡◌, ◌<◌, IfSome};
 
 mod calls;
+mod drawn;
+mod history;
 mod locked;
 mod plain;
 mod rounds;
 
+use crate::calls::place;
+use crate::history::{Course, print_history};
 use crate::locked::Worker;
 use crate::plain::Plain;
 use crate::rounds::{List, run};
@@ -110,7 +116,7 @@ impl Words {
             "together" => List::Together,
             "writes" => List::Writes,
             "keeps" => List::Keeps,
-            _ => return None,
+            word => List::Drawn(word.parse::<u64>().ok()?),
         };
         let workers = words.next()?.parse::<usize>().ok()?;
         let rounds = words.next()?.parse::<u64>().ok()?;
@@ -137,7 +143,7 @@ fn shared<
     B: Count + Send + Sync,
     C: Count + Send + Sync,
     D: Count + Send + Sync,
-    H: Threads + Wait + Sync,
+    H: Threads + Wait + Print + Sync,
 >(
     rt: &H,
     alloc: Global,
@@ -168,9 +174,18 @@ fn shared<
     let mut workers = Vec::new(alloc);
     for tally in tallies {
         let store = store.try_clone().ok()?;
-        workers.push(Worker { store, tally }).ok()?;
+        let at = place();
+        workers.push(Worker { store, tally, at }).ok()?;
     }
     let (list, rounds, between) = (words.list, words.rounds, words.between);
+    if let List::Drawn(seed) = list {
+        let course = Course {
+            seed,
+            rounds,
+            between,
+        };
+        return print_history(rt, alloc, workers, course);
+    }
     let parts = thread::map_vec(
         rt,
         workers,

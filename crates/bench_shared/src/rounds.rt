@@ -28,6 +28,7 @@ pub(crate) fn run<S: Calls>(
             List::Together => store.reads_together(rt, value)?,
             List::Writes => writing_round(store, rt, value)?,
             List::Keeps => keeping_round(store, rt, value)?,
+            List::Drawn(_) => return None,
         };
         calls = calls.wrapping_add(made);
     }
@@ -45,6 +46,8 @@ pub(crate) enum List {
     Writes,
     /// A box is made, and stays.
     Keeps,
+    /// Calls that are drawn from a number, which only a shared store has.
+    Drawn(u64),
 }
 
 // 9 calls, 7 of which are steps: a view isn't one.

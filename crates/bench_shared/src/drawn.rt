@@ -1,0 +1,269 @@
+//! Calls that are drawn, over boxes that workers hand each other.
+
+ghost use Rattle.std.specs.Prelude.{◌<◌};
+
+use crate::calls::Calls;
+use generational_box::{GenerationalBox, GenerationalRef, GenerationalRefMut, Location, Owner};
+use std::alloc::Global;
+use std::sync::{Arc, Mutex, Wait};
+
+/// What is drawn besides the calls of the lists.
+pub(crate) trait DrawnCalls: Calls {
+    /// Says where the calls are made from now on.
+    fn move_to(&mut self, at: Location);
+
+    /// Makes another owner of the same record.
+    fn clone_owner(&mut self, rt: &impl Wait, owner: &Owner) -> Option<Owner>;
+
+    /// Makes one reference more, which ends with the owner.
+    fn insert_reference(
+        &mut self,
+        rt: &impl Wait,
+        owner: &Owner,
+        of: GenerationalBox<u64>,
+    ) -> Option<GenerationalBox<u64>>;
+
+    /// Takes over what another worker has counted. False for the counts of another store.
+    fn take_over(&mut self, other: Self) -> bool;
+
+    /// Prints the base and the steps since, a line each, once all other workers' counts were taken
+    /// over, and answers how many steps that were.
+    fn print_audit(&mut self, rt: &(impl Wait + Print)) -> Option<usize>;
+}
+
+/// How many places a board has.
+pub(crate) const PLACES: u32 = 32;
+
+/// Boxes that workers hand each other, each at a place.
+#[derive(Drop)]
+pub(crate) struct Board {
+    boxes: Arc<Mutex<Vec<GenerationalBox<u64>>>, Global>,
+}
+
+impl Board {
+    /// A board with these boxes.
+    pub(crate) fn new(alloc: Global, boxes: Vec<GenerationalBox<u64>>) -> Option<Board> {
+        let boxes = Arc::new(alloc, Mutex::new(boxes)).ok()?;
+        Some(Board { boxes })
+    }
+
+    /// Another handle of the same board.
+    pub(crate) fn try_clone(&self) -> Option<Board> {
+        let boxes = Arc::try_clone(&self.boxes).ok()?;
+        Some(Board { boxes })
+    }
+
+    // The box at a place.
+    fn at(&self, rt: &impl Wait, place: u32) -> Option<GenerationalBox<u64>> {
+        let boxes = self.boxes.lock(rt);
+        boxes.get(place as usize).copied()
+    }
+
+    // Puts a box at a place, and answers the one that stood there.
+    fn replace(
+        &self,
+        rt: &impl Wait,
+        place: u32,
+        with: GenerationalBox<u64>,
+    ) -> Option<GenerationalBox<u64>> {
+        let mut boxes = self.boxes.lock(rt);
+        let stood = boxes.get_mut(place as usize)?;
+        let old = *stood;
+        *stood = with;
+        Some(old)
+    }
+}
+
+/// A worker that draws its calls. While it has a reader's guard, it makes no call that waits for a
+/// reader, and while it has a writer's, none that waits: so no workers wait for each other.
+#[derive(Drop)]
+pub(crate) struct Drawing<S> {
+    pub(crate) calls: S,
+    board: Board,
+    random: u64,
+}
+
+impl<S: DrawnCalls> Drawing<S> {
+    /// A worker whose calls are drawn from a number.
+    pub(crate) fn new(calls: S, board: Board, seed: u64) -> Self {
+        Drawing {
+            calls,
+            board,
+            random: seed,
+        }
+    }
+
+    /// Makes the calls of so many rounds, with a checkpoint after each so many, and with none where
+    /// that is 0. None where a checkpoint was refused.
+    pub(crate) fn rounds(&mut self, rt: &impl Wait, rounds: u64, between: u64) -> Option<()> {
+        let mut since = 0u64;
+        for _ in 0..rounds {
+            self.round(rt);
+            since = since.wrapping_add(1);
+            if since == between {
+                if !self.calls.checkpoint(rt) {
+                    return None;
+                }
+                since = 0;
+            }
+        }
+        Some(())
+    }
+
+    // Makes a few calls.
+    fn round(&mut self, rt: &impl Wait) {
+        let lines = if self.draw(16) == 0 { 200_000 } else { 40 };
+        let (line, column) = (self.draw(lines), self.draw(80));
+        self.calls.move_to(Location::new("drawn.rs", line, column));
+        match self.draw(8) {
+            0 => self.make(rt),
+            1 => self.own(rt),
+            2 | 3 => self.write(rt),
+            4 | 5 => self.change(rt),
+            _ => self.read(rt),
+        }
+    }
+
+    // A number below this one.
+    fn draw(&mut self, below: u32) -> u32
+        requires { 0 < below }
+    {
+        self.random = self
+            .random
+            .wrapping_mul(6_364_136_223_846_793_005)
+            .wrapping_add(1_442_695_040_888_963_407);
+        (self.random % 4_294_967_291) as u32 % below
+    }
+
+    // A box of the board.
+    fn pick(&mut self, rt: &impl Wait) -> Option<GenerationalBox<u64>> {
+        let place = self.draw(PLACES);
+        self.board.at(rt, place)
+    }
+
+    // Puts a box on the board, and mostly ends the one in whose place it comes.
+    fn show(&mut self, rt: &impl Wait, made: Option<GenerationalBox<u64>>) {
+        let Some(made) = made else {
+            return;
+        };
+        let place = self.draw(PLACES);
+        if let Some(old) = self.board.replace(rt, place, made) {
+            if self.draw(8) != 0 {
+                self.calls.end(rt, old);
+            }
+        }
+    }
+
+    // Makes a box of some kind.
+    fn make(&mut self, rt: &impl Wait) {
+        let of = self.pick(rt);
+        let made = match (self.draw(3), of) {
+            (0, _) => self.calls.leak(rt, 0),
+            (1, Some(of)) => self.calls.leak_reference(rt, of),
+            _ => self.calls.leak_rc(rt, 0),
+        };
+        self.show(rt, made);
+    }
+
+    // Makes boxes of an owner's, which mostly end with it, and another owner value of its record.
+    fn own(&mut self, rt: &impl Wait) {
+        let Some(owner) = self.calls.owner(rt) else {
+            return;
+        };
+        let made = self.calls.insert(rt, &owner, 0);
+        self.show(rt, made);
+        let made = self.calls.insert_rc(rt, &owner, 0);
+        self.show(rt, made);
+        if let Some(of) = self.pick(rt) {
+            let made = self.calls.insert_reference(rt, &owner, of);
+            self.show(rt, made);
+        }
+        if let Some(other) = self.calls.clone_owner(rt, &owner) {
+            self.calls.release_owner(rt, other);
+        }
+        if self.draw(64) == 0 {
+            owner.leak();
+        } else {
+            self.calls.release_owner(rt, owner);
+        }
+    }
+
+    // Writes a box, and makes another meanwhile.
+    fn write(&mut self, rt: &impl Wait) {
+        let Some(asked) = self.pick(rt) else {
+            return;
+        };
+        if let Some(mut guard) = self.calls.write(rt, asked) {
+            guard.replace(1);
+            let made = self.calls.leak(rt, 0);
+            self.calls.release_write(rt, guard);
+            self.show(rt, made);
+        }
+    }
+
+    // Reads two boxes at once.
+    fn read(&mut self, rt: &impl Wait) {
+        let first = self.begin_read(rt);
+        let second = self.begin_read(rt);
+        self.end_read(rt, first);
+        self.end_read(rt, second);
+    }
+
+    // Begins a read of a box.
+    fn begin_read(&mut self, rt: &impl Wait) -> Option<GenerationalRef<u64>> {
+        let asked = self.pick(rt)?;
+        self.calls.read(rt, asked)
+    }
+
+    // Ends a read, if it was begun.
+    fn end_read(&mut self, rt: &impl Wait, guard: Option<GenerationalRef<u64>>) {
+        if let Some(guard) = guard {
+            self.calls.release_read(rt, guard);
+        }
+    }
+
+    // Sets another value, ends a box, or points one elsewhere.
+    fn change(&mut self, rt: &impl Wait) {
+        let (Some(asked), Some(other)) = (self.pick(rt), self.pick(rt)) else {
+            return;
+        };
+        match self.draw(4) {
+            0 => self.calls.set(rt, asked, 2),
+            1 => self.calls.end(rt, asked),
+            _ => self.calls.point_to(rt, asked, other),
+        };
+    }
+
+    /// Begins a write of a new box, and two reads of another.
+    pub(crate) fn begin_borrows(&mut self, rt: &impl Wait) -> Option<Borrows> {
+        let written = self.calls.leak_rc(rt, 0)?;
+        let read = self.calls.leak(rt, 0)?;
+        let writer = self.calls.write(rt, written)?;
+        let first = self.calls.read(rt, read);
+        let second = self.calls.read(rt, read);
+        Some(Borrows {
+            writer,
+            first,
+            second,
+        })
+    }
+
+    /// Ends them.
+    pub(crate) fn end_borrows(&mut self, rt: &impl Wait, borrows: Borrows) {
+        let Borrows {
+            writer,
+            first,
+            second,
+        } = borrows;
+        self.end_read(rt, first);
+        self.calls.release_write(rt, writer);
+        self.end_read(rt, second);
+    }
+}
+
+/// Borrows that stand while a checkpoint is made.
+pub(crate) struct Borrows {
+    writer: GenerationalRefMut<u64>,
+    first: Option<GenerationalRef<u64>>,
+    second: Option<GenerationalRef<u64>>,
+}
