@@ -168,7 +168,7 @@ impl<T: Drop + Send, const NUMBER: u64, M: Count, L: Count, C: Count, R: Count> 
     /// doesn't wait.
     ///
     /// ```rust
-    /// let Worker { store, tally } = self;
+    /// let Worker { store, tally, .. } = self;
     /// store
     ///     .together()
     ///     .run(rt, |state| read_at_once(state, tally, value))

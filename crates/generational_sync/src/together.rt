@@ -52,7 +52,7 @@ impl<'a, S> Together<'a, S> {
     /// Nothing is refused here, and no memory is taken beyond what `f` takes.
     ///
     /// ```rust
-    /// let Worker { store, tally } = self;
+    /// let Worker { store, tally, .. } = self;
     /// store
     ///     .together()
     ///     .run(rt, |state| read_at_once(state, tally, value))
