@@ -1,5 +1,5 @@
 -- What is kept under the lock, and how a call is made there.
-use Rattle.std.specs.Prelude.{◌≡◌, ℕ, ◌≤◌, true, Option, Some}
+use Rattle.std.specs.Prelude.{◌≡◌, ℕ, ◌≤◌, true, false, Option, Some}
 use Rattle.generational_core.specs.declared.steps.StepCall.{StepCall}
 use Rattle.generational_core.specs.State.{IsSound, State}
 use Rattle.generational_core.specs.Machine.{Action, Answer}
@@ -51,6 +51,23 @@ pub record HasEnded {T : Type 0} (number : ℕ) (log : LogState) (call : StepCal
     (reply : Option StepReply) (R : State T) : Type 0 where
   pub some : WasAnswered number log call reply R
   pub ends : ends_borrow some.action ≡ true
+
+-- A call that the store has refused, or whose answer says that it left all as it was.
+pub record WasRefused {T : Type 0} (number : ℕ) (log : LogState) (call : StepCall)
+    (reply : Option StepReply) (S : State T) : Type 0 where
+  pub action : Action T
+  pub answer : Answer T
+  pub kept : IsKept number S log
+  pub asked : recorded_as action ≡ Some call
+  pub met : Meets S action answer S
+  pub replied : reply ≡ recorded_reply S action answer
+
+-- A borrow stood in a call's way, and nothing has changed.
+pub record IsHindered {T : Type 0} (old : SharedState T) (counts : Counts) (call : StepCall)
+    (new : SharedState T) (raised : Counts) : Type 0 where
+  pub waits : is_ready old.state call ≡ false
+  pub state : new ≡ old
+  pub tally : raised ≡ counts
 
 -- What becomes of it once its reply is recorded: whatever call it was, made in whatever state, it is a
 -- step from there.

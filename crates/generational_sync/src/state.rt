@@ -1,6 +1,7 @@
 //! What lies under the lock.
 
 ghost use Rattle.std.specs.Prelude.{◌≡◌, ◌<◌, [], IfOk, IfErr, OnErr, option_copied};
+ghost use Rattle.std.specs.Bool.{OnFalse, OnTrue};
 ghost use Rattle.generational_errors.specs.declared.error.StoreError.TheVariants.{OutOfMemory};
 ghost use Rattle.generational_core.specs.declared.steps.StepCall.TheVariants as call;
 ghost use Rattle.generational_core.specs.Conditions.{fresh};
@@ -8,7 +9,7 @@ ghost use Rattle.generational_core.specs.Answers.{value_behind};
 ghost use Rattle.generational_core.specs.StepCalls.{id_of_owner, is_ready};
 ghost use Rattle.shared_history.specs.Counts.{new_tallies};
 ghost use Rattle.shared_history.specs.Bases.{IsCounted, new_base};
-ghost use Rattle.generational_sync.specs.Keeping.{HasEnded, IsSettled, WasAnswered};
+ghost use Rattle.generational_sync.specs.Keeping.{HasEnded, IsSettled, WasAnswered, WasRefused};
 ghost use Rattle.generational_sync.specs.Shared.{IsBlank, IsCheckpoint, MayRefuseCheckpoint};
 ghost use Rattle.generational_sync.specs.Shared.{Replays};
 
@@ -144,6 +145,15 @@ impl<T: Drop, const NUMBER: u64, M: Count, L: Count, C: Count, R: Count> SyncSta
         self.store.ready(call)
     }
 
+    // The same of a call that is handed in. It is inlined, so that the call is put into memory where it
+    // is asked, and not where the caller begins.
+    #[inline(always)]
+    fn is_ready(&self, call: StepCall) -> bool
+        ensures { result ≡ is_ready self.now.state call }
+    {
+        self.ready(&call)
+    }
+
     /// Whether no borrow stands in the way of an owner's release. The record is found at once, where
     /// `ready` has to look for it among all records. Takes no memory.
     pub fn may_release(&self, owner: &Owner) -> bool
@@ -252,6 +262,50 @@ fn settle<T: Drop, const NUMBER: u64, M: Count, L: Count, C: Count, R: Count>(
     steps_keep_the_store::<T>();
     free_calls_are_answered_so::<T>();
     log.settle(call, reply, tally);
+}
+
+// Records the refusal of a call, which left the store as it was, if no borrow stands in its way. The
+// answer is whether none does.
+#[inline(always)]
+fn settle_refused<T: Drop, const NUMBER: u64, M: Count, L: Count, C: Count, R: Count>(
+    store: &UnsyncStorage<T>,
+    log: &mut Log<NUMBER, M, L, C, R>,
+    call: StepCall,
+    reply: Option<StepReply>,
+    tally: &mut Tally<M, L, C, R>,
+) -> bool
+    requires room { 1 < log.old.room }
+    requires refused { WasRefused NUMBER log.old call reply store.now.state }
+    ensures ready { result ≡ is_ready store.now.state call }
+    ensures settled { OnTrue result
+        (IsSettled NUMBER log.old tally.old call reply store.now.state log.new tally.new) }
+    ensures left { OnFalse result ((log.new ≡ log.old) × (tally.new ≡ tally.old)) }
+{
+    settle_seldom(store, log, call, reply, tally)
+}
+
+// The same, out of line.
+#[cold]
+#[inline(never)]
+fn settle_seldom<T: Drop, const NUMBER: u64, M: Count, L: Count, C: Count, R: Count>(
+    store: &UnsyncStorage<T>,
+    log: &mut Log<NUMBER, M, L, C, R>,
+    call: StepCall,
+    reply: Option<StepReply>,
+    tally: &mut Tally<M, L, C, R>,
+) -> bool
+    requires room { 1 < log.old.room }
+    requires refused { WasRefused NUMBER log.old call reply store.now.state }
+    ensures ready { result ≡ is_ready store.now.state call }
+    ensures settled { OnTrue result
+        (IsSettled NUMBER log.old tally.old call reply store.now.state log.new tally.new) }
+    ensures left { OnFalse result ((log.new ≡ log.old) × (tally.new ≡ tally.old)) }
+{
+    if !store.ready(&call) {
+        return false;
+    }
+    settle(store, log, call, reply, tally);
+    true
 }
 
 // Records the end of a borrow, for which there is room since the borrow began.

@@ -118,7 +118,19 @@ impl<T: Drop + Send, const NUMBER: u64, M: Count, L: Count, C: Count, R: Count> 
     ) -> MutexGuard<'a, Held<SyncState<T, NUMBER, M, L, C, R>>>
         ensures { is_ready (mutex_guard_value result).state.state call ≡ true }
     {
-        let mut held = self.shared.held.lock(rt);
+        let held = self.shared.held.lock(rt);
+        self.wait_for(rt, held, call)
+    }
+
+    // The same from where the lock is held.
+    fn wait_for<'a>(
+        &'a self,
+        rt: &impl Wait,
+        mut held: MutexGuard<'a, Held<SyncState<T, NUMBER, M, L, C, R>>>,
+        call: StepCall,
+    ) -> MutexGuard<'a, Held<SyncState<T, NUMBER, M, L, C, R>>>
+        ensures { is_ready (mutex_guard_value result).state.state call ≡ true }
+    {
         for _ in rt.forever() {
             if held.state.ready(&call) {
                 return held;

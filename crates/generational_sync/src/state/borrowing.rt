@@ -1,6 +1,6 @@
 //! Calls that begin and end borrows, and that set a value.
 
-ghost use Rattle.std.specs.Prelude.{◌≡◌, true, IfErr};
+ghost use Rattle.std.specs.Prelude.{◌≡◌, true, IfErr, IfNone, IfSome};
 ghost use Rattle.generational_core.specs.declared.boxes.GenerationalPointer.{GenerationalPointer};
 ghost use Rattle.generational_core.specs.declared.steps.StepCall.TheVariants as call;
 ghost use Rattle.generational_core.specs.Answers.{back_answer, pointer_of, read_answer};
@@ -10,17 +10,20 @@ ghost use Rattle.generational_core.specs.Machine.Action.{SetValue, Write};
 ghost use Rattle.generational_core.specs.Machine.Answer.{Flag};
 ghost use Rattle.generational_core.specs.StepCalls.{is_ready};
 ghost use Rattle.generational_core.specs.Steps.{Meets};
+ghost use Rattle.generational_sync.specs.Keeping.{IsHindered};
 ghost use Rattle.generational_sync.specs.Shared.{IsStep};
 ghost use Rattle.shared_history.specs.Replies.{set_answer};
 
-use super::{SyncState, settle, settle_end};
+use super::{SyncState, settle, settle_end, settle_refused};
+use generational_box::laws::calls_are_ready_where_no_borrow_is_told;
 use generational_box::{
     AnyStorage, BorrowMutError, BorrowMutResult, BorrowResult, GenerationalBox,
     GenerationalPointer, GenerationalRef, GenerationalRefMut, Location, Refused, StepCall, Storage,
     StoreError, UnsyncStorage, ValueDroppedError,
 };
-use shared_history::replies::{back_reply, flag_reply, read_reply, set_reply, write_reply};
+use shared_history::replies::{back_reply, end_refusal, flag_reply, read_refusal, set_reply};
 use shared_history::{Count, Tally};
+use shared_records::StepReply;
 
 impl<T: Drop, const NUMBER: u64, M: Count, L: Count, C: Count, R: Count> SyncState<
     T,
@@ -55,15 +58,49 @@ impl<T: Drop, const NUMBER: u64, M: Count, L: Count, C: Count, R: Count> SyncSta
         ensures step { IsStep NUMBER self.old tally.old (Read (pointer_of asked) location)
             (read_answer result) self.new tally.new }
     {
-        if self.log.reserve(2).is_err() {
-            return Err(Refused::Store(StoreError::OutOfMemory));
+        match self.read_at_once(asked, location, tally) {
+            Some(read) => read,
+            None => unreachable!(),
         }
+    }
+
+    // The same whatever stands in the way: None where a writer does, and then nothing changes.
+    #[inline(always)]
+    pub(crate) fn read_at_once(
+        &mut self,
+        asked: GenerationalBox<T>,
+        location: Location,
+        tally: &mut Tally<M, L, C, R>,
+    ) -> Option<BorrowResult<GenerationalRef<T>>>
+        ensures step { IfSome result (λ read. IsStep NUMBER self.old tally.old
+            (Read (pointer_of asked) location) (read_answer read) self.new tally.new) }
+        ensures none { IfNone result (IsHindered self.old tally.old
+            (call.Read (pointer_of asked) location) self.new tally.new) }
+    {
         let pointer = asked.pointer();
-        let call = StepCall::Read(pointer, location);
-        let read = begin_read(&mut self.store, pointer, location);
-        let reply = read_reply(&read);
-        settle(&self.store, &mut self.log, call, reply, tally);
-        read
+        if self.log.reserve(2).is_err() {
+            if !self.is_ready(StepCall::Read(pointer, location)) {
+                return None;
+            }
+            return Some(Err(Refused::Store(StoreError::OutOfMemory)));
+        }
+        calls_are_ready_where_no_borrow_is_told::<T>();
+        match begin_read(&mut self.store, pointer, location) {
+            Ok(guard) => {
+                let call = StepCall::Read(pointer, location);
+                let reply = Some(StepReply::Reader(guard.ticket()));
+                settle(&self.store, &mut self.log, call, reply, tally);
+                Some(Ok(guard))
+            }
+            Err(refused) => {
+                let call = StepCall::Read(pointer, location);
+                let reply = read_refusal::<T>(&refused);
+                if !settle_refused(&self.store, &mut self.log, call, reply, tally) {
+                    return None;
+                }
+                Some(Err(refused))
+            }
+        }
     }
 
     /// Calls `try_read`. The sequential store's `read` has a condition in place of the refusals.
@@ -97,15 +134,49 @@ impl<T: Drop, const NUMBER: u64, M: Count, L: Count, C: Count, R: Count> SyncSta
         ensures step { IsStep NUMBER self.old tally.old (Write (pointer_of asked) location)
             (write_answer result) self.new tally.new }
     {
-        if self.log.reserve(2).is_err() {
-            return Err(Refused::Store(StoreError::OutOfMemory));
+        match self.write_at_once(asked, location, tally) {
+            Some(written) => written,
+            None => unreachable!(),
         }
+    }
+
+    // The same whatever stands in the way: None where a borrow does, and then nothing changes.
+    #[inline(always)]
+    pub(crate) fn write_at_once(
+        &mut self,
+        asked: GenerationalBox<T>,
+        location: Location,
+        tally: &mut Tally<M, L, C, R>,
+    ) -> Option<BorrowMutResult<GenerationalRefMut<T>>>
+        ensures step { IfSome result (λ written. IsStep NUMBER self.old tally.old
+            (Write (pointer_of asked) location) (write_answer written) self.new tally.new) }
+        ensures none { IfNone result (IsHindered self.old tally.old
+            (call.Write (pointer_of asked) location) self.new tally.new) }
+    {
         let pointer = asked.pointer();
-        let call = StepCall::Write(pointer, location);
-        let written = self.store.try_write(pointer, location);
-        let reply = write_reply(&written);
-        settle(&self.store, &mut self.log, call, reply, tally);
-        written
+        if self.log.reserve(2).is_err() {
+            if !self.is_ready(StepCall::Write(pointer, location)) {
+                return None;
+            }
+            return Some(Err(Refused::Store(StoreError::OutOfMemory)));
+        }
+        calls_are_ready_where_no_borrow_is_told::<T>();
+        match self.store.try_write(pointer, location) {
+            Ok(guard) => {
+                let call = StepCall::Write(pointer, location);
+                let reply = Some(StepReply::Writer(guard.ticket()));
+                settle(&self.store, &mut self.log, call, reply, tally);
+                Some(Ok(guard))
+            }
+            Err(refused) => {
+                let call = StepCall::Write(pointer, location);
+                let reply = end_refusal::<T>(&refused);
+                if !settle_refused(&self.store, &mut self.log, call, reply, tally) {
+                    return None;
+                }
+                Some(Err(refused))
+            }
+        }
     }
 
     /// Calls `try_write`. The sequential store's `write` has a condition in place of the refusals.
@@ -190,6 +261,7 @@ impl<T: Drop, const NUMBER: u64, M: Count, L: Count, C: Count, R: Count> SyncSta
 }
 
 // Begins a read in the store, before it is recorded.
+#[inline(always)]
 fn begin_read<T: Drop>(
     store: &mut UnsyncStorage<T>,
     asked: GenerationalPointer,

@@ -1,19 +1,22 @@
 //! Calls that end boxes and owners, and that let a reference lead elsewhere.
 
-ghost use Rattle.std.specs.Prelude.{◌≡◌, true, IfErr};
+ghost use Rattle.std.specs.Prelude.{◌≡◌, true, IfErr, IfNone, IfSome};
 ghost use Rattle.generational_core.specs.declared.steps.StepCall.TheVariants as call;
 ghost use Rattle.generational_core.specs.Answers.{end_answer, pointer_of, release_answer};
 ghost use Rattle.generational_core.specs.Machine.Action.{End, Point, ReleaseOwner};
 ghost use Rattle.generational_core.specs.StepCalls.{id_of_owner, is_ready};
+ghost use Rattle.generational_sync.specs.Keeping.{IsHindered};
 ghost use Rattle.generational_sync.specs.Shared.{IsStep};
 
-use super::{SyncState, settle};
+use generational_box::laws::calls_are_ready_where_no_borrow_is_told;
+use super::{SyncState, settle, settle_refused};
 use generational_box::{
     AnyStorage, BorrowMutError, BorrowMutResult, GenerationalBox, Owner, Refused, StepCall,
     Storage, StoreError,
 };
-use shared_history::replies::{end_reply, release_reply};
+use shared_history::replies::{end_refusal, end_reply, release_reply};
 use shared_history::{Count, Tally};
+use shared_records::StepReply;
 
 impl<T: Drop, const NUMBER: u64, M: Count, L: Count, C: Count, R: Count> SyncState<
     T,
@@ -44,15 +47,48 @@ impl<T: Drop, const NUMBER: u64, M: Count, L: Count, C: Count, R: Count> SyncSta
         ensures step { IsStep NUMBER self.old tally.old (End (pointer_of asked)) (end_answer result)
             self.new tally.new }
     {
-        if self.log.reserve(2).is_err() {
-            return Err(Refused::Store(StoreError::OutOfMemory));
+        match self.end_at_once(asked, tally) {
+            Some(ended) => ended,
+            None => unreachable!(),
         }
+    }
+
+    // The same whatever stands in the way: None where a borrow does, and then nothing changes.
+    #[inline(always)]
+    pub(crate) fn end_at_once(
+        &mut self,
+        asked: GenerationalBox<T>,
+        tally: &mut Tally<M, L, C, R>,
+    ) -> Option<BorrowMutResult<()>>
+        ensures step { IfSome result (λ ended. IsStep NUMBER self.old tally.old
+            (End (pointer_of asked)) (end_answer ended) self.new tally.new) }
+        ensures none { IfNone result (IsHindered self.old tally.old
+            (call.ManuallyDrop (pointer_of asked)) self.new tally.new) }
+    {
         let pointer = asked.pointer();
-        let call = StepCall::ManuallyDrop(pointer);
-        let ended = self.store.recycle(pointer);
-        let reply = end_reply::<T>(&ended);
-        settle(&self.store, &mut self.log, call, reply, tally);
-        ended
+        if self.log.reserve(2).is_err() {
+            if !self.is_ready(StepCall::ManuallyDrop(pointer)) {
+                return None;
+            }
+            return Some(Err(Refused::Store(StoreError::OutOfMemory)));
+        }
+        calls_are_ready_where_no_borrow_is_told::<T>();
+        match self.store.recycle(pointer) {
+            Ok(_) => {
+                let call = StepCall::ManuallyDrop(pointer);
+                let reply = Some(StepReply::Done);
+                settle(&self.store, &mut self.log, call, reply, tally);
+                Some(Ok(()))
+            }
+            Err(refused) => {
+                let call = StepCall::ManuallyDrop(pointer);
+                let reply = end_refusal::<T>(&refused);
+                if !settle_refused(&self.store, &mut self.log, call, reply, tally) {
+                    return None;
+                }
+                Some(Err(refused))
+            }
+        }
     }
 
     /// Lets a reference lead to the shared value that another box reaches. No writer stands at that

@@ -9,14 +9,15 @@ ghost use Rattle.generational_core.specs.Machine.Action.{Refer};
 ghost use Rattle.generational_core.specs.StepCalls.{id_of_owner, is_ready, recorded_as, target_of};
 ghost use Rattle.generational_sync.specs.Shared.{IsStep};
 
-use super::{SyncState, settle};
+use super::{SyncState, settle, settle_refused};
 use generational_box::{
     AnyStorage, BorrowResult, GenerationalBox, GenerationalBoxId, GenerationalPointer, Location,
     Owner, Refusal, Refused, StepCall, Storage, StoreError, UnsyncStorage,
 };
 use generational_core::parts::box_at;
-use shared_history::replies::{make_reply, owner_reply, reference_reply, shared_reply};
+use shared_history::replies::{owner_reply, reference_reply, shared_reply, store_reply};
 use shared_history::{Count, Tally};
+use shared_records::StepReply;
 
 impl<T: Drop, const NUMBER: u64, M: Count, L: Count, C: Count, R: Count> SyncState<
     T,
@@ -72,6 +73,7 @@ impl<T: Drop, const NUMBER: u64, M: Count, L: Count, C: Count, R: Count> SyncSta
     }
 
     // Makes a box of a value, on the owner's list if there is one, by the call that is recorded so.
+    #[inline(always)]
     fn make(
         &mut self,
         owner: Option<&Owner>,
@@ -89,12 +91,17 @@ impl<T: Drop, const NUMBER: u64, M: Count, L: Count, C: Count, R: Count> SyncSta
             let cause = StoreError::OutOfMemory;
             return Err(Refusal { value, cause });
         }
-        let made = self.store.new(value, location, owner);
-        let reply = make_reply(&made);
-        settle(&self.store, &mut self.log, call, reply, tally);
-        match made {
-            Ok(pointer) => Ok(box_at(pointer)),
-            Err(refusal) => Err(refusal),
+        match self.store.new(value, location, owner) {
+            Ok(pointer) => {
+                let reply = Some(StepReply::Made(pointer));
+                settle(&self.store, &mut self.log, call, reply, tally);
+                Ok(box_at(pointer))
+            }
+            Err(refusal) => {
+                let reply = store_reply::<T>(refusal.cause);
+                settle_refused(&self.store, &mut self.log, call, reply, tally);
+                Err(refusal)
+            }
         }
     }
 
@@ -145,6 +152,7 @@ impl<T: Drop, const NUMBER: u64, M: Count, L: Count, C: Count, R: Count> SyncSta
 
     // Makes a shared value and a first reference to it, on the owner's list if there is one, by the
     // call that is recorded so.
+    #[inline(always)]
     fn make_shared(
         &mut self,
         owner: Option<&Owner>,
@@ -222,6 +230,7 @@ impl<T: Drop, const NUMBER: u64, M: Count, L: Count, C: Count, R: Count> SyncSta
 
     // Makes a reference to what the box reaches, on the owner's list if there is one, by the call
     // that is recorded so.
+    #[inline(always)]
     fn refer(
         &mut self,
         owner: Option<&Owner>,

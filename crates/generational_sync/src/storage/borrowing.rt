@@ -10,12 +10,14 @@ ghost use Rattle.generational_sync.specs.Shared.{IsUnseenStep};
 ghost use Rattle.shared_history.specs.Replies.{set_answer};
 
 use super::SyncStorage;
+use crate::state::SyncState;
+use crate::together::Held;
 use generational_box::{
     BorrowMutError, BorrowMutResult, BorrowResult, GenerationalBox, GenerationalRef,
     GenerationalRefMut, Location, Refused, StepCall,
 };
 use shared_history::{Count, Tally};
-use std::sync::Wait;
+use std::sync::{MutexGuard, Wait};
 
 impl<T: Drop + Send, const NUMBER: u64, M: Count, L: Count, C: Count, R: Count> SyncStorage<
     T,
@@ -47,8 +49,29 @@ impl<T: Drop + Send, const NUMBER: u64, M: Count, L: Count, C: Count, R: Count> 
         ensures step { IsUnseenStep {T = T} NUMBER tally.old (Read (pointer_of asked) location)
             (read_answer result) tally.new }
     {
+        let mut held = self.shared.held.lock(rt);
+        if let Some(read) = held.state.read_at_once(asked, location, tally) {
+            return read;
+        }
+        self.read_later(rt, held, asked, location, tally)
+    }
+
+    // Begins the read once the writer that stands in its way is gone.
+    #[cold]
+    #[inline(never)]
+    fn read_later<'a>(
+        &'a self,
+        rt: &impl Wait,
+        held: MutexGuard<'a, Held<SyncState<T, NUMBER, M, L, C, R>>>,
+        asked: GenerationalBox<T>,
+        location: Location,
+        tally: &mut Tally<M, L, C, R>,
+    ) -> BorrowResult<GenerationalRef<T>>
+        ensures step { IsUnseenStep {T = T} NUMBER tally.old (Read (pointer_of asked) location)
+            (read_answer result) tally.new }
+    {
         let call = StepCall::Read(asked.pointer(), location);
-        let mut held = self.lock_when(rt, call);
+        let mut held = self.wait_for(rt, held, call);
         held.state.try_read(asked, location, tally)
     }
 
@@ -93,8 +116,29 @@ impl<T: Drop + Send, const NUMBER: u64, M: Count, L: Count, C: Count, R: Count> 
         ensures step { IsUnseenStep NUMBER tally.old (Write (pointer_of asked) location)
             (write_answer result) tally.new }
     {
+        let mut held = self.shared.held.lock(rt);
+        if let Some(written) = held.state.write_at_once(asked, location, tally) {
+            return written;
+        }
+        self.write_later(rt, held, asked, location, tally)
+    }
+
+    // Begins the write once the borrows that stand in its way are gone.
+    #[cold]
+    #[inline(never)]
+    fn write_later<'a>(
+        &'a self,
+        rt: &impl Wait,
+        held: MutexGuard<'a, Held<SyncState<T, NUMBER, M, L, C, R>>>,
+        asked: GenerationalBox<T>,
+        location: Location,
+        tally: &mut Tally<M, L, C, R>,
+    ) -> BorrowMutResult<GenerationalRefMut<T>>
+        ensures step { IsUnseenStep NUMBER tally.old (Write (pointer_of asked) location)
+            (write_answer result) tally.new }
+    {
         let call = StepCall::Write(asked.pointer(), location);
-        let mut held = self.lock_when(rt, call);
+        let mut held = self.wait_for(rt, held, call);
         held.state.try_write(asked, location, tally)
     }
 

@@ -6,11 +6,13 @@ ghost use Rattle.generational_core.specs.Machine.Action.{End, Point, ReleaseOwne
 ghost use Rattle.generational_sync.specs.Shared.{IsUnseenStep};
 
 use super::SyncStorage;
+use crate::state::SyncState;
+use crate::together::Held;
 use generational_box::{
     BorrowMutError, BorrowMutResult, GenerationalBox, Owner, Refused, StepCall,
 };
 use shared_history::{Count, Tally};
-use std::sync::Wait;
+use std::sync::{MutexGuard, Wait};
 
 impl<T: Drop + Send, const NUMBER: u64, M: Count, L: Count, C: Count, R: Count> SyncStorage<
     T,
@@ -39,8 +41,29 @@ impl<T: Drop + Send, const NUMBER: u64, M: Count, L: Count, C: Count, R: Count> 
         ensures step { IsUnseenStep {T = T} NUMBER tally.old (End (pointer_of asked))
             (end_answer result) tally.new }
     {
+        let mut held = self.shared.held.lock(rt);
+        if let Some(ended) = held.state.end_at_once(asked, tally) {
+            self.unlock(held, ended.is_ok());
+            return ended;
+        }
+        self.end_later(rt, held, asked, tally)
+    }
+
+    // Ends the box's cell once the borrows that stand in its way are gone.
+    #[cold]
+    #[inline(never)]
+    fn end_later<'a>(
+        &'a self,
+        rt: &impl Wait,
+        held: MutexGuard<'a, Held<SyncState<T, NUMBER, M, L, C, R>>>,
+        asked: GenerationalBox<T>,
+        tally: &mut Tally<M, L, C, R>,
+    ) -> BorrowMutResult<()>
+        ensures step { IsUnseenStep {T = T} NUMBER tally.old (End (pointer_of asked))
+            (end_answer result) tally.new }
+    {
         let call = StepCall::ManuallyDrop(asked.pointer());
-        let mut held = self.lock_when(rt, call);
+        let mut held = self.wait_for(rt, held, call);
         let ended = held.state.manually_drop(asked, tally);
         self.unlock(held, ended.is_ok());
         ended

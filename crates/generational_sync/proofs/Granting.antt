@@ -1,0 +1,112 @@
+-- A call that was carried out was one in whose way no borrow stood; one that was refused left all as it was.
+use Rattle.std.proofs.Common.{◌≡◌, ℕ, Bool, true, false, cond, Option, Some, refl, sym, ap, subst, ◌∙◌, inl, inr}
+use Rattle.std.specs.Prelude.{not, ◌&&◌, nat_eq}
+use Rattle.std.specs.Bool.{OnTrue}
+use Rattle.std.proofs.lemmas.Bool.{true≢false}
+use Rattle.generational_errors.specs.declared.error.StoreError.TheVariants.{NumbersExhausted}
+use Rattle.generational_errors.specs.declared.error.BorrowError.{BorrowError}
+use Rattle.generational_errors.specs.declared.error.BorrowMutError.{BorrowMutError}
+use Rattle.generational_errors.specs.declared.error.Refused.{Refused as IsRefused}
+use Rattle.generational_errors.specs.declared.error.Refused.TheVariants as refusal
+use Rattle.generational_core.specs.Answers.{end_refused, read_refused}
+use Rattle.generational_core.specs.declared.steps.StepCall.{StepCall}
+use Rattle.generational_core.specs.State.{State}
+use Rattle.generational_core.specs.Machine.{Action, Answer, NewNames, Outcome, act}
+use Rattle.generational_core.specs.Machine.Answer.{BorrowRefused, Refused, Back}
+use Rattle.generational_core.specs.Steps.{Meets, limit_tickets, takes_ticket, last_ticket}
+use Rattle.generational_core.specs.StepCalls.{is_hindered, is_ready, recorded_as}
+use Rattle.shared_records.specs.declared.step.StepReply.{StepReply}
+use Rattle.shared_history.specs.Logs.{LogState}
+use Rattle.shared_history.specs.Replies.{recorded_reply}
+use Rattle.shared_history.specs.Standing.{leaves}
+use Rattle.generational_sync.specs.Keeping.{IsKept, WasAnswered, WasRefused}
+use Rattle.generational_sync.proofs.Counting.{meets_fine}
+use Rattle.generational_sync.proofs.Keeping.{room_kept}
+
+-- what the law says: a call is ready exactly where the machine's answer tells of no borrow
+abbrev AreTold : Type 0 → Type 0
+AreTold T = (S : State T) (a : Action T) (c : StepCall) (new : NewNames) → recorded_as a ≡ Some c
+    → is_ready S c ≡ not (is_hindered a (act S a new).0)
+
+pub on_true : {b : Bool} {P : Type 0} → b ≡ true → OnTrue b P → P
+on_true {P = P} is told = subst (λ b. OnTrue b P) is told
+
+-- a refusal leaves all as it was
+pub read_leaves : (T : Type 0) (e : IsRefused BorrowError) → leaves {T = T} (read_refused e) ≡ true
+read_leaves T (refusal.Borrow e) = refl
+read_leaves T (refusal.Store e) = refl
+
+pub end_leaves : (T : Type 0) (e : IsRefused BorrowMutError) → leaves {T = T} (end_refused e) ≡ true
+end_leaves T (refusal.Borrow e) = refl
+end_leaves T (refusal.Store e) = refl
+
+module _ {T : Type 0} where
+  unhindered : (a : Action T) (answer : Answer T) → leaves answer ≡ false
+      → is_hindered a answer ≡ false
+  unhindered a (BorrowRefused t) e = absurd (true≢false e)
+  unhindered a (Back v) e = absurd (true≢false e)
+  unhindered a _ e = refl
+
+  -- an answer that is no refusal is the machine's own
+  unlimited : (S R : State T) (out : Outcome T) (answer : Answer T)
+      → (answer, R) ≡ limit_tickets S out → leaves answer ≡ false → out.0 ≡ answer
+  unlimited S R out answer is granted = at (takes_ticket out.0 && nat_eq S.next last_ticket) is
+    where
+      at : (b : Bool) → (answer, R) ≡ cond b (Refused NumbersExhausted, S) out → out.0 ≡ answer
+      at true e = absurd (true≢false (sym (ap (λ (o : Outcome T). leaves o.0) e) ∙ granted))
+      at false e = sym (ap (λ (o : Outcome T). o.0) e)
+
+  pub granted_ready : AreTold T → (S R : State T) (a : Action T) (c : StepCall) (answer : Answer T)
+      → recorded_as a ≡ Some c → Meets S a answer R → leaves answer ≡ false → is_ready S c ≡ true
+  granted_ready told S R a c answer asked (inl m) granted =
+      told S a c m.0 asked
+      ∙ ap not (ap (is_hindered a) (unlimited S R (act S a m.0) answer m.2 granted)
+      ∙ unhindered a answer granted)
+  granted_ready told S R a c answer asked (inr m) granted =
+      absurd (true≢false (sym (ap leaves m.1) ∙ granted))
+
+  pub left_as : (S R : State T) (a : Action T) (answer : Answer T) → Meets S a answer R
+      → leaves answer ≡ true → R ≡ S
+  left_as S R a answer met left = (meets_fine S R a answer met).1 left
+
+  pub left_kept : {number : ℕ} {log room after : LogState} (S R : State T) (a : Action T)
+      (answer : Answer T) → IsKept number S log → room.base ≡ log.base → room.steps ≡ log.steps
+      → room.standing ≡ log.standing → Meets S a answer R → leaves answer ≡ true → after ≡ room
+      → IsKept number R after
+  left_kept {number = number} {room = room} S R a answer kept base steps stay met left is =
+      subst (λ l. IsKept number R l) (sym is)
+      (subst (λ s. IsKept number s room) (sym (left_as S R a answer met left))
+      (room_kept kept base steps stay))
+
+  -- a call that the store has refused, for whose step there is room
+  abbrev pub refused : {number : ℕ} {log room : LogState} {c : StepCall} {r : Option StepReply}
+      (S R : State T) (a : Action T) (answer : Answer T) → IsKept number S log
+      → room.base ≡ log.base → room.steps ≡ log.steps → room.standing ≡ log.standing
+      → recorded_as a ≡ Some c → Meets S a answer R → r ≡ recorded_reply R a answer
+      → leaves answer ≡ true → WasRefused number room c r R
+  refused {number = number} {room = room} S R a answer kept base steps stay asked met replied left =
+      record {
+        action = a;
+        answer = answer;
+        kept = left_kept S R a answer kept base steps stay met left refl;
+        asked = asked;
+        met = subst (λ s. Meets s a answer R) (sym (left_as S R a answer met left)) met;
+        replied = replied;
+      }
+
+  -- where no borrow stands in its way it was answered
+  abbrev pub refused_answered : {number : ℕ} {log : LogState} {c : StepCall} {r : Option StepReply}
+      {S : State T} (it : WasRefused number log c r S) → is_ready S c ≡ true
+      → WasAnswered number log c r S
+  refused_answered {S = S} it ready = record {
+    before = S;
+    action = it.action;
+    answer = it.answer;
+    answered = record {
+      kept = it.kept;
+      asked = it.asked;
+      ready = ready;
+      met = it.met;
+      replied = it.replied;
+    };
+  }
