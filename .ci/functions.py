@@ -6,9 +6,10 @@
 The check is done from nothing: what is kept of the crate is set aside meanwhile. With --keep it isn't,
 and only what changed is told. A function's time is what the checking processes took between the line
 that tells the one before it and its own. So the first one's has all that is loaded, and what comes
-after the last one is told as the rest. The prover starts a process anew for each level of callers: a
-function with a star has what such a process loads. `rt check` begins with what a checkout of the same
-text kept on this machine, if there is one: then change a comment first.
+after the last one is told as the rest. Since `rt check` keeps its work in out/, the prover starts a
+process anew for each level of callers: a function with a star has what such a process loads. `rt ci`
+keeps nothing there, and with one job it starts none. `rt check` begins with what a checkout of the
+same text kept on this machine, if there is one: then change a comment first.
 """
 import argparse
 import contextlib
