@@ -36,7 +36,7 @@ use crate::history::{Course, print_history};
 use crate::locked::Worker;
 use crate::plain::Plain;
 use crate::rounds::{List, run};
-use generational_box::UnsyncStorage;
+use generational_box::{Storage, UnsyncStorage};
 use generational_sync::{Count, SyncStorage, Tally};
 use std::alloc::Global;
 use std::marker::Brand;
@@ -224,7 +224,18 @@ fn gather<A: Count, B: Count, C: Count, D: Count>(
 
 // The workers of a sequential store in a mutex.
 fn floor<H: Threads + Wait + Sync>(rt: &H, alloc: Global, words: &Words) -> Option<Done> {
-    let store = Arc::new(alloc, Mutex::new(UnsyncStorage::<u64>::new(alloc, 7))).ok()?;
+    let store: UnsyncStorage<u64> = UnsyncStorage::new(alloc, 7);
+    floor_over(rt, alloc, words, store)
+}
+
+// The workers of any sequential store in a mutex.
+fn floor_over<S: Storage<u64> + Drop + Send, H: Threads + Wait + Sync>(
+    rt: &H,
+    alloc: Global,
+    words: &Words,
+    store: S,
+) -> Option<Done> {
+    let store = Arc::new(alloc, Mutex::new(store)).ok()?;
     let mut workers = Vec::new(alloc);
     for _ in 0..words.workers {
         let store = Arc::try_clone(&store).ok()?;
@@ -234,7 +245,7 @@ fn floor<H: Threads + Wait + Sync>(rt: &H, alloc: Global, words: &Words) -> Opti
     let parts = thread::map_vec(
         rt,
         workers,
-        &|mut worker: Plain| { run(&mut worker, rt, list, rounds, between) },
+        &|mut worker: Plain<S>| { run(&mut worker, rt, list, rounds, between) },
     )
     .ok()?;
     let mut calls = 0u64;

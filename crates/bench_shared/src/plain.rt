@@ -3,18 +3,18 @@
 
 use crate::calls::{Calls, place};
 use generational_box::{
-    AnyStorage, GenerationalBox, GenerationalRef, GenerationalRefMut, Owner, Storage, UnsyncStorage,
+    AnyStorage, GenerationalBox, GenerationalRef, GenerationalRefMut, Owner, Storage,
 };
 use std::alloc::Global;
 use std::sync::{Arc, Mutex, Wait};
 
 /// A worker: a handle of the store.
 #[derive(Drop)]
-pub(crate) struct Plain {
-    pub(crate) store: Arc<Mutex<UnsyncStorage<u64>>, Global>,
+pub(crate) struct Plain<S> {
+    pub(crate) store: Arc<Mutex<S>, Global>,
 }
 
-impl Calls for Plain {
+impl<S: Storage<u64> + Drop> Calls for Plain<S> {
     fn leak(&mut self, rt: &impl Wait, value: u64) -> Option<GenerationalBox<u64>> {
         let mut store = self.store.lock(rt);
         GenerationalBox::leak(&mut *store, value, place()).ok()
