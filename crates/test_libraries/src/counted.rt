@@ -22,3 +22,6 @@ pub(crate) fn another(rt: &impl Abort, value: &Counted) -> Counted {
 pub(crate) fn assert_count(rt: &impl Abort, value: &Counted, count: usize) {
     assert_same(rt, &Rc::strong_count(value), &count);
 }
+
+/// Lets a value go.
+pub(crate) fn let_go(_value: Counted) {}

@@ -5,7 +5,7 @@ use crate::expected::assert_same;
 use crate::fresh::{Scene, SceneOfTwo, play, play_at_ticket, play_two};
 use entity_table::{AttachError, ComponentTable, Entity, EntityTable, Stale};
 use example_libraries::entities::{
-    despawned_bare, greatest, raised, renamed, told_after, within_limits,
+    despawned_bare, greatest, handed_over, raised, renamed, taken_out, told_after, within_limits,
 };
 use generational_box::{LastFirst, Storage, Store};
 use std::alloc::Global;
@@ -147,6 +147,9 @@ impl Scene<u64> for LiveOnesAreGoneOver {
         assert!(rt; table.despawn(second).is_ok());
         assert_same(rt, &greatest(&table), &7);
         assert!(rt; table.iter().all(|(entity, _)| entity == first));
+        assert_same(rt, &taken_out(&mut table, second), &None);
+        assert_same(rt, &taken_out(&mut table, first), &Some(7));
+        assert_same(rt, &table.len(), &0);
     }
 }
 
@@ -266,6 +269,8 @@ impl SceneOfTwo<u64, u64> for AForeignHandleGivesNothing {
         assert_same(rt, &raised(&mut components, foreign), &None);
         assert_same(rt, &add(rt, &mut entities, foreign, 1), &Err(stale));
         assert_same(rt, &raised(&mut components, own), &Some(11));
+        assert!(rt; !handed_over(&mut components, foreign, own, spawned_at(7)));
+        assert!(rt; handed_over(&mut components, own, own, spawned_at(7)));
         has(rt, &components, own, Some(12));
     }
 }

@@ -1,9 +1,10 @@
-//! What is let go by documents and by tables of components: values that others take the place of, and
-//! values that end. Each is counted by what std's `Rc` counts.
+//! What is let go by documents, and by tables of entities and of components: values that others take the
+//! place of, values that end, and values that are handed back. Each is counted by what std's `Rc` counts.
 
-use crate::counted::{Counted, another, assert_count, new_counted};
+use crate::counted::{Counted, another, assert_count, let_go, new_counted};
 use crate::document_acts::{add, document_over};
-use crate::entity_acts::{components_over, entities_over, give, spawn};
+use crate::entity_acts::{components_over, entities_over, give, spawn, spawned_at};
+use crate::expected::assert_same;
 use crate::fresh::{Scene, SceneOfTwo, play, play_two};
 use document_tree::{Document, Part, Place};
 use entity_table::{ComponentTable, Entity, EntityTable};
@@ -115,6 +116,22 @@ fn components_go<C: Storage<Counted>>(
     assert_count(rt, &second, 1);
 }
 
+/// A component that is handed back. It is let go once, by whoever has it then.
+fn components_come_back<C: Storage<Counted>>(
+    rt: &impl Abort,
+    alloc: Global,
+    components: &mut ComponentTable<u64, Counted, C>,
+    entity: Entity<u64>,
+) {
+    let value = new_counted(rt, alloc);
+    give(rt, components, entity, another(rt, &value));
+    let taken = components.take(entity).expect(rt, "a component");
+    assert_count(rt, &value, 2);
+    let_go(taken);
+    assert_count(rt, &value, 1);
+    assert!(rt; components.take(entity).is_none());
+}
+
 /// A component that outlives its entity, until the next of the slot gets one.
 fn left_ones_go<S: Storage<u64>, C: Storage<Counted>>(
     rt: &impl Abort,
@@ -132,7 +149,7 @@ fn left_ones_go<S: Storage<u64>, C: Storage<Counted>>(
     assert_count(rt, &left, 1);
 }
 
-/// Both, of tables over these stores.
+/// All, of tables over these stores.
 struct BothGo;
 
 impl SceneOfTwo<u64, Counted> for BothGo {
@@ -147,6 +164,7 @@ impl SceneOfTwo<u64, Counted> for BothGo {
         let mut components = components_over(rt, alloc, parts);
         let entity = spawn(rt, &mut entities, 2);
         components_go(rt, alloc, &mut components, entity);
+        components_come_back(rt, alloc, &mut components, entity);
         left_ones_go(rt, alloc, &mut entities, &mut components);
     }
 }
@@ -154,4 +172,30 @@ impl SceneOfTwo<u64, Counted> for BothGo {
 #[test]
 fn a_component_goes_with_its_end_or_the_next_of_its_slot(rt: HostRuntime) {
     play_two::<u64, Counted, BothGo>(&rt, rt.alloc(), &BothGo);
+}
+
+/// An entity that is taken with its element, twice.
+struct ElementsComeBack;
+
+impl Scene<Counted> for ElementsComeBack {
+    fn play<R: Abort, S: Storage<Counted> + Drop>(&self, rt: &R, alloc: Global, store: S) {
+        assert!(rt; store.is_fresh());
+        let mut table = EntityTable::new(alloc, store);
+        let value = new_counted(rt, alloc);
+        let entity = table
+            .spawn(another(rt, &value), spawned_at(0))
+            .map_err(|refusal| refusal.cause)
+            .expect(rt, "an entity");
+        let taken = table.take(entity).expect(rt, "an element");
+        assert_count(rt, &value, 2);
+        let_go(taken);
+        assert_count(rt, &value, 1);
+        assert!(rt; table.take(entity).is_err());
+        assert_same(rt, &table.len(), &0);
+    }
+}
+
+#[test]
+fn an_element_that_is_taken_is_let_go_once(rt: HostRuntime) {
+    play::<Counted, ElementsComeBack>(&rt, rt.alloc(), &ElementsComeBack);
 }

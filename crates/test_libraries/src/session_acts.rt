@@ -2,7 +2,7 @@
 
 use crate::expected::assert_same;
 use generational_box::{Location, Storage};
-use session_table::{Entry, LoginError, PutError, SessionTable, Stale};
+use session_table::{Entry, LoginError, PutError, RenameError, SessionTable, Stale};
 use std::alloc::Global;
 use std::process::Abort;
 
@@ -21,6 +21,8 @@ pub(crate) enum Act {
     Add(usize, u64),
     /// Notes the time of an id's last use.
     Touch(u64, u64),
+    /// Gives an id's session another id.
+    Rename(u64, u64),
     Logout(u64),
     /// Ends the sessions that were last used before a time.
     Expire(u64),
@@ -104,6 +106,7 @@ fn answer<S: Storage<u64>>(
         Act::Set(number, value) => set(rt, table, entry_at(rt, entries, number), number, value),
         Act::Add(number, more) => add(rt, table, entry_at(rt, entries, number), number, more),
         Act::Touch(id, now) => known(table.touch(&id, now)),
+        Act::Rename(id, to) => renamed(table.rename(&id, to)),
         Act::Logout(id) => known(table.logout(&id)),
         Act::Expire(before) => Reply::Ended(table.expire(before)),
     }
@@ -115,6 +118,16 @@ fn logged_in(answer: Result<(), LoginError>) -> Reply {
         Ok(()) => Reply::Done,
         Err(LoginError::IdInUse) => Reply::IdInUse,
         Err(LoginError::Store(_)) => Reply::Lacks,
+    }
+}
+
+/// What a change of an id answers.
+fn renamed(answer: Result<(), RenameError>) -> Reply {
+    match answer {
+        Ok(()) => Reply::Done,
+        Err(RenameError::NoSession) => Reply::NoSession,
+        Err(RenameError::IdInUse) => Reply::IdInUse,
+        Err(RenameError::Store(_)) => Reply::Lacks,
     }
 }
 

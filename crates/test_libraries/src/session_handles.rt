@@ -5,7 +5,7 @@ use crate::fresh::{Scene, SceneOfTwo, play, play_two};
 use crate::session_acts::{put_at, sessions_over};
 use crate::session_limits::{log_in, put};
 use generational_box::{Storage, StoreError};
-use session_table::{Entry, LoginError, PutError, PutRefusal, Stale};
+use session_table::{Entry, LoginError, PutError, PutRefusal, RenameError, Stale};
 use std::alloc::Global;
 use std::collections::HashMap;
 use std::process::Abort;
@@ -76,6 +76,8 @@ impl Scene<u64> for RefusalsPrint {
             "the id has a session already",
         );
         assert_prints(rt, alloc, &PutError::NoSession, "the id has no session");
+        let text = "the new id has a session already";
+        assert_prints(rt, alloc, &RenameError::IdInUse, text);
         let in_use = PutRefusal {
             value: 6,
             cause: PutError::KeyInUse,

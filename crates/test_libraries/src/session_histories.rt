@@ -283,3 +283,37 @@ fn a_value_is_changed_in_its_place(rt: HostRuntime) {
     ];
     play_lines(&rt, rt.alloc(), &lines);
 }
+
+#[test]
+fn a_session_gets_another_id(rt: HostRuntime) {
+    const BOTH: &[(u64, u64)] = &[(1, 10), (2, 20)];
+    let lines = [
+        line(Act::Login(1, 10), Reply::Done, &[(1, 10)], &[]),
+        line(Act::Login(2, 20), Reply::Done, BOTH, &[]),
+        line(Act::Put(1, 5), Reply::Done, BOTH, &[Some(5)]),
+        line(Act::Rename(1, 2), Reply::IdInUse, BOTH, &[Some(5)]),
+        line(Act::Rename(1, 1), Reply::IdInUse, BOTH, &[Some(5)]),
+        line(Act::Rename(4, 2), Reply::NoSession, BOTH, &[Some(5)]),
+        line(
+            Act::Rename(1, 3),
+            Reply::Done,
+            &[(2, 20), (3, 10)],
+            &[Some(5)],
+        ),
+        line(
+            Act::Put(1, 6),
+            Reply::NoSession,
+            &[(2, 20), (3, 10)],
+            &[Some(5)],
+        ),
+        // What is kept goes with the session, whichever id that has.
+        line(
+            Act::Put(3, 7),
+            Reply::Done,
+            &[(2, 20), (3, 10)],
+            &[Some(5), Some(7)],
+        ),
+        line(Act::Logout(3), Reply::Done, &[(2, 20)], &[None, None]),
+    ];
+    play_lines(&rt, rt.alloc(), &lines);
+}

@@ -4,7 +4,10 @@ use crate::counted::{Counted, another, assert_count, new_counted};
 use crate::expected::assert_same;
 use crate::fresh::{Scene, play, play_at_ticket};
 use crate::session_acts::{put_at, sessions_over};
-use example_libraries::sessions::{found_by_key, greatest_key, latest_use, one_visit};
+use example_libraries::sessions::{
+    found_by_key, greatest_key, latest_use, one_visit, seen_after_put, seen_beside, signed_in,
+    told_after_logout,
+};
 use generational_box::{Storage, StoreError};
 use session_table::{Entry, LoginError, SessionTable, Stale};
 use std::alloc::Global;
@@ -123,22 +126,28 @@ fn visits_leave_no_session<S: Storage<u64>>(
 }
 
 /// Values of two sessions, of which one is logged out.
-fn one_is_logged_out<S: Storage<u64>>(rt: &impl Abort, table: &mut SessionTable<u64, u64, u64, S>) {
+fn callers_are_told<S: Storage<u64>>(rt: &impl Abort, table: &mut SessionTable<u64, u64, u64, S>) {
     log_in(rt, table, 2);
     let first = match table.put(&1, 1, 5, put_at(3)) {
         Ok(entry) => entry,
         Err(_lacking) => rt.abort(),
     };
     let stale = Stale { put_at: put_at(3) };
-    assert!(rt; table.logout(&1));
-    put(rt, table, (2, 1), 6);
-    assert_same(rt, &table.get(first).copied(), &Err(stale));
+    let told = told_after_logout(table, 1, first, 2, 6, put_at(5));
+    assert_same(rt, &told, &Err(stale));
     let second = match table.put(&2, 2, 8, put_at(4)) {
         Ok(entry) => entry,
         Err(_lacking) => rt.abort(),
     };
-    assert!(rt; !table.logout(&1));
-    assert_same(rt, &table.get(second).copied(), &Ok(8));
+    assert_same(rt, &seen_beside(table, 1, 2, second), &Ok(8));
+    let third = match table.put(&2, 3, 9, put_at(6)) {
+        Ok(entry) => entry,
+        Err(_lacking) => rt.abort(),
+    };
+    let seen = seen_after_put(table, 1, 2, third, 7, put_at(7));
+    assert_same(rt, &seen, &Ok(9));
+    assert_same(rt, &signed_in(table, 2, 4, 2), &Some(second));
+    assert_same(rt, &signed_in(table, 2, 5, 2), &None);
 }
 
 /// Both, in one table.
@@ -148,7 +157,7 @@ impl Scene<u64> for CallersAnswer {
     fn play<R: Abort, S: Storage<u64> + Drop>(&self, rt: &R, alloc: Global, store: S) {
         let mut table = sessions_over(rt, alloc, store);
         visits_leave_no_session(rt, &mut table);
-        one_is_logged_out(rt, &mut table);
+        callers_are_told(rt, &mut table);
         let _left = table.finish();
     }
 }

@@ -5,7 +5,7 @@ use crate::expected::assert_same;
 use crate::fresh::{Scene, play_both};
 use crate::session_acts::{put_at, sessions_over};
 use generational_box::{Storage, StoreError};
-use session_table::{LoginError, PutError, SessionTable};
+use session_table::{LoginError, PutError, RenameError, SessionTable};
 use std::alloc::Global;
 use std::process::Abort;
 
@@ -51,7 +51,22 @@ fn put_or_again<S: Storage<u64>>(
     assert!(rt; table.put(&id, value, value, put_at(0)).is_ok());
 }
 
-/// Begins sessions that keep values, and ends half of them.
+/// Gives a session another id. A call that lacks memory leaves it under its own.
+fn rename_or_again<S: Storage<u64>>(
+    rt: &impl Abort,
+    table: &mut SessionTable<u64, u64, u64, S>,
+    id: u64,
+    to: u64,
+) {
+    if let Err(cause) = table.rename(&id, to) {
+        assert_same(rt, &cause, &RenameError::Store(StoreError::OutOfMemory));
+        assert!(rt; table.has(&id) && !table.has(&to));
+        assert!(rt; table.rename(&id, to).is_ok());
+    }
+    assert!(rt; table.has(&to) && !table.has(&id));
+}
+
+/// Begins sessions that keep values, gives each another id, and ends half of them.
 struct BeginMany;
 
 impl Scene<u64> for BeginMany {
@@ -62,6 +77,7 @@ impl Scene<u64> for BeginMany {
             for value in 0..MANY {
                 put_or_again(rt, &mut table, id, value);
             }
+            rename_or_again(rt, &mut table, id, id + MANY);
         }
         assert_same(rt, &table.expire(MANY / 2), &5);
         let left = table.finish();

@@ -1,10 +1,10 @@
 //! Trees of values that are let go, trees whose store has given all its tickets, and callers of trees.
 
-use crate::counted::{Counted, another, assert_count, new_counted};
+use crate::counted::{Counted, another, assert_count, let_go, new_counted};
 use crate::expected::assert_same;
 use crate::fresh::{Scene, play, play_at_ticket};
 use crate::tree_acts::{made_at, tree_over};
-use example_libraries::trees::{moved_round, told_after};
+use example_libraries::trees::{moved_round, taken_out, told_after};
 use generational_box::Storage;
 use scene_tree::{Node, SceneTree, TreeError};
 use std::alloc::Global;
@@ -46,6 +46,32 @@ fn set<S: Storage<Counted>>(
     value: Counted,
 ) {
     assert!(rt; tree.set(node, value).is_ok());
+}
+
+/// A root that is taken with its value: those of the nodes below go at once.
+struct AValueComesBack;
+
+impl Scene<Counted> for AValueComesBack {
+    fn play<R: Abort, S: Storage<Counted> + Drop>(&self, rt: &R, alloc: Global, store: S) {
+        let value = new_counted(rt, alloc);
+        let others = new_counted(rt, alloc);
+        let mut tree = tree_over(rt, alloc, store);
+        let top = root(rt, &mut tree, another(rt, &value));
+        let below = child(rt, &mut tree, top, another(rt, &others));
+        child(rt, &mut tree, below, another(rt, &others));
+        let taken = tree.take(top).expect(rt, "a value");
+        assert_count(rt, &value, 2);
+        assert_count(rt, &others, 1);
+        let_go(taken);
+        assert_count(rt, &value, 1);
+        assert!(rt; tree.take(top).is_err());
+        assert_same(rt, &tree.len(), &0);
+    }
+}
+
+#[test]
+fn a_value_that_is_taken_is_let_go_once(rt: HostRuntime) {
+    play::<Counted, AValueComesBack>(&rt, rt.alloc(), &AValueComesBack);
 }
 
 /// Values of a root and its children, which a removal lets go.
@@ -90,6 +116,8 @@ fn no_cycle_is_made<S: Storage<u64>>(rt: &impl Abort, tree: &mut SceneTree<u64, 
     let second = root(rt, tree, 2);
     let moved = moved_round(tree, first, second);
     assert_same(rt, &moved, &Err(TreeError::Cycle));
+    assert_same(rt, &taken_out(tree, second), &Some(2));
+    assert_same(rt, &taken_out(tree, second), &None);
 }
 
 /// Both, in one tree.

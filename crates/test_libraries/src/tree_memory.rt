@@ -97,6 +97,24 @@ pub(crate) fn remove_or_again<S: Storage<u64>>(
     panic!(rt; "the nodes aren't removed")
 }
 
+/// Takes a node. A call that lacks memory leaves it, and is made again.
+fn take_or_again<S: Storage<u64>>(
+    rt: &impl Abort,
+    tree: &mut SceneTree<u64, S>,
+    node: Node<u64>,
+) -> u64 {
+    for _ in 0..3 {
+        match tree.take(node) {
+            Ok(value) => return value,
+            Err(error) => {
+                assert_same(rt, &error, &LACKING);
+                assert!(rt; tree.is_alive(node));
+            }
+        }
+    }
+    panic!(rt; "the node isn't taken")
+}
+
 /// Makes children, moves them all below one of them, and removes that.
 struct GrowAndCut;
 
@@ -123,7 +141,8 @@ fn trees_that_lack_memory_stay(rt: HostRuntime) {
     play::<u64, GrowAndCut>(&rt, rt.alloc(), &GrowAndCut);
 }
 
-/// Makes children before one of a root's, and moves them all below it, each before the others.
+/// Makes children before one of a root's, moves them all below it, each before the others, and takes the
+/// root.
 struct GrowBefore;
 
 impl Scene<u64> for GrowBefore {
@@ -138,6 +157,8 @@ impl Scene<u64> for GrowBefore {
         }
         assert_same(rt, &count_of(rt, &tree, root), &1);
         assert_same(rt, &(count_of(rt, &tree, last) as u64), &(MANY - 1));
+        assert_same(rt, &take_or_again(rt, &mut tree, root), &0);
+        assert_same(rt, &tree.len(), &0);
     }
 }
 
