@@ -33,10 +33,8 @@ fn play<R: Print, A: Storage<u64>, C: Storage<u64>>(
     actors.despawn(dog)?;
     scores.sweep(actors);
     for (actor, strength) in actors.iter() {
-        println!(rt;
-            "{actor:?}: strength {strength}, score {:?}",
-            scores.get(actor)
-        )?;
+        let score = scores.get(actor).copied();
+        println!(rt; "{actor:?}: strength {strength}, score {score:?}")?;
     }
     if let Err(stale) = actors.get(dog) {
         println!(rt; "{stale}")?;
