@@ -4,9 +4,9 @@ use crate::gates::Gate;
 use crate::judge::{Judge, present};
 use crate::places::{made, made_later, read, read_later};
 use crate::recorder::Recorder;
-use crate::rows::strange_box;
+use crate::strangers::strange_box;
 use crate::workers::Worker;
-use generational_box::{GenerationalBox, GenerationalRefMut, Location, UnsyncStorage};
+use generational_box::{GenerationalBox, GenerationalRefMut, Location};
 use std::alloc::Global;
 use std::sync::Wait;
 use std::thread;
@@ -37,7 +37,7 @@ pub(crate) fn read_beside<W: Worker, H: Threads + Wait + Judge + Sync>(
     mut second: Recorder<W>,
 ) {
     let shared = first.leak(rt, "hello", made());
-    let strange = strange_box(rt, alloc, &mut UnsyncStorage::new(alloc, 8));
+    let strange = strange_box(rt, alloc);
     let (opened, other) = (Gate::new(), Gate::new());
     thread::join(
         rt,

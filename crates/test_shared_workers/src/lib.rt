@@ -13,6 +13,7 @@ mod recorded;
 mod recorder;
 mod rows;
 mod scenes;
+mod strangers;
 mod unshared;
 mod waking;
 mod workers;

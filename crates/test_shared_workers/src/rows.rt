@@ -3,9 +3,10 @@
 
 use crate::judge::Judge;
 use crate::places::{made, made_later, read, read_later};
-use crate::recorder::{Recorder, text};
+use crate::recorder::Recorder;
+use crate::strangers::{Strangers, new_strangers, strange_owner};
 use crate::workers::Worker;
-use generational_box::{AnyStorage, BaseRow, GenerationalBox, Storage, UnsyncStorage};
+use generational_box::{BaseRow, GenerationalBox};
 use std::alloc::Global;
 use std::sync::Wait;
 
@@ -189,16 +190,16 @@ pub(crate) fn strangers_come<W: Worker>(
 ) -> u64 {
     let own = one.leak(rt, "own", made());
     let guard = one.begin(rt, own, read());
-    let mut other: UnsyncStorage<String> = UnsyncStorage::new(alloc, 8);
-    let strange = strange_box(rt, alloc, &mut other);
-    one.finds_dropped(rt, strange, read(), made_later());
-    one.end(rt, strange);
-    one.sets_dropped(rt, strange, "v", made_later());
-    let reader = rt.expect(strange.try_read(&mut other, read()), "a guard");
+    let Strangers {
+        asked,
+        reader,
+        writer,
+    } = new_strangers(rt, alloc);
+    one.finds_dropped(rt, asked, read(), made_later());
+    one.end(rt, asked);
+    one.sets_dropped(rt, asked, "v", made_later());
     rt.compare(&reader.ticket(), &guard.ticket());
     one.refuses_reader(rt, reader, "own");
-    let written = strange_box(rt, alloc, &mut other);
-    let writer = rt.expect(written.try_write(&mut other, read()), "a guard");
     one.refuses_writer(rt, writer, "strange");
     one.assert_opens(rt, &guard, "own");
     one.release(rt, guard);
@@ -213,21 +214,9 @@ pub(crate) fn strange_owner_comes<W: Worker>(
     mut one: Recorder<W>,
 ) -> u64 {
     let own = one.owner(rt);
-    let mut other: UnsyncStorage<String> = UnsyncStorage::new(alloc, 8);
-    let strange = rt.expect(other.owner(), "an owner");
+    let strange = strange_owner(rt, alloc);
     rt.compare(&strange.id().key, &own.id().key);
     one.refuses_owner(rt, strange, "v", made());
     one.release_owner(rt, own);
     one.finish(rt, &[[1, 0, 1, 3]])
-}
-
-/// A box of the store with number 8.
-pub(crate) fn strange_box(
-    rt: &impl Judge,
-    alloc: Global,
-    store: &mut UnsyncStorage<String>,
-) -> GenerationalBox<String> {
-    let value = text(rt, alloc, "strange");
-    let made = GenerationalBox::leak(store, value, made_later());
-    rt.expect(made.map_err(|refusal| refusal.cause), "a box")
 }
