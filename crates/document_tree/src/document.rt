@@ -48,6 +48,11 @@ impl<T, S: Storage<Part<T>>> Model for Document<T, S> {
 
 impl<T, S: Storage<Part<T>>> Document<T, S> {
     /// A document without parts, over a fresh store (`is_fresh` is the test). Takes no memory.
+    ///
+    /// ```rust
+    /// let store = UnsyncStorage::<Part<u64>>::new(rt.alloc(), 1);
+    /// let mut document = Document::new(rt.alloc(), store);
+    /// ```
     pub fn new(alloc: Global, store: S) -> Self
         requires { IsFresh (S.state store) }
         ensures document { result ≡ S.state store }
@@ -64,8 +69,13 @@ impl<T, S: Storage<Part<T>>> Document<T, S> {
     /// that was ever given, it leads to no part to which another leads, and every other place shows
     /// what it showed.
     ///
-    /// Refused by `OutOfMemory` alone: the content comes back, and the document stays as it was.
+    /// Refused by `OutOfMemory` alone: the content comes back, and the document is unchanged.
     /// Takes memory where fewer than two slots are free. O(1), but for finding room.
+    ///
+    /// ```rust
+    /// let page = document.add(1, here)?;
+    /// let heading = document.add(10, here)?;
+    /// ```
     pub fn add(&mut self, content: T, here: Location) -> Result<Place, Refusal<T>>
         ensures shown { IfOk result (λ p. shown_in self.new p ≡
             Some (record { content = content; children = [] })) }
@@ -96,8 +106,12 @@ impl<T, S: Storage<Part<T>>> Document<T, S> {
     /// ever given, and every other place shows what it showed.
     ///
     /// Refused, in this order: `Gone`, where the place is gone, or is another document's;
-    /// `OutOfMemory`. The document stays as it was then. Takes memory where no slot is free. O(1), but
+    /// `OutOfMemory`. The document is unchanged then. Takes memory where no slot is free. O(1), but
     /// for finding room.
+    ///
+    /// ```rust
+    /// let again = document.repeat(heading)?;
+    /// ```
     pub fn repeat(&mut self, place: Place) -> Result<Place, PlaceError>
         ensures part { IfOk result (λ p. part_in self.new p ≡ part_in self.old place) }
         ensures shown { IfOk result (λ p. shown_in self.new p ≡ shown_in self.old place) }
@@ -126,6 +140,10 @@ impl<T, S: Storage<Part<T>>> Document<T, S> {
     /// The content of a place's part. The document is lent meanwhile.
     ///
     /// Refused where the place is gone, or is another document's. Takes no memory, and is O(1).
+    ///
+    /// ```rust
+    /// let content = *document.get(heading)?;
+    /// ```
     pub fn get(&self, place: Place) -> Result<&T, Gone>
         ensures seen { IfOk result (λ content.
             content_of (shown_in self.now place) ≡ Some content.now) }
@@ -143,6 +161,12 @@ impl<T, S: Storage<Part<T>>> Document<T, S> {
     /// The children of a place's part, in order. The document is lent meanwhile.
     ///
     /// Refused where the place is gone, or is another document's. Takes no memory, and is O(1).
+    ///
+    /// ```rust
+    /// for child in document.children(page)?.iter() {
+    ///     println!(rt; "{}", document.get(*child)?)?;
+    /// }
+    /// ```
     pub fn children(&self, place: Place) -> Result<&[Place], Gone>
         ensures seen { IfOk result (λ children.
             children_of (shown_in self.now place) ≡ Some children.now) }
@@ -162,8 +186,14 @@ impl<T, S: Storage<Part<T>>> Document<T, S> {
     /// place that is gone is there without children.
     ///
     /// At most `limit` places are answered, so that it ends where the document has a cycle too.
-    /// Refused for want of memory alone. Takes memory for the list, and for the places that wait. O(n)
+    /// Refused only if memory runs out. Takes memory for the list, and for the places that wait. O(n)
     /// for n places that are answered and their children.
+    ///
+    /// ```rust
+    /// for place in document.outline(page, 100)?.iter() {
+    ///     println!(rt; "{}", document.get(*place)?)?;
+    /// }
+    /// ```
     pub fn outline(&self, place: Place, limit: usize) -> Result<Vec<Place>, AllocError>
         ensures { IfOk result (λ places. places.items ≡ outline_of self.now limit (place ∷ [])) }
     {
@@ -181,6 +211,12 @@ impl<T, S: Storage<Part<T>>> Document<T, S> {
 
     /// The places of `outline`, each with how many steps it stands below the first: 0 for the first, 1 for
     /// its children. Refused, and bounded, as `outline` is. Takes memory and time as that does.
+    ///
+    /// ```rust
+    /// for (depth, place) in document.outline_with_depth(page, 100)?.iter() {
+    ///     println!(rt; "depth {depth}: {}", document.get(*place)?)?;
+    /// }
+    /// ```
     pub fn outline_with_depth(
         &self,
         place: Place,
@@ -205,7 +241,13 @@ impl<T, S: Storage<Part<T>>> Document<T, S> {
     /// leads to the part, with the children that there were; every other place shows what it showed.
     ///
     /// Refused where the place is gone, or is another document's: the content comes back, and the
-    /// document stays as it was. Takes no memory, and is O(1), but for letting the old content go.
+    /// document is unchanged. Takes no memory, and is O(1), but for letting the old content go.
+    ///
+    /// ```rust
+    /// if let Err((content, gone)) = document.set(heading, 11) {
+    ///     println!(rt; "{gone}, and {content} comes back")?;
+    /// }
+    /// ```
     pub fn set(&mut self, place: Place, content: T) -> Result<(), (T, Gone)>
     where
         T: Drop,
@@ -234,7 +276,14 @@ impl<T, S: Storage<Part<T>>> Document<T, S> {
     /// place shows what it showed.
     ///
     /// Refused where the place is gone, or is another document's: the closure isn't called then, and the
-    /// document stays as it was. Takes no memory, and is O(1), but for the closure.
+    /// document is unchanged. Takes no memory, and is O(1), but for the closure.
+    ///
+    /// ```rust
+    /// document.update(
+    ///     heading,
+    ///     |content: &mut u64| *content = content.wrapping_add(1),
+    /// )?;
+    /// ```
     pub fn update<R, F: FnOnce(&mut T) -> R>(&mut self, place: Place, f: F) -> Result<R, Gone>
         requires { F.IsAlwaysCallable f }
         ensures changed { IfOk result (λ answer. (old : T) × (changed : T) ×
@@ -269,6 +318,10 @@ impl<T, S: Storage<Part<T>>> Document<T, S> {
     /// Refused, in this order: `Gone`, where the parent is gone, or is another document's, and then
     /// where the child is; `OutOfMemory`. Every place shows what it showed then. Takes memory for the
     /// list of children. O(1), but for finding room.
+    ///
+    /// ```rust
+    /// document.append(page, heading)?;
+    /// ```
     pub fn append(&mut self, parent: Place, child: Place) -> Result<(), PlaceError>
     where
         T: Drop,
@@ -307,6 +360,10 @@ impl<T, S: Storage<Part<T>>> Document<T, S> {
     /// where the child is; `OutOfRange`, where the part has fewer children than the index; `OutOfMemory`.
     /// Every place shows what it showed then. Takes memory for the list of children. O(c) for c children
     /// behind, but for finding room.
+    ///
+    /// ```rust
+    /// document.insert(page, 0, again)?;
+    /// ```
     pub fn insert(&mut self, parent: Place, index: usize, child: Place) -> Result<(), PlaceError>
     where
         T: Drop,
@@ -352,8 +409,12 @@ impl<T, S: Storage<Part<T>>> Document<T, S> {
     /// every other place.
     ///
     /// Refused, in this order: `Gone`, where the parent is gone, or is another document's; `OutOfRange`,
-    /// where the part has no child at the index. The document stays as it was then. Takes no memory, and
+    /// where the part has no child at the index. The document is unchanged then. Takes no memory, and
     /// O(c) time for c children behind.
+    ///
+    /// ```rust
+    /// let taken = document.take_child(page, 0)?;
+    /// ```
     pub fn take_child(&mut self, parent: Place, index: usize) -> Result<Place, PlaceError>
         ensures taken { IfOk result (λ child. (list : List Place) →
             children_of (shown_in self.old parent) ≡ Some list →
@@ -390,8 +451,12 @@ impl<T, S: Storage<Part<T>>> Document<T, S> {
     /// Takes those that are gone out of the children of the parent's part, at each place that leads there.
     /// The others stay, in their order, and every other place shows what it showed.
     ///
-    /// Refused where the parent is gone, or is another document's: the document stays as it was. Takes no
+    /// Refused where the parent is gone, or is another document's: the document is unchanged. Takes no
     /// memory, and O(c) time for c children.
+    ///
+    /// ```rust
+    /// document.clear_gone(page)?;
+    /// ```
     pub fn clear_gone(&mut self, parent: Place) -> Result<(), Gone>
     where
         T: Drop,
@@ -421,7 +486,12 @@ impl<T, S: Storage<Part<T>>> Document<T, S> {
     /// ends where no other place leads there.
     ///
     /// Refused where the place is gone, or is another document's, and then where the other is. The
-    /// document stays as it was then. Takes no memory, and is O(1), but for letting the old part go.
+    /// document is unchanged then. Takes no memory, and is O(1), but for letting the old part go.
+    ///
+    /// ```rust
+    /// let other = document.add(20, here)?;
+    /// document.exchange(heading, other)?;
+    /// ```
     pub fn exchange(&mut self, place: Place, other: Place) -> Result<(), Gone>
         ensures part { OnOk result ((q : Place) → IsSame place q →
             part_in self.new q ≡ part_in self.old other) }
@@ -446,8 +516,12 @@ impl<T, S: Storage<Part<T>>> Document<T, S> {
     /// Ends a place: it shows nothing from then on, and its part ends with it where no other place
     /// leads there. Every other place shows what it showed.
     ///
-    /// Refused where the place is gone, or is another document's; the document stays as it was then.
+    /// Refused where the place is gone, or is another document's; the document is unchanged then.
     /// Takes no memory, and is O(1), but for letting the part go.
+    ///
+    /// ```rust
+    /// document.remove(heading)?;
+    /// ```
     pub fn remove(&mut self, place: Place) -> Result<(), Gone>
         ensures ended { (q : Place) → IsSame place q → shown_in self.new q ≡ None }
         ensures others { (q : Place) → IsOther place q → Leaves self.old q self.new }

@@ -66,6 +66,10 @@ impl fmt::Debug for Place {
 
 impl Place {
     /// The id of the place, which no other ever has. Handles of one place have one id.
+    ///
+    /// ```rust
+    /// let id = heading.id();
+    /// ```
     pub fn id(self) -> GenerationalBoxId
         ensures { result ≡ self.raw.id }
     {
@@ -74,6 +78,10 @@ impl Place {
 
     /// Where the part was added to which the place was made. An exchange leaves it as it is: it tells
     /// of the first part to which the place led.
+    ///
+    /// ```rust
+    /// println!(rt; "added at {}", heading.made_at())?;
+    /// ```
     pub fn made_at(self) -> Location
         ensures { result ≡ made_at self }
     {

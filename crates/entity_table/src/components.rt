@@ -124,6 +124,11 @@ impl<T, C, S: Storage<C>> Model for ComponentTable<T, C, S> {
 
 impl<T, C, S: Storage<C>> ComponentTable<T, C, S> {
     /// A table without components, over a fresh store (`is_fresh` is the test). Takes no memory.
+    ///
+    /// ```rust
+    /// let store = UnsyncStorage::<u64>::new(rt.alloc(), 2);
+    /// let mut names = ComponentTable::new(rt.alloc(), store);
+    /// ```
     pub fn new(alloc: Global, store: S) -> Self
         requires { IsFresh (S.state store) }
         ensures { (e : Entity T) → component_in result e ≡ None }
@@ -140,6 +145,10 @@ impl<T, C, S: Storage<C>> ComponentTable<T, C, S> {
     ///
     /// Refused by `OutOfMemory` alone, where the slot has no component yet: the component comes back,
     /// and nothing changes. O(1), but for finding room, and for letting the old one go.
+    ///
+    /// ```rust
+    /// names.insert(entity, 200, here)?;
+    /// ```
     pub fn insert(
         &mut self,
         entity: Entity<T>,
@@ -186,6 +195,10 @@ impl<T, C, S: Storage<C>> ComponentTable<T, C, S> {
     /// Refused, in this order: `Stale`, where the entity is gone, or is another table's; `Store` of
     /// `OutOfMemory`, where the slot has no component yet. The component comes back then, and nothing
     /// changes. O(1), but for finding room, and for letting the old one go.
+    ///
+    /// ```rust
+    /// names.attach(table, entity, 100, here)?;
+    /// ```
     pub fn attach<E: Storage<T>>(
         &mut self,
         table: &EntityTable<T, E>,
@@ -232,6 +245,12 @@ impl<T, C, S: Storage<C>> ComponentTable<T, C, S> {
 
     /// An entity's component; None where it has none. The table is lent meanwhile. Takes no memory,
     /// and is O(1).
+    ///
+    /// ```rust
+    /// if let Some(name) = names.get(entity) {
+    ///     println!(rt; "{entity:?} is named {name}")?;
+    /// }
+    /// ```
     pub fn get(&self, entity: Entity<T>) -> Option<&C>
         ensures { option_copied result ≡ component_in self.now entity }
     {
@@ -242,8 +261,12 @@ impl<T, C, S: Storage<C>> ComponentTable<T, C, S> {
     /// Changes an entity's component in its place by a closure, which is called once on it, and answers
     /// what that answers. Every other entity keeps its own.
     ///
-    /// None where the entity has no component: the closure isn't called, and the table stays as it was.
+    /// None where the entity has no component: the closure isn't called, and the table is unchanged.
     /// Takes no memory of its own, and is O(1), but for the closure.
+    ///
+    /// ```rust
+    /// names.update(entity, |name: &mut u64| *name = name.wrapping_add(1));
+    /// ```
     pub fn update<R, F: FnOnce(&mut C) -> R>(&mut self, entity: Entity<T>, f: F) -> Option<R>
         requires { (component : MutBor C) →
             component_in self.old entity ≡ Some component.now → F.pre f component }
@@ -265,6 +288,12 @@ impl<T, C, S: Storage<C>> ComponentTable<T, C, S> {
 
     /// The components with their entities, in the order of the entities' slots, each once. The table is
     /// lent meanwhile. Takes no memory, and is O(1); all steps together are O(n) for n slots.
+    ///
+    /// ```rust
+    /// for (entity, name) in names.iter() {
+    ///     println!(rt; "{entity:?} is named {name}")?;
+    /// }
+    /// ```
     pub fn iter(&self) -> ComponentIter<'_, T, C, S>
         ensures shown { (i : ℕ) (e : Entity T) (c : C) → slice_get result i ≡ Some (e, c) →
             component_in self.now e ≡ Some c }
@@ -279,6 +308,12 @@ impl<T, C, S: Storage<C>> ComponentTable<T, C, S> {
     /// The live entities of a table that have a component, each with its element and its component, in
     /// the order of the entities' slots, each once. Both tables are lent meanwhile. Takes no memory, and
     /// is O(1); all steps together are O(n) for n slots.
+    ///
+    /// ```rust
+    /// for (entity, element, name) in names.join(table) {
+    ///     println!(rt; "{entity:?} has {element}, and is named {name}")?;
+    /// }
+    /// ```
     pub fn join<'a, E: Storage<T>>(&'a self, table: &'a EntityTable<T, E>) -> Join<'a, T, C, S, E>
         ensures shown { (i : ℕ) (e : Entity T) (v : T) (c : C) → slice_get result i ≡ Some (e, v, c) →
             (element_in table.now e ≡ Some v) × (component_in self.now e ≡ Some c) }
@@ -295,6 +330,10 @@ impl<T, C, S: Storage<C>> ComponentTable<T, C, S> {
 
     /// Ends an entity's component: it goes from the store too. Answers whether it had one. Every other
     /// entity keeps its own. Never refused; takes no memory, and is O(1).
+    ///
+    /// ```rust
+    /// let had_one = names.remove(entity);
+    /// ```
     pub fn remove(&mut self, entity: Entity<T>) -> bool
         ensures had { result ≡ is_some (component_in self.old entity) }
         ensures gone { component_in self.new entity ≡ None }
@@ -316,7 +355,7 @@ impl<T, C, S: Storage<C>> ComponentTable<T, C, S> {
     /// Ends an entity's component, and hands it back: it goes from the store too. Every other entity
     /// keeps its own.
     ///
-    /// None where the entity has no component: the table stays as it was. Takes no memory, and is O(1).
+    /// None where the entity has no component: the table is unchanged. Takes no memory, and is O(1).
     ///
     /// ```rust
     /// match coats.take(from) {
@@ -344,6 +383,10 @@ impl<T, C, S: Storage<C>> ComponentTable<T, C, S> {
     /// Ends the components of all entities that aren't live in a table: those of entities that were
     /// despawned since the last sweep. Every live one keeps its own. Never refused; takes no memory, and
     /// is O(n) for n slots.
+    ///
+    /// ```rust
+    /// names.sweep(table);
+    /// ```
     pub fn sweep<E: Storage<T>>(&mut self, table: &EntityTable<T, E>)
         ensures gone { (e : Entity T) → element_in table.now e ≡ None →
             component_in self.new e ≡ None }
@@ -374,6 +417,10 @@ impl<T, C, S: Storage<C>> ComponentTable<T, C, S> {
     }
 
     /// Whether an entity has a component. Takes no memory, and is O(1).
+    ///
+    /// ```rust
+    /// let is_named = names.contains(entity);
+    /// ```
     pub fn contains(&self, entity: Entity<T>) -> bool
         ensures { result ≡ is_some (component_in self.now entity) }
     {

@@ -81,6 +81,10 @@ impl<T> fmt::Debug for Entity<T> {
 
 impl<T> Entity<T> {
     /// The id of the entity, which no other ever has. Handles of one entity have one id.
+    ///
+    /// ```rust
+    /// let id = entity.id();
+    /// ```
     pub fn id(self) -> GenerationalBoxId
         ensures { result ≡ (pointer_in self).id }
     {
@@ -88,6 +92,10 @@ impl<T> Entity<T> {
     }
 
     /// Where the entity was spawned.
+    ///
+    /// ```rust
+    /// println!(rt; "spawned at {}", entity.spawned_at())?;
+    /// ```
     pub fn spawned_at(self) -> Location
         ensures { result ≡ spawned_at self }
     {

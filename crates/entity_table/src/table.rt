@@ -46,6 +46,11 @@ impl<T, S: Storage<T>> Model for EntityTable<T, S> {
 
 impl<T, S: Storage<T>> EntityTable<T, S> {
     /// A table without entities, over a fresh store (`is_fresh` is the test). Takes no memory.
+    ///
+    /// ```rust
+    /// let store = UnsyncStorage::<u64>::new(rt.alloc(), 1);
+    /// let mut table = EntityTable::new(rt.alloc(), store);
+    /// ```
     pub fn new(alloc: Global, store: S) -> Self
         requires { IsFresh (S.state store) }
         ensures table { result ≡ record { state = S.state store; rows = [] } }
@@ -61,8 +66,12 @@ impl<T, S: Storage<T>> EntityTable<T, S> {
     /// A new entity with this element, in a row of its own at the end. Its handle is none that was
     /// ever given, and every other entity shows what it showed.
     ///
-    /// Refused by `OutOfMemory` alone: the element comes back, and the table stays as it was. Takes
+    /// Refused by `OutOfMemory` alone: the element comes back, and the table is unchanged. Takes
     /// memory where the rows have no room, or no slot is free. O(1), but for finding room.
+    ///
+    /// ```rust
+    /// let entity = table.spawn(7, here)?;
+    /// ```
     pub fn spawn(&mut self, element: T, here: Location) -> Result<Entity<T>, Refusal<T>>
         ensures shown { IfOk result (λ e. element_in self.new e ≡ Some element) }
         ensures others { IfOk result (λ e. (f : Entity T) → IsOther e f →
@@ -97,8 +106,12 @@ impl<T, S: Storage<T>> EntityTable<T, S> {
     /// mistaken for it. The last row takes the place of its own. Every other entity shows what it
     /// showed.
     ///
-    /// Refused where the entity is gone, or is another table's; the table stays as it was then.
+    /// Refused where the entity is gone, or is another table's; the table is unchanged then.
     /// Takes no memory, and is O(1).
+    ///
+    /// ```rust
+    /// table.despawn(entity)?;
+    /// ```
     pub fn despawn(&mut self, entity: Entity<T>) -> Result<(), Stale>
         ensures gone { element_in self.new entity ≡ None }
         ensures others { (f : Entity T) → IsOther entity f →
@@ -129,7 +142,7 @@ impl<T, S: Storage<T>> EntityTable<T, S> {
     /// is mistaken for it. The last row takes the place of its own. Every other entity shows what it
     /// showed.
     ///
-    /// Refused where the entity is gone, or is another table's; the table stays as it was then.
+    /// Refused where the entity is gone, or is another table's; the table is unchanged then.
     /// Takes no memory, and is O(1).
     ///
     /// ```rust
@@ -163,7 +176,13 @@ impl<T, S: Storage<T>> EntityTable<T, S> {
     /// what it showed, and the rows stay.
     ///
     /// Refused where the entity is gone, or is another table's: the element comes back, and the
-    /// table stays as it was. Takes no memory, and is O(1), but for letting the old element go.
+    /// table is unchanged. Takes no memory, and is O(1), but for letting the old element go.
+    ///
+    /// ```rust
+    /// if let Err((element, stale)) = table.set(entity, 9) {
+    ///     println!(rt; "{stale}, and {element} comes back")?;
+    /// }
+    /// ```
     pub fn set(&mut self, entity: Entity<T>, element: T) -> Result<(), (T, Stale)>
     where
         T: Drop,
@@ -191,7 +210,14 @@ impl<T, S: Storage<T>> EntityTable<T, S> {
     /// what that answers. Every other entity shows what it showed, and the rows stay.
     ///
     /// Refused where the entity is gone, or is another table's: the closure isn't called, and the
-    /// table stays as it was. Takes no memory of its own, and is O(1), but for the closure.
+    /// table is unchanged. Takes no memory of its own, and is O(1), but for the closure.
+    ///
+    /// ```rust
+    /// let doubled = table.update(entity, |element: &mut u64| {
+    ///     *element = element.wrapping_mul(2);
+    ///     *element
+    /// })?;
+    /// ```
     pub fn update<R, F: FnOnce(&mut T) -> R>(&mut self, entity: Entity<T>, f: F) -> Result<R, Stale>
         requires { (element : MutBor T) →
             element_in self.old entity ≡ Some element.now → F.pre f element }
@@ -217,6 +243,12 @@ impl<T, S: Storage<T>> EntityTable<T, S> {
 
     /// The live entities with their elements, each once, in the order of the rows. The table is lent
     /// meanwhile. Takes no memory, and is O(1), as each of its steps.
+    ///
+    /// ```rust
+    /// for (entity, element) in table.iter() {
+    ///     println!(rt; "{entity:?} has {element}")?;
+    /// }
+    /// ```
     pub fn iter(&self) -> Iter<'_, T, S>
         ensures rows { list_map (λ p. p.0) result ≡ self.now.rows }
         ensures shown { (row : ℕ) (e : Entity T) (v : T) →
@@ -230,6 +262,10 @@ impl<T, S: Storage<T>> EntityTable<T, S> {
     /// An entity's element. The table is lent meanwhile.
     ///
     /// Refused where the entity is gone, or is another table's. Takes no memory, and is O(1).
+    ///
+    /// ```rust
+    /// let element = *table.get(entity)?;
+    /// ```
     pub fn get(&self, entity: Entity<T>) -> Result<&T, Stale>
         ensures seen { IfOk result (λ element. element_in self.now entity ≡ Some element.now) }
         ensures stale { IsErr result ↔ element_in self.now entity ≡ None }
@@ -245,6 +281,10 @@ impl<T, S: Storage<T>> EntityTable<T, S> {
 
     /// Whether an entity is live: false where it was despawned, or is another table's. Takes no
     /// memory, and is O(1).
+    ///
+    /// ```rust
+    /// let is_there = table.is_alive(entity);
+    /// ```
     pub fn is_alive(&self, entity: Entity<T>) -> bool
         ensures { result ≡ is_some (element_in self.now entity) }
     {
@@ -261,6 +301,10 @@ impl<T, S: Storage<T>> EntityTable<T, S> {
     }
 
     /// How many entities are live: as many as there are rows. Takes no memory, and is O(1).
+    ///
+    /// ```rust
+    /// println!(rt; "{} are live", table.len())?;
+    /// ```
     pub fn len(&self) -> usize
         ensures { result ≡ length self.now.rows }
     {
@@ -268,6 +312,12 @@ impl<T, S: Storage<T>> EntityTable<T, S> {
     }
 
     /// The live entities, each once, in rows without gaps. Takes no memory, and is O(1).
+    ///
+    /// ```rust
+    /// for entity in table.entities().iter() {
+    ///     println!(rt; "{entity:?}")?;
+    /// }
+    /// ```
     pub fn entities(&self) -> &[Entity<T>]
         ensures rows { result.now ≡ self.now.rows }
         ensures dense { IsDense self.now }
@@ -278,6 +328,10 @@ impl<T, S: Storage<T>> EntityTable<T, S> {
     /// Ends each entity whose element fails a test. Every other entity shows what it showed. The rows
     /// before the first that fails stay in their order, and behind it the last row of the moment takes
     /// the place of each that goes. Never refused; takes no memory, and is O(n).
+    ///
+    /// ```rust
+    /// table.retain(|element| *element < 100);
+    /// ```
     pub fn retain<F: Fn(&T) -> bool>(&mut self, test: F)
         requires { F.IsAlwaysCallable test }
         ensures sifted { (e : Entity T) (v : T) → element_in self.old e ≡ Some v →
@@ -332,6 +386,10 @@ impl<T, S: Storage<T>> EntityTable<T, S> {
     }
 
     /// Ends all entities and their elements. Never refused; takes no memory, and is O(n).
+    ///
+    /// ```rust
+    /// table.clear();
+    /// ```
     pub fn clear(&mut self)
         ensures gone { (e : Entity T) → element_in self.new e ≡ None }
         ensures rows { self.new.rows ≡ [] }

@@ -81,6 +81,10 @@ impl<T> fmt::Debug for Node<T> {
 
 impl<T> Node<T> {
     /// The id of the node, which no other ever has. Handles of one node have one id.
+    ///
+    /// ```rust
+    /// let id = child.id();
+    /// ```
     pub fn id(self) -> GenerationalBoxId
         ensures { result ≡ (pointer_in self).id }
     {
@@ -88,6 +92,10 @@ impl<T> Node<T> {
     }
 
     /// Where the node was made.
+    ///
+    /// ```rust
+    /// println!(rt; "made at {}", child.made_at())?;
+    /// ```
     pub fn made_at(self) -> Location
         ensures { result ≡ made_at self }
     {

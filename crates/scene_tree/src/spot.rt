@@ -35,6 +35,10 @@ impl<T> Copy for Spot<T> {}
 
 impl<T> Spot<T> {
     /// The node that the spot names: the parent, or the sibling.
+    ///
+    /// ```rust
+    /// let sibling = Spot::Before(child).node();
+    /// ```
     pub fn node(self) -> Node<T>
         ensures { result ≡ named self }
     {

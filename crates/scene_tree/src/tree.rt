@@ -62,6 +62,11 @@ impl<T, S: Storage<T>> Model for SceneTree<T, S> {
 
 impl<T, S: Storage<T>> SceneTree<T, S> {
     /// A tree without nodes, over a fresh store (`is_fresh` is the test). Takes no memory.
+    ///
+    /// ```rust
+    /// let store = UnsyncStorage::<u64>::new(rt.alloc(), 1);
+    /// let mut tree = SceneTree::new(rt.alloc(), store);
+    /// ```
     pub fn new(alloc: Global, store: S) -> Self
         requires { IsFresh (S.state store) }
         ensures tree { result ≡ record { state = S.state store; families = [] } }
@@ -75,10 +80,14 @@ impl<T, S: Storage<T>> SceneTree<T, S> {
     }
 
     /// A new node with this value, without a parent and without children. Its handle is none that
-    /// was ever given, and every other node is left.
+    /// was ever given, and every other node is unchanged.
     ///
-    /// Refused by `OutOfMemory` alone: the value comes back, and the tree stays as it was. Takes
+    /// Refused by `OutOfMemory` alone: the value comes back, and the tree is unchanged. Takes
     /// memory where the links have no room, or no slot is free. O(1), but for finding room.
+    ///
+    /// ```rust
+    /// let root = tree.add_root(1, here)?;
+    /// ```
     pub fn add_root(&mut self, value: T, here: Location) -> Result<Node<T>, Refusal<T>>
         ensures shown { IfOk result (λ n. value_of self.new n ≡ Some value) }
         ensures alone { IfOk result (λ n. family_of self.new n ≡ alone) }
@@ -105,11 +114,15 @@ impl<T, S: Storage<T>> SceneTree<T, S> {
     }
 
     /// A new node with this value, as the last child of another, and without children. Its handle is
-    /// none that was ever given, and every other node is left.
+    /// none that was ever given, and every other node is unchanged.
     ///
     /// Refused, in this order: `Stale`, where the parent is gone, or is another tree's; `Store` of
-    /// `OutOfMemory`. The value comes back then, and the tree stays as it was. Takes memory where the
+    /// `OutOfMemory`. The value comes back then, and the tree is unchanged. Takes memory where the
     /// links have no room, or no slot is free. O(1), but for finding room.
+    ///
+    /// ```rust
+    /// let child = tree.add_child(root, 2, here).map_err(|(_, cause)| cause)?;
+    /// ```
     pub fn add_child(
         &mut self,
         parent: Node<T>,
@@ -142,12 +155,17 @@ impl<T, S: Storage<T>> SceneTree<T, S> {
     }
 
     /// A new node with this value, at a spot among the children of another, and without children. Its
-    /// handle is none that was ever given, and every other node is left.
+    /// handle is none that was ever given, and every other node is unchanged.
     ///
     /// Refused, in this order: `Stale`, where the node that the spot names is gone, or is another tree's;
     /// `NoParent`, where it is to be a sibling and has no parent; `Store` of `OutOfMemory`. The value
-    /// comes back then, and the tree stays as it was. Takes memory as `add_child` does. O(1), but for
+    /// comes back then, and the tree is unchanged. Takes memory as `add_child` does. O(1), but for
     /// finding room.
+    ///
+    /// ```rust
+    /// let first = tree.add_at(Spot::Before(child), 3, here);
+    /// let first = first.map_err(|(_, cause)| cause)?;
+    /// ```
     pub fn add_at(
         &mut self,
         spot: Spot<T>,
@@ -250,11 +268,17 @@ impl<T, S: Storage<T>> SceneTree<T, S> {
         }
     }
 
-    /// Puts another value in the place of a node's, which is let go. Every other node is left, and
+    /// Puts another value in the place of a node's, which is let go. Every other node is unchanged, and
     /// the node has the family that it had.
     ///
-    /// Refused where the node is gone, or is another tree's: the value comes back, and the tree stays
-    /// as it was. Takes no memory, and is O(1), but for letting the old value go.
+    /// Refused where the node is gone, or is another tree's: the value comes back, and the tree is
+    /// unchanged. Takes no memory, and is O(1), but for letting the old value go.
+    ///
+    /// ```rust
+    /// if let Err((value, stale)) = tree.set(child, 9) {
+    ///     println!(rt; "{stale}, and {value} comes back")?;
+    /// }
+    /// ```
     pub fn set(&mut self, node: Node<T>, value: T) -> Result<(), (T, Stale)>
     where
         T: Drop,
@@ -279,10 +303,14 @@ impl<T, S: Storage<T>> SceneTree<T, S> {
     }
 
     /// Changes a node's value in its place, by a closure that is called once on it, and answers what that
-    /// answers. Every other node is left, and the node has the family that it had.
+    /// answers. Every other node is unchanged, and the node has the family that it had.
     ///
-    /// Refused where the node is gone, or is another tree's: the closure isn't called, and the tree stays
-    /// as it was. Takes no memory, and is O(1), but for the closure.
+    /// Refused where the node is gone, or is another tree's: the closure isn't called, and the tree is
+    /// unchanged. Takes no memory, and is O(1), but for the closure.
+    ///
+    /// ```rust
+    /// tree.update(child, |value: &mut u64| *value = value.wrapping_add(1))?;
+    /// ```
     pub fn update<R, F: FnOnce(&mut T) -> R>(&mut self, node: Node<T>, f: F) -> Result<R, Stale>
         requires { (value : MutBor T) → value_of self.old node ≡ Some value.now → F.pre f value }
         ensures changed { IfOk result (λ answer. (old : T) × (changed : T) ×
@@ -308,6 +336,10 @@ impl<T, S: Storage<T>> SceneTree<T, S> {
     /// A node's value. The tree is lent meanwhile.
     ///
     /// Refused where the node is gone, or is another tree's. Takes no memory, and is O(1).
+    ///
+    /// ```rust
+    /// let value = *tree.get(child)?;
+    /// ```
     pub fn get(&self, node: Node<T>) -> Result<&T, Stale>
         ensures seen { IfOk result (λ value. value_of self.now node ≡ Some value.now) }
         ensures stale { IsErr result ↔ value_of self.now node ≡ None }
@@ -323,6 +355,10 @@ impl<T, S: Storage<T>> SceneTree<T, S> {
 
     /// Whether a node is live: false where it was removed, or is another tree's. Takes no memory,
     /// and is O(1).
+    ///
+    /// ```rust
+    /// let is_there = tree.is_alive(child);
+    /// ```
     pub fn is_alive(&self, node: Node<T>) -> bool
         ensures { result ≡ is_live self.now node }
     {
@@ -330,6 +366,10 @@ impl<T, S: Storage<T>> SceneTree<T, S> {
     }
 
     /// How many nodes are live: as many as the store has live cells. Takes no memory, and is O(1).
+    ///
+    /// ```rust
+    /// println!(rt; "{} nodes", tree.len())?;
+    /// ```
     pub fn len(&self) -> usize
         ensures { result ≡ count_of self.now }
     {
@@ -339,6 +379,10 @@ impl<T, S: Storage<T>> SceneTree<T, S> {
     /// A node's parent, if it has one.
     ///
     /// Refused where the node is gone, or is another tree's. Takes no memory, and is O(1).
+    ///
+    /// ```rust
+    /// let is_below = tree.parent(child)? == Some(root);
+    /// ```
     pub fn parent(&self, node: Node<T>) -> Result<Option<Node<T>>, Stale>
         ensures parent { IfOk result (λ parent. parent ≡ parent_of self.now node) }
         ensures stale { IsErr result ↔ value_of self.now node ≡ None }
@@ -357,6 +401,12 @@ impl<T, S: Storage<T>> SceneTree<T, S> {
     ///
     /// Refused where the node is gone, or is another tree's. Takes no memory, and is O(1), as each of its
     /// steps.
+    ///
+    /// ```rust
+    /// for above in tree.ancestors(child)? {
+    ///     println!(rt; "below {}", tree.get(above)?)?;
+    /// }
+    /// ```
     pub fn ancestors(&self, node: Node<T>) -> Result<Ancestors<'_, T>, Stale>
         ensures ancestors { IfOk result (λ above. AreAncestors self.now node above) }
         ensures stale { IsErr result ↔ value_of self.now node ≡ None }
@@ -374,6 +424,10 @@ impl<T, S: Storage<T>> SceneTree<T, S> {
     /// How many steps a node is below its root: as many as it has ancestors, none at a root.
     ///
     /// Refused where the node is gone, or is another tree's. Takes no memory, and O(d) time for d steps.
+    ///
+    /// ```rust
+    /// let steps = tree.depth(child)?;
+    /// ```
     pub fn depth(&self, node: Node<T>) -> Result<usize, Stale>
         ensures depth { IfOk result (λ steps. IsRootedIn self.now steps node) }
         ensures stale { IsErr result ↔ value_of self.now node ≡ None }
@@ -392,6 +446,12 @@ impl<T, S: Storage<T>> SceneTree<T, S> {
     ///
     /// Refused where the node is gone, or is another tree's. Takes no memory, and is O(1), as each of its
     /// steps.
+    ///
+    /// ```rust
+    /// for node in tree.children(root)? {
+    ///     println!(rt; "{}", tree.get(node)?)?;
+    /// }
+    /// ```
     pub fn children(&self, node: Node<T>) -> Result<Children<'_, T>, Stale>
         ensures children { IfOk result (λ children. children ≡ children_of self.now node) }
         ensures tree { IsTree self.now }
@@ -412,6 +472,12 @@ impl<T, S: Storage<T>> SceneTree<T, S> {
     ///
     /// Refused, in this order: `Stale`, where the node is gone, or is another tree's; `Store` of
     /// `OutOfMemory`. Takes memory for the list, and O(k) time for k nodes, but for finding room.
+    ///
+    /// ```rust
+    /// for node in tree.subtree(root)?.iter() {
+    ///     println!(rt; "{}", tree.get(*node)?)?;
+    /// }
+    /// ```
     pub fn subtree(&self, node: Node<T>) -> Result<Vec<Node<T>>, TreeError>
         ensures subtree { IfOk result (λ list. IsSubtree self.now node list.items) }
         ensures stale { value_of self.now node ≡ None →
@@ -434,6 +500,12 @@ impl<T, S: Storage<T>> SceneTree<T, S> {
     ///
     /// Refused where the node is gone, or is another tree's. Takes no memory, and is O(1). A step is O(d) for
     /// d steps from its node to the first, and all steps together are O(k) for k nodes.
+    ///
+    /// ```rust
+    /// for (depth, node) in tree.outline(root, 100)? {
+    ///     println!(rt; "depth {depth}: {}", tree.get(node)?)?;
+    /// }
+    /// ```
     pub fn outline(&self, node: Node<T>, limit: usize) -> Result<Outline<'_, T>, Stale>
         ensures outline { IfOk result (λ rows.
             rows ≡ outline_of self.now limit ((0, node) ∷ [])) }
@@ -453,8 +525,12 @@ impl<T, S: Storage<T>> SceneTree<T, S> {
     /// one child, all below it stays where it is, and every node shows what it showed.
     ///
     /// Refused, in this order: `Stale`, where the node is gone, or is another tree's; `Stale`, where
-    /// the parent is; `Cycle`, where the parent is the node or below it. The tree stays as it was then.
+    /// the parent is; `Cycle`, where the parent is the node or below it. The tree is unchanged then.
     /// Takes no memory, and O(d) time for d steps from the parent to its root.
+    ///
+    /// ```rust
+    /// tree.move_to(child, first)?;
+    /// ```
     pub fn move_to(&mut self, node: Node<T>, parent: Node<T>) -> Result<(), TreeError>
         ensures state { self.new.state ≡ self.old.state }
         ensures moved { OnOk result (parent_of self.new node ≡ Some parent) }
@@ -486,9 +562,13 @@ impl<T, S: Storage<T>> SceneTree<T, S> {
     ///
     /// Refused, in this order: `Stale`, where the node is gone, or is another tree's; `Stale`, where
     /// the node that the spot names is; `Cycle`, where that is the node or below it; `NoParent`, where it
-    /// is to be a sibling and has no parent. The tree stays as it was then. Takes no memory, and O(d) time
+    /// is to be a sibling and has no parent. The tree is unchanged then. Takes no memory, and O(d) time
     /// for d steps from the spot to its root, or O(1) where it is among the node's siblings: so children
     /// are put in another order.
+    ///
+    /// ```rust
+    /// tree.move_at(child, Spot::FirstOf(root))?;
+    /// ```
     pub fn move_at(&mut self, node: Node<T>, spot: Spot<T>) -> Result<(), TreeError>
         ensures state { self.new.state ≡ self.old.state }
         ensures moved { OnOk result (parent_of self.new node ≡ parent_for self.old spot) }
@@ -525,8 +605,12 @@ impl<T, S: Storage<T>> SceneTree<T, S> {
     /// Makes a node a root, with all below it: its parent loses this one child, all below it stays where
     /// it is, and every node shows what it showed. A root stays as it is.
     ///
-    /// Refused where the node is gone, or is another tree's: the tree stays as it was. Takes no memory,
+    /// Refused where the node is gone, or is another tree's: the tree is unchanged. Takes no memory,
     /// and is O(1).
+    ///
+    /// ```rust
+    /// tree.detach(child)?;
+    /// ```
     pub fn detach(&mut self, node: Node<T>) -> Result<(), Stale>
         ensures state { self.new.state ≡ self.old.state }
         ensures root { OnOk result (parent_of self.new node ≡ None) }
@@ -597,11 +681,16 @@ impl<T, S: Storage<T>> SceneTree<T, S> {
 
     /// Removes a node and all below it, and answers their handles as `subtree` does: each shows
     /// nothing from then on, and no later node is mistaken for it. The node's parent loses this one
-    /// child, and every other node is left.
+    /// child, and every other node is unchanged.
     ///
     /// Refused, in this order: `Stale`, where the node is gone, or is another tree's; `Store` of
-    /// `OutOfMemory`. The tree stays as it was then. Takes memory for the list, and O(k) time for k nodes,
+    /// `OutOfMemory`. The tree is unchanged then. Takes memory for the list, and O(k) time for k nodes,
     /// but for finding room and for letting the values go.
+    ///
+    /// ```rust
+    /// let gone = tree.remove_subtree(root)?;
+    /// println!(rt; "{} gone, {} left", gone.len(), tree.len())?;
+    /// ```
     pub fn remove_subtree(&mut self, node: Node<T>) -> Result<Vec<Node<T>>, TreeError>
         ensures subtree { IfOk result (λ list. IsSubtree self.old node list.items) }
         ensures gone { IfOk result (λ list. (n : Node T) → 0 < times n list.items →
@@ -638,7 +727,7 @@ impl<T, S: Storage<T>> SceneTree<T, S> {
     /// values of those below are let go: `detach` or `move_to` keeps one of them from that.
     ///
     /// Refused, in this order: `Stale`, where the node is gone, or is another tree's; `Store` of
-    /// `OutOfMemory`. The tree stays as it was then. Takes memory for a list of what goes, and O(k) time
+    /// `OutOfMemory`. The tree is unchanged then. Takes memory for a list of what goes, and O(k) time
     /// for k nodes, but for finding room and for letting the values go.
     ///
     /// ```rust

@@ -31,6 +31,12 @@ pub struct Session<K: Eq + Hash, T> {
 
 impl<K: Eq + Hash, T> Session<K, T> {
     /// The time of its last use: of its login, or of the last `touch`.
+    ///
+    /// ```rust
+    /// if let Some(session) = table.session(&7) {
+    ///     println!(rt; "last used at {}", session.used_at())?;
+    /// }
+    /// ```
     pub fn used_at(&self) -> u64
         ensures { result ≡ self.now.used_at }
     {
@@ -38,6 +44,10 @@ impl<K: Eq + Hash, T> Session<K, T> {
     }
 
     /// The entry under a key, if there is one. Takes no memory, and is O(1).
+    ///
+    /// ```rust
+    /// let found = table.session(&7).and_then(|session| session.entry(&1));
+    /// ```
     pub fn entry(&self, key: &K) -> Option<Entry<T>>
         ensures { result ≡ lookup (K.eq key.now) self.now.entries.entries }
     {
@@ -45,6 +55,14 @@ impl<K: Eq + Hash, T> Session<K, T> {
     }
 
     /// The entries with their keys, in the order in which they were put. Takes no memory, and is O(1).
+    ///
+    /// ```rust
+    /// if let Some(session) = table.session(&7) {
+    ///     for (key, entry) in session.entries() {
+    ///         println!(rt; "{key}: {}", table.get(entry)?)?;
+    ///     }
+    /// }
+    /// ```
     pub fn entries(&self) -> Entries<'_, K, T>
         ensures { result ≡ self.now.entries.entries }
     {

@@ -61,6 +61,11 @@ impl<I: Eq + Hash, K: Eq + Hash, T, S: Storage<T>> Model for SessionTable<I, K, 
 
 impl<I: Eq + Hash, K: Eq + Hash, T, S: Storage<T>> SessionTable<I, K, T, S> {
     /// A table without sessions, over a fresh store (`is_fresh` is the test). Takes no memory.
+    ///
+    /// ```rust
+    /// let store = UnsyncStorage::<u64>::new(rt.alloc(), 1);
+    /// let mut table = SessionTable::<u64, u64, u64, _>::new(rt.alloc(), store);
+    /// ```
     pub fn new(alloc: Global, store: S) -> Self
         requires { IsFresh (S.state store) }
         ensures table { result ≡ record { state = S.state store; sessions = [] } }
@@ -74,13 +79,17 @@ impl<I: Eq + Hash, K: Eq + Hash, T, S: Storage<T>> SessionTable<I, K, T, S> {
     }
 
     /// Begins a session of an id, which was last used now and keeps nothing yet. Every entry shows
-    /// what it showed, and every other session is as it was.
+    /// what it showed, and every other session is unchanged.
     ///
     /// Refused, in this order: `IdInUse`, where the id has a session; `Store` of `OutOfMemory`, where
     /// the rows find no room; of `NumbersExhausted`, where the store gave all its tickets, of which a
     /// login uses one; of `OutOfMemory`, where the session's owner finds no room. The table stays as
     /// it was then. Takes memory where the rows have no room, and for the session's owner. O(1), but
     /// for finding room.
+    ///
+    /// ```rust
+    /// table.login(7, 1000)?;
+    /// ```
     pub fn login(&mut self, id: I, now: u64) -> Result<(), LoginError>
     where
         I: Drop,
@@ -119,12 +128,16 @@ impl<I: Eq + Hash, K: Eq + Hash, T, S: Storage<T>> SessionTable<I, K, T, S> {
     }
 
     /// Keeps a value under a key until the end of an id's session. Its entry is none that was ever
-    /// given, every other entry shows what it showed, and every other session is as it was.
+    /// given, every other entry shows what it showed, and every other session is unchanged.
     ///
     /// Refused, in this order: `NoSession`, where the id has none; `KeyInUse`, where the session has an
     /// entry under the key; `Store` of `OutOfMemory`. The value comes back then, and the table stays as
     /// it was. Takes memory where no slot is free, or the session has no room. O(1), but for finding
     /// room.
+    ///
+    /// ```rust
+    /// let basket = table.put(&7, 1, 42, here)?;
+    /// ```
     pub fn put(
         &mut self,
         id: &I,
@@ -176,6 +189,12 @@ impl<I: Eq + Hash, K: Eq + Hash, T, S: Storage<T>> SessionTable<I, K, T, S> {
     }
 
     /// The entry that an id's session has under a key, if it has one. Takes no memory, and is O(1).
+    ///
+    /// ```rust
+    /// if let Some(entry) = table.entry(&7, &1) {
+    ///     println!(rt; "{}", table.get(entry)?)?;
+    /// }
+    /// ```
     pub fn entry(&self, id: &I, key: &K) -> Option<Entry<T>>
         ensures { result ≡ entry_in K.eq (session_in I.eq self.now id.now) key.now }
     {
@@ -184,6 +203,10 @@ impl<I: Eq + Hash, K: Eq + Hash, T, S: Storage<T>> SessionTable<I, K, T, S> {
 
     /// Whether an entry shows a value: false once its session is gone, and of another table's. Takes
     /// no memory, and is O(1).
+    ///
+    /// ```rust
+    /// let is_there = table.shows(basket);
+    /// ```
     pub fn shows(&self, entry: Entry<T>) -> bool
         ensures { result ≡ is_some (shown_in self.now entry) }
     {
@@ -193,6 +216,10 @@ impl<I: Eq + Hash, K: Eq + Hash, T, S: Storage<T>> SessionTable<I, K, T, S> {
     /// An entry's value. The table is lent meanwhile.
     ///
     /// Refused where the entry's session is gone, or is another table's. Takes no memory, and is O(1).
+    ///
+    /// ```rust
+    /// let count = *table.get(basket)?;
+    /// ```
     pub fn get(&self, entry: Entry<T>) -> Result<&T, Stale>
         ensures seen { IfOk result (λ value. shown_in self.now entry ≡ Some value.now) }
         ensures stale { IsErr result ↔ shown_in self.now entry ≡ None }
@@ -210,7 +237,13 @@ impl<I: Eq + Hash, K: Eq + Hash, T, S: Storage<T>> SessionTable<I, K, T, S> {
     /// showed, and the sessions stay.
     ///
     /// Refused where the entry's session is gone, or is another table's: the value comes back, and the
-    /// table stays as it was. Takes no memory, and is O(1), but for letting the old value go.
+    /// table is unchanged. Takes no memory, and is O(1), but for letting the old value go.
+    ///
+    /// ```rust
+    /// if let Err((value, stale)) = table.set(basket, 43) {
+    ///     println!(rt; "{stale}, and {value} comes back")?;
+    /// }
+    /// ```
     pub fn set(&mut self, entry: Entry<T>, value: T) -> Result<(), (T, Stale)>
     where
         T: Drop,
@@ -239,7 +272,14 @@ impl<I: Eq + Hash, K: Eq + Hash, T, S: Storage<T>> SessionTable<I, K, T, S> {
     /// that answers. Every other entry shows what it showed, and the sessions stay.
     ///
     /// Refused where the entry's session is gone, or is another table's: the closure isn't called, and
-    /// the table stays as it was. Takes no memory of its own, and is O(1), but for the closure.
+    /// the table is unchanged. Takes no memory of its own, and is O(1), but for the closure.
+    ///
+    /// ```rust
+    /// let more = table.update(basket, |count: &mut u64| {
+    ///     *count = count.wrapping_add(1);
+    ///     *count
+    /// })?;
+    /// ```
     pub fn update<R, F: FnOnce(&mut T) -> R>(&mut self, entry: Entry<T>, f: F) -> Result<R, Stale>
         requires { (value : MutBor T) → shown_in self.old entry ≡ Some value.now → F.pre f value }
         ensures changed { IfOk result (λ answer. (old : T) × (new : T)
@@ -265,6 +305,10 @@ impl<I: Eq + Hash, K: Eq + Hash, T, S: Storage<T>> SessionTable<I, K, T, S> {
 
     /// Sets the time of a session's last use. Answers whether the id has a session; where it has none,
     /// nothing changes. Never refused. Takes no memory, and is O(1).
+    ///
+    /// ```rust
+    /// let is_known = table.touch(&7, 1200);
+    /// ```
     pub fn touch(&mut self, id: &I, now: u64) -> bool
         ensures had { result ≡ has_session I.eq self.old id.now }
         ensures used { session_in I.eq self.new id.now
@@ -282,11 +326,11 @@ impl<I: Eq + Hash, K: Eq + Hash, T, S: Storage<T>> SessionTable<I, K, T, S> {
     }
 
     /// Gives an id's session another id: what it keeps, and the time of its last use, stay. Every other
-    /// session is as it was, and every entry shows what it showed. So a session that was begun before a
+    /// session is unchanged, and every entry shows what it showed. So a session that was begun before a
     /// user proved who they are goes on under an id that nobody knew before.
     ///
     /// Refused, in this order: `NoSession`, where the id has none; `IdInUse`, where the new id has one,
-    /// also where both are one; `Store` of `OutOfMemory`. The table stays as it was then. Takes memory
+    /// also where both are one; `Store` of `OutOfMemory`. The table is unchanged then. Takes memory
     /// where the rows have no room. O(1), but for finding room.
     ///
     /// ```rust
@@ -329,11 +373,15 @@ impl<I: Eq + Hash, K: Eq + Hash, T, S: Storage<T>> SessionTable<I, K, T, S> {
     }
 
     /// Ends an id's session, and all that it keeps: those entries show nothing from then on, and no
-    /// later value is mistaken for theirs. Every other session is as it was, and what it keeps shows
+    /// later value is mistaken for theirs. Every other session is unchanged, and what it keeps shows
     /// what it showed. Answers whether the id had a session; where it had none, nothing changes.
     ///
     /// Never refused, since no borrow outlives a call of the table. Takes no memory. O(k) for k entries
     /// of this session.
+    ///
+    /// ```rust
+    /// let was_logged_in = table.logout(&7);
+    /// ```
     pub fn logout(&mut self, id: &I) -> bool
     where
         I: Drop,
@@ -388,10 +436,14 @@ impl<I: Eq + Hash, K: Eq + Hash, T, S: Storage<T>> SessionTable<I, K, T, S> {
     }
 
     /// Ends every session that was last used before a time, and all that those keep. Every other
-    /// session is as it was, and what it keeps shows what it showed. Answers how many ended.
+    /// session is unchanged, and what it keeps shows what it showed. Answers how many ended.
     ///
     /// Never refused, as `logout`. Takes no memory. O(n + k) for n sessions and k entries of those that
     /// end.
+    ///
+    /// ```rust
+    /// let expired = table.expire(1100);
+    /// ```
     pub fn expire(&mut self, before: u64) -> usize
     where
         I: Drop,
@@ -422,6 +474,10 @@ impl<I: Eq + Hash, K: Eq + Hash, T, S: Storage<T>> SessionTable<I, K, T, S> {
     /// Ends all sessions and all that they keep, and hands back the store, which has nothing then: no
     /// value, no borrow and no owner. Never refused. Takes no memory. O(n + k) for n sessions and k
     /// entries.
+    ///
+    /// ```rust
+    /// let store = table.finish();
+    /// ```
     pub fn finish(mut self) -> S
     where
         I: Drop,
@@ -443,6 +499,10 @@ impl<I: Eq + Hash, K: Eq + Hash, T, S: Storage<T>> SessionTable<I, K, T, S> {
     }
 
     /// Whether an id has a session. Takes no memory, and is O(1).
+    ///
+    /// ```rust
+    /// let is_logged_in = table.has(&7);
+    /// ```
     pub fn has(&self, id: &I) -> bool
         ensures { result ≡ has_session I.eq self.now id.now }
     {
@@ -450,6 +510,12 @@ impl<I: Eq + Hash, K: Eq + Hash, T, S: Storage<T>> SessionTable<I, K, T, S> {
     }
 
     /// The session of an id, if it has one. Takes no memory, and is O(1).
+    ///
+    /// ```rust
+    /// if let Some(session) = table.session(&7) {
+    ///     println!(rt; "last used at {}", session.used_at())?;
+    /// }
+    /// ```
     pub fn session(&self, id: &I) -> Option<&Session<K, T>>
         ensures { option_map live (option_copied result) ≡ session_in I.eq self.now id.now }
     {
@@ -458,6 +524,12 @@ impl<I: Eq + Hash, K: Eq + Hash, T, S: Storage<T>> SessionTable<I, K, T, S> {
 
     /// The sessions with their ids. A login comes last, and so does a session that gets another id. Where
     /// one ends or gets another id, the last one takes its place. Takes no memory, and is O(1).
+    ///
+    /// ```rust
+    /// for (id, session) in table.sessions() {
+    ///     println!(rt; "{id} was used at {}", session.used_at())?;
+    /// }
+    /// ```
     pub fn sessions(&self) -> Sessions<'_, I, K, T>
         ensures { result ≡ self.now.sessions }
     {
@@ -467,6 +539,10 @@ impl<I: Eq + Hash, K: Eq + Hash, T, S: Storage<T>> SessionTable<I, K, T, S> {
     }
 
     /// How many sessions there are. Takes no memory, and is O(1).
+    ///
+    /// ```rust
+    /// println!(rt; "{} sessions", table.len())?;
+    /// ```
     pub fn len(&self) -> usize
         ensures count { result ≡ length self.now.sessions }
         ensures orderly { IsOrderly I.eq self.now }
