@@ -8,8 +8,8 @@ ghost use Rattle.generational_core.specs.StepCalls.{id_of_owner, is_ready};
 ghost use Rattle.generational_sync.specs.Keeping.{IsHindered};
 ghost use Rattle.generational_sync.specs.Shared.{IsStep};
 
-use generational_box::laws::calls_are_ready_where_no_borrow_is_told;
 use super::{SyncState, settle, settle_refused};
+use generational_box::laws::calls_are_ready_where_no_borrow_is_told;
 use generational_box::{
     AnyStorage, BorrowMutError, BorrowMutResult, GenerationalBox, Owner, Refused, StepCall,
     Storage, StoreError,

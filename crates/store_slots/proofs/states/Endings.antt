@@ -189,5 +189,7 @@ module _ {T : Type 0} where
 
       pub lent_closes : record S { cells = map.remove (fill S n (Lent w)).cells n }
           ≡ close S (n ∷ [])
-      lent_closes = rw (changed_there by_name S.cells n (refill (Lent w)) _ own.2,
-          removed_again S.cells n (Value (Lent w) own.1)) free_closes
+      lent_closes = rw (
+        changed_there by_name S.cells n (refill (Lent w)) _ own.2,
+        removed_again S.cells n (Value (Lent w) own.1),
+      ) free_closes
