@@ -145,8 +145,8 @@ impl<T: Drop, const NUMBER: u64, M: Count, L: Count, C: Count, R: Count> SyncSta
         self.store.ready(call)
     }
 
-    // The same of a call that is handed in. It is inlined, so that the call is put into memory where it
-    // is asked, and not where the caller begins.
+    // Whether no borrow stands in the way of a call that is handed in. It is inlined, so that the call is
+    // put into memory where it is asked, and not where the caller begins.
     #[inline(always)]
     fn is_ready(&self, call: StepCall) -> bool
         ensures { result ≡ is_ready self.now.state call }
@@ -284,7 +284,7 @@ fn settle_refused<T: Drop, const NUMBER: u64, M: Count, L: Count, C: Count, R: C
     settle_seldom(store, log, call, reply, tally)
 }
 
-// The same, out of line.
+// Records a refusal out of line, since few calls are refused.
 #[cold]
 #[inline(never)]
 fn settle_seldom<T: Drop, const NUMBER: u64, M: Count, L: Count, C: Count, R: Count>(

@@ -122,7 +122,7 @@ impl<T: Drop + Send, const NUMBER: u64, M: Count, L: Count, C: Count, R: Count> 
         self.wait_for(rt, held, call)
     }
 
-    // The same from where the lock is held.
+    // Waits, with the lock that is held, until no borrow stands in the call's way.
     fn wait_for<'a>(
         &'a self,
         rt: &impl Wait,

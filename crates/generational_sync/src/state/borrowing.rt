@@ -64,7 +64,7 @@ impl<T: Drop, const NUMBER: u64, M: Count, L: Count, C: Count, R: Count> SyncSta
         }
     }
 
-    // The same whatever stands in the way: None where a writer does, and then nothing changes.
+    // Begins a read. None where a writer stands in its way, and then nothing changes.
     #[inline(always)]
     pub(crate) fn read_at_once(
         &mut self,
@@ -140,7 +140,7 @@ impl<T: Drop, const NUMBER: u64, M: Count, L: Count, C: Count, R: Count> SyncSta
         }
     }
 
-    // The same whatever stands in the way: None where a borrow does, and then nothing changes.
+    // Begins a write. None where a borrow stands in its way, and then nothing changes.
     #[inline(always)]
     pub(crate) fn write_at_once(
         &mut self,

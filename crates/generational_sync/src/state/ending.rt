@@ -53,7 +53,7 @@ impl<T: Drop, const NUMBER: u64, M: Count, L: Count, C: Count, R: Count> SyncSta
         }
     }
 
-    // The same whatever stands in the way: None where a borrow does, and then nothing changes.
+    // Ends a box's cell. None where a borrow stands in its way, and then nothing changes.
     #[inline(always)]
     pub(crate) fn end_at_once(
         &mut self,
