@@ -326,11 +326,14 @@ impl<T> Entries<T> {
         ensures { IfSome (slice_get self.now.slots slot)
             (λ e. option_copied result ≡ value_of (content_in e.kept)) }
     {
-        match &self.entries[slot].content {
-            StorageEntryData::Data(_, value) => Some(value),
-            StorageEntryData::Read(_, _, value) => Some(value),
-            _ => None,
+        let content = &self.entries[slot].content;
+        if let StorageEntryData::Data(_, value) = content {
+            return Some(value);
         }
+        if let StorageEntryData::Read(_, _, value) = content {
+            return Some(value);
+        }
+        None
     }
 
     /// The value, where the reader stands.

@@ -62,19 +62,23 @@ impl<T> StorageEntry<T> {
         if self.generation != name.generation {
             return None;
         }
-        match &self.content {
-            StorageEntryData::Data(kind, _)
-            | StorageEntryData::Read(kind, _, _)
-            | StorageEntryData::Lent(kind, _) => match kind {
-                Kind::Value => Some(name),
-                Kind::Shared => None,
-            },
-            StorageEntryData::Reference(slot, generation) => Some(CellName {
+        // One question after the other, since a match over all kinds goes through a table of jumps.
+        if matches!(&self.content, StorageEntryData::Data(Kind::Value, _)) {
+            return Some(name);
+        }
+        if let StorageEntryData::Reference(slot, generation) = &self.content {
+            return Some(CellName {
                 slot: *slot as usize,
                 generation: *generation,
-            }),
-            StorageEntryData::Empty => None,
+            });
         }
+        if matches!(&self.content, StorageEntryData::Read(Kind::Value, _, _)) {
+            return Some(name);
+        }
+        if matches!(&self.content, StorageEntryData::Lent(Kind::Value, _)) {
+            return Some(name);
+        }
+        None
     }
 
     /// Whose the slot's value is, also one that is lent, if the slot's cell has this generation.

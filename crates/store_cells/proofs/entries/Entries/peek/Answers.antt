@@ -10,8 +10,8 @@ pub returns-in-Read : goal.returns-in-Read
 returns-in-Read g c =
     says (found c.self.view_is c.self.invariant c.requires c.index.ensures) _ (λ d. rw c.in-Read.is)
 
-pub returns-in_default : goal.returns-in_default
-returns-in_default g c =
+pub returns : goal.returns
+returns g c =
     let a = found c.self.view_is c.self.invariant c.requires c.index.ensures in
     says a _ (λ d. sym (no_value c.index.result.now.content _ d.created_at
-    c.in_default.not-Data c.in_default.not-Read))
+    c.in_default.not-Data c.in_default-content.not-Read))
