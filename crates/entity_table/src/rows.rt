@@ -17,6 +17,21 @@ pub(crate) fn reserve_row<T>(
     ensures places { KeepsPlaces places.old.items places.new.items }
     ensures within { IsTrue result → slots < length places.new.items }
 {
+    if rows.len() < rows.capacity() && slots < places.len() {
+        return true;
+    }
+    grow(rows, places, slots)
+}
+
+// Makes the room that `reserve_row` promises, where there is none.
+#[cold]
+#[inline(never)]
+fn grow<T>(rows: &mut Vec<Entity<T>>, places: &mut Vec<usize>, slots: usize) -> bool
+    ensures rows { rows.new.items ≡ rows.old.items }
+    ensures room { IsTrue result → length rows.new.items < vec_capacity rows.new }
+    ensures places { KeepsPlaces places.old.items places.new.items }
+    ensures within { IsTrue result → slots < length places.new.items }
+{
     let Some(room) = slots.checked_add(1) else {
         return false;
     };
