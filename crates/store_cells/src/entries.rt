@@ -686,11 +686,12 @@ impl<T: Drop> Entries<T> {
             { generation = result; kept = kept_data [] created_at content; references = 0 }) }
         ensures rooms { self.new.rooms ≡ self.old.rooms }
     {
+        let generation = self.entries[slot].refill(content);
         self.details[slot] = EntryDetails {
             created_at,
             references: 0,
         };
-        self.entries[slot].refill(content)
+        generation
     }
 
     /// Adds a slot with a cell without borrows, to which nothing refers. There is room for it.
@@ -727,7 +728,9 @@ impl<T: Drop> Entries<T> {
         ensures rooms { self.new.rooms ≡ self.old.rooms }
     {
         let generation = self.entries[target].generation;
-        self.entries[slot].content = StorageEntryData::Reference(target as u32, generation);
+        let reference = StorageEntryData::Reference(target as u32, generation);
+        // It was a reference, so there is nothing to drop.
+        mem::forget(mem::replace(&mut self.entries[slot].content, reference));
     }
 
     /// One reference more names the slot's cell.

@@ -63,7 +63,7 @@ impl<T> StorageEntry<T> {
             return None;
         }
         // One question after the other, since a match over all kinds goes through a table of jumps.
-        if matches!(&self.content, StorageEntryData::Data(Kind::Value, _)) {
+        if let StorageEntryData::Data(Kind::Value, _) = &self.content {
             return Some(name);
         }
         if let StorageEntryData::Reference(slot, generation) = &self.content {
@@ -72,10 +72,10 @@ impl<T> StorageEntry<T> {
                 generation: *generation,
             });
         }
-        if matches!(&self.content, StorageEntryData::Read(Kind::Value, _, _)) {
+        if let StorageEntryData::Read(Kind::Value, _, _) = &self.content {
             return Some(name);
         }
-        if matches!(&self.content, StorageEntryData::Lent(Kind::Value, _)) {
+        if let StorageEntryData::Lent(Kind::Value, _) = &self.content {
             return Some(name);
         }
         None
@@ -134,7 +134,8 @@ impl<T> StorageEntry<T> {
         }
     }
 
-    /// Puts a cell into the slot, under the next generation, which is answered.
+    /// Puts a cell into the slot, under the next generation, which is answered. The slot has none:
+    /// what stood there isn't dropped.
     #[inline(always)]
     pub fn refill(&mut self, content: StorageEntryData<T>) -> u64
     where
@@ -144,7 +145,7 @@ impl<T> StorageEntry<T> {
         ensures filled { self.new ≡ record { generation = result; content = content } }
     {
         self.generation += 1;
-        self.content = content;
+        mem::forget(mem::replace(&mut self.content, content));
         self.generation
     }
 }

@@ -582,14 +582,10 @@ impl<T: Drop, P: SlotPool> Slots<T, P> {
             }
             return Ok(self.extend(content, created_at));
         };
-        let name = CellName {
-            slot,
-            generation: self.entries.generation(slot) + 1,
-        };
         let target = content.target();
-        self.entries.refill(slot, content, created_at);
+        let generation = self.entries.refill(slot, content, created_at);
         refer(&mut self.entries, target);
-        Ok(name)
+        Ok(CellName { slot, generation })
     }
 
     // Makes a cell in a new slot, where none is free and there is room for one.

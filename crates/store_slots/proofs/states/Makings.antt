@@ -82,12 +82,6 @@ module _ {T : Type 0} {p : SlotTable T} (s : IsSlotTable p) where
     peak_stays =
         let less = taken_less in let counted = s.counted in let few = s.few in omega arith
 
-    -- the generation that is given is the next one to that which is told before
-    pub next_generation : (g h : ℕ) → IfSome (slice_get p.slots i) (λ e. g ≡ e.generation)
-        → IfSome (slice_get p.slots i) (λ e. h ≡ e.generation + 1) → h ≡ g + 1
-    next_generation g h is are =
-        rw (rw free_slot.there at is) (rw free_slot.there at are)
-
   -- ---- a cell more
 
   module _ (kept : Kept T) (c : Cell T) (cell : cell_of kept ≡ Some c) where

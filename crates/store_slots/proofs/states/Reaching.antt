@@ -4,7 +4,7 @@ use Common.{arith, Bool, Cell, cell_under, CellName, cond, Content, content_at, 
 use Common.{false, Here, is_named, is_none, is_shared, is_some, is_unborrowed_value, IsLinked}
 use Common.{BorrowRefusal, leads_to, List, Location, Name, None, not, Option}
 use Common.{name_of_cell, NameMap, option_map, reached, read_refusal, read_refusal_of, Ref, refl, refusal_at, SlotsState, Some, State}
-use Common.{state_of, sym, target_in, tells_of_borrow, true, Value, write_refusal, ℕ, [], ◌∙◌, ◌≡◌}
+use Common.{state_of, sym, target_in, true, Value, write_refusal, ℕ, [], ◌∙◌, ◌≡◌}
 use Rattle.store_slots.proofs.states.{Changes.cell_seen, Changes.held_in, Changes.IsSeen}
 use Rattle.store_slots.proofs.states.References.{reference_to}
 use Rattle.std.specs.FinMap as map

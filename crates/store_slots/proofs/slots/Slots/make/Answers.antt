@@ -2,7 +2,7 @@
 use Rattle.store_slots.proofs
 use proofs.{ap, arith, counted_more, err_holds, free, free_are, free_seen, kept_data, length}
 use proofs.{length-set, may_rise, more_length, more_slotted, more_state, nat_cmp, new_reused}
-use proofs.{next_generation, slotted_reused, state_is, state_reused, sym, taken_less, taken_within}
+use proofs.{slotted_reused, state_is, state_reused, sym, taken_less, taken_within}
 use proofs.{named_by, unborrowed_cell, uncounted_reused, [], ◌∙◌}
 use Rattle.std.specs.FinSet as set
 use Rattle.store_slots.proofs.slots.Slots.make.Goals as goal
@@ -28,20 +28,17 @@ pub extend-requires-clause-linked : goal.extend-requires-clause-linked
 extend-requires-clause-linked g c =
     rw c.reserve_one.ensures.state (rw (← state_is c.self.view_is) at c.requires.linked)
 
-pub generation-requires : goal.generation-requires
-generation-requires g c = taken_within c.self.invariant.0 _ c.in-Some.ensures.member
-
-pub refill-requires-clause-within : goal.refill-requires-clause-within
-refill-requires-clause-within g c = taken_within c.self.invariant.0 _ c.in-Some.ensures.member
+pub refill-generation-requires-clause-within : goal.refill-generation-requires-clause-within
+refill-generation-requires-clause-within g c = taken_within c.self.invariant.0 _ c.in-Some.ensures.member
 
 pub refer-requires : goal.refer-requires
 refer-requires g c =
     let inv = c.self.invariant in
     let made = uncounted_reused inv.0 (state_is c.self.view_is) inv.2 c.requires.linked
     c.args.content c.args.created_at c.requires.unborrowed c.requires.target _
-    c.in-Some.ensures.member _ c.refill.ensures.generation in
+    c.in-Some.ensures.member _ c.refill-generation.ensures.generation in
     let rise = may_rise c.target-target.result (rw c.target-target.ensures made) in
-    rw c.refill.ensures.filled (record { within = rise.0; few = rise.1 })
+    rw c.refill-generation.ensures.filled (record { within = rise.0; few = rise.1 })
 
 pub invariant_of-self-2 : goal.invariant_of-self-2
 invariant_of-self-2 g c =
@@ -50,22 +47,22 @@ invariant_of-self-2 g c =
     let l = c.args.created_at in
     let cell = unborrowed_cell d l c.requires.unborrowed in
     let m = c.in-Some.ensures.member in
-    let long = ap length c.refer.ensures.slots ∙ (more_length c.refill.new.self.slots _
-    ∙ (ap length c.refill.ensures.filled ∙ length-set c.self.inside.entries.slots c.in-Some.slot _))
+    let long = ap length c.refer.ensures.slots ∙ (more_length c.refill-generation.new.self.slots _
+    ∙ (ap length c.refill-generation.ensures.filled ∙ length-set c.self.inside.entries.slots c.in-Some.slot _))
     in
     rw (
       long,
       c.refer.ensures.slots,
-      c.refill.ensures.filled,
+      c.refill-generation.ensures.filled,
       c.target-target.ensures,
       c.in-Some.ensures.taken,
       c.take.ensures.rooms,
     ) (
       more_slotted (slotted_reused inv.0 (kept_data [] l d) cell.0 cell.1 _ m _
-          c.refill.ensures.generation) (named_by d),
-      rw (c.refer.ensures.rooms, c.refill.ensures.rooms) inv.1,
+          c.refill-generation.ensures.generation) (named_by d),
+      rw (c.refer.ensures.rooms, c.refill-generation.ensures.rooms) inv.1,
       counted_more _ (uncounted_reused inv.0 (state_is c.self.view_is) inv.2 c.requires.linked d l
-          c.requires.unborrowed c.requires.target _ m _ c.refill.ensures.generation),
+          c.requires.unborrowed c.requires.target _ m _ c.refill-generation.ensures.generation),
       inv.3,
     )
 
@@ -78,17 +75,16 @@ returns-clause-ok g c =
     let slots = c.self.inside.entries.slots in
     let cell = unborrowed_cell d l c.requires.unborrowed in
     let m = c.in-Some.ensures.member in
-    let next = next_generation inv.0 _ m _ _ c.generation.ensures c.refill.ensures.generation in
     let spare = ap (λ x. x.spare) c.self.view_is in
     let less = taken_less inv.0 _ m in
     let free = ap set.len c.in-Some.ensures.taken in
-    let long = ap length c.refer.ensures.slots ∙ (more_length c.refill.new.self.slots _
-    ∙ (ap length c.refill.ensures.filled ∙ length-set slots c.in-Some.slot _)) in
-    rw (← next) (record {
+    let long = ap length c.refer.ensures.slots ∙ (more_length c.refill-generation.new.self.slots _
+    ∙ (ap length c.refill-generation.ensures.filled ∙ length-set slots c.in-Some.slot _)) in
+    record {
       fits = rw (← view) (new_reused inv.0 (kept_data [] l d) cell.0 cell.1 _ m _
-          c.refill.ensures.generation);
-      added = rw (cell.1, long, c.refer.ensures.slots, c.refill.ensures.filled, ← view)
+          c.refill-generation.ensures.generation);
+      added = rw (cell.1, long, c.refer.ensures.slots, c.refill-generation.ensures.filled, ← view)
           (more_state _ _ _ _ ∙ state_reused inv.0 (kept_data [] l d) cell.0 cell.1 _ m _
-          c.refill.ensures.generation);
+          c.refill-generation.ensures.generation);
       room = omega (arith, spare, less, free, long, c.take.ensures.rooms);
-    })
+    }

@@ -2,8 +2,8 @@
 use Rattle.store_slots.proofs
 use proofs.{ap, AreReferred, arith, count_less, ended, ended_length, Entry, forgotten, found_in}
 use proofs.{found_within, is_some, IsForgotten, IsFound, length, live_seen}
-use proofs.{less_length, less_slotted, less_state, List, may_fall, Name, name_of_cell, None, not_pooled}
-use proofs.{one_retired, Option, option_map}
+use proofs.{less_length, less_slotted, less_state, List, may_fall, Name, None, not_pooled}
+use proofs.{one_retired, Option}
 use proofs.{content_at, content_in, content_there, live_target, referred_ended, refl, shared_target}
 use proofs.{SlotsState, slotted_freed, slotted_retired}
 use proofs.{some_live, state_ended, state_of, sym, target_in, true, write_refusal, ℕ, ◌∙◌, ◌≡◌}
