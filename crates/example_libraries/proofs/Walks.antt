@@ -4,7 +4,12 @@ use Rattle.std.proofs.Common.{refl, sym, ap, subst, ◌∙◌}
 use Rattle.std.specs.Prelude.{slice_get, option_map}
 use Rattle.std.proofs.lemmas.Option.{none-some, same_Some, slice_get-map}
 use Rattle.scene_tree.specs.declared.node.Node.{Node}
-use Rattle.scene_tree.specs.Trees.{AreAncestors, IsStepsBelow, TreeState, parent_of}
+use Rattle.std.proofs.Common.{◌<◌, true, arith, ⊎_elim}
+use Rattle.std.proofs.lemmas.Bool.{cases_Bool}
+use Rattle.generational_sessions.proofs.callers.Ids.{same_id_sees}
+use Rattle.scene_tree.specs.Nodes.{is_same, pointer_in, times}
+use Rattle.scene_tree.specs.Trees.{AreAncestors, IsStepsBelow, TreeState, parent_of, value_of}
+use Rattle.scene_tree.proofs.Counting.{is_id, times_apart}
 
 -- a row's key stands beside a value
 pub stands_with : {E V : Type 0} (pairs : List (E × V)) (row : ℕ) (e : E)
@@ -77,3 +82,20 @@ module _ {T : Type 0} (t : TreeState T) where
       → IsStepsBelow t (last_of n ups) (length ups) n
   last_above n [] all = refl
   last_above n (up ∷ ups) all = (up, all.0, last_above up ups all.1)
+
+  -- a node that a list has is of one that stands there
+  stands : (n : Node T) (xs : List (Node T)) → 0 < times n xs
+      → (k : ℕ) × (x : Node T) × (slice_get xs k ≡ Some x) × (is_same x n ≡ true)
+  stands n [] lt = absurd (omega (arith, lt))
+  stands n (x ∷ xs) lt = ⊎_elim (λ same. (0, x, refl, same))
+      (λ other. let rest = stands n xs (subst (λ k. 0 < k) (times_apart n x xs other) lt) in
+      (suc rest.0, rest.1, rest.2, rest.3)) (cases_Bool (is_same x n))
+
+  -- so what holds of the values that all of a list show holds of what the node shows
+  pub shown_too : (P : T → Type 0) (n : Node T) (xs : List (Node T)) → 0 < times n xs
+      → ((k : ℕ) (x : Node T) → slice_get xs k ≡ Some x → (v : T) → value_of t x ≡ Some v → P v)
+      → (v : T) → value_of t n ≡ Some v → P v
+  shown_too P n xs lt each v shown =
+      let one = stands n xs lt in
+      each one.0 one.1 one.2 v
+      (same_id_sees t.state (pointer_in one.1) (pointer_in n) (is_id one.1 n one.3) ∙ shown)

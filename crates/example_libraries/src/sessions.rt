@@ -92,6 +92,27 @@ pub fn seen_after_put<S: Storage<u64>>(
     table.get(entry).copied()
 }
 
+/// Takes out what a session keeps under a key, keeps another value there, and looks at the first entry:
+/// the answer is the value that it showed, and then that it is gone, whichever slot the new value took.
+pub fn put_anew<S: Storage<u64>>(
+    table: &mut SessionTable<u64, u64, u64, S>,
+    at: (u64, u64),
+    entry: Entry<u64>,
+    next: u64,
+    here: Location,
+) -> (Option<u64>, Result<u64, Stale>)
+    requires put { WasPut table.old entry }
+    requires found { entry_in nat_eq (session_in nat_eq table.old at.0) at.1 ≡ Some entry }
+    ensures taken { result.0 ≡ shown_in table.old entry }
+    ensures gone { IsErr result.1 }
+    ensures left { (other : ℕ) → nat_eq at.0 other ≡ false →
+        session_in nat_eq table.new other ≡ session_in nat_eq table.old other }
+{
+    let taken = table.remove(&at.0, &at.1);
+    let _ = table.put(&at.0, at.1, next, here);
+    (taken, table.get(entry).copied())
+}
+
 /// Gives a visitor's session the id of a user who has proved who they are, and finds in it what the
 /// visitor kept under a key. The visitor's id has no session then.
 pub fn signed_in<S: Storage<u64>>(

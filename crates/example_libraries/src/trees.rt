@@ -73,6 +73,35 @@ pub fn last_child<S: Storage<u64>>(
     Ok(last)
 }
 
+/// The greatest value that a node shows, or 0 where there is no node.
+pub fn greatest_value<S: Storage<u64>>(tree: &SceneTree<u64, S>) -> u64
+    ensures { (n : Node ℕ) (v : ℕ) → value_of tree.now n ≡ Some v → v ≤ result }
+{
+    let mut greatest = 0;
+    'over: for node in tree.nodes() {
+        let value = tree.get(node).copied().unwrap_or(0);
+        if value > greatest {
+            greatest = value;
+        }
+    }
+    greatest
+}
+
+/// The greatest value that a root shows, or 0 where there is no node.
+pub fn greatest_root<S: Storage<u64>>(tree: &SceneTree<u64, S>) -> u64
+    ensures { (n : Node ℕ) (v : ℕ) → value_of tree.now n ≡ Some v → parent_of tree.now n ≡ None →
+        v ≤ result }
+{
+    let mut greatest = 0;
+    'over: for node in tree.roots() {
+        let value = tree.get(node).copied().unwrap_or(0);
+        if value > greatest {
+            greatest = value;
+        }
+    }
+    greatest
+}
+
 /// How many steps the deepest of a node and those below it is below the node, of as many as a limit says,
 /// in the order in which they are read.
 pub fn height<S: Storage<u64>>(

@@ -7,7 +7,9 @@ pub mod Keeping
 pub mod Linked
 pub mod Linking
 pub mod Losing
+pub mod Meeting
 pub mod Moving
+pub mod Noting
 pub mod Paths
 pub mod Rows
 pub mod Stores

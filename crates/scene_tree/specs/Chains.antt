@@ -19,6 +19,14 @@ module _ {T : Type 0} where
   last_of None = None
   last_of (Some l) = l.last
 
+  -- the node that is noted at a slot
+  abbrev pub node_in : Option (Link T) → Option (Node T)
+  node_in None = None
+  node_in (Some l) = Some l.node
+
+  abbrev pub noted : List (Link T) → ℕ → Option (Node T)
+  noted links slot = node_in (slice_get links slot)
+
   -- the node of a tie, if there is one, and the slot after it
   abbrev pub node_tied : Option (Node T × Option ℕ × Option ℕ) → List (Node T)
   node_tied None = []

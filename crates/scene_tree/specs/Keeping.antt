@@ -7,13 +7,21 @@ use Rattle.generational_core.specs.Slots.{slots}
 use Rattle.generational_core.specs.State.{State, IsGiven}
 use Rattle.generational_sessions.specs.PlainStores.{IsSimple}
 use Rattle.scene_tree.specs.declared.node.Node.{Node}
+use Rattle.scene_tree.specs.declared.links.Link.{Link}
+use Rattle.scene_tree.specs.Chains.{noted}
 use Rattle.scene_tree.specs.Families.{Family, IsForest, children_at, parent_at}
-use Rattle.scene_tree.specs.Nodes.{pointer_in, times}
+use Rattle.scene_tree.specs.Nodes.{IsSame, pointer_in, slot_in, times}
 
 module _ {T : Type 0} where
   -- a node is live in a state
   abbrev pub IsLiveIn : State T → Node T → Type 0
   IsLiveIn S n = is_some (value_in S (pointer_in n)) ≡ true
+
+  -- each live node is noted at its slot, and what is noted at a slot is of that slot
+  pub record AreNoted (S : State T) (links : List (Link T)) : Type 0 where
+    pub live : (n : Node T) → IsLiveIn S n
+        → (h : Node T) × (noted links (slot_in n) ≡ Some h) × IsSame h n
+    pub placed : (slot : ℕ) (h : Node T) → noted links slot ≡ Some h → slot_in h ≡ slot
 
   -- from one state to another the nodes of a list are gone, and each other shows what it showed
   pub record HasLost (old : State T) (gone : List (Node T)) (new : State T) : Type 0 where

@@ -1,6 +1,7 @@
 pub mod Chains
 pub mod Families
 pub mod Keeping
+pub mod Meeting
 pub mod Nodes
 pub mod Rows
 pub mod Spots

@@ -87,6 +87,16 @@ module _ {T : Type 0} where
     pub below : (n : Node T) → 0 < times n list ↔ IsBelow t top n
     pub once : (n : Node T) → times n list ≤ 1
 
+  -- a list has each live node, once
+  pub record AreAll (t : TreeState T) (list : List (Node T)) : Type 0 where
+    pub live : (n : Node T) → 0 < times n list ↔ is_live t n ≡ true
+    pub once : (n : Node T) → times n list ≤ 1
+
+  -- a list has each live node without a parent, once
+  pub record AreRoots (t : TreeState T) (list : List (Node T)) : Type 0 where
+    pub roots : (n : Node T) → 0 < times n list ↔ (is_live t n ≡ true) × (parent_of t n ≡ None)
+    pub once : (n : Node T) → times n list ≤ 1
+
   -- what is read of nodes that wait, each with a depth, so many at most: the first, and then its children,
   -- one step deeper, and the others that wait
   unfoldable pub outline_of : TreeState T → ℕ → List (ℕ × Node T) → List (ℕ × Node T)

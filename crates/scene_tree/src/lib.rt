@@ -8,11 +8,13 @@
 
 mod links;
 mod node;
+mod nodes;
 mod spot;
 mod tree;
 mod walk;
 
 pub use crate::node::{Node, Stale, TreeError};
+pub use crate::nodes::Nodes;
 pub use crate::spot::Spot;
 pub use crate::tree::SceneTree;
 pub use crate::walk::{Ancestors, Children, Outline};

@@ -2,7 +2,7 @@
 
 ghost use Rattle.std.specs.Prelude.{◌≡◌, ◌≢◌, ◌<◌, ◌≤◌, ◌+◌, ◌++◌, ◌∷◌, [], ℕ, length, true, None, Some, IfOk, OnOk, OnErr, IsTrue, ◌↔◌, slice_get};
 ghost use Rattle.std.specs.Vec.{vec_capacity};
-ghost use Rattle.scene_tree.specs.Chains.{after_put, before_put, changed, tie_of};
+ghost use Rattle.scene_tree.specs.Chains.{after_put, before_put, changed, noted, tie_of};
 ghost use Rattle.scene_tree.specs.Nodes.{slot_in, is_same};
 ghost use Rattle.scene_tree.specs.Families.{families, family_at, parent_at, children_at, above, alone};
 ghost use Rattle.scene_tree.specs.Families.{IsForest, IsLinked, IsInLevels, IsUnder, IsOpened, IsAttached};
@@ -59,17 +59,34 @@ pub(crate) fn reserve_one<X>(list: &mut Vec<X>) -> bool
     list.reserve(1).is_ok()
 }
 
-/// Opens the slot of a new node, where it is the next one.
+/// Opens the slot of a new node, where it is the next one, and notes the node there.
 pub(crate) fn open_slot<T>(links: &mut Vec<Link<T>>, node: Node<T>)
     requires room { length links.old.items < vec_capacity links.old }
     requires linked { IsLinked links.old.items }
+    requires forest { IsForest (families links.old.items) }
+    requires within { slot_in node ≤ length links.old.items }
+    requires root { above (families links.old.items) (slot_in node) ≡ None }
     ensures linked { IsLinked links.new.items }
     ensures opened { IsOpened (families links.old.items) (slot_in node) (families links.new.items) }
     ensures longer { length links.old.items ≤ length links.new.items }
+    ensures noted { noted links.new.items (slot_in node) ≡ Some node }
+    ensures others { (s : ℕ) → s ≢ slot_in node →
+        noted links.new.items s ≡ noted links.old.items s }
 {
     if node.slot() == links.len() {
         links.push_reserved(Link::alone(node));
+    } else {
+        note(links, node);
     }
+}
+
+// Notes a node at its slot.
+fn note<T>(links: &mut Vec<Link<T>>, node: Node<T>)
+    requires within { slot_in node < length links.old.items }
+    ensures { links.new.items
+        ≡ changed links.old.items (slot_in node) (λ l. record l { node = node }) }
+{
+    links[node.slot()].node = node;
 }
 
 /// Makes a node without parent a child of another, at a spot among its children.
@@ -83,6 +100,9 @@ pub(crate) fn attach<T>(links: &mut Vec<Link<T>>, parent: Node<T>, spot: Spot<T>
     ensures linked { IsLinked links.new.items }
     ensures attached { IsAttached (families links.old.items) parent spot child
         (families links.new.items) }
+    ensures noted { noted links.new.items (slot_in child) ≡ Some child }
+    ensures others { (s : ℕ) → s ≢ slot_in child →
+        noted links.new.items s ≡ noted links.old.items s }
 {
     let up = parent.slot();
     let slot = child.slot();
@@ -102,6 +122,7 @@ pub(crate) fn detach<T>(links: &mut Vec<Link<T>>, node: Node<T>)
         slot_in n ≡ slot_in node → is_same n node ≡ true }
     ensures linked { IsLinked links.new.items }
     ensures detached { IsDetached (families links.old.items) node (families links.new.items) }
+    ensures noted { (s : ℕ) → noted links.new.items s ≡ noted links.old.items s }
 {
     let slot = node.slot();
     let Some(parent) = parent_at(links, slot) else {
@@ -209,6 +230,7 @@ pub(crate) fn cut<T>(
     ensures linked { IsLinked links.new.items }
     ensures cut { IfOk result (λ list.
         IsCut (families links.old.items) top list.items (families links.new.items)) }
+    ensures noted { (s : ℕ) → noted links.new.items s ≡ noted links.old.items s }
     ensures refused { OnErr result (links.new.items ≡ links.old.items) }
 {
     let list = gather(alloc, links, top)?;
@@ -224,6 +246,7 @@ fn clear_all<T>(links: &mut Vec<Link<T>>, nodes: &Vec<Node<T>>)
     ensures linked { IsLinked links.new.items }
     ensures length { length links.new.items ≡ length links.old.items }
     ensures cleared { IsCleared (families links.old.items) (families links.new.items) nodes.now.items }
+    ensures noted { (s : ℕ) → noted links.new.items s ≡ noted links.old.items s }
 {
     for node in nodes {
         clear(links, node.slot());

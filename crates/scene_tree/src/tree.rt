@@ -35,16 +35,16 @@ use std::marker::Model;
 #[derive(Drop)]
 pub struct SceneTree<T, S: Storage<T>> {
     alloc: Global,
-    store: S,
-    // of each slot the node that lives there, and those around it
-    links: Vec<Link<T>>,
+    pub(crate) store: S,
+    // of each slot the node that lives there, or did last, and those around it
+    pub(crate) links: Vec<Link<T>>,
 }
 
 impl<T, S: Storage<T>> Model for SceneTree<T, S> {
     ghost use Rattle.std.specs.Coded.{codes};
     ghost use Rattle.std.specs.FinMap as map;
     ghost use Rattle.scene_tree.specs.Families.{IsLinked, families};
-    ghost use Rattle.scene_tree.specs.Keeping.{IsKept};
+    ghost use Rattle.scene_tree.specs.Keeping.{AreNoted, IsKept};
     ghost use Rattle.scene_tree.specs.Trees.{TreeState};
 
     ghost Value = { TreeState T };
@@ -57,7 +57,8 @@ impl<T, S: Storage<T>> Model for SceneTree<T, S> {
     } };
 
     ghost invariant = { λ t. IsKept (S.state t.store) (families t.links.items)
-        × IsLinked t.links.items };
+        × IsLinked t.links.items
+        × AreNoted (S.state t.store) t.links.items };
 }
 
 impl<T, S: Storage<T>> SceneTree<T, S> {

@@ -4,28 +4,33 @@ use Rattle.std.proofs.Common.{Option, None, Some, refl, sym, ap, subst, ◌∙�
 use Rattle.std.specs.Prelude.{is_some, option_map}
 use Rattle.std.specs.Cmp.{IsEquivalence}
 use Rattle.std.specs.HashMap.Eq.{lookup_congr}
-use Rattle.std.specs.Map.{lookup, set_value}
+use Rattle.std.specs.List.{AllByRecursion, IsDistinct}
+use Rattle.std.specs.Map.{lookup, remove_entry, set_value}
 use Rattle.std.proofs.lemmas.Bool.{cases_Bool, false_from_ne_true, or_cases, true≢false}
 use Rattle.std.proofs.lemmas.List.{map-append}
 use Rattle.std.proofs.lemmas.List.Folds.{list_any-append}
 use Rattle.std.proofs.lemmas.Map.Made.{lookup-map_values}
 use Rattle.std.proofs.lemmas.Map.Steps.{set_value_same}
 use Rattle.generational_core.specs.Boxes.{name_of}
-use Rattle.generational_core.specs.Machine.Action.{Make}
-use Rattle.generational_core.specs.Machine.Answer.{Made}
+use Rattle.generational_core.specs.Machine.Action.{End, Make}
+use Rattle.generational_core.specs.Machine.Answer.{Done, Made}
 use Rattle.generational_core.specs.Names.{among, is_name}
+use Rattle.generational_core.specs.Seeing.{value_in}
 use Rattle.generational_core.specs.State.{State, IsSound}
 use Rattle.generational_core.specs.Steps.{Meets}
 use Rattle.generational_core.proofs.machine.Calling.{listed_last}
+use Rattle.generational_core.proofs.machine.Resting.{free_sees}
+use Rattle.generational_core.proofs.machine.Unborrowed.{quiet_free}
 use Rattle.generational_core.proofs.maps.Maps.{name_same}
 use Rattle.generational_errors.specs.declared.error.Location.{Location}
 use Rattle.session_table.specs.declared.entry.Entry.{Entry}
 use Rattle.session_table.specs.declared.session.Session.{Session}
 use Rattle.session_table.specs.Entries.{pointer_in}
 use Rattle.session_table.specs.Keeping.{Held, IsKept, held_in, held_of}
-use Rattle.session_table.specs.Sessions.{LiveSession, names_in, names_of, with_entry}
+use Rattle.session_table.specs.Sessions.{LiveSession, names_in, names_of, stores_of, with_entry, without_entry}
 use Rattle.session_table.specs.Tables.{has_session, keeps, live, live_row, session_in, table_of}
-use Rattle.session_table.proofs.Keeping.{put_kept}
+use Rattle.session_table.proofs.Keeping.{forgotten_kept, put_kept}
+use Rattle.session_table.proofs.Removing.{found_all, found_named, named_removed, removed_all, removed_once}
 use Rattle.session_table.proofs.Rows.{session_row}
 
 mapped_cond : {X Y : Type 0} (f : X → Y) (b : Bool) (x y : Option X)
@@ -128,6 +133,11 @@ module _ {I K T : Type 0} {eq : I → I → Bool} (laws : IsEquivalence eq) (S R
   grown_names = ap names_of entries
       ∙ map-append (λ (x : K × Entry T). name_of (pointer_in x.1)) s.entries.entries ((key, e) ∷ [])
 
+  grown_stores : stores_of w.entries.entries
+      ≡ stores_of s.entries.entries ++ (pointer_in e).id.store ∷ []
+  grown_stores = ap stores_of entries
+      ∙ map-append (λ (x : K × Entry T). (pointer_in x.1).id.store) s.entries.entries ((key, e) ∷ [])
+
   pub put_rows : (v : T) (l : Location) → Meets S (Make (Some s.owner) v l) (Made (pointer_in e)) R
       → IsKept R eq (held_in eq new)
   put_rows v l m = put_kept S R sound kept laws k (held_of s) v l e.raw
@@ -135,9 +145,12 @@ module _ {I K T : Type 0} {eq : I → I → Bool} (laws : IsEquivalence eq) (S R
       ∙ ap (λ h. cond (eq k q) (Some h) (held_in eq old q)) grown)
       (λ q t. one_held laws old k q t found) m
     where
-      grown : held_of w
-          ≡ record { owner = s.owner; names = names_of s.entries.entries ++ name_of (pointer_in e) ∷ [] }
-      grown j = record { owner = owner j; names = grown_names j }
+      grown : held_of w ≡ record {
+        owner = s.owner;
+        names = names_of s.entries.entries ++ name_of (pointer_in e) ∷ [];
+        stores = stores_of s.entries.entries ++ (pointer_in e).id.store ∷ [];
+      }
+      grown j = record { owner = owner j; names = grown_names j; stores = grown_stores j }
 
   pub put_session : w.used_at ≡ s.used_at → session_in eq (table_of R new) k
       ≡ option_map (with_entry key e) (session_in eq (table_of S old) k)
@@ -190,3 +203,55 @@ module _ {I K T : Type 0} {eq : I → I → Bool} (laws : IsEquivalence eq) (S R
         unlisted = false_from_ne_true _ (λ listed. ⊎_elim
             (λ same. ne (sym (name_same (name_of (pointer_in f)) (name_of (pointer_in e)) same)))
             (λ none. true≢false (sym none)) (or_cases _ _ listed))
+
+-- an entry that is taken out
+module _ {I K T : Type 0} {eq : I → I → Bool} (laws : IsEquivalence eq) (S : State T) (sound : IsSound S)
+    (old : List (I × Session K T)) (k : I) (s : Session K T) (kept : IsKept S eq (held_in eq old))
+    (found : lookup (eq k) old ≡ Some s) (test : K → Bool) (e : Entry T)
+    (there : lookup test s.entries.entries ≡ Some e) where
+  row : held_in eq old k ≡ Some (held_of s)
+  row = ap (option_map held_of) found
+
+  -- it is of the store, is listed, and shows something
+  pub row_own : (pointer_in e).id.store ≡ S.number
+  row_own = (found_all test (λ (x : K × Entry T). (pointer_in x.1).id.store) (λ n. n ≡ S.number)
+      s.entries.entries e there (kept.own k (held_of s) row)).1
+
+  row_listed : among (names_of s.entries.entries) (name_of (pointer_in e)) ≡ true
+  row_listed = found_named test s.entries.entries e there
+
+  pub row_shows : (v : T) × (value_in S (pointer_in e) ≡ Some v)
+  row_shows =
+      let to = kept.live k (held_of s) row (pointer_in e) row_listed row_own in
+      free_sees S (pointer_in e) sound (quiet_free S kept.unborrowed (pointer_in e) to.0 to.1)
+
+  module _ (R : State T) (new : List (I × Session K T)) (w : Session K T)
+      (update : (q : I) → lookup (eq q) new ≡ cond (eq k q) (Some w) (lookup (eq q) old))
+      (entries : w.entries.entries ≡ remove_entry test s.entries.entries) where
+    pub forgotten_rows : w.owner ≡ s.owner → Meets S (End (pointer_in e)) Done R
+        → IsKept R eq (held_in eq new)
+    forgotten_rows owner m = forgotten_kept S R sound kept laws k (held_of s) (held_of w)
+        (now_held laws old new k (Some w) update) (λ q t. one_held laws old k q t found) (pointer_in e) m owner
+        (λ n. ap (λ es. among (names_of es) n) entries
+        ∙ named_removed test s.entries.entries e there (kept.once k (held_of s) row) n)
+        (subst (λ es. IsDistinct is_name (names_of es)) (sym entries)
+        (removed_once test s.entries.entries (kept.once k (held_of s) row)))
+        (subst (λ es. AllByRecursion (λ n. n ≡ S.number) (stores_of es)) (sym entries)
+        (removed_all test (λ (x : K × Entry T). (pointer_in x.1).id.store) (λ n. n ≡ S.number)
+        s.entries.entries (kept.own k (held_of s) row)))
+        row_listed row_own
+
+-- the id's session has lost it
+pub forgotten_session : {I K T : Type 0} {eq : I → I → Bool} → IsEquivalence eq → (S R : State T)
+    (old new : List (I × Session K T)) (k : I) (s w : Session K T) → lookup (eq k) old ≡ Some s
+    → ((q : I) → lookup (eq q) new ≡ cond (eq k q) (Some w) (lookup (eq q) old))
+    → (same : K → K → Bool) (key : K)
+    → w.entries.entries ≡ remove_entry (same key) s.entries.entries → w.used_at ≡ s.used_at
+    → session_in eq (table_of R new) k
+    ≡ option_map (without_entry same key) (session_in eq (table_of S old) k)
+forgotten_session {I} {K} {T} {eq} laws S R old new k s w found update same key entries used =
+    own_session laws old new k (Some w) update S R
+    ∙ (ap Some lost ∙ sym (ap (option_map (without_entry same key)) (has_row eq S old k found)))
+  where
+    lost : live w ≡ without_entry same key (live s)
+    lost j = record { used_at = used j; entries = entries j }

@@ -65,9 +65,12 @@ module _ {I K T : Type 0} (eq : I → I → Bool) (S : State T) (rows : List (I 
     kept_once i j e ne one = false_from_ne_true _ (λ two.
         let a = kept_row i e one in
         let b = kept_row j e two in
-        true≢false (sym b.2 ∙ k.listed.apart a.0.owner b.0.owner _ _ (name_of (pointer_in e))
+        let first = k.held i a.0 a.1 in
+        let second = k.held j b.0 b.1 in
+        true≢false (sym (second.2.lists (name_of (pointer_in e)) b.2)
+        ∙ k.listed.apart a.0.owner b.0.owner first.0 second.0 (name_of (pointer_in e))
         (λ same. true≢false (sym (k.apart i j a.0 b.0 a.1 b.1 same) ∙ ne))
-        (k.held i a.0 a.1) (k.held j b.0 b.1) a.2))
+        first.1 second.1 (first.2.lists (name_of (pointer_in e)) a.2)))
 
     pub kept_orderly : IsSound S → IsDistinct eq (keys_of rows) → IsOrderly eq (table_of S rows)
     kept_orderly s once = record {

@@ -1,6 +1,6 @@
 -- Sessions as a caller sees them.
 use Rattle.std.specs.Prelude.{ℕ, Bool, not, nat_lt, List, [], ◌∷◌, ◌++◌, Option, None, Some, map, if◌then◌else◌}
-use Rattle.std.specs.Map.{lookup}
+use Rattle.std.specs.Map.{lookup, remove_entry}
 use Rattle.generational_core.specs.Boxes.{name_of}
 use Rattle.generational_core.specs.Names.{Name}
 use Rattle.session_table.specs.declared.entry.Entry.{Entry}
@@ -23,6 +23,10 @@ module _ {K T : Type 0} where
   abbrev pub with_entry : K → Entry T → LiveSession K T → LiveSession K T
   with_entry k e s = record s { entries = s.entries ++ (k, e) ∷ [] }
 
+  -- one without the entry under a key; the others keep their order
+  abbrev pub without_entry : (K → K → Bool) → K → LiveSession K T → LiveSession K T
+  without_entry eq k s = record s { entries = remove_entry (eq k) s.entries }
+
   -- whether one was used at a time or after it; the session, where it was
   abbrev pub is_young : ℕ → LiveSession K T → Bool
   is_young time s = not (nat_lt s.used_at time)
@@ -31,9 +35,12 @@ module _ {K T : Type 0} where
   if_young time None = None
   if_young time (Some s) = if is_young time s then Some s else None
 
-  -- the names of entries
+  -- the names of entries, and the numbers of their stores
   abbrev pub names_of : List (K × Entry T) → List Name
   names_of entries = map (λ e. name_of (pointer_in e.1)) entries
+
+  abbrev pub stores_of : List (K × Entry T) → List ℕ
+  stores_of entries = map (λ e. (pointer_in e.1).id.store) entries
 
   abbrev pub names_in : Option (LiveSession K T) → List Name
   names_in None = []

@@ -1,9 +1,9 @@
 //! Sessions: what a table keeps under an id, from its login to its end. They are a user's, and have
 //! nothing of the machine's runs, which `generational_sessions` calls so.
 
-ghost use Rattle.std.specs.Prelude.{◌≡◌, ◌⊎◌, ◌++◌, ◌∷◌, [], ℕ, true, Some, is_some, IfOk, IfErr, IsErrAnd, OnErr};
+ghost use Rattle.std.specs.Prelude.{◌≡◌, ◌⊎◌, ◌++◌, ◌∷◌, [], ℕ, true, Some, is_some, IfOk, IfErr, IsErrAnd, OnErr, IfNone};
 ghost use Rattle.std.specs.Iterator.{YieldsFirstBy, item_count};
-ghost use Rattle.std.specs.Map.{lookup};
+ghost use Rattle.std.specs.Map.{lookup, remove_entry};
 ghost use Rattle.generational_core.specs.Leaving.{HasNoBorrows};
 ghost use Rattle.generational_core.specs.Machine.{ownership};
 ghost use Rattle.generational_core.specs.Machine.Action.{Make, ReleaseOwner};
@@ -12,7 +12,6 @@ ghost use Rattle.generational_core.specs.Steps.{Meets};
 ghost use Rattle.generational_errors.specs.declared.error.StoreError.TheVariants.{OutOfMemory};
 ghost use Rattle.session_table.specs.declared.entry.PutError.TheVariants as put;
 ghost use Rattle.session_table.specs.Entries.{pointer_in};
-ghost use Rattle.session_table.specs.Keeping.{held_of};
 
 use crate::entry::{Entry, PutError};
 use crate::walk::Entries;
@@ -115,13 +114,26 @@ impl<K: Eq + Hash, T> Session<K, T> {
         }
     }
 
+    /// Takes the entry from under a key, if there is one. The others keep their order.
+    pub(crate) fn forget(&mut self, key: &K) -> Option<Entry<T>>
+    where
+        K: Drop,
+        ensures entry { result ≡ lookup (K.eq key.now) self.old.entries.entries }
+        ensures entries { self.new.entries.entries
+            ≡ remove_entry (K.eq key.now) self.old.entries.entries }
+        ensures owner { self.new.owner ≡ self.old.owner }
+        ensures used { self.new.used_at ≡ self.old.used_at }
+        ensures same { IfNone result (self.new.entries.entries ≡ self.old.entries.entries) }
+    {
+        self.entries.shift_remove(key)
+    }
+
     /// Ends all that it keeps.
     pub(crate) fn end<S: Storage<T>>(self, store: &mut S)
     where
         K: Drop,
         requires quiet { HasNoBorrows (S.state store.old) }
-        requires held { ownership (S.state store.old) self.owner
-            ≡ Some (record { names = (held_of self).names; count = 1 }) }
+        requires known { is_some (ownership (S.state store.old) self.owner) ≡ true }
         ensures { Meets (S.state store.old) (ReleaseOwner self.owner) Done (S.state store.new) }
     {
         let Session {

@@ -2,7 +2,7 @@
 
 ghost use Rattle.std.specs.Prelude.{◌≡◌, ◌≢◌, ◌↔◌, ◌⊎◌, ◌<◌, ◌≤◌, ◌+◌, [], true, false, length};
 ghost use Rattle.std.specs.Prelude.{None, Some, Err, is_some, option_map, option_copied, cond, IfOk, OnOk};
-ghost use Rattle.std.specs.Prelude.{IfErr, IsErrAnd, OnErr, IsErr, IsTrue, IsFalse, slice_get};
+ghost use Rattle.std.specs.Prelude.{IfErr, IsErrAnd, OnErr, IsErr, IsTrue, IsFalse, IfNone, IsNone, IsSome, slice_get};
 ghost use Rattle.std.specs.Prelude.{if◌then◌else◌, not};
 ghost use Rattle.std.specs.Borrow.{MutBor};
 ghost use Rattle.std.specs.Fn.{FnOnceReturnsAtMut};
@@ -20,7 +20,7 @@ ghost use Rattle.session_table.specs.declared.entry.PutError.TheVariants as put;
 ghost use Rattle.session_table.specs.declared.session.LoginError.TheVariants as login;
 ghost use Rattle.session_table.specs.declared.session.RenameError.TheVariants as rename;
 ghost use Rattle.session_table.specs.Entries.{pointer_in, put_at, IsOther};
-ghost use Rattle.session_table.specs.Sessions.{LiveSession, begun, used, with_entry, entry_in};
+ghost use Rattle.session_table.specs.Sessions.{LiveSession, begun, used, with_entry, without_entry, entry_in};
 ghost use Rattle.session_table.specs.Sessions.{is_young, if_young, names_of};
 ghost use Rattle.session_table.specs.Tables.{EndsAt, TableState, live, shown_in, keeps};
 ghost use Rattle.session_table.specs.Tables.{has_session, session_in, WasPut, IsOrderly};
@@ -301,6 +301,54 @@ impl<I: Eq + Hash, K: Eq + Hash, T, S: Storage<T>> SessionTable<I, K, T, S> {
             });
         }
         Ok(self.store.change_value(entry.raw.pointer(), f))
+    }
+
+    /// Ends the value that an id's session has under a key, and hands it back. Its entry shows nothing
+    /// from then on, and no later value is mistaken for it. The session's other entries keep their
+    /// order, every other session is unchanged, and every other entry shows what it showed.
+    ///
+    /// `None` where the id has no session, or the session no entry under the key: nothing changes then.
+    /// Takes no memory; the session's owner still lists what ended, until the session ends. O(k) for k
+    /// entries of the session, since those behind this one move up.
+    ///
+    /// ```rust
+    /// if let Some(count) = table.remove(&7, &1) {
+    ///     println!(rt; "{count} were in the basket")?;
+    /// }
+    /// ```
+    pub fn remove(&mut self, id: &I, key: &K) -> Option<T>
+    where
+        K: Drop,
+        ensures taken { (e : Entry T) →
+            entry_in K.eq (session_in I.eq self.old id.now) key.now ≡ Some e →
+            result ≡ shown_in self.old e }
+        ensures none { IsNone result
+            ↔ entry_in K.eq (session_in I.eq self.old id.now) key.now ≡ None }
+        ensures kept { IsSome result → session_in I.eq self.new id.now
+            ≡ option_map (without_entry K.eq key.now) (session_in I.eq self.old id.now) }
+        ensures others { (other : I) → I.eq id.now other ≡ false →
+            session_in I.eq self.new other ≡ session_in I.eq self.old other }
+        ensures count { length self.new.sessions ≡ length self.old.sessions }
+        ensures gone { (e : Entry T) →
+            entry_in K.eq (session_in I.eq self.old id.now) key.now ≡ Some e →
+            shown_in self.new e ≡ None }
+        ensures beside { (e : Entry T) →
+            entry_in K.eq (session_in I.eq self.old id.now) key.now ≡ Some e →
+            (f : Entry T) → IsOther e f → shown_in self.new f ≡ shown_in self.old f }
+        ensures put { (f : Entry T) → WasPut self.old f → WasPut self.new f }
+        ensures ticket { self.new.state.next ≡ self.old.state.next }
+        ensures unchanged { IfNone result (self.new ≡ self.old) }
+    {
+        let Some(session) = self.rows.get_mut(id) else {
+            return None;
+        };
+        let Some(entry) = session.forget(key) else {
+            return None;
+        };
+        match entry.raw.take(&mut self.store) {
+            Some(value) => Some(value),
+            None => unreachable!(),
+        }
     }
 
     /// Sets the time of a session's last use. Answers whether the id has a session; where it has none,

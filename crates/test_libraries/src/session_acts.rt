@@ -19,6 +19,8 @@ pub(crate) enum Act {
     Set(usize, u64),
     /// Adds to an entry's value in its place.
     Add(usize, u64),
+    /// Takes out what an id's session has under a key.
+    Remove(u64, u64),
     /// Notes the time of an id's last use.
     Touch(u64, u64),
     /// Gives an id's session another id.
@@ -40,6 +42,10 @@ pub(crate) enum Reply {
     KeyInUse,
     /// The entry's session is gone.
     Stale,
+    /// The value that was under the key.
+    Took(u64),
+    /// The id has no session, or that no entry under the key.
+    NoEntry,
     /// So many sessions ended.
     Ended(usize),
     /// The store refused.
@@ -105,6 +111,7 @@ fn answer<S: Storage<u64>>(
         Act::PutAt(id, key, value) => put(rt, table, entries, (id, key), value),
         Act::Set(number, value) => set(rt, table, entry_at(rt, entries, number), number, value),
         Act::Add(number, more) => add(rt, table, entry_at(rt, entries, number), number, more),
+        Act::Remove(id, key) => took(rt, table, id, key),
         Act::Touch(id, now) => known(table.touch(&id, now)),
         Act::Rename(id, to) => renamed(table.rename(&id, to)),
         Act::Logout(id) => known(table.logout(&id)),
@@ -199,6 +206,30 @@ fn add<S: Storage<u64>>(
     };
     assert_same(rt, &answer, &Err(stale));
     Reply::Stale
+}
+
+/// Takes out what is under a key. It isn't found there any more, and the others keep their order.
+fn took<S: Storage<u64>>(
+    rt: &impl Abort,
+    table: &mut SessionTable<u64, u64, u64, S>,
+    id: u64,
+    key: u64,
+) -> Reply {
+    let had = table.entry(&id, &key).is_some();
+    let answer = table.remove(&id, &key);
+    assert_same(rt, &answer.is_some(), &had);
+    assert_same(rt, &table.entry(&id, &key), &None);
+    let Some(value) = answer else {
+        return Reply::NoEntry;
+    };
+    let mut last = None;
+    if let Some(session) = table.session(&id) {
+        for (later, _) in session.entries() {
+            assert!(rt; last < Some(*later));
+            last = Some(*later);
+        }
+    }
+    Reply::Took(value)
 }
 
 /// An entry by its number.

@@ -317,3 +317,77 @@ fn a_session_gets_another_id(rt: HostRuntime) {
     ];
     play_lines(&rt, rt.alloc(), &lines);
 }
+
+#[test]
+fn one_value_is_taken_out(rt: HostRuntime) {
+    const BOTH: &[(u64, u64)] = &[(1, 10), (2, 20)];
+    let lines = [
+        line(Act::Login(1, 10), Reply::Done, &[(1, 10)], &[]),
+        line(Act::Login(2, 20), Reply::Done, BOTH, &[]),
+        line(Act::Put(1, 5), Reply::Done, BOTH, &[Some(5)]),
+        line(Act::Put(1, 6), Reply::Done, BOTH, &[Some(5), Some(6)]),
+        line(
+            Act::Put(1, 7),
+            Reply::Done,
+            BOTH,
+            &[Some(5), Some(6), Some(7)],
+        ),
+        // Another session, a key without an entry, and an id without a session lose nothing.
+        line(
+            Act::Remove(2, 1),
+            Reply::NoEntry,
+            BOTH,
+            &[Some(5), Some(6), Some(7)],
+        ),
+        line(
+            Act::Remove(1, 3),
+            Reply::NoEntry,
+            BOTH,
+            &[Some(5), Some(6), Some(7)],
+        ),
+        line(
+            Act::Remove(3, 1),
+            Reply::NoEntry,
+            BOTH,
+            &[Some(5), Some(6), Some(7)],
+        ),
+        line(
+            Act::Remove(1, 1),
+            Reply::Took(6),
+            BOTH,
+            &[Some(5), None, Some(7)],
+        ),
+        line(
+            Act::Remove(1, 1),
+            Reply::NoEntry,
+            BOTH,
+            &[Some(5), None, Some(7)],
+        ),
+        // Another session takes the slot, and the first one's end leaves what stands there.
+        line(
+            Act::PutAt(2, 1, 8),
+            Reply::Done,
+            BOTH,
+            &[Some(5), None, Some(7), Some(8)],
+        ),
+        line(
+            Act::Set(1, 9),
+            Reply::Stale,
+            BOTH,
+            &[Some(5), None, Some(7), Some(8)],
+        ),
+        line(
+            Act::Logout(1),
+            Reply::Done,
+            &[(2, 20)],
+            &[None, None, None, Some(8)],
+        ),
+        line(
+            Act::Remove(2, 1),
+            Reply::Took(8),
+            &[(2, 20)],
+            &[None, None, None, None],
+        ),
+    ];
+    play_lines(&rt, rt.alloc(), &lines);
+}

@@ -66,7 +66,8 @@ fn rename_or_again<S: Storage<u64>>(
     assert!(rt; table.has(&to) && !table.has(&id));
 }
 
-/// Begins sessions that keep values, gives each another id, and ends half of them.
+/// Begins sessions that keep values, takes one out of each, which lacks no memory, gives each another
+/// id, and ends half of them.
 struct BeginMany;
 
 impl Scene<u64> for BeginMany {
@@ -77,6 +78,7 @@ impl Scene<u64> for BeginMany {
             for value in 0..MANY {
                 put_or_again(rt, &mut table, id, value);
             }
+            assert_same(rt, &table.remove(&id, &id), &Some(id));
             rename_or_again(rt, &mut table, id, id + MANY);
         }
         assert_same(rt, &table.expire(MANY / 2), &5);

@@ -87,7 +87,31 @@ pub(crate) fn play<S: Storage<u64>>(
         reply_is(rt, told, line.reply);
         shows(rt, tree, &nodes, line.shows);
         stand_below(rt, tree, &nodes, line.below);
+        are_walked(rt, tree, &nodes);
     }
+}
+
+/// Sees that a walk over all nodes gives those that are live, each once, and one over the roots those
+/// of them that have no parent.
+fn are_walked<S: Storage<u64>>(rt: &impl Abort, tree: &SceneTree<u64, S>, nodes: &[Node<u64>]) {
+    for node in nodes {
+        let mut met: usize = 0;
+        for other in tree.nodes() {
+            met = met.wrapping_add(usize::from(other == *node));
+        }
+        assert_same(rt, &met, &usize::from(tree.is_alive(*node)));
+        met = 0;
+        for root in tree.roots() {
+            met = met.wrapping_add(usize::from(root == *node));
+        }
+        let is_root = tree.parent(*node) == Ok(None);
+        assert_same(rt, &met, &usize::from(is_root));
+    }
+    let mut count: usize = 0;
+    for _ in tree.nodes() {
+        count = count.wrapping_add(1);
+    }
+    assert_same(rt, &count, &tree.len());
 }
 
 /// Does an act, and gives its answer.

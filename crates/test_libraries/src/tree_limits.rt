@@ -4,7 +4,7 @@ use crate::counted::{Counted, another, assert_count, let_go, new_counted};
 use crate::expected::assert_same;
 use crate::fresh::{Scene, play, play_at_ticket};
 use crate::tree_acts::{made_at, tree_over};
-use example_libraries::trees::{moved_round, taken_out, told_after};
+use example_libraries::trees::{greatest_root, greatest_value, moved_round, taken_out, told_after};
 use generational_box::Storage;
 use scene_tree::{Node, SceneTree, TreeError};
 use std::alloc::Global;
@@ -120,7 +120,15 @@ fn no_cycle_is_made<S: Storage<u64>>(rt: &impl Abort, tree: &mut SceneTree<u64, 
     assert_same(rt, &taken_out(tree, second), &None);
 }
 
-/// Both, in one tree.
+/// A root whose child shows more than any root.
+fn all_are_met<S: Storage<u64>>(rt: &impl Abort, tree: &mut SceneTree<u64, S>) {
+    let top = root(rt, tree, 5);
+    assert!(rt; tree.add_child(top, 9, made_at(5)).is_ok());
+    assert_same(rt, &greatest_value(tree), &9);
+    assert_same(rt, &greatest_root(tree), &5);
+}
+
+/// All of them, in one tree.
 struct CallersAreTold;
 
 impl Scene<u64> for CallersAreTold {
@@ -128,6 +136,7 @@ impl Scene<u64> for CallersAreTold {
         let mut tree = tree_over(rt, alloc, store);
         stale_is_told(rt, &mut tree);
         no_cycle_is_made(rt, &mut tree);
+        all_are_met(rt, &mut tree);
     }
 }
 

@@ -78,6 +78,18 @@ fn count_of<S: Storage<u64>>(rt: &impl Abort, tree: &SceneTree<u64, S>, node: No
     count
 }
 
+/// How many nodes a tree has, and how many roots, as walks meet them: neither takes memory.
+fn counts_of<S: Storage<u64>>(tree: &SceneTree<u64, S>) -> (usize, usize) {
+    let mut counts: (usize, usize) = (0, 0);
+    for _ in tree.nodes() {
+        counts.0 = counts.0.wrapping_add(1);
+    }
+    for _ in tree.roots() {
+        counts.1 = counts.1.wrapping_add(1);
+    }
+    counts
+}
+
 /// Removes a subtree. A removal that lacks memory leaves it, and is tried again: its list begins with
 /// little room, and may lack memory for that too.
 pub(crate) fn remove_or_again<S: Storage<u64>>(
@@ -133,6 +145,7 @@ impl Scene<u64> for GrowAndCut {
         let list = remove_or_again(rt, &mut tree, first);
         assert_same(rt, &(list.len() as u64), &MANY);
         assert_same(rt, &count_of(rt, &tree, root), &0);
+        assert_same(rt, &counts_of(&tree), &(1, 1));
     }
 }
 
@@ -157,6 +170,7 @@ impl Scene<u64> for GrowBefore {
         }
         assert_same(rt, &count_of(rt, &tree, root), &1);
         assert_same(rt, &(count_of(rt, &tree, last) as u64), &(MANY - 1));
+        assert_same(rt, &counts_of(&tree), &(tree.len(), 1));
         assert_same(rt, &take_or_again(rt, &mut tree, root), &0);
         assert_same(rt, &tree.len(), &0);
     }

@@ -1,7 +1,9 @@
-use Rattle.std.proofs.Common.{Some, ap, inl, inr, arith, length, ◌∙◌}
-use Rattle.scene_tree.specs.Chains.{after_put, before_put}
+use Rattle.std.proofs.Common.{Some, ap, inl, inr, arith, length, refl, ◌∙◌}
+use Rattle.scene_tree.specs.Chains.{after_put, before_put, noted}
 use Rattle.scene_tree.proofs.Chains.{after_length, changed_length}
 use Rattle.scene_tree.proofs.Linked.{attached_by, gap_within}
+use Rattle.scene_tree.proofs.Noting.{noted_apart, noted_here, noted_joined}
+use Rattle.scene_tree.specs.Nodes.{slot_in}
 use Rattle.scene_tree.proofs.links.attach.Goals as goal
 
 pub put_after-requires-clause-within : goal.put_after-requires-clause-within
@@ -47,3 +49,15 @@ returns-clause-attached g c = (attached_by c.args.links.now.items c.requires.lin
     (c.put_after.ensures
     ∙ ap (λ ls. after_put ls c.slot-up.result c.gap_at-before.result.0 (Some c.slot-slot.result))
     c.place.ensures))).1
+
+pub returns-clause-noted : goal.returns-clause-noted
+returns-clause-noted g c = ap (λ ls. noted ls (slot_in c.args.child)) (c.put_before.ensures
+    ∙ ap (λ ls. before_put ls c.slot-up.result c.gap_at-before.result.1 (Some c.slot-slot.result)) c.put_after.ensures)
+    ∙ (noted_joined _ _ _ _ _ _ _ (slot_in c.args.child) ∙ (ap (λ ls. noted ls (slot_in c.args.child)) c.place.ensures
+    ∙ noted_here _ _ _ c.args.child c.requires.child (λ l. refl)))
+
+pub returns-clause-others : goal.returns-clause-others
+returns-clause-others g c s ne = ap (λ ls. noted ls s) (c.put_before.ensures
+    ∙ ap (λ ls. before_put ls c.slot-up.result c.gap_at-before.result.1 (Some c.slot-slot.result)) c.put_after.ensures)
+    ∙ (noted_joined _ _ _ _ _ _ _ s ∙ (ap (λ ls. noted ls s) c.place.ensures
+    ∙ noted_apart _ _ _ s ne))

@@ -1,9 +1,11 @@
-use Rattle.std.proofs.Common.{arith, subst, sym, ap, length, ◌<◌, ◌∙◌}
+use Rattle.std.proofs.Common.{arith, refl, subst, sym, ap, length, ◌<◌, ◌∙◌}
 use Rattle.std.proofs.lemmas.Option.{slice_get-get_or}
+use Rattle.scene_tree.specs.Chains.{noted}
 use Rattle.scene_tree.specs.Families.{IsLinked, count_at, families, family_at}
 use Rattle.scene_tree.proofs.Chains.{changed_length}
 use Rattle.scene_tree.proofs.Counting.{clear_more, counts}
 use Rattle.scene_tree.proofs.Linked.{bared_alone, bared_linked, bared_others}
+use Rattle.scene_tree.proofs.Noting.{noted_kept}
 use Rattle.scene_tree.proofs.links.clear_all.Goals as goal
 
 pub clear-requires : goal.clear-requires
@@ -35,4 +37,6 @@ loop-node-preserved g c =
           ∙ bared_alone links linked c.slot.result lt)
           (λ s ne. ap (λ ls. family_at (families ls) s) c.clear.ensures
           ∙ bared_others links linked c.slot.result lt s ne);
+      noted = λ s. ap (λ ls. noted ls s) c.clear.ensures
+          ∙ (noted_kept links c.slot.result _ (λ l. refl) s ∙ c.loop-node.invariant.noted s);
     }

@@ -1,4 +1,5 @@
-use Rattle.std.proofs.Common.{◌≡◌, length, take}
+use Rattle.std.proofs.Common.{◌≡◌, ℕ, length, take}
+use Rattle.scene_tree.specs.Chains.{noted}
 use Rattle.scene_tree.specs.Families.{families, IsCleared, IsLinked}
 use Rattle.scene_tree.proofs.links.clear_all.Given as goal
 
@@ -8,4 +9,5 @@ invariant-loop-node g l = record {
   length : length l.links.items ≡ length l.fn.links.items;
   cleared : IsCleared (families l.fn.links.items) (families l.links.items)
       (take l.node-index l.nodes.items);
+  noted : (s : ℕ) → noted l.links.items s ≡ noted l.fn.links.items s;
 }

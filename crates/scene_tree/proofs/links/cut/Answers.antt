@@ -1,4 +1,4 @@
-use Rattle.std.proofs.Common.{arith, length}
+use Rattle.std.proofs.Common.{arith, length, ◌∙◌}
 use Rattle.std.proofs.lemmas.List.{length-map}
 use Rattle.scene_tree.specs.Families.{families, family_in}
 use Rattle.scene_tree.proofs.Gathering.{below_within, listed_below, part_whole}
@@ -26,3 +26,6 @@ returns-clause-cut g c = record {
   long = same_length c.clear_all.new.links.items c.detach.new.links.items c.clear_all.ensures.length;
   cleared = c.clear_all.ensures.cleared;
 }
+
+pub returns-clause-noted : goal.returns-clause-noted
+returns-clause-noted g c s = c.clear_all.ensures.noted s ∙ c.detach.ensures.noted s

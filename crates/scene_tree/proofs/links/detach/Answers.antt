@@ -1,7 +1,8 @@
-use Rattle.std.proofs.Common.{ap, sym, inl, inr, arith, length, ◌∙◌}
-use Rattle.scene_tree.specs.Chains.{after_put, before_put}
+use Rattle.std.proofs.Common.{ap, sym, inl, inr, arith, length, refl, ◌∙◌}
+use Rattle.scene_tree.specs.Chains.{after_put, before_put, noted}
 use Rattle.scene_tree.proofs.Chains.{after_length, changed_length}
 use Rattle.scene_tree.proofs.Linked.{detached_by, side_within, top_within}
+use Rattle.scene_tree.proofs.Noting.{noted_joined, noted_kept}
 use Rattle.scene_tree.proofs.links.detach.Goals as goal
 
 pub put_after-requires-clause-within : goal.put_after-requires-clause-within
@@ -55,3 +56,9 @@ returns-clause-detached g c = (detached_by c.args.links.now.items c.requires.lin
     (c.put_after.ensures
     ∙ ap (λ ls. after_put ls c.slot-up.result c.sides_at-before.result.0 c.sides_at-before.result.1)
     c.remove_parent.ensures))).1
+
+pub returns-clause-noted : goal.returns-clause-noted
+returns-clause-noted g c s = ap (λ ls. noted ls s) (c.put_before.ensures
+    ∙ ap (λ ls. before_put ls c.slot-up.result c.sides_at-before.result.1 c.sides_at-before.result.0) c.put_after.ensures)
+    ∙ (noted_joined _ _ _ _ _ _ _ s ∙ (ap (λ ls. noted ls s) c.remove_parent.ensures
+    ∙ noted_kept _ _ _ (λ l. refl) s))

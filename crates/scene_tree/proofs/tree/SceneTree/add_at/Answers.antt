@@ -1,4 +1,4 @@
-use Rattle.std.proofs.Common.{None, Ok, arith, length, sym, subst, ap, true, ◌∙◌, [], ◌≡◌}
+use Rattle.std.proofs.Common.{None, Ok, arith, length, sym, subst, ap, true, ◌∙◌, [], ◌≡◌, ⊎_elim}
 use Rattle.scene_tree.specs.Trees.{TreeState, is_live, parent_for}
 use Rattle.std.specs.Prelude.{is_some}
 use Rattle.generational_core.specs.Answers.{pointer_of}
@@ -6,20 +6,40 @@ use Rattle.generational_core.proofs.machine.Calling.{made}
 use Rattle.generational_core.proofs.machine.Leaving.{same_value}
 use Rattle.generational_core.proofs.machine.Stepping.{made_new, meets_given}
 use Rattle.generational_sessions.proofs.callers.Ids.{others_left}
+use Rattle.generational_sessions.proofs.callers.SimpleStores.{made_simple}
 use Rattle.std.proofs.lemmas.List.{length-map}
 use Rattle.std.proofs.lemmas.Option.{same_Some}
 use Rattle.scene_tree.specs.declared.node.Node.{Node}
-use Rattle.scene_tree.specs.Families.{Family, IsLinked, IsSpotIn, families, family_in, slot_of}
+use Rattle.scene_tree.specs.Chains.{noted}
+use Rattle.scene_tree.specs.Families.{Family, IsForest, IsLinked, IsSpotIn, above, families, family_in, slot_of}
 use Rattle.scene_tree.specs.Nodes.{pointer_in, slot_in}
 use Rattle.scene_tree.specs.Spots.{placed}
-use Rattle.scene_tree.proofs.Keeping.{added_beside, added_child, added_left, added_parent, kept_added, kept_opened, live_slot, opened_alone, opened_within, spot_in}
-use Rattle.scene_tree.proofs.Stores.{made_count, made_beside, one_live}
+use Rattle.scene_tree.proofs.Keeping.{added_beside, added_child, added_left, added_parent, kept_added, kept_opened, live_slot, lone, opened_alone, opened_within, spot_in}
+use Rattle.scene_tree.proofs.Noting.{noted_made}
+use Rattle.scene_tree.proofs.Stores.{made_count, made_beside, made_slots, one_live}
 use Rattle.scene_tree.proofs.Trees.{left_with, live_family}
 use Rattle.scene_tree.proofs.Writes.{opened_from}
 use Rattle.scene_tree.proofs.tree.SceneTree.add_at.Goals as goal
 
 pub open_slot-requires-clause-linked : goal.open_slot-requires-clause-linked
 open_slot-requires-clause-linked g c = subst IsLinked (sym c.reserve_one.ensures.same) c.self.invariant.1
+
+pub open_slot-requires-clause-forest : goal.open_slot-requires-clause-forest
+open_slot-requires-clause-forest g c =
+    subst (λ ls. IsForest (families ls)) (sym c.reserve_one.ensures.same) c.self.invariant.0.forest
+
+pub open_slot-requires-clause-within : goal.open_slot-requires-clause-within
+open_slot-requires-clause-within g c =
+    let same = ap length c.reserve_one.ensures.same in
+    let long = length-map c.self.inside.links.items (family_in c.self.inside.links.items) in
+    let whole = c.self.invariant.0.whole in ⊎_elim
+    (λ old. omega (arith, old.0, whole, long, same)) (λ next. omega (arith, next.0, whole, long, same))
+    (made_slots (g.met.S.AnyStorage.sound _) c.self.invariant.0.simple _ _ (pointer_of c.in-Ok-leak.raw) c.in-Ok-leak.ensures.step)
+
+pub open_slot-requires-clause-root : goal.open_slot-requires-clause-root
+open_slot-requires-clause-root g c = ap (λ ls. above (families ls) (pointer_of c.in-Ok-leak.raw).id.slot)
+    c.reserve_one.ensures.same ∙ ap (λ f. slot_of f.parent) (lone c.self.invariant.0 (pointer_of c.in-Ok-leak.raw).id.slot
+    (made_beside (g.met.S.AnyStorage.sound _) c.self.invariant.0.simple _ _ (pointer_of c.in-Ok-leak.raw) c.in-Ok-leak.ensures.step))
 
 pub attach-requires-clause-forest : goal.attach-requires-clause-forest
 attach-requires-clause-forest g c =
@@ -63,6 +83,12 @@ invariant_of-self-2 g c =
           c.in-Ok-leak.ensures.step (subst (λ (t : TreeState _). is_live t c.in-Ok.parent ≡ true) (sym c.self.view_is)
           c.in-Ok.ensures.live) _ _ opened c.attach.ensures.attached,
       c.attach.ensures.linked,
+      noted_made c.self.invariant.2 (sound _) (sound _)
+          (made_simple (sound _) c.self.invariant.0.simple _ _ (pointer_of c.in-Ok-leak.raw)
+          c.in-Ok-leak.ensures.step) _ _ (record { raw = c.in-Ok-leak.raw }) c.in-Ok-leak.ensures.step
+          (ap is_some (made None _ _ (Ok c.in-Ok-leak.raw) c.in-Ok-leak.ensures.step)) c.attach.ensures.noted
+          (λ s ne. c.attach.ensures.others s ne ∙ (c.open_slot.ensures.others s ne
+          ∙ ap (λ ls. noted ls s) c.reserve_one.ensures.same)),
     )
 
 pub returns-clause-shown : goal.returns-clause-shown

@@ -1,15 +1,19 @@
-use Rattle.std.proofs.Common.{None, Ok, sym, subst, ap, ◌∙◌}
+use Rattle.std.proofs.Common.{None, Ok, arith, length, sym, subst, ap, ◌∙◌, ⊎_elim}
+use Rattle.std.proofs.lemmas.List.{length-map}
 use Rattle.std.specs.Prelude.{is_some}
 use Rattle.generational_core.specs.Answers.{pointer_of}
 use Rattle.generational_core.proofs.machine.Calling.{made}
 use Rattle.generational_core.proofs.machine.Leaving.{given_other, same_value}
 use Rattle.generational_core.proofs.machine.Stepping.{made_new, meets_given}
 use Rattle.generational_sessions.proofs.callers.Ids.{others_left}
-use Rattle.scene_tree.specs.Families.{IsLinked, families}
+use Rattle.generational_sessions.proofs.callers.SimpleStores.{made_simple}
+use Rattle.scene_tree.specs.Chains.{noted}
+use Rattle.scene_tree.specs.Families.{IsForest, IsLinked, above, families, family_in, slot_of}
 use Rattle.scene_tree.specs.Nodes.{pointer_in, slot_in}
 use Rattle.scene_tree.specs.Trees.{TreeState, WasMade}
-use Rattle.scene_tree.proofs.Keeping.{kept_opened, opened_alone, opened_same}
-use Rattle.scene_tree.proofs.Stores.{made_count}
+use Rattle.scene_tree.proofs.Keeping.{kept_opened, lone, opened_alone, opened_same}
+use Rattle.scene_tree.proofs.Noting.{noted_made}
+use Rattle.scene_tree.proofs.Stores.{made_beside, made_count, made_slots}
 use Rattle.scene_tree.proofs.Trees.{left_with, live_family}
 use Rattle.scene_tree.proofs.Writes.{opened_from}
 use Rattle.scene_tree.proofs.tree.SceneTree.add_root.Goals as goal
@@ -17,12 +21,34 @@ use Rattle.scene_tree.proofs.tree.SceneTree.add_root.Goals as goal
 pub open_slot-requires-clause-linked : goal.open_slot-requires-clause-linked
 open_slot-requires-clause-linked g c = subst IsLinked (sym c.reserve_one.ensures.same) c.self.invariant.1
 
+pub open_slot-requires-clause-forest : goal.open_slot-requires-clause-forest
+open_slot-requires-clause-forest g c =
+    subst (λ ls. IsForest (families ls)) (sym c.reserve_one.ensures.same) c.self.invariant.0.forest
+
+pub open_slot-requires-clause-within : goal.open_slot-requires-clause-within
+open_slot-requires-clause-within g c =
+    let same = ap length c.reserve_one.ensures.same in
+    let long = length-map c.self.inside.links.items (family_in c.self.inside.links.items) in
+    let whole = c.self.invariant.0.whole in ⊎_elim
+    (λ old. omega (arith, old.0, whole, long, same)) (λ next. omega (arith, next.0, whole, long, same))
+    (made_slots (g.met.S.AnyStorage.sound _) c.self.invariant.0.simple _ _ (pointer_of c.in_ok-raw.raw) c.in_ok-raw.ensures.step)
+
+pub open_slot-requires-clause-root : goal.open_slot-requires-clause-root
+open_slot-requires-clause-root g c = ap (λ ls. above (families ls) (pointer_of c.in_ok-raw.raw).id.slot)
+    c.reserve_one.ensures.same ∙ ap (λ f. slot_of f.parent) (lone c.self.invariant.0 (pointer_of c.in_ok-raw.raw).id.slot
+    (made_beside (g.met.S.AnyStorage.sound _) c.self.invariant.0.simple _ _ (pointer_of c.in_ok-raw.raw) c.in_ok-raw.ensures.step))
+
 pub invariant_of-self-2 : goal.invariant_of-self-2
 invariant_of-self-2 g c = (
   kept_opened c.self.invariant.0 (g.met.S.AnyStorage.sound _) _ _ (pointer_of c.in_ok-raw.raw)
       c.in_ok-raw.ensures.step _
       (opened_from (ap families c.reserve_one.ensures.same) c.open_slot.ensures.opened),
   c.open_slot.ensures.linked,
+  noted_made c.self.invariant.2 (g.met.S.AnyStorage.sound _) (g.met.S.AnyStorage.sound _)
+      (made_simple (g.met.S.AnyStorage.sound _) c.self.invariant.0.simple _ _ (pointer_of c.in_ok-raw.raw)
+      c.in_ok-raw.ensures.step) _ _ (record { raw = c.in_ok-raw.raw }) c.in_ok-raw.ensures.step
+      (ap is_some (made None _ _ (Ok c.in_ok-raw.raw) c.in_ok-raw.ensures.step)) c.open_slot.ensures.noted
+      (λ s ne. c.open_slot.ensures.others s ne ∙ ap (λ ls. noted ls s) c.reserve_one.ensures.same),
 )
 
 pub returns-clause-shown : goal.returns-clause-shown

@@ -5,6 +5,7 @@ use Rattle.scene_tree.specs.Trees.{TreeState, is_live}
 use Rattle.scene_tree.proofs.Keeping.{alike, kept_detached, live_slot}
 use Rattle.scene_tree.proofs.Moving.{freed_others, freed_parents}
 use Rattle.scene_tree.proofs.Trees.{live_children, live_family, live_parent, part_with}
+use Rattle.scene_tree.proofs.Noting.{noted_left}
 use Rattle.scene_tree.proofs.tree.SceneTree.detach.Goals as goal
 
 pub detach-requires-clause-node : goal.detach-requires-clause-node
@@ -24,6 +25,7 @@ invariant_of-self g c = (
       (subst (λ (t : TreeState _). is_live t c.args.node ≡ true) (sym c.self.view_is)
       (sym c.is_alive.ensures ∙ c.if-not-is_alive.false)) c.detach.ensures.detached,
   c.detach.ensures.linked,
+  noted_left c.self.invariant.2 c.detach.ensures.noted (λ n now. now),
 )
 
 pub returns-clause-root : goal.returns-clause-root

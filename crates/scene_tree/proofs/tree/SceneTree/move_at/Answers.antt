@@ -8,6 +8,8 @@ use Rattle.scene_tree.specs.Trees.{CanMove, IsBelow, TreeState, parent_for}
 use Rattle.scene_tree.proofs.Keeping.{alike, kept_detached, live_slot}
 use Rattle.scene_tree.proofs.Moving.{kept_moved, moved_lost, moved_others, moved_parents, moved_placed, spot_left}
 use Rattle.scene_tree.proofs.Trees.{live_children, live_family, live_parent, part_with, under_below}
+use Rattle.scene_tree.proofs.Noting.{noted_put}
+use Rattle.scene_tree.proofs.Stores.{one_live}
 use Rattle.scene_tree.proofs.tree.SceneTree.move_at.Goals as goal
 
 pub detach-requires-clause-node : goal.detach-requires-clause-node
@@ -77,6 +79,10 @@ invariant_of-self g c =
                 may.node e c.in_ok-parent.parent may.parent under,
           )),
       c.attach.ensures.linked,
+      noted_put c.self.invariant.2 c.args.node c.attach.ensures.noted
+          (λ s ne. c.attach.ensures.others s ne ∙ c.detach.ensures.noted s)
+          (λ n now same. one_live _ c.args.node n (sound _) c.self.invariant.0.simple may.node now (sym same))
+          (λ n now ne. now),
     )
 
 pub returns-clause-placed : goal.returns-clause-placed

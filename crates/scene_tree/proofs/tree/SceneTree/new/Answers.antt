@@ -1,9 +1,12 @@
 use Rattle.std.proofs.Common.{[], refl, sym, subst, ap, ◌∙◌}
+use Rattle.std.specs.Prelude.{is_some}
+use Rattle.std.proofs.lemmas.Bool.{true≢false}
 use Rattle.generational_core.specs.Seeing.{value_in}
 use Rattle.generational_sessions.proofs.callers.SimpleStores.{fresh_sees}
 use Rattle.scene_tree.specs.Keeping.{IsKept}
 use Rattle.scene_tree.specs.Nodes.{pointer_in}
 use Rattle.scene_tree.proofs.Keeping.{fresh_kept}
+use Rattle.scene_tree.proofs.Noting.{none_noted}
 use Rattle.scene_tree.proofs.tree.SceneTree.new.Goals as goal
 
 pub invariant_of-result : goal.invariant_of-result
@@ -11,6 +14,8 @@ invariant_of-result g c =
     rw c.new.ensures.items (
       subst (λ S. IsKept S []) (sym c.requires) (fresh_kept _ _ _),
       λ slot. record { first = refl; last = refl; chain = tt },
+      none_noted _ (λ n live. true≢false (sym live
+          ∙ ap is_some (ap (λ S. value_in S (pointer_in n)) c.requires ∙ fresh_sees _ _ _ (pointer_in n)))),
     )
 
 pub returns-clause-none : goal.returns-clause-none

@@ -11,6 +11,7 @@ use Rattle.scene_tree.specs.Nodes.{pointer_in}
 use Rattle.scene_tree.proofs.Keeping.{kept_still}
 use Rattle.scene_tree.proofs.Stores.{same_slots, set_count}
 use Rattle.scene_tree.proofs.Trees.{left_with, live_family}
+use Rattle.scene_tree.proofs.Noting.{noted_left}
 use Rattle.scene_tree.proofs.tree.SceneTree.set.Goals as goal
 
 pub set-requires : goal.set-requires
@@ -26,6 +27,8 @@ invariant_of-self g c =
           (same_slots _ _ refl c.set.ensures.1)
           (λ n. set_seen (sound _) c.self.invariant.0.simple.unborrowed _ _ _ c.set.ensures.1 (pointer_in n)),
       c.self.invariant.1,
+      noted_left c.self.invariant.2 (λ s. refl) (λ n now.
+          sym (set_seen (sound _) c.self.invariant.0.simple.unborrowed _ _ _ c.set.ensures.1 (pointer_in n)) ∙ now),
     )
 
 pub returns-clause-shown : goal.returns-clause-shown

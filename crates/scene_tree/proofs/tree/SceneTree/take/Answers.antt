@@ -2,12 +2,13 @@ use Rattle.std.proofs.Common.{arith, length, ⊎_elim, sym, subst, ap, ◌∙◌
 use Rattle.std.specs.Prelude.{is_some, slice_get}
 use Rattle.std.proofs.lemmas.Bool.{cases_lt}
 use Rattle.scene_tree.specs.Families.{Family, IsLinked, families}
-use Rattle.scene_tree.specs.Keeping.{IsKept}
+use Rattle.scene_tree.specs.Keeping.{AreNoted, IsKept}
 use Rattle.scene_tree.specs.Nodes.{slot_in, times, without}
 use Rattle.scene_tree.proofs.Cutting.{kept_cut, other_family, parent_family, parent_left}
 use Rattle.scene_tree.proofs.Keeping.{alike, live_slot}
 use Rattle.scene_tree.proofs.Trees.{left_with, list_live, live_family, live_parent, subtree}
-use Rattle.scene_tree.specs.Trees.{IsSubtree, TreeState, is_live}
+use Rattle.scene_tree.specs.Trees.{TreeState, is_live}
+use Rattle.scene_tree.proofs.Noting.{noted_lost}
 use Rattle.scene_tree.proofs.tree.SceneTree.take.Goals as goal
 
 pub cut-requires-clause-within : goal.cut-requires-clause-within
@@ -33,7 +34,8 @@ take_first-requires-clause-once g c = (subtree (g.met.S.AnyStorage.sound _) c.se
 
 pub invariant_of-self : goal.invariant_of-self
 invariant_of-self g c = subst (λ links. IsKept (g.S.AnyStorage.state c.self.inside.store) (families links)
-    × IsLinked links) (sym c.in-Err.ensures.refused) c.self.invariant
+    × IsLinked links × AreNoted (g.S.AnyStorage.state c.self.inside.store) links)
+    (sym c.in-Err.ensures.refused) c.self.invariant
 
 pub invariant_of-self-2 : goal.invariant_of-self-2
 invariant_of-self-2 g c =
@@ -43,6 +45,7 @@ invariant_of-self-2 g c =
           (sym c.is_alive.ensures ∙ c.if-not-is_alive.false)) c.in-Ok.list.items cut.level cut.detached cut.long
           cut.cleared c.take_first.ensures.lost,
       c.cut.ensures.linked,
+      noted_lost c.self.invariant.2 c.take_first.ensures.lost c.cut.ensures.noted,
     )
 
 pub take_first-requires-clause-some : goal.take_first-requires-clause-some

@@ -13,6 +13,7 @@ use Rattle.scene_tree.specs.Nodes.{pointer_in}
 use Rattle.scene_tree.proofs.Keeping.{kept_still}
 use Rattle.scene_tree.proofs.Stores.{same_slots, set_count}
 use Rattle.scene_tree.proofs.Trees.{left_with, live_family, missing}
+use Rattle.scene_tree.proofs.Noting.{noted_left}
 use Rattle.scene_tree.proofs.tree.SceneTree.update.Goals as goal
 
 pub invariant_of-self-2 : goal.invariant_of-self-2
@@ -23,6 +24,8 @@ invariant_of-self-2 g c =
           (same_slots _ _ refl set)
           (λ n. set_seen (sound _) c.self.invariant.0.simple.unborrowed _ _ _ set (pointer_in n)),
       c.self.invariant.1,
+      noted_left c.self.invariant.2 (λ s. refl) (λ n now.
+          sym (set_seen (sound _) c.self.invariant.0.simple.unborrowed _ _ _ set (pointer_in n)) ∙ now),
     )
 
 pub returns-clause-changed : goal.returns-clause-changed

@@ -1,5 +1,5 @@
 use Rattle.std.proofs.Common.{None, sym, ap, ◌∙◌, arith, map, take}
-use Rattle.std.specs.Prelude.{option_map}
+use Rattle.std.specs.Prelude.{is_some, option_map}
 use Rattle.std.proofs.lemmas.List.{length-map, take-map}
 use Rattle.std.proofs.lemmas.Map.Entries.{lookup_from_place}
 use Rattle.std.proofs.lemmas.Option.{slice_get-map, slice_get_within}
@@ -18,7 +18,8 @@ end-requires g c =
     let found = lookup_from_place g.met.I.Eq.laws _ c.args.place _ _ c.len.ensures.unique
     (sym c.in-Some.ensures.entry) in record {
       quiet = c.self.invariant.unborrowed;
-      held = c.self.invariant.held c.in-Some.field-0-0 (held_of c.in-Some.session) (ap (option_map held_of) found);
+      known = ap is_some (c.self.invariant.held c.in-Some.field-0-0 (held_of c.in-Some.session)
+          (ap (option_map held_of) found)).1;
     }
 
 pub invariant_of-self : goal.invariant_of-self

@@ -4,7 +4,7 @@ use Rattle.std.proofs.lemmas.List.{length-map}
 use Rattle.std.proofs.lemmas.Option.{none-some}
 use Rattle.generational_core.proofs.machine.Leaving.{same_value}
 use Rattle.session_table.specs.Keeping.{held_in}
-use Rattle.session_table.specs.Sessions.{names_of}
+use Rattle.session_table.specs.Sessions.{names_of, stores_of}
 use Rattle.session_table.specs.Tables.{TableState, has_session, live_row}
 use Rattle.session_table.proofs.Calls.{no_row, now_held, one_held, other_sessions, over, own_session}
 use Rattle.session_table.proofs.Keeping.{login_kept}
@@ -24,7 +24,7 @@ invariant_of-self-2 g c =
     (Some (record { used_at = c.args.now; owner = c.in-Ok.owner; entries = c.new.result })) (over g.I.PartialEq.eq c.insert.new.self.entries
     c.args.id (Some (record { used_at = c.args.now; owner = c.in-Ok.owner; entries = c.new.result }))
     c.reserve.ensures.entries c.in-Ok-None.ensures.updates.0) q
-    ∙ ap (λ ns. cond (g.I.PartialEq.eq c.args.id q) (Some (record { owner = c.in-Ok.owner; names = names_of ns }))
+    ∙ ap (λ ns. cond (g.I.PartialEq.eq c.args.id q) (Some (record { owner = c.in-Ok.owner; names = names_of ns; stores = stores_of ns }))
     (held_in g.I.PartialEq.eq c.self.inside.rows.entries q)) c.new.ensures.empty)
     (λ q t. one_held g.met.I.Eq.laws c.self.inside.rows.entries c.args.id q t (no_row g.I.PartialEq.eq (g.S.AnyStorage.state c.self.inside.store) c.self.inside.rows.entries c.args.id
     (ap (λ (t : TableState _ _ _). has_session g.I.PartialEq.eq t c.args.id) c.self.view_is

@@ -19,8 +19,8 @@ use Rattle.session_table.proofs.table.SessionTable.logout.Goals as goal
 pub end-requires : goal.end-requires
 end-requires g c = record {
   quiet = c.self.invariant.unborrowed;
-  held = c.self.invariant.held c.args.id.now (held_of c.in-Some.session)
-      (ap (option_map held_of) (sym c.in-Some.ensures.value));
+  known = ap is_some (c.self.invariant.held c.args.id.now (held_of c.in-Some.session)
+      (ap (option_map held_of) (sym c.in-Some.ensures.value))).1;
 }
 
 pub invariant_of-self-2 : goal.invariant_of-self-2

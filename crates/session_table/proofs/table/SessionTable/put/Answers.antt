@@ -7,7 +7,7 @@ use Rattle.generational_core.proofs.machine.Stepping.{made_new, meets_given}
 use Rattle.generational_sessions.proofs.callers.Tickets.{put_next}
 use Rattle.session_table.specs.Entries.{pointer_in}
 use Rattle.session_table.specs.Keeping.{IsKept, held_in, held_of}
-use Rattle.session_table.specs.Sessions.{entry_in, names_of}
+use Rattle.session_table.specs.Sessions.{entry_in, names_of, stores_of}
 use Rattle.session_table.specs.Tables.{TableState, WasPut, keeps, live_row}
 use Rattle.session_table.proofs.Calls.{has_row, other_sessions, put_keeps, put_rows, put_session, put_still, put_unkept}
 use Rattle.session_table.proofs.Calls.{same_held, same_sessions, same_table}
@@ -17,7 +17,7 @@ use Rattle.session_table.proofs.table.SessionTable.put.Goals as goal
 
 pub keep-requires : goal.keep-requires
 keep-requires g c = ap is_some (c.self.invariant.held c.args.id.now (held_of c.in-Some.session.now)
-    (ap (option_map held_of) (sym c.in-Some.ensures.value)))
+    (ap (option_map held_of) (sym c.in-Some.ensures.value))).1
 
 pub invariant_of-self-2 : goal.invariant_of-self-2
 invariant_of-self-2 g c =
@@ -34,7 +34,11 @@ invariant_of-self-in-Err g c =
     (same_kept c.self.invariant (same_held g.met.I.Eq.laws c.self.inside.rows.entries _ c.args.id.now
     (Some c.keep.new.self) ((c.get_mut.follows.holds c.keep.new.self).3 (ap is_some found)).0
     c.in-Some.session.now found
-    (λ j. Some (record { owner = c.keep.ensures.owner j; names = names_of (c.in-Err.ensures.same j) }))))
+    (λ j. Some (record {
+      owner = c.keep.ensures.owner j;
+      names = names_of (c.in-Err.ensures.same j);
+      stores = stores_of (c.in-Err.ensures.same j);
+    }))))
 
 pub returns-clause-shown : goal.returns-clause-shown
 returns-clause-shown g c = made _ _ _ (Ok c.in-Ok.entry.raw) c.in-Ok.ensures.step

@@ -1,0 +1,188 @@
+-- What a walk over the nodes of all slots meets.
+use Rattle.std.proofs.Common.{◌≡◌, ◌<◌, ◌≤◌, ◌+◌, ℕ, zero, suc, Bool, true, false, cond, List, [], ◌∷◌}
+use Rattle.std.proofs.Common.{Option, None, Some, refl, sym, ap, subst, ◌∙◌, ⊎_elim, arith, not}
+use Rattle.std.specs.Prelude.{is_some, slice_get}
+use Rattle.std.proofs.lemmas.Bool.{and_from, and_parts, cases_Bool, true≢false}
+use Rattle.std.proofs.lemmas.Option.{none-some, same_Some}
+use Rattle.generational_core.specs.Seeing.{value_in}
+use Rattle.generational_core.specs.State.{State, IsSound}
+use Rattle.generational_sessions.proofs.callers.Ids.{same_id_sees}
+use Rattle.scene_tree.specs.declared.links.Link.{Link}
+use Rattle.scene_tree.specs.declared.node.Node.{Node}
+use Rattle.scene_tree.specs.Chains.{node_in, noted}
+use Rattle.scene_tree.specs.Families.{families}
+use Rattle.scene_tree.specs.Keeping.{AreNoted, IsKept, IsLiveIn}
+use Rattle.scene_tree.specs.Meeting.{is_met, met}
+use Rattle.scene_tree.specs.Nodes.{IsSame, is_same, pointer_in, slot_in, times}
+use Rattle.scene_tree.specs.Trees.{AreAll, AreRoots, TreeState, parent_of}
+use Rattle.scene_tree.proofs.Counting.{is_id, same_id, same_slot, times_apart, times_more}
+use Rattle.scene_tree.proofs.Linked.{parent_from, upper}
+use Rattle.scene_tree.proofs.Trees.{live_parent}
+
+module _ {T : Type 0} (S : State T) (roots : Bool) where
+  -- what is noted from a slot on is of its slot
+  abbrev ArePlaced : List (Link T) → ℕ → Type 0
+  ArePlaced links k = (i : ℕ) (h : Node T) → noted links i ≡ Some h → slot_in h ≡ k + i
+
+  placed_rest : (l : Link T) (links : List (Link T)) (k : ℕ) → ArePlaced (l ∷ links) k
+      → ArePlaced links (suc k)
+  placed_rest l links k placed i h is =
+      let at = placed (suc i) h is in omega (arith, at)
+
+  met_below : (links : List (Link T)) (k : ℕ) → ArePlaced links k → (n : Node T) → slot_in n < k
+      → times n (met S roots links) ≡ 0
+  met_below [] k placed n lt = refl
+  met_below (l ∷ links) k placed n lt =
+      at (is_met S roots l) (met_below links (suc k) (placed_rest l links k placed) n (omega (arith, lt)))
+    where
+      apart : is_same l.node n ≡ true → ⊥
+      apart same =
+          let here = placed 0 l.node refl in
+          let slot = same_slot l.node n same in omega (arith, here, slot, lt)
+
+      at : (b : Bool) → times n (met S roots links) ≡ 0
+          → times n (cond b (l.node ∷ met S roots links) (met S roots links)) ≡ 0
+      at true rest = times_apart n l.node (met S roots links)
+          (⊎_elim (λ yes. absurd (apart yes)) (λ no. no) (cases_Bool (is_same l.node n))) ∙ rest
+      at false rest = rest
+
+  met_once : (links : List (Link T)) (k : ℕ) → ArePlaced links k → (n : Node T)
+      → times n (met S roots links) ≤ 1
+  met_once [] k placed n = omega arith
+  met_once (l ∷ links) k placed n =
+      at (is_met S roots l) (met_once links (suc k) (placed_rest l links k placed) n)
+    where
+      here : is_same l.node n ≡ true → times n (met S roots links) ≡ 0
+      here same = met_below links (suc k) (placed_rest l links k placed) n
+          (let at = placed 0 l.node refl in
+          let slot = same_slot l.node n same in omega (arith, at, slot))
+
+      at : (b : Bool) → times n (met S roots links) ≤ 1
+          → times n (cond b (l.node ∷ met S roots links) (met S roots links)) ≤ 1
+      at true rest = ⊎_elim
+          (λ same. let more = times_more n l.node (met S roots links) same in
+          let none = here same in omega (arith, more, none))
+          (λ other. let same = times_apart n l.node (met S roots links) other in omega (arith, same, rest))
+          (cases_Bool (is_same l.node n))
+      at false rest = rest
+
+  met_has : (links : List (Link T)) (i : ℕ) (l : Link T) → slice_get links i ≡ Some l
+      → is_met S roots l ≡ true → (n : Node T) → is_same l.node n ≡ true → 0 < times n (met S roots links)
+  met_has [] i l at passes n same = absurd (none-some l at)
+  met_has (x ∷ links) zero l at passes n same =
+      let here = ap (is_met S roots) (same_Some x l at) ∙ passes in
+      let more = times_more n x.node (met S roots links)
+      (ap (λ (y : Link T). is_same y.node n) (same_Some x l at) ∙ same) in
+      subst (λ b. 0 < times n (cond b (x.node ∷ met S roots links) (met S roots links))) (sym here)
+      (omega (arith, more))
+  met_has (x ∷ links) (suc i) l at passes n same =
+      at_rest (is_met S roots x) (met_has links i l at passes n same)
+    where
+      at_rest : (b : Bool) → 0 < times n (met S roots links)
+          → 0 < times n (cond b (x.node ∷ met S roots links) (met S roots links))
+      at_rest true rest = ⊎_elim
+          (λ is. let more = times_more n x.node (met S roots links) is in omega (arith, more))
+          (λ other. let less = times_apart n x.node (met S roots links) other in omega (arith, less, rest))
+          (cases_Bool (is_same x.node n))
+      at_rest false rest = rest
+
+  -- a node that is met is that of a link
+  record IsOfLink (links : List (Link T)) (n : Node T) : Type 0 where
+    pub place : ℕ
+    pub link : Link T
+    pub there : slice_get links place ≡ Some link
+    pub meets : is_met S roots link ≡ true
+    pub same : is_same link.node n ≡ true
+
+  one_on : (l : Link T) (links : List (Link T)) (n : Node T) → IsOfLink links n → IsOfLink (l ∷ links) n
+  one_on l links n is = record {
+    place = suc is.place;
+    link = is.link;
+    there = is.there;
+    meets = is.meets;
+    same = is.same;
+  }
+
+  met_from : (links : List (Link T)) (n : Node T) → 0 < times n (met S roots links) → IsOfLink links n
+  met_from [] n lt = absurd (omega (arith, lt))
+  met_from (l ∷ links) n lt = ⊎_elim
+      (λ yes. let here = subst (λ b. 0 < times n (cond b (l.node ∷ met S roots links) (met S roots links))) yes lt in
+      ⊎_elim (λ same. record { place = 0; link = l; there = refl; meets = yes; same = same })
+      (λ other. one_on l links n (met_from links n
+      (subst (λ k. 0 < k) (times_apart n l.node (met S roots links) other) here)))
+      (cases_Bool (is_same l.node n)))
+      (λ no. one_on l links n (met_from links n
+      (subst (λ b. 0 < times n (cond b (l.node ∷ met S roots links) (met S roots links))) no lt)))
+      (cases_Bool (is_met S roots l))
+
+module _ {T : Type 0} {S : State T} (sound : IsSound S) (links : List (Link T)) (k : IsKept S (families links))
+    (a : AreNoted S links) where
+  abbrev tree : TreeState T
+  tree = record { state = S; families = families links }
+
+  placed : (i : ℕ) (h : Node T) → noted links i ≡ Some h → slot_in h ≡ 0 + i
+  placed i h is = let at = a.placed i h is in omega (arith, at)
+
+  -- what is met is live
+  met_live : (roots : Bool) (n : Node T) → IsOfLink S roots links n → IsLiveIn S n
+  met_live roots n of =
+      ap is_some (same_id_sees S (pointer_in n) (pointer_in of.link.node) (sym (is_id of.link.node n of.same)))
+      ∙ (and_parts _ _ of.meets).0
+
+  -- a live node has a link
+  record HasLink (n : Node T) : Type 0 where
+    pub link : Link T
+    pub there : slice_get links (slot_in n) ≡ Some link
+    pub same : IsSame link.node n
+
+  has_link : (n : Node T) → IsLiveIn S n → HasLink n
+  has_link n live = let h = a.live n live in at (slice_get links (slot_in n)) refl h.0 h.1 h.2
+    where
+      at : (o : Option (Link T)) → slice_get links (slot_in n) ≡ o → (h : Node T)
+          → noted links (slot_in n) ≡ Some h → IsSame h n → HasLink n
+      at None is h to same = absurd (none-some h (sym (ap node_in is) ∙ to))
+      at (Some l) is h to same = record {
+        link = l;
+        there = is;
+        same = ap (λ x. (pointer_in x).id) (same_Some l.node h (sym (ap node_in is) ∙ to)) ∙ same;
+      }
+
+  link_live : (n : Node T) → IsLiveIn S n → (of : HasLink n)
+      → is_some (value_in S (pointer_in of.link.node)) ≡ true
+  link_live n live of = ap is_some (same_id_sees S (pointer_in of.link.node) (pointer_in n) of.same) ∙ live
+
+  -- its parent is the link's
+  link_parent : (n : Node T) → IsLiveIn S n → (l : Link T) → slice_get links (slot_in n) ≡ Some l
+      → parent_of tree n ≡ l.parent
+  link_parent n live l there = live_parent sound k n live ∙ (parent_from links (slot_in n) ∙ ap upper there)
+
+  pub all_met : AreAll tree (met S false links)
+  all_met = record {
+    live = λ n. (
+      λ some. met_live false n (met_from S false links n some),
+      λ live. let of = has_link n live in met_has S false links (slot_in n) of.link of.there
+          (and_from _ _ (link_live n live of) refl) n (same_id of.link.node n of.same),
+    );
+    once = met_once S false links 0 placed;
+  }
+
+  no_parent : (o : Option (Node T)) → not (is_some o) ≡ true → o ≡ None
+  no_parent None none = refl
+  no_parent (Some n) none = absurd (true≢false (sym none))
+
+  pub roots_met : AreRoots tree (met S true links)
+  roots_met = record {
+    roots = λ n. (
+      λ some. let of = met_from S true links n some in
+          let live = met_live true n of in
+          let slot = sym (same_slot of.link.node n of.same) ∙ a.placed of.place of.link.node (ap node_in of.there) in (
+            live,
+            link_parent n live of.link (ap (slice_get links) slot ∙ of.there)
+                ∙ no_parent of.link.parent (and_parts _ _ of.meets).1,
+          ),
+      λ root. let of = has_link n root.0 in met_has S true links (slot_in n) of.link of.there
+          (and_from _ _ (link_live n root.0 of) (ap (λ o. not (is_some o))
+          (sym (link_parent n root.0 of.link of.there) ∙ root.1))) n (same_id of.link.node n of.same),
+    );
+    once = met_once S true links 0 placed;
+  }

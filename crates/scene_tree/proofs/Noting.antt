@@ -1,0 +1,158 @@
+-- Which node is noted at each slot, after each write to the links.
+use Rattle.std.proofs.Common.{◌≡◌, ◌≢◌, ◌<◌, ◌≤◌, ℕ, zero, suc, List, [], ◌∷◌, ◌++◌, length}
+use Rattle.std.proofs.Common.{Option, None, Some, refl, sym, ap, ◌∙◌, ⊎_elim, arith}
+use Rattle.std.specs.Prelude.{is_some}
+use Rattle.std.proofs.lemmas.Bool.{cases_eq, cases_lt, true≢false}
+use Rattle.std.proofs.lemmas.List.{length-map}
+use Rattle.std.proofs.lemmas.Option.{none-some, same_Some}
+use Rattle.generational_core.specs.Machine.Action.{Make}
+use Rattle.generational_core.specs.Machine.Answer.{Made}
+use Rattle.generational_core.specs.Seeing.{value_in}
+use Rattle.generational_core.specs.State.{State, IsSound}
+use Rattle.generational_core.specs.Steps.{Meets}
+use Rattle.generational_errors.specs.declared.error.Location.{Location}
+use Rattle.generational_core.proofs.machine.Leaving.{same_value}
+use Rattle.generational_sessions.specs.PlainStores.{IsSimple}
+use Rattle.scene_tree.specs.declared.links.Link.{Link}
+use Rattle.scene_tree.specs.declared.node.Node.{Node}
+use Rattle.scene_tree.specs.Chains.{IsHeld, after_put, before_put, changed, first_of, last_of, node_in, noted, tie_of}
+use Rattle.scene_tree.specs.Families.{IsForest, IsLinked, IsOpened, above, children_at, count_at, families, family_in}
+use Rattle.scene_tree.specs.Keeping.{AreNoted, HasLost, IsLiveIn}
+use Rattle.scene_tree.specs.Nodes.{IsSame, pointer_in, slot_in, times}
+use Rattle.scene_tree.proofs.Chains.{after_kept, before_kept, changed_apart, changed_here, changed_kept, changed_length}
+use Rattle.scene_tree.proofs.Linked.{children_held, children_short, link_there, linked_with, parent_from, upper}
+use Rattle.scene_tree.proofs.Linking.{held_kept}
+use Rattle.scene_tree.proofs.Stores.{one_live}
+
+module _ {T : Type 0} where
+  -- ---- one write
+
+  pub noted_here : (links : List (Link T)) (slot : ℕ) (f : Link T → Link T) (n : Node T)
+      → slot < length links → ((l : Link T) → (f l).node ≡ n) → noted (changed links slot f) slot ≡ Some n
+  noted_here links slot f n lt is =
+      let l = link_there links slot lt in
+      ap node_in (changed_here links slot f l.0 l.1) ∙ ap Some (is l.0)
+
+  pub noted_apart : (links : List (Link T)) (slot : ℕ) (f : Link T → Link T) (s : ℕ) → s ≢ slot
+      → noted (changed links slot f) s ≡ noted links s
+  noted_apart links slot f s ne = ap node_in (changed_apart links slot f s ne)
+
+  pub noted_kept : (links : List (Link T)) (slot : ℕ) (f : Link T → Link T)
+      → ((l : Link T) → (f l).node ≡ l.node) → (s : ℕ) → noted (changed links slot f) s ≡ noted links s
+  noted_kept links slot f same s = changed_kept node_in links slot f (λ l. ap Some (same l)) s
+
+  -- where both sides of a spot are linked anew
+  pub noted_joined : (links : List (Link T)) (up top : ℕ) (a b c d : Option ℕ) (s : ℕ)
+      → noted (before_put (after_put links up a b) top c d) s ≡ noted links s
+  noted_joined links up top a b c d s =
+      before_kept node_in (λ l next. refl) (λ l next. refl) (after_put links up a b) top c d s
+      ∙ after_kept node_in (λ l next. refl) (λ l next. refl) links up a b s
+
+  -- with a link more at the end
+  pub noted_last : (links : List (Link T)) (l : Link T) (s : ℕ) → s ≡ length links
+      → noted (links ++ l ∷ []) s ≡ Some l.node
+  noted_last links l s is = ap (noted (links ++ l ∷ [])) is ∙ at links
+    where
+      at : (ls : List (Link T)) → noted (ls ++ l ∷ []) (length ls) ≡ Some l.node
+      at [] = refl
+      at (x ∷ ls) = at ls
+
+  pub noted_before : (links : List (Link T)) (l : Link T) (s : ℕ) → s ≢ length links
+      → noted (links ++ l ∷ []) s ≡ noted links s
+  noted_before [] l zero ne = absurd (ne refl)
+  noted_before [] l (suc s) ne = refl
+  noted_before (x ∷ links) l zero ne = refl
+  noted_before (x ∷ links) l (suc s) ne = noted_before links l s (λ is. ne (ap suc is))
+
+  -- ---- a node that is noted at a slot that no list has
+
+  module _ (links : List (Link T)) (linked : IsLinked links) (f : IsForest (families links)) (node : Node T)
+      (root : above (families links) (slot_in node) ≡ None) where
+    abbrev put_node : Link T → Link T
+    put_node l = record l { node = node }
+
+    abbrev renoted : List (Link T)
+    renoted = changed links (slot_in node) put_node
+
+    unlisted : (up : ℕ) → count_at (slot_in node) (children_at (families links) up) ≡ 0
+    unlisted up = f.only (slot_in node) up (λ is. none-some up (sym root ∙ is))
+
+    renoted_held : (s : ℕ) → IsHeld renoted s (children_at (families links) s)
+    renoted_held s = held_kept links renoted s (children_at (families links) s)
+        (λ i some. ap tie_of (changed_apart links (slot_in node) put_node i (λ is.
+        let none = ap (λ k. count_at k (children_at (families links) s)) is ∙ unlisted s in
+        omega (arith, some, none))))
+        (changed_kept first_of links (slot_in node) put_node (λ l. refl) s)
+        (changed_kept last_of links (slot_in node) put_node (λ l. refl) s) (linked s)
+
+    renoted_short : (s : ℕ) → length (children_at (families links) s) ≤ length renoted
+    renoted_short s =
+        let le = children_short links s in
+        let same = changed_length links (slot_in node) put_node in omega (arith, le, same)
+
+    pub renoted_linked : IsLinked renoted
+    renoted_linked = linked_with renoted (children_at (families links)) renoted_held renoted_short
+
+    pub renoted_opened : slot_in node < length links → IsOpened (families links) (slot_in node) (families renoted)
+    renoted_opened lt = record {
+      same = λ s. λ i. record {
+        parent = (parent_from renoted s
+            ∙ (changed_kept upper links (slot_in node) put_node (λ l. refl) s ∙ sym (parent_from links s))) i;
+        children = children_held renoted s (children_at (families links) s) (renoted_held s) (renoted_short s) i;
+      };
+      old = λ _. length-map renoted (family_in renoted)
+          ∙ (changed_length links (slot_in node) put_node ∙ sym (length-map links (family_in links)));
+      next = λ is. let old = length-map links (family_in links) in absurd (omega (arith, is, lt, old));
+    }
+
+  -- ---- the live nodes
+
+  pub none_noted : (S : State T) → ((n : Node T) → IsLiveIn S n → ⊥) → AreNoted S []
+  none_noted S none = record {
+    live = λ n lives. absurd (none n lives);
+    placed = λ slot h is. absurd (none-some h is);
+  }
+
+  module _ {S R : State T} {old new : List (Link T)} (k : AreNoted S old) where
+    -- where the same nodes are noted, and none is live that wasn't
+    pub noted_left : ((s : ℕ) → noted new s ≡ noted old s) → ((n : Node T) → IsLiveIn R n → IsLiveIn S n)
+        → AreNoted R new
+    noted_left same lives = record {
+      live = λ n now. let was = k.live n (lives n now) in (was.0, same (slot_in n) ∙ was.1, was.2);
+      placed = λ slot h is. k.placed slot h (sym (same slot) ∙ is);
+    }
+
+    -- where one is noted at its slot, and each live one is this, or was live, and has another slot
+    pub noted_put : (child : Node T) → noted new (slot_in child) ≡ Some child
+        → ((s : ℕ) → s ≢ slot_in child → noted new s ≡ noted old s)
+        → ((n : Node T) → IsLiveIn R n → slot_in n ≡ slot_in child → IsSame child n)
+        → ((n : Node T) → IsLiveIn R n → slot_in n ≢ slot_in child → IsLiveIn S n) → AreNoted R new
+    noted_put child here others one before = record {
+      live = λ n now. ⊎_elim
+          (λ same. (child, ap (noted new) same ∙ here, one n now same))
+          (λ ne. let was = k.live n (before n now ne) in (was.0, others (slot_in n) ne ∙ was.1, was.2))
+          (cases_eq (slot_in n) (slot_in child));
+      placed = λ slot h is. ⊎_elim
+          (λ same. ap slot_in (same_Some h child (sym is ∙ (ap (noted new) same ∙ here))) ∙ sym same)
+          (λ ne. k.placed slot h (sym (others slot ne) ∙ is)) (cases_eq slot (slot_in child));
+    }
+
+    -- after a making
+    pub noted_made : IsSound S → IsSound R → IsSimple R → (v : T) (l : Location) (child : Node T)
+        → Meets S (Make None v l) (Made (pointer_in child)) R → IsLiveIn R child
+        → noted new (slot_in child) ≡ Some child
+        → ((s : ℕ) → s ≢ slot_in child → noted new s ≡ noted old s) → AreNoted R new
+    noted_made s sound simple v l child m lives here others = noted_put child here others
+        (λ n now same. one_live R child n sound simple lives now (sym same))
+        (λ n now ne. ap is_some (sym (same_value S R (Make None v l) (Made (pointer_in child)) s m
+        (pointer_in n) tt (λ is. ne (sym (ap (λ x. x.slot) is))))) ∙ now)
+
+    -- and after the ends of nodes
+    pub noted_lost : {list : List (Node T)} → HasLost S list R → ((s : ℕ) → noted new s ≡ noted old s)
+        → AreNoted R new
+    noted_lost {list} lost same = noted_left same (λ n now. ⊎_elim
+        (λ some. absurd (none-some_live n now (lost.ended n some)))
+        (λ none. ap is_some (sym (lost.others n (omega (arith, none)))) ∙ now) (cases_lt 0 (times n list)))
+      where
+        none-some_live : (n : Node T) → IsLiveIn R n → value_in R (pointer_in n) ≡ None → ⊥
+        none-some_live n now none = true≢false (sym now ∙ ap is_some none)

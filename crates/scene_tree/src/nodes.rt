@@ -1,0 +1,127 @@
+//! Walks over all nodes of a tree, and over its roots.
+
+ghost use Rattle.std.specs.Prelude.{◌≡◌, ◌∷◌, [], drop, IfSome, IfNone};
+ghost use Rattle.std.specs.Iterator.{YieldsFirst, item_count};
+ghost use Rattle.scene_tree.specs.Meeting.{is_met, met};
+ghost use Rattle.scene_tree.specs.Trees.{AreAll, AreRoots};
+
+use crate::links::Link;
+use crate::node::Node;
+use crate::tree::SceneTree;
+use generational_core::Storage;
+use std::iter::FusedIterator;
+use std::marker::Model;
+
+impl<T, S: Storage<T>> SceneTree<T, S> {
+    /// All nodes, each once, in no order that a caller can choose: a new node comes where one that was
+    /// removed stood. Takes no memory, and O(n) time for all, for as many slots as the tree ever had
+    /// nodes at once.
+    ///
+    /// ```rust
+    /// for node in tree.nodes() {
+    ///     println!(rt; "{}", tree.get(node)?)?;
+    /// }
+    /// ```
+    pub fn nodes(&self) -> Nodes<'_, T, S>
+        ensures { AreAll self.now result }
+    {
+        Nodes::new(&self.links, &self.store, false)
+    }
+
+    /// The nodes without a parent, each once, in the order of `nodes`. Takes no memory, and O(n) time
+    /// for all, for as many slots as the tree ever had nodes at once.
+    ///
+    /// ```rust
+    /// for root in tree.roots() {
+    ///     for (depth, node) in tree.outline(root, 100)? {
+    ///         println!(rt; "depth {depth}: {}", tree.get(node)?)?;
+    ///     }
+    /// }
+    /// ```
+    pub fn roots(&self) -> Nodes<'_, T, S>
+        ensures { AreRoots self.now result }
+    {
+        Nodes::new(&self.links, &self.store, true)
+    }
+}
+
+/// The nodes of a tree, or its roots, as [`SceneTree::nodes`](crate::SceneTree::nodes) and
+/// [`SceneTree::roots`](crate::SceneTree::roots) give them. Contracts see the list of those that are
+/// left.
+#[derive(Drop)]
+pub struct Nodes<'a, T, S: Storage<T>> {
+    links: &'a Vec<Link<T>>,
+    store: &'a S,
+    only_roots: bool,
+    next: usize,
+}
+
+impl<'a, T, S: Storage<T>> Model for Nodes<'a, T, S> {
+    ghost use Rattle.std.specs.Prelude.{List, drop};
+    ghost use Rattle.scene_tree.specs.declared.node.Node.{Node};
+    ghost use Rattle.scene_tree.specs.Meeting.{met};
+
+    ghost Value = { List (Node T) };
+
+    ghost view = { λ it. met (S.state it.store.now) it.only_roots
+        (drop it.next it.links.now.items) };
+}
+
+impl<'a, T, S: Storage<T>> Nodes<'a, T, S> {
+    fn new(links: &'a Vec<Link<T>>, store: &'a S, only_roots: bool) -> Self
+        ensures { result ≡ met (S.state store.now) only_roots links.now.items }
+    {
+        Nodes {
+            links,
+            store,
+            only_roots,
+            next: 0,
+        }
+    }
+}
+
+// Whether a link's node is live, and has no parent where roots alone are met.
+fn is_met<T, S: Storage<T>>(store: &S, only_roots: bool, link: &Link<T>) -> bool
+    ensures { result ≡ is_met (S.state store.now) only_roots link.now }
+{
+    link.node.raw.peek(store).is_some() && !(only_roots && link.parent.is_some())
+}
+
+// The first node that is met from a slot on, and the slot behind its own.
+fn next_met<T, S: Storage<T>>(
+    links: &Vec<Link<T>>,
+    store: &S,
+    only_roots: bool,
+    from: usize,
+) -> Option<(Node<T>, usize)>
+    ensures found { IfSome result (λ at. met (S.state store.now) only_roots (drop from links.now.items)
+        ≡ at.0 ∷ met (S.state store.now) only_roots (drop at.1 links.now.items)) }
+    ensures none { IfNone result
+        (met (S.state store.now) only_roots (drop from links.now.items) ≡ []) }
+{
+    let mut slot = from;
+    while slot < links.len() {
+        let link = &links[slot];
+        slot += 1;
+        if is_met(store, only_roots, link) {
+            return Some((link.node, slot));
+        }
+    }
+    None
+}
+
+impl<'a, T, S: Storage<T>> Iterator for Nodes<'a, T, S> {
+    type Item = Node<T>;
+
+    ghost next_gives = { YieldsFirst (λ left. left) };
+
+    ghost remaining = { item_count (λ left. left) };
+
+    fn next(&mut self) -> Option<Node<T>> {
+        let (node, next) = next_met(self.links, self.store, self.only_roots, self.next)?;
+        self.next = next;
+        Some(node)
+    }
+}
+
+impl<'a, T, S: Storage<T>> FusedIterator for Nodes<'a, T, S> {}
