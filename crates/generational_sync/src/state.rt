@@ -83,6 +83,12 @@ impl<T: Drop, const NUMBER: u64, M: Count, L: Count, C: Count, R: Count> SyncSta
     ///
     /// Each blank is of its kind's ledger and has a part for each worker. Refused by `OutOfMemory`
     /// at most, also for 2^32 workers or more, and the blanks are spent then.
+    ///
+    /// ```rust
+    /// let state = SyncState::<String, 7, A, B, C, D>::new(alloc, 1, made, lent, changed, refused);
+    /// let (mut state, mut tallies) = state.expect(rt, "a store");
+    /// let mut tally = tallies.pop().expect(rt, "a tally");
+    /// ```
     pub fn new(
         alloc: Global,
         workers: usize,
@@ -156,6 +162,13 @@ impl<T: Drop, const NUMBER: u64, M: Count, L: Count, C: Count, R: Count> SyncSta
 
     /// Whether no borrow stands in the way of an owner's release. The record is found at once, where
     /// `ready` has to look for it among all records. Takes no memory.
+    ///
+    /// ```rust
+    /// if !state.may_release(&owner) {
+    ///     owner.leak();
+    ///     return rt.stop("a release that waits");
+    /// }
+    /// ```
     pub fn may_release(&self, owner: &Owner) -> bool
         ensures { result ≡ is_ready self.now.state (call.ReleaseOwner (id_of_owner owner.now)) }
     {

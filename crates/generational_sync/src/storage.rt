@@ -86,6 +86,10 @@ impl<T: Drop + Send, const NUMBER: u64, M: Count, L: Count, C: Count, R: Count> 
     }
 
     /// The store's number. Takes no memory and doesn't wait.
+    ///
+    /// ```rust
+    /// rt.compare(&store.number(), &7);
+    /// ```
     pub fn number(&self) -> u64
         ensures { result ≡ NUMBER }
     {

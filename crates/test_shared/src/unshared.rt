@@ -9,13 +9,14 @@ use std::marker::Brand;
 use std::process::Abort;
 use std::sync::ledger::Blank;
 use std::test::*;
-use test_shared_workers::{live, trim};
+use test_shared_workers::{call_each, live, trim};
 
 // What the worker does.
 #[derive(Clone, Copy)]
 enum Course {
     Live,
     Trim,
+    Each,
 }
 
 // One worker calls what lies under the lock, and nothing waits.
@@ -43,6 +44,7 @@ fn one_by_one<A: Count, B: Count, C: Count, D: Count>(
     match course {
         Course::Live => live(&Judging(rt), alloc, &mut state, &mut tally),
         Course::Trim => trim(&Judging(rt), alloc, &mut state, &mut tally),
+        Course::Each => call_each(&Judging(rt), alloc, &mut state, &mut tally),
     }
     assert_eq!(rt; tally.worker(), 0);
     assert!(rt; tally.is_whole());
@@ -67,6 +69,19 @@ fn a_checkpoint_without_threads(rt: HostRuntime) {
         &rt,
         rt.alloc(),
         Course::Trim,
+        Blank::new(1),
+        Blank::new(1),
+        Blank::new(1),
+        Blank::new(1),
+    );
+}
+
+#[test]
+fn each_call_without_threads(rt: HostRuntime) {
+    one_by_one::<Brand, Brand, Brand, Brand>(
+        &rt,
+        rt.alloc(),
+        Course::Each,
         Blank::new(1),
         Blank::new(1),
         Blank::new(1),

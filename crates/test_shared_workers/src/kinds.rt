@@ -67,6 +67,7 @@ pub fn turn<A: Count, B: Count, C: Count, D: Count>(
     store: &SyncStorage<Entry, 7, A, B, C, D>,
     tally: &mut Tally<A, B, C, D>,
 ) {
+    rt.compare(&store.number(), &7);
     let number = leak(rt, store, tally, Entry::Number(3));
     let flag = leak(rt, store, tally, Entry::Flag(false));
     toggle(rt, store, tally, number);

@@ -5,6 +5,7 @@
 
 mod audits;
 mod beside;
+mod each_call;
 mod gates;
 mod judge;
 mod kinds;
@@ -19,6 +20,7 @@ mod waking;
 mod workers;
 
 pub use crate::audits::audited;
+pub use crate::each_call::call_each;
 pub use crate::judge::Judge;
 pub use crate::kinds::{Entry, turn};
 pub use crate::scenes::{Scenario, play};

@@ -104,6 +104,13 @@ impl<T: Drop, const NUMBER: u64, M: Count, L: Count, C: Count, R: Count> SyncSta
     }
 
     /// Calls `try_read`. The sequential store's `read` has a condition in place of the refusals.
+    ///
+    /// ```rust
+    /// if !state.ready(&StepCall::Read(asked.pointer(), read())) {
+    ///     return rt.stop("a read that waits");
+    /// }
+    /// let guard = rt.expect(state.read(asked, read(), tally), "a guard");
+    /// ```
     pub fn read(
         &mut self,
         asked: GenerationalBox<T>,
@@ -124,6 +131,13 @@ impl<T: Drop, const NUMBER: u64, M: Count, L: Count, C: Count, R: Count> SyncSta
     /// ended or is of another store; `NumbersExhausted`, where no ticket is left; both are steps.
     /// `OutOfMemory` comes before both, and only where the history finds no room. Memory is taken
     /// for the step and for the step of its release.
+    ///
+    /// ```rust
+    /// if !state.ready(&StepCall::Write(asked.pointer(), read())) {
+    ///     return rt.stop("a write that waits");
+    /// }
+    /// let guard = state.try_write(asked, read(), tally);
+    /// ```
     pub fn try_write(
         &mut self,
         asked: GenerationalBox<T>,
@@ -180,6 +194,13 @@ impl<T: Drop, const NUMBER: u64, M: Count, L: Count, C: Count, R: Count> SyncSta
     }
 
     /// Calls `try_write`. The sequential store's `write` has a condition in place of the refusals.
+    ///
+    /// ```rust
+    /// if !state.ready(&StepCall::Write(asked.pointer(), read())) {
+    ///     return rt.stop("a write that waits");
+    /// }
+    /// let guard = state.write(asked, read(), tally);
+    /// ```
     pub fn write(
         &mut self,
         asked: GenerationalBox<T>,
@@ -214,6 +235,10 @@ impl<T: Drop, const NUMBER: u64, M: Count, L: Count, C: Count, R: Count> SyncSta
     /// Ends a write, and puts the guard's value into the cell. Where the store doesn't know the
     /// guard, the value comes back and nothing changes. Never refused, and takes no memory: the
     /// step's room was reserved when the guard was given.
+    ///
+    /// ```rust
+    /// rt.compare(&state.release_write(guard, tally), &Ok(()));
+    /// ```
     pub fn release_write(
         &mut self,
         guard: GenerationalRefMut<T>,
@@ -237,6 +262,14 @@ impl<T: Drop, const NUMBER: u64, M: Count, L: Count, C: Count, R: Count> SyncSta
     /// ended or is of another store, a step; `OutOfMemory`, which comes first, and only where the
     /// history finds no room for the step. The value that was handed in comes back then, and the
     /// store is unchanged. Nothing else takes memory.
+    ///
+    /// ```rust
+    /// if !state.ready(&StepCall::Set(set.pointer())) {
+    ///     return rt.stop("another value that waits");
+    /// }
+    /// let value = text(rt, alloc, "set");
+    /// rt.compare(&state.set(set, value, tally), &Ok(()));
+    /// ```
     pub fn set(
         &mut self,
         asked: GenerationalBox<T>,

@@ -102,6 +102,14 @@ impl<T: Drop, const NUMBER: u64, M: Count, L: Count, C: Count, R: Count> SyncSta
     /// which the other reaches, where this box is no reference or that value isn't shared. Refused
     /// by `OutOfMemory` where the history finds no room for the step. A refused call changes
     /// nothing, and nothing else takes memory.
+    ///
+    /// ```rust
+    /// let call = StepCall::PointTo(asked.pointer(), other.pointer());
+    /// if !state.ready(&call) {
+    ///     return rt.stop("a reference that waits");
+    /// }
+    /// rt.compare(&state.point_to(asked, other, tally), &Ok(()));
+    /// ```
     pub fn point_to(
         &mut self,
         asked: GenerationalBox<T>,
@@ -131,6 +139,13 @@ impl<T: Drop, const NUMBER: u64, M: Count, L: Count, C: Count, R: Count> SyncSta
     /// Refused, in this order: `UnknownOwner`, where the store has no record of the owner, a step;
     /// `OutOfMemory`, which comes first, and only where the history finds no room for the step. The
     /// owner comes back then, and the store is unchanged. Nothing else takes memory.
+    ///
+    /// ```rust
+    /// if let Err((owner, _)) = state.release_owner(owner, tally) {
+    ///     owner.leak();
+    ///     rt.stop("an owner that stays")
+    /// }
+    /// ```
     pub fn release_owner(
         &mut self,
         owner: Owner,

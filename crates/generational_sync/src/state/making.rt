@@ -57,6 +57,11 @@ impl<T: Drop, const NUMBER: u64, M: Count, L: Count, C: Count, R: Count> SyncSta
     /// `OutOfMemory`, which comes first where the history finds no room. The value comes back then,
     /// and the store is unchanged. Memory is taken for a slot, if none is free, for room on the
     /// list, and for the step.
+    ///
+    /// ```rust
+    /// let kept = state.insert(owner, text(rt, alloc, "kept"), made(), tally);
+    /// rt.expect(kept.map_err(|refusal| refusal.cause), "a box")
+    /// ```
     pub fn insert(
         &mut self,
         owner: &Owner,
@@ -112,6 +117,11 @@ impl<T: Drop, const NUMBER: u64, M: Count, L: Count, C: Count, R: Count> SyncSta
     ///
     /// Refused by `OutOfMemory`: the value comes back, and nothing changes. Memory is taken for two
     /// slots, if fewer are free, and for the step.
+    ///
+    /// ```rust
+    /// let shared = state.leak_rc(text(rt, alloc, "free"), made_later(), tally);
+    /// rt.expect(shared.map_err(|refusal| refusal.cause), "a shared value")
+    /// ```
     pub fn leak_rc(
         &mut self,
         value: T,
@@ -135,6 +145,11 @@ impl<T: Drop, const NUMBER: u64, M: Count, L: Count, C: Count, R: Count> SyncSta
     /// `OutOfMemory`, which comes first where the history finds no room. The value comes back then,
     /// and the store is unchanged. Memory is taken for two slots, if fewer are free, for room on
     /// the list, and for the step.
+    ///
+    /// ```rust
+    /// let shared = state.insert_rc(owner, text(rt, alloc, "shared"), made(), tally);
+    /// rt.expect(shared.map_err(|refusal| refusal.cause), "a shared value")
+    /// ```
     pub fn insert_rc(
         &mut self,
         owner: &Owner,
@@ -189,6 +204,13 @@ impl<T: Drop, const NUMBER: u64, M: Count, L: Count, C: Count, R: Count> SyncSta
     /// ended or is of another store, or where its value isn't shared, a step; `OutOfMemory`, which
     /// comes first where the history finds no room. A refused call changes nothing.
     /// Memory is taken for a slot, if none is free, and for the step.
+    ///
+    /// ```rust
+    /// if !state.ready(&StepCall::LeakReference(asked.pointer())) {
+    ///     return rt.stop("a reference that waits");
+    /// }
+    /// let reference = state.leak_reference(asked, tally);
+    /// ```
     pub fn leak_reference(
         &mut self,
         asked: GenerationalBox<T>,
@@ -212,6 +234,14 @@ impl<T: Drop, const NUMBER: u64, M: Count, L: Count, C: Count, R: Count> SyncSta
     /// store, or where its value isn't shared; both are steps. `OutOfMemory` comes before both where
     /// the history finds no room, and else after them. A refused call changes nothing.
     /// Memory is taken for a slot, if none is free, for room on the list, and for the step.
+    ///
+    /// ```rust
+    /// let call = StepCall::InsertReference(owner.id(), asked.pointer());
+    /// if !state.ready(&call) {
+    ///     return rt.stop("a reference that waits");
+    /// }
+    /// let reference = state.insert_reference(owner, asked, tally);
+    /// ```
     pub fn insert_reference(
         &mut self,
         owner: &Owner,
@@ -260,6 +290,10 @@ impl<T: Drop, const NUMBER: u64, M: Count, L: Count, C: Count, R: Count> SyncSta
     /// Refused, in this order: `NumbersExhausted`, where no ticket is left, a step; `OutOfMemory`,
     /// which comes first where the history finds no room. A refused call changes nothing.
     /// Memory is taken for the record and for the step.
+    ///
+    /// ```rust
+    /// let session = rt.expect(state.owner(tally), "an owner");
+    /// ```
     pub fn owner(&mut self, tally: &mut Tally<M, L, C, R>) -> Result<Owner, StoreError>
         ensures step { IsStep NUMBER self.old tally.old NewOwner (owner_answer result) self.new
             tally.new }
@@ -279,6 +313,10 @@ impl<T: Drop, const NUMBER: u64, M: Count, L: Count, C: Count, R: Count> SyncSta
     /// `NumbersExhausted`, where no ticket is left; both are steps. `OutOfMemory` comes before both,
     /// and only where the history finds no room for the step. A refused call changes
     /// nothing. Nothing else takes memory.
+    ///
+    /// ```rust
+    /// let again = rt.expect(state.clone_owner(&session, tally), "the same owner");
+    /// ```
     pub fn clone_owner(
         &mut self,
         owner: &Owner,
