@@ -5,8 +5,8 @@ use crate::expected::assert_same;
 use crate::fresh::{Scene, play, play_at_ticket};
 use crate::session_acts::{put_at, sessions_over};
 use example_libraries::sessions::{
-    found_by_key, greatest_key, latest_use, one_visit, put_anew, seen_after_put, seen_beside,
-    signed_in, told_after_logout,
+    found_by_key, greatest_key, latest_use, one_visit, seen_after_put, seen_beside, signed_in,
+    told_after_logout,
 };
 use generational_box::{Storage, StoreError};
 use session_table::{Entry, LoginError, SessionTable, Stale};
@@ -150,9 +150,9 @@ fn callers_are_told<S: Storage<u64>>(rt: &impl Abort, table: &mut SessionTable<u
     };
     let seen = seen_after_put(table, 1, 2, third, 7, put_at(7));
     assert_same(rt, &seen, &Ok(9));
-    let anew = put_anew(table, (2, 3), third, 4, put_at(8));
-    assert_same(rt, &anew, &(Some(9), Err(Stale { put_at: put_at(6) })));
-    assert_same(rt, &found_by_key(table, 2, 3), &Some(4));
+    assert_same(rt, &table.remove(&2, &3), &Some(9));
+    let gone = Stale { put_at: put_at(6) };
+    assert_same(rt, &table.get(third).copied(), &Err(gone));
     assert_same(rt, &signed_in(table, 2, 4, 2), &Some(second));
     assert_same(rt, &signed_in(table, 2, 5, 2), &None);
 }
