@@ -10,7 +10,6 @@ mod proving;
 mod started;
 mod threads;
 mod values;
-mod visits;
 mod window;
 
 fn main(rt: HostRuntime) -> anyhow::Result<()> {
@@ -19,7 +18,6 @@ fn main(rt: HostRuntime) -> anyhow::Result<()> {
     dialog::main(rt)?;
     memos::main(rt)?;
     actors::main(rt)?;
-    visits::main(rt)?;
     window::main(rt)?;
     pages::main(rt)?;
     threads::main(&rt)?;

@@ -1,6 +1,6 @@
 //! Effects: nodes that are watched, and told of where they mean something else.
 
-ghost use Rattle.std.specs.Prelude.{◌≡◌, ℕ, List, [], ◌∷◌, ◌++◌, length, IsTrue, OnOk, OnErr, Result, Ok, Err, None, filter, not};
+ghost use Rattle.std.specs.Prelude.{◌≡◌, ℕ, List, [], ◌∷◌, ◌++◌, length, IsTrue, OnOk, OnErr, Result, Ok, Err, None, Some, filter, not};
 ghost use Rattle.reactive.specs.declared.effects.Told.{Told};
 ghost use Rattle.reactive.specs.declared.fault.Fault.{Fault};
 ghost use Rattle.reactive.specs.declared.key.Key.{Key};
@@ -42,6 +42,28 @@ impl<T: Value + Drop> Effect<T> {
         }
     }
 
+    // Tells an answer, and notes that it was told.
+    fn tell(
+        &mut self,
+        noted: Result<T, Fault>,
+        answer: Result<T, Fault>,
+        told: &mut Vec<Told<T>>,
+    ) -> Result<(), AllocError>
+        ensures noted { OnOk result (self.new ≡ record { key = self.old.key; told = Some noted }) }
+        ensures told { OnOk result (told.new.items
+            ≡ told.old.items ++ record { key = self.old.key; answer = answer } ∷ []) }
+        ensures kept { OnErr result (self.new ≡ self.old) }
+        ensures untold { OnErr result (told.new.items ≡ told.old.items) }
+    {
+        let key = self.key;
+        match told.push(Told { key, answer }) {
+            Ok(()) => {}
+            Err(_) => return Err(AllocError),
+        }
+        self.told = Some(noted);
+        Ok(())
+    }
+
     // Tells a value, unless it was the last that was told.
     fn hear_value(&mut self, value: &T, told: &mut Vec<Told<T>>) -> Result<(), AllocError>
         ensures heard { OnOk result ((news : List (Told T)) × (told.new.items ≡ told.old.items ++ news)
@@ -52,15 +74,9 @@ impl<T: Value + Drop> Effect<T> {
         if self.has_heard(value) {
             return Ok(());
         }
-        let kept = value.copy()?;
-        let key = self.key;
+        let noted = Ok(value.copy()?);
         let answer = Ok(value.copy()?);
-        match told.push(Told { key, answer }) {
-            Ok(()) => {}
-            Err(_) => return Err(AllocError),
-        }
-        self.told = Some(Ok(kept));
-        Ok(())
+        self.tell(noted, answer, told)
     }
 
     // Tells that there is no value, unless that was told.
@@ -73,14 +89,8 @@ impl<T: Value + Drop> Effect<T> {
         if let Some(Err(_)) = &self.told {
             return Ok(());
         }
-        let key = self.key;
         let answer = Err(fault);
-        match told.push(Told { key, answer }) {
-            Ok(()) => {}
-            Err(_) => return Err(AllocError),
-        }
-        self.told = Some(Err(fault));
-        Ok(())
+        self.tell(Err(fault), answer, told)
     }
 
     // Brings the node up to date, and tells what it means, unless that was told.
