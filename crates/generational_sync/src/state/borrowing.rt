@@ -48,6 +48,7 @@ impl<T: Drop, const NUMBER: u64, M: Count, L: Count, C: Count, R: Count> SyncSta
     /// }
     /// state.try_read(asked, place(), tally).ok()
     /// ```
+    #[inline(always)]
     pub fn try_read(
         &mut self,
         asked: GenerationalBox<T>,
@@ -124,6 +125,7 @@ impl<T: Drop, const NUMBER: u64, M: Count, L: Count, C: Count, R: Count> SyncSta
     /// ended or is of another store; `NumbersExhausted`, where no ticket is left; both are steps.
     /// `OutOfMemory` comes before both, and only where the history finds no room. Memory is taken
     /// for the step and for the step of its release.
+    #[inline(always)]
     pub fn try_write(
         &mut self,
         asked: GenerationalBox<T>,
@@ -200,6 +202,7 @@ impl<T: Drop, const NUMBER: u64, M: Count, L: Count, C: Count, R: Count> SyncSta
     /// ```rust
     /// let known = state.release_read(guard, tally);
     /// ```
+    #[inline(always)]
     pub fn release_read(&mut self, guard: GenerationalRef<T>, tally: &mut Tally<M, L, C, R>) -> bool
         ensures step { IsStep NUMBER self.old tally.old (ReleaseReader guard) (Flag result) self.new
             tally.new }
@@ -214,6 +217,7 @@ impl<T: Drop, const NUMBER: u64, M: Count, L: Count, C: Count, R: Count> SyncSta
     /// Ends a write, and puts the guard's value into the cell. Where the store doesn't know the
     /// guard, the value comes back and nothing changes. Never refused, and takes no memory: the
     /// step's room was reserved when the guard was given.
+    #[inline(always)]
     pub fn release_write(
         &mut self,
         guard: GenerationalRefMut<T>,
