@@ -1,9 +1,13 @@
--- A call that was carried out was one in whose way no borrow stood; one that was refused left all as it was.
+-- A call whose answer tells of no borrow, and of no want, was one in whose way none stood; one that was refused
+-- left all as it was.
 use Rattle.std.proofs.Common.{◌≡◌, ℕ, Bool, true, false, cond, Option, Some, refl, sym, ap, subst, ◌∙◌, inl, inr}
 use Rattle.std.specs.Prelude.{not, ◌&&◌, nat_eq}
 use Rattle.std.specs.Bool.{OnTrue}
 use Rattle.std.proofs.lemmas.Bool.{true≢false}
+use Rattle.generational_errors.specs.declared.error.Location.{Location}
 use Rattle.generational_errors.specs.declared.error.StoreError.TheVariants.{NumbersExhausted}
+use Rattle.generational_errors.specs.declared.error.StoreError.TheVariants.{OutOfMemory}
+use Rattle.generational_errors.specs.declared.error.StoreError.TheVariants.{UnknownOwner}
 use Rattle.generational_errors.specs.declared.error.BorrowError.{BorrowError}
 use Rattle.generational_errors.specs.declared.error.BorrowMutError.{BorrowMutError}
 use Rattle.generational_errors.specs.declared.error.Refused.{Refused as IsRefused}
@@ -13,9 +17,11 @@ use Rattle.generational_core.specs.declared.steps.StepCall.{StepCall}
 use Rattle.generational_core.specs.State.{State}
 use Rattle.generational_core.specs.Machine.{Action, Answer, NewNames, Outcome, act}
 use Rattle.generational_core.specs.Machine.Answer.{BorrowRefused, Refused, Back}
+use Rattle.generational_core.specs.Borrowing.BorrowRefusal.{Dropped}
 use Rattle.generational_core.specs.Steps.{Meets, limit_tickets, takes_ticket, last_ticket}
 use Rattle.generational_core.specs.StepCalls.{is_hindered, is_ready, recorded_as}
 use Rattle.shared_records.specs.declared.step.StepReply.{StepReply}
+use Rattle.shared_records.specs.declared.step.StepReply.TheVariants as reply
 use Rattle.shared_history.specs.Logs.{LogState}
 use Rattle.shared_history.specs.Replies.{recorded_reply}
 use Rattle.shared_history.specs.Standing.{leaves}
@@ -40,30 +46,53 @@ pub end_leaves : (T : Type 0) (e : IsRefused BorrowMutError) → leaves {T = T} 
 end_leaves T (refusal.Borrow e) = refl
 end_leaves T (refusal.Store e) = refl
 
-module _ {T : Type 0} where
-  unhindered : (a : Action T) (answer : Answer T) → leaves answer ≡ false
-      → is_hindered a answer ≡ false
-  unhindered a (BorrowRefused t) e = absurd (true≢false e)
-  unhindered a (Back v) e = absurd (true≢false e)
-  unhindered a _ e = refl
+-- whether a reply tells of a value that is gone
+abbrev tells_of_end : Option StepReply → Bool
+tells_of_end (Some (reply.Dropped l)) = true
+tells_of_end _ = false
 
-  -- an answer that is no refusal is the machine's own
+module _ {T : Type 0} where
+  -- whether an answer tells of want of memory or of numbers
+  abbrev pub refuses : Answer T → Bool
+  refuses (Refused e) = true
+  refuses _ = false
+
+  -- an answer that tells of no want is the machine's own
   unlimited : (S R : State T) (out : Outcome T) (answer : Answer T)
-      → (answer, R) ≡ limit_tickets S out → leaves answer ≡ false → out.0 ≡ answer
+      → (answer, R) ≡ limit_tickets S out → refuses answer ≡ false → out.0 ≡ answer
   unlimited S R out answer is granted = at (takes_ticket out.0 && nat_eq S.next last_ticket) is
     where
       at : (b : Bool) → (answer, R) ≡ cond b (Refused NumbersExhausted, S) out → out.0 ≡ answer
-      at true e = absurd (true≢false (sym (ap (λ (o : Outcome T). leaves o.0) e) ∙ granted))
+      at true e = absurd (true≢false (sym (ap (λ (o : Outcome T). refuses o.0) e) ∙ granted))
       at false e = sym (ap (λ (o : Outcome T). o.0) e)
 
   pub granted_ready : AreTold T → (S R : State T) (a : Action T) (c : StepCall) (answer : Answer T)
-      → recorded_as a ≡ Some c → Meets S a answer R → leaves answer ≡ false → is_ready S c ≡ true
-  granted_ready told S R a c answer asked (inl m) granted =
+      → recorded_as a ≡ Some c → Meets S a answer R → refuses answer ≡ false
+      → is_hindered a answer ≡ false → is_ready S c ≡ true
+  granted_ready told S R a c answer asked (inl m) granted free =
       told S a c m.0 asked
-      ∙ ap not (ap (is_hindered a) (unlimited S R (act S a m.0) answer m.2 granted)
-      ∙ unhindered a answer granted)
-  granted_ready told S R a c answer asked (inr m) granted =
-      absurd (true≢false (sym (ap leaves m.1) ∙ granted))
+      ∙ ap not (ap (is_hindered a) (unlimited S R (act S a m.0) answer m.2 granted) ∙ free)
+  granted_ready told S R a c answer asked (inr m) granted free =
+      absurd (true≢false (sym (ap refuses m.1) ∙ granted))
+
+  dropped_told : (R : State T) (a : Action T) (answer : Answer T)
+      → tells_of_end (recorded_reply R a answer) ≡ true
+      → (refuses answer ≡ false) × (is_hindered a answer ≡ false)
+  dropped_told R a (BorrowRefused (Dropped l)) e = (refl, refl)
+  dropped_told R a (BorrowRefused t) e = absurd (true≢false (sym e))
+  dropped_told R a (Refused OutOfMemory) e = absurd (true≢false (sym e))
+  dropped_told R a (Refused NumbersExhausted) e = absurd (true≢false (sym e))
+  dropped_told R a (Refused UnknownOwner) e = absurd (true≢false (sym e))
+  dropped_told R a (Back v) e = absurd (true≢false (sym e))
+  dropped_told R a _ e = (refl, refl)
+
+  -- a call that is told of a value that is gone was ready too
+  pub dropped_ready : AreTold T → (S R : State T) (a : Action T) (c : StepCall) (answer : Answer T)
+      (l : Location) → recorded_as a ≡ Some c → Meets S a answer R
+      → Some (reply.Dropped l) ≡ recorded_reply R a answer → is_ready S c ≡ true
+  dropped_ready told S R a c answer l asked met replied =
+      let free = dropped_told R a answer (sym (ap tells_of_end replied)) in
+      granted_ready told S R a c answer asked met free.0 free.1
 
   pub left_as : (S R : State T) (a : Action T) (answer : Answer T) → Meets S a answer R
       → leaves answer ≡ true → R ≡ S

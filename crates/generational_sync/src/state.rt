@@ -21,7 +21,7 @@ mod making;
 use crate::laws::{
     free_calls_are_answered_so, histories_lead_to_sound_states, recorded_calls_are_lawful,
 };
-use generational_box::laws::steps_keep_the_store;
+use generational_box::laws::{calls_are_ready_where_no_borrow_is_told, steps_keep_the_store};
 use generational_box::{
     AnyStorage, GenerationalRef, Owner, StepCall, Storage, StoreError, UnsyncStorage,
 };
@@ -278,7 +278,9 @@ fn settle<T: Drop, const NUMBER: u64, M: Count, L: Count, C: Count, R: Count>(
 }
 
 // Records the refusal of a call, which left the store as it was, if no borrow stands in its way. The
-// answer is whether none does.
+// answer is whether none does. That a value is gone is told often, since a handle may be kept for
+// longer. It is inlined, so that what is handed to the other function is put into memory here, and
+// not where a call is granted.
 #[inline(always)]
 fn settle_refused<T: Drop, const NUMBER: u64, M: Count, L: Count, C: Count, R: Count>(
     store: &UnsyncStorage<T>,
@@ -294,6 +296,13 @@ fn settle_refused<T: Drop, const NUMBER: u64, M: Count, L: Count, C: Count, R: C
         (IsSettled NUMBER log.old tally.old call reply store.now.state log.new tally.new) }
     ensures left { OnFalse result ((log.new ≡ log.old) × (tally.new ≡ tally.old)) }
 {
+    calls_are_ready_where_no_borrow_is_told::<T>();
+    if let Some(told) = reply {
+        if let StepReply::Dropped(_) = told {
+            settle(store, log, call, reply, tally);
+            return true;
+        }
+    }
     settle_seldom(store, log, call, reply, tally)
 }
 

@@ -110,10 +110,10 @@ impl<const NUMBER: u64, M: Count, L: Count, C: Count, R: Count> Log<NUMBER, M, L
         ensures standing { self.new.standing ≡ self.old.standing }
         ensures ok { OnOk result (steps ≤ self.new.room) }
     {
-        let Some(steps) = self.standing.checked_add(steps) else {
+        if self.standing > usize::MAX - 2 {
             return Err(AllocError);
-        };
-        self.history.reserve(steps)
+        }
+        self.history.reserve(self.standing + steps)
     }
 
     // Appends a step of the tally's worker, for which there is room.

@@ -4,10 +4,10 @@ ghost use Rattle.std.specs.Prelude.{◌≡◌};
 ghost use Rattle.generational_core.specs.declared.boxes.GenerationalPointer.{GenerationalPointer};
 ghost use Rattle.generational_errors.specs.declared.error.Location.{Location};
 ghost use Rattle.generational_core.specs.Answers.{back_answer, end_answer, end_refused, make_answer};
-ghost use Rattle.generational_core.specs.Answers.{owner_answer, read_answer, read_refused};
-ghost use Rattle.generational_core.specs.Answers.{reference_answer, release_answer, write_answer};
+ghost use Rattle.generational_core.specs.Answers.{owner_answer, read_refused, reference_answer};
+ghost use Rattle.generational_core.specs.Answers.{release_answer};
 ghost use Rattle.generational_core.specs.Machine.{Action, OwnerName};
-ghost use Rattle.generational_core.specs.Machine.Action.{Make, MakeShared, Refer};
+ghost use Rattle.generational_core.specs.Machine.Action.{MakeShared, Refer};
 ghost use Rattle.generational_core.specs.Machine.Answer.{Flag, Refused as refuses};
 ghost use Rattle.generational_core.specs.State.{State};
 ghost use Rattle.generational_core.specs.StepCalls.{target_of};
@@ -18,7 +18,7 @@ ghost use Rattle.shared_records.specs.Kinds.{step_kind};
 
 use generational_core::{
     BorrowError, BorrowMutError, BorrowMutResult, BorrowResult, GenerationalBoxId,
-    GenerationalPointer, GenerationalRef, GenerationalRefMut, Owner, Refusal, Refused, StoreError,
+    GenerationalPointer, Owner, Refusal, Refused, StoreError,
 };
 use shared_records::StepReply;
 
@@ -69,20 +69,6 @@ pub fn end_refusal<T>(refused: &Refused<BorrowMutError>) -> Option<StepReply>
     }
 }
 
-/// How the answer of a making is recorded.
-pub fn make_reply<T>(made: &Result<GenerationalPointer, Refusal<T>>) -> Option<StepReply>
-    ensures reply { (R : State T) (owner : Option OwnerName) (value : T) (l : Location)
-        → result ≡ recorded_reply R (Make owner value l) (make_answer made.now) }
-    ensures kind { option_map step_kind result ≡ kind_in {T = T} (make_answer made.now) }
-    ensures lent { lent_in result ≡ given_by {T = T} (make_answer made.now) }
-    ensures left { result ≡ None → leaves {T = T} (make_answer made.now) ≡ true }
-{
-    match made {
-        Ok(pointer) => Some(StepReply::Made(*pointer)),
-        Err(refusal) => store_reply::<T>(refusal.cause),
-    }
-}
-
 /// How the answer of a making of a shared value is recorded, whose box names this cell.
 pub fn shared_reply<T>(
     made: &Result<GenerationalPointer, Refusal<T>>,
@@ -127,33 +113,6 @@ pub fn owner_reply<T>(made: &Result<Owner, StoreError>) -> Option<StepReply>
     match made {
         Ok(owner) => Some(StepReply::Owner(owner.id())),
         Err(error) => store_reply::<T>(*error),
-    }
-}
-
-/// How the answer of a read is recorded.
-pub fn read_reply<T>(read: &BorrowResult<GenerationalRef<T>>) -> Option<StepReply>
-    ensures reply { (R : State T) (call : Action T) → result ≡ recorded_reply R call (read_answer read.now) }
-    ensures kind { option_map step_kind result ≡ kind_in {T = T} (read_answer read.now) }
-    ensures lent { lent_in result ≡ given_by {T = T} (read_answer read.now) }
-    ensures left { result ≡ None → leaves {T = T} (read_answer read.now) ≡ true }
-{
-    match read {
-        Ok(guard) => Some(StepReply::Reader(guard.ticket())),
-        Err(refused) => read_refusal::<T>(refused),
-    }
-}
-
-/// How the answer of a write is recorded.
-pub fn write_reply<T>(written: &BorrowMutResult<GenerationalRefMut<T>>) -> Option<StepReply>
-    ensures reply { (R : State T) (call : Action T)
-        → result ≡ recorded_reply R call (write_answer written.now) }
-    ensures kind { option_map step_kind result ≡ kind_in (write_answer written.now) }
-    ensures lent { lent_in result ≡ given_by (write_answer written.now) }
-    ensures left { result ≡ None → leaves (write_answer written.now) ≡ true }
-{
-    match written {
-        Ok(guard) => Some(StepReply::Writer(guard.ticket())),
-        Err(refused) => end_refusal::<T>(refused),
     }
 }
 

@@ -48,6 +48,7 @@ impl<T: Drop, const NUMBER: u64, M: Count, L: Count, C: Count, R: Count> SyncSta
     /// }
     /// state.try_read(asked, place(), tally).ok()
     /// ```
+    #[inline(always)]
     pub fn try_read(
         &mut self,
         asked: GenerationalBox<T>,
@@ -138,6 +139,7 @@ impl<T: Drop, const NUMBER: u64, M: Count, L: Count, C: Count, R: Count> SyncSta
     /// }
     /// let guard = state.try_write(asked, read(), tally);
     /// ```
+    #[inline(always)]
     pub fn try_write(
         &mut self,
         asked: GenerationalBox<T>,
@@ -221,6 +223,7 @@ impl<T: Drop, const NUMBER: u64, M: Count, L: Count, C: Count, R: Count> SyncSta
     /// ```rust
     /// let known = state.release_read(guard, tally);
     /// ```
+    #[inline(always)]
     pub fn release_read(&mut self, guard: GenerationalRef<T>, tally: &mut Tally<M, L, C, R>) -> bool
         ensures step { IsStep NUMBER self.old tally.old (ReleaseReader guard) (Flag result) self.new
             tally.new }
@@ -239,6 +242,7 @@ impl<T: Drop, const NUMBER: u64, M: Count, L: Count, C: Count, R: Count> SyncSta
     /// ```rust
     /// rt.compare(&state.release_write(guard, tally), &Ok(()));
     /// ```
+    #[inline(always)]
     pub fn release_write(
         &mut self,
         guard: GenerationalRefMut<T>,

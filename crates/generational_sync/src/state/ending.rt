@@ -38,6 +38,7 @@ impl<T: Drop, const NUMBER: u64, M: Count, L: Count, C: Count, R: Count> SyncSta
     /// }
     /// state.manually_drop(made, tally).ok()?;
     /// ```
+    #[inline(always)]
     pub fn manually_drop(
         &mut self,
         asked: GenerationalBox<T>,

@@ -36,6 +36,7 @@ impl<T: Drop, const NUMBER: u64, M: Count, L: Count, C: Count, R: Count> SyncSta
     /// ```rust
     /// let made = state.leak(value, place(), tally).ok()?;
     /// ```
+    #[inline(always)]
     pub fn leak(
         &mut self,
         value: T,

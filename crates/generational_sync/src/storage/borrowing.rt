@@ -56,10 +56,26 @@ impl<T: Drop + Send, const NUMBER: u64, M: Count, L: Count, C: Count, R: Count> 
         self.read_later(rt, held, asked, location, tally)
     }
 
-    // Begins the read once the writer that stands in its way is gone.
+    // Begins the read once the writer that stands in its way is gone. It is inlined, so that what is
+    // handed to the other is put into memory here, and not where a read begins at once.
+    #[inline(always)]
+    fn read_later<'a>(
+        &'a self,
+        rt: &impl Wait,
+        held: MutexGuard<'a, Held<SyncState<T, NUMBER, M, L, C, R>>>,
+        asked: GenerationalBox<T>,
+        location: Location,
+        tally: &mut Tally<M, L, C, R>,
+    ) -> BorrowResult<GenerationalRef<T>>
+        ensures step { IsUnseenStep {T = T} NUMBER tally.old (Read (pointer_of asked) location)
+            (read_answer result) tally.new }
+    {
+        self.wait_to_read(rt, held, asked, location, tally)
+    }
+
     #[cold]
     #[inline(never)]
-    fn read_later<'a>(
+    fn wait_to_read<'a>(
         &'a self,
         rt: &impl Wait,
         held: MutexGuard<'a, Held<SyncState<T, NUMBER, M, L, C, R>>>,
@@ -123,10 +139,25 @@ impl<T: Drop + Send, const NUMBER: u64, M: Count, L: Count, C: Count, R: Count> 
         self.write_later(rt, held, asked, location, tally)
     }
 
-    // Begins the write once the borrows that stand in its way are gone.
+    // Begins the write once the borrows that stand in its way are gone, and is inlined as a read is.
+    #[inline(always)]
+    fn write_later<'a>(
+        &'a self,
+        rt: &impl Wait,
+        held: MutexGuard<'a, Held<SyncState<T, NUMBER, M, L, C, R>>>,
+        asked: GenerationalBox<T>,
+        location: Location,
+        tally: &mut Tally<M, L, C, R>,
+    ) -> BorrowMutResult<GenerationalRefMut<T>>
+        ensures step { IsUnseenStep NUMBER tally.old (Write (pointer_of asked) location)
+            (write_answer result) tally.new }
+    {
+        self.wait_to_write(rt, held, asked, location, tally)
+    }
+
     #[cold]
     #[inline(never)]
-    fn write_later<'a>(
+    fn wait_to_write<'a>(
         &'a self,
         rt: &impl Wait,
         held: MutexGuard<'a, Held<SyncState<T, NUMBER, M, L, C, R>>>,

@@ -49,10 +49,25 @@ impl<T: Drop + Send, const NUMBER: u64, M: Count, L: Count, C: Count, R: Count> 
         self.end_later(rt, held, asked, tally)
     }
 
-    // Ends the box's cell once the borrows that stand in its way are gone.
+    // Ends the box's cell once the borrows that stand in its way are gone. It is inlined, so that what
+    // is handed to the other is put into memory here, and not where a cell ends at once.
+    #[inline(always)]
+    fn end_later<'a>(
+        &'a self,
+        rt: &impl Wait,
+        held: MutexGuard<'a, Held<SyncState<T, NUMBER, M, L, C, R>>>,
+        asked: GenerationalBox<T>,
+        tally: &mut Tally<M, L, C, R>,
+    ) -> BorrowMutResult<()>
+        ensures step { IsUnseenStep {T = T} NUMBER tally.old (End (pointer_of asked))
+            (end_answer result) tally.new }
+    {
+        self.wait_to_end(rt, held, asked, tally)
+    }
+
     #[cold]
     #[inline(never)]
-    fn end_later<'a>(
+    fn wait_to_end<'a>(
         &'a self,
         rt: &impl Wait,
         held: MutexGuard<'a, Held<SyncState<T, NUMBER, M, L, C, R>>>,

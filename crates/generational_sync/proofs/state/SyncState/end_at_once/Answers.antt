@@ -17,7 +17,7 @@ settle-requires g c = (
         c.reserve.ensures.base c.reserve.ensures.steps c.reserve.ensures.standing refl
         (granted_ready c.calls_are_ready_where_no_borrow_is_told.ensures.answer
         c.self.inside.store.state c.recycle.new.self.state (End c.pointer-pointer.result) (call.ManuallyDrop c.pointer-pointer.result) (Done) refl
-        c.in-Ok.ensures refl)
+        c.in-Ok.ensures refl refl)
         c.in-Ok.ensures
         refl,
   ),

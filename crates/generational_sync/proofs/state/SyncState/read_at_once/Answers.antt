@@ -18,7 +18,7 @@ settle-requires g c = (
         c.reserve.ensures.base c.reserve.ensures.steps c.reserve.ensures.standing refl
         (granted_ready c.calls_are_ready_where_no_borrow_is_told.ensures.answer
         c.self.inside.store.state c.begin_read.new.store.state (Read c.pointer-pointer.result c.args.location) (call.Read c.pointer-pointer.result c.args.location) (Reads c.in-Ok.guard) refl
-        c.in-Ok.ensures refl)
+        c.in-Ok.ensures refl refl)
         c.in-Ok.ensures
         (ap (λ t. Some (reply.Reader t)) c.ticket.ensures),
   ),

@@ -18,7 +18,7 @@ settle-requires g c = (
         c.reserve.ensures.base c.reserve.ensures.steps c.reserve.ensures.standing refl
         (granted_ready c.calls_are_ready_where_no_borrow_is_told.ensures.answer
         c.self.inside.store.state c.try_write.new.self.state (Write c.pointer-pointer.result c.args.location) (call.Write c.pointer-pointer.result c.args.location) (Writes c.in-Ok.guard.guard c.in-Ok.guard.value) refl
-        c.in-Ok.ensures refl)
+        c.in-Ok.ensures refl refl)
         c.in-Ok.ensures
         (ap (λ t. Some (reply.Writer t)) c.ticket.ensures),
   ),
