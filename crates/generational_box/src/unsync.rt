@@ -28,6 +28,7 @@ use store_cells::entry::{Kind, StorageEntryData};
 use store_parts::names::CellName;
 use store_parts::owners::{OwnerRecord, OwnerRecords};
 use store_parts::pool::{LastFirst, SlotPool};
+use store_rows::{PackedRows, RowRoom};
 use store_slots::found::Found;
 use store_slots::refusals::{dropped, dropped_mut};
 use store_slots::slots::Slots;
@@ -148,7 +149,8 @@ impl<T, P: SlotPool> Store<T, P> {
 }
 
 impl<T: Drop, P: SlotPool> Store<T, P> {
-    ghost use Rattle.std.specs.Prelude.{◌≡◌, IfErr};
+    ghost use Rattle.std.specs.Prelude.{◌≡◌, IfErr, IfOk};
+    ghost use Rattle.generational_core.specs.Rows.{ReadBack, rows_of};
     ghost use Rattle.generational_errors.specs.declared.error.StoreError.TheVariants.{OutOfMemory};
 
     /// Makes room for this many cells more, where there isn't, and for no more than these. After it so
@@ -169,6 +171,27 @@ impl<T: Drop, P: SlotPool> Store<T, P> {
         ensures cause { IfErr result (λ error. error ≡ OutOfMemory) }
     {
         self.slots.reserve(more)
+    }
+
+    /// The rows of the store, packed: those that `rows` gives, in the same order. What the shared
+    /// store's checkpoint asks, which hands in room, so that no memory is touched for the first time.
+    ///
+    /// Refused by `OutOfMemory` alone. It changes nothing, and takes time for each slot, each borrow,
+    /// each record of an owner and each box of its list; and memory for each of these for which there
+    /// is no room, and for each record of an owner.
+    pub fn pack_rows(&self, room: RowRoom) -> Result<PackedRows, StoreError>
+        ensures rows { IfOk result (λ rows. rows ≡ rows_of self.now.state) }
+        ensures back { IfOk result (λ rows. ReadBack self.now.state rows) }
+        ensures cause { IfErr result (λ error. error ≡ OutOfMemory) }
+    {
+        let RowRoom {
+            mut slots,
+            mut whole,
+            mut owners,
+        } = room;
+        self.slots.pack_rows(self.number, &mut slots, &mut whole)?;
+        self.owners.push_rows(self.alloc, self.number, &mut owners)?;
+        Ok(PackedRows::of(self.number, slots, whole, owners))
     }
 }
 

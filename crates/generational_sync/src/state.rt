@@ -1,6 +1,7 @@
 //! What lies under the lock.
 
-ghost use Rattle.std.specs.Prelude.{◌≡◌, ◌<◌, [], IfOk, IfErr, OnErr, option_copied};
+ghost use Rattle.std.specs.Prelude.{◌≡◌, ◌<◌, ◌+◌, ◌^◌, [], IfOk, IfErr, OnErr, OnOk, length};
+ghost use Rattle.std.specs.Prelude.{option_copied};
 ghost use Rattle.std.specs.Bool.{OnFalse, OnTrue};
 ghost use Rattle.generational_errors.specs.declared.error.StoreError.TheVariants.{OutOfMemory};
 ghost use Rattle.generational_core.specs.declared.steps.StepCall.TheVariants as call;
@@ -8,7 +9,7 @@ ghost use Rattle.generational_core.specs.Conditions.{fresh};
 ghost use Rattle.generational_core.specs.Answers.{value_behind};
 ghost use Rattle.generational_core.specs.StepCalls.{id_of_owner, is_ready};
 ghost use Rattle.shared_history.specs.Counts.{new_tallies};
-ghost use Rattle.shared_history.specs.Bases.{IsCounted, new_base};
+ghost use Rattle.shared_history.specs.Bases.{IsCounted, all_trimmed, new_base};
 ghost use Rattle.generational_sync.specs.Keeping.{HasEnded, IsSettled, WasAnswered, WasRefused};
 ghost use Rattle.generational_sync.specs.Shared.{IsBlank, IsCheckpoint, MayRefuseCheckpoint};
 ghost use Rattle.generational_sync.specs.Shared.{Replays};
@@ -25,12 +26,14 @@ use generational_box::laws::{calls_are_ready_where_no_borrow_is_told, steps_keep
 use generational_box::{
     AnyStorage, GenerationalRef, Owner, StepCall, Storage, StoreError, UnsyncStorage,
 };
+use shared_history::kept::KeptBase;
 use shared_history::log::{Log, Outdated};
 use shared_history::{Base, Count, Tally, tallies};
 use shared_records::{Step, StepReply};
 use std::alloc::Global;
 use std::marker::Model;
 use std::sync::ledger::Blank;
+use store_rows::{RowCounts, RowRoom};
 
 /// A store with the history of its steps. Contracts see it as the machine's state, a base and that
 /// list.
@@ -193,8 +196,8 @@ impl<T: Drop, const NUMBER: u64, M: Count, L: Count, C: Count, R: Count> SyncSta
     ///
     /// Refused, in this order: `NumbersExhausted`, where the steps that were trimmed and those of
     /// the history together would be more than fit into 64 bits; `OutOfMemory`. A refusal changes
-    /// nothing. It takes time and memory for each slot, borrow and owner's box that there is, and
-    /// the rows of the old base are kept until the new ones are made.
+    /// nothing. It takes time and memory for each slot, borrow and owner's box that there is. The rows
+    /// of the old base are kept until the new ones are made, and their room is kept for the next ones.
     ///
     /// ```rust
     /// rt.compare(&state.checkpoint(), &Ok(2));
@@ -204,14 +207,39 @@ impl<T: Drop, const NUMBER: u64, M: Count, L: Count, C: Count, R: Count> SyncSta
         ensures err { OnErr result (self.new ≡ self.old) }
         ensures refusal { IfErr result (λ e. MayRefuseCheckpoint self.old e) }
     {
-        match self.trim() {
+        let room = match self.take_room()?.touch() {
+            Ok(room) => room,
+            Err(error) => return Err(error),
+        };
+        match self.trim(room) {
             Ok((trimmed, _)) => Ok(trimmed),
             Err(error) => Err(error),
         }
     }
 
-    // Makes a checkpoint, and answers what is kept no more too, so that it can be let go later.
-    pub(crate) fn trim(&mut self) -> Result<(u64, Outdated), StoreError>
+    // What a checkpoint would need, so that it can be got while the lock is open. Refused where no
+    // more steps can be counted as trimmed.
+    pub(crate) fn take_room(&mut self) -> Result<WantedRoom, StoreError>
+        ensures same { self.new ≡ self.old }
+        ensures ok { OnOk result
+            (all_trimmed self.old.base + length self.old.history < 2 ^ 64) }
+        ensures refusal { IfErr result (λ e. MayRefuseCheckpoint self.old e) }
+    {
+        if self.log.trimmed_steps().is_none() {
+            return Err(StoreError::NumbersExhausted);
+        }
+        let (room, mut counts) = self.log.take_room();
+        counts.slots = self.store.slots();
+        Ok(WantedRoom {
+            alloc: self.log.alloc(),
+            room,
+            counts,
+        })
+    }
+
+    // Makes a checkpoint, and answers what is kept no more too, so that it can be let go later. The
+    // room is for the rows.
+    pub(crate) fn trim(&mut self, room: RowRoom) -> Result<(u64, Outdated), StoreError>
         ensures ok { IfOk result (λ r. IsCheckpoint self.old self.new r.0) }
         ensures err { OnErr result (self.new ≡ self.old) }
         ensures refusal { IfErr result (λ e. MayRefuseCheckpoint self.old e) }
@@ -220,12 +248,12 @@ impl<T: Drop, const NUMBER: u64, M: Count, L: Count, C: Count, R: Count> SyncSta
         let Some(steps) = self.log.trimmed_steps() else {
             return Err(StoreError::NumbersExhausted);
         };
-        let rows = match self.store.rows() {
+        let rows = match self.store.pack_rows(room) {
             Ok(rows) => rows,
             Err(error) => return Err(error),
         };
         let next = u64::MAX - self.store.tickets_left();
-        let base = Base::of(NUMBER, next, self.store.peak_live(), steps, rows);
+        let base = KeptBase::of(NUMBER, next, self.store.peak_live(), steps, rows);
         let trimmed = base.trimmed();
         let outdated = self.log.rebase(base)?;
         Ok((trimmed, outdated))
@@ -251,6 +279,26 @@ impl<T: Drop, const NUMBER: u64, M: Count, L: Count, C: Count, R: Count> SyncSta
     {
         match self.log.audit(whole) {
             Ok(copies) => Ok(copies),
+            Err(_) => Err(StoreError::OutOfMemory),
+        }
+    }
+}
+
+/// Room for the rows of a checkpoint, and for how many there should be.
+#[derive(Drop)]
+pub(crate) struct WantedRoom {
+    alloc: Global,
+    room: RowRoom,
+    counts: RowCounts,
+}
+
+impl WantedRoom {
+    // The room, made where there isn't, and touched.
+    pub(crate) fn touch(self) -> Result<RowRoom, StoreError>
+        ensures { IfErr result (λ e. e ≡ OutOfMemory) }
+    {
+        match self.room.touch(self.alloc, self.counts) {
+            Ok(room) => Ok(room),
             Err(_) => Err(StoreError::OutOfMemory),
         }
     }

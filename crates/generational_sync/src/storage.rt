@@ -222,8 +222,9 @@ impl<T: Drop + Send, const NUMBER: u64, M: Count, L: Count, C: Count, R: Count> 
 
     /// Makes the store's state, without values, the base from which its history goes on, and empties
     /// the history. The answer is how many steps were ever trimmed. It isn't a step, and raises no
-    /// count. The new rows are made first, and what they take the place of is let go once the lock
-    /// is open.
+    /// count. Room for the rows is made before, while other calls go on, for an eighth more slots than
+    /// there are then; it is the room of the base before the last, where that is enough. The steps are
+    /// let go once the lock is open.
     ///
     /// Refused, in this order: `NumbersExhausted`, where the steps that were trimmed and those of
     /// the history together would be more than fit into 64 bits; `OutOfMemory`. A refusal changes
@@ -243,7 +244,11 @@ impl<T: Drop + Send, const NUMBER: u64, M: Count, L: Count, C: Count, R: Count> 
     {
         let _ = tally;
         let mut held = self.shared.held.lock(rt);
-        let trimming = held.state.trim();
+        let wanted = held.state.take_room();
+        drop(held);
+        let room = wanted?.touch()?;
+        let mut held = self.shared.held.lock(rt);
+        let trimming = held.state.trim(room);
         drop(held);
         let (trimmed, outdated) = trimming?;
         drop(outdated);

@@ -3,6 +3,7 @@
 #![tactic(auto)]
 
 mod base;
+pub mod kept;
 pub mod log;
 pub mod replies;
 mod tally;

@@ -12,6 +12,7 @@ ghost use Rattle.shared_history.specs.Replies.{Records, tallied};
 ghost use Rattle.shared_history.specs.Standing.{lent_in};
 
 use crate::base::{Base, TrimmedSteps};
+use crate::kept::KeptBase;
 use crate::tally::{Count, Tally};
 use generational_core::StepCall;
 use shared_records::{Kind, OldSteps, Step, StepList, StepReply};
@@ -19,6 +20,7 @@ use std::alloc::{AllocError, Global};
 use std::marker::Model;
 use std::mem;
 use std::sync::ledger::Book;
+use store_rows::{RowCounts, RowRoom};
 
 /// A base and the steps from there in order, room for a release of each borrow that stands, and for
 /// each kind how many steps there are and a book. Contracts see the base, the steps and the room.
@@ -33,7 +35,9 @@ pub struct Log<const NUMBER: u64, M: Count, L: Count, C: Count, R: Count> {
     changed_steps: u64,
     refused_steps: u64,
     history: StepList<NUMBER>,
-    base: Base,
+    base: KeptBase,
+    // room for the rows of the next base
+    room: RowRoom,
     alloc: Global,
     made: Book<M>,
     lent: Book<L>,
@@ -87,7 +91,8 @@ impl<const NUMBER: u64, M: Count, L: Count, C: Count, R: Count> Log<NUMBER, M, L
     {
         Log {
             alloc,
-            base: Base::new(alloc, NUMBER),
+            base: KeptBase::new(alloc, NUMBER),
+            room: RowRoom::new(alloc),
             history: StepList::new(alloc),
             standing: 0,
             made_steps: 0,
@@ -248,10 +253,24 @@ impl<const NUMBER: u64, M: Count, L: Count, C: Count, R: Count> Log<NUMBER, M, L
         })
     }
 
+    // Where the log takes its memory.
+    pub fn alloc(&self) -> Global {
+        self.alloc
+    }
+
+    // The room for the rows of the next base, which is that of the last one but one; and how many rows
+    // the base has. None is left.
+    pub fn take_room(&mut self) -> (RowRoom, RowCounts)
+        ensures { self.new ≡ self.old }
+    {
+        let room = mem::replace(&mut self.room, RowRoom::new(self.alloc));
+        (room, self.base.row_counts())
+    }
+
     // Lets the history begin anew at a base that counts all steps so far as trimmed. What is kept no
     // more is answered, so that who holds a lock can let it go when it is open. Want of memory
     // changes nothing, and the room stays.
-    pub fn rebase(&mut self, base: Base) -> Result<Outdated, AllocError>
+    pub fn rebase(&mut self, base: KeptBase) -> Result<Outdated, AllocError>
         requires { Trims self.old.base self.old.steps base }
         ensures base { OnOk result (self.new.base ≡ base) }
         ensures steps { OnOk result (self.new.steps ≡ []) }
@@ -260,12 +279,13 @@ impl<const NUMBER: u64, M: Count, L: Count, C: Count, R: Count> Log<NUMBER, M, L
         ensures err { OnErr result (self.new ≡ self.old) }
     {
         let steps = self.history.empty(base.next())?;
-        let base = mem::replace(&mut self.base, base);
+        let before = mem::replace(&mut self.base, base);
+        let room = mem::replace(&mut self.room, before.into_room());
         self.made_steps = 0;
         self.lent_steps = 0;
         self.changed_steps = 0;
         self.refused_steps = 0;
-        Ok(Outdated { steps, base })
+        Ok(Outdated { steps, room })
     }
 
     // A copy of the base and of the steps, which a whole tally has counted by their kinds.
@@ -294,14 +314,14 @@ impl<const NUMBER: u64, M: Count, L: Count, C: Count, R: Count> Log<NUMBER, M, L
         ensures steps { IfOk result (λ r. r.1.items ≡ self.now.steps) }
     {
         let steps = self.history.to_vec()?;
-        let base = self.base.copy(self.alloc)?;
+        let base = self.base.unpacked(self.alloc)?;
         Ok((base, steps))
     }
 }
 
-/// A base and steps that are kept no more.
+/// Steps and room that are kept no more.
 #[derive(Drop)]
 pub struct Outdated {
     steps: OldSteps,
-    base: Base,
+    room: RowRoom,
 }

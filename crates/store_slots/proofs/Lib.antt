@@ -11,6 +11,7 @@ unfoldable pub use states.Pointing.*
 unfoldable pub use states.Reaching.*
 unfoldable pub use states.Readiness.*
 unfoldable pub use states.References.*
+unfoldable pub use states.Packing.*
 unfoldable pub use states.Rows.*
 unfoldable pub use states.States.*
 unfoldable pub use states.Turning.*

@@ -8,6 +8,7 @@ pub mod Pointing
 pub mod Reaching
 pub mod Readiness
 pub mod References
+pub mod Packing
 pub mod Rows
 pub mod States
 pub mod Turning

@@ -1,3 +1,4 @@
+pub mod Packing
 pub mod Removal
 pub mod SlotRows
 pub mod SlotsState

@@ -8,6 +8,7 @@
 pub mod blocking_borrow;
 pub mod counts;
 pub mod found;
+mod packing;
 mod references;
 pub mod refusals;
 mod rows;

@@ -28,8 +28,8 @@ pub fn push_slots<T: Drop>(
     Ok(())
 }
 
-// Appends the rows of a slot: its own, and those of its live cell.
-fn push_slot<T: Drop>(
+/// Appends the rows of a slot: its own, and those of its live cell.
+pub fn push_slot<T: Drop>(
     entries: &Entries<T>,
     number: u64,
     slot: usize,

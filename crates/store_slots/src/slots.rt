@@ -42,6 +42,7 @@ ghost use Rattle.store_slots.specs.SlotsState.{refusal_to_write_at};
 ghost use Rattle.store_slots.specs.SlotsState.{would_end, Finds, HasEnded, IsMade, IsReadable, IsWritable};
 ghost use Rattle.store_slots.specs.SlotsState.{IsTurned};
 ghost use Rattle.store_slots.specs.Removal.{live_target};
+ghost use Rattle.store_rows.specs.Packed.{AreWithin, unpack_all};
 ghost use Rattle.store_slots.specs.SlotRows.{all_slot_rows, ReadSlots};
 ghost use Rattle.store_slots.specs.SlotsState.{with_records};
 
@@ -50,6 +51,7 @@ use crate::blocking_borrow::{
 };
 use crate::counts::{Counts, SlotCounts};
 use crate::found::{Found, look};
+use crate::packing::pack_slots;
 use crate::references::{forget, is_boxed, refer};
 use crate::refusals::{dropped, dropped_mut};
 use crate::rows::push_slots;
@@ -63,6 +65,7 @@ use store_cells::entries::Entries;
 use store_cells::entry::{Kind, StorageEntryData};
 use store_parts::names::CellName;
 use store_parts::pool::{SlotPool, grow_within};
+use store_rows::PackedSlot;
 
 /// The slots of a store. Contracts see the state of the abstract machine for which they stand,
 /// without a number, owners and tickets, and how many cells more take no memory. `P` chooses which
@@ -153,6 +156,23 @@ impl<T: Drop, P: SlotPool> Slots<T, P> {
         ensures back { ReadSlots number self.now.state }
     {
         push_slots(&self.entries, number, rows)
+    }
+
+    /// Packs the rows of the slots, ascending, with ids of the store with this number, into an empty
+    /// list and behind whole rows.
+    pub fn pack_rows(
+        &self,
+        number: u64,
+        slots: &mut Vec<PackedSlot>,
+        whole: &mut Vec<BaseRow>,
+    ) -> Result<(), AllocError>
+        requires { slots.old.items ≡ [] }
+        ensures within { OnOk result (AreWithin (length whole.new.items) slots.new.items) }
+        ensures rows { OnOk result (unpack_all number whole.new.items 0 slots.new.items
+            ≡ all_slot_rows number self.now.state) }
+        ensures back { ReadSlots number self.now.state }
+    {
+        pack_slots(&self.entries, number, slots, whole)
     }
 
     /// Where a cell was made.

@@ -532,11 +532,14 @@ impl<W: Worker> Recorder<W> {
         rt.stop("no call waits")
     }
 
-    /// Lets the history go, which had so many steps in all, and the steps of this worker with it.
+    /// Lets the history go, which had so many steps in all, and the steps of this worker with it. A
+    /// refusal leaves all of them, and the base.
     pub(crate) fn trim(&mut self, rt: &(impl Wait + Judge), trimmed: u64) {
         let answer = match self.worker.checkpoint(rt) {
             Err(cause) => {
                 self.lacks(rt, cause);
+                let (_, steps) = self.history(rt);
+                rt.compare(&steps.len(), &self.steps.len());
                 self.worker.checkpoint(rt)
             }
             trimmed => trimmed,

@@ -147,7 +147,8 @@ pub(crate) fn value_is_made_beside<W: Worker>(
     one.finish(rt, &[[3, 2, 3, 0]])
 }
 
-/// A base has what stands, a reader or a writer too, and nothing else.
+/// A base has what stands, a reader or a writer too, and nothing else; and nothing of the base before
+/// the last, in whose memory it is.
 pub(crate) fn bases_have_borrows<W: Worker>(rt: &(impl Wait + Judge), mut one: Recorder<W>) -> u64 {
     one.assert_base(rt, (0, 0), &[], [0, 0, 0, 0]);
     let kept = one.leak(rt, "x", made());
@@ -164,7 +165,10 @@ pub(crate) fn bases_have_borrows<W: Worker>(rt: &(impl Wait + Judge), mut one: R
     let writer = BaseRow::Writer(id, 1, read_later());
     one.assert_base(rt, (2, 1), &[slot, value, writer], [1, 2, 1, 0]);
     one.release_over(rt, guard, "x", "y");
-    one.finish(rt, &[[0, 0, 1, 0]])
+    one.trim(rt, 5);
+    one.assert_base(rt, (2, 1), &[slot, value], [1, 2, 2, 0]);
+    one.reads(rt, kept, read_later(), "y");
+    one.finish(rt, &[[0, 1, 1, 0]])
 }
 
 /// A history is let go while a reader stands. The guard opens the value still, and the history has

@@ -18,7 +18,7 @@ use Rattle.std.specs.FinSet as set
 module _ {A : Type 0} where
   -- ---- one slot after the other
 
-  rows_more : (number i k : ℕ) (es : List (Entry A)) (e : Entry A) → slice_get es k ≡ Some e
+  pub rows_more : (number i k : ℕ) (es : List (Entry A)) (e : Entry A) → slice_get es k ≡ Some e
       → rows_from number i (take (suc k) es)
       ≡ rows_from number i (take k es) ++ entry_rows number (i + k) e
   rows_more number i k [] e there = cc

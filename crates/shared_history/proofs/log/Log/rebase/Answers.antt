@@ -17,7 +17,7 @@ invariant_of-self-2 g c =
     let steps = ap (λ (l : LogState). l.steps) c.self.view_is in
     let base = ap (λ (l : LogState). l.base) c.self.view_is in
     let books = c.self.invariant in
-    let after = c.replace-base.ensures.after in (
+    let after = c.replace-before.ensures.after in (
       nothing_counted Made c.empty.new.self.steps none,
       nothing_counted Lent c.empty.new.self.steps none,
       nothing_counted Changed c.empty.new.self.steps none,
