@@ -31,6 +31,9 @@ pub enum Form {
 
 /// How a step is kept in 16 bytes, or in twice as many; None where it has no form or a number
 /// doesn't fit.
+///
+/// The forms of the calls that are made most are inlined, and no others: a function that would grow
+/// very large isn't inlined at all.
 #[inline(always)]
 pub fn shorten(taken: Taken, places: &mut Places, call: StepCall, reply: StepReply) -> Option<Form>
     ensures extends { Extends places.old places.new }
@@ -123,7 +126,7 @@ fn leak(taken: Taken, places: &mut Places, at: Location, made: GenerationalPoint
     Some(Form::One(short))
 }
 
-#[inline(always)]
+#[inline(never)]
 fn insert(
     taken: Taken,
     places: &mut Places,
@@ -228,7 +231,7 @@ fn write(
     Some(Form::One(short))
 }
 
-#[inline(always)]
+#[inline(never)]
 fn set(taken: Taken, places: &mut Places, asked: GenerationalPointer) -> Option<Form>
     ensures extends { Extends places.old places.new }
     ensures form { IfSome result (IsForm taken.number places.new taken.reached
@@ -290,7 +293,7 @@ fn two(taken: Taken, first: GenerationalBoxId, short: Short) -> Option<Form>
     Some(Form::Two(first.slot as u32, first.generation as u32, short))
 }
 
-#[inline(always)]
+#[inline(never)]
 fn leak_rc(
     taken: Taken,
     places: &mut Places,
@@ -315,7 +318,7 @@ fn leak_rc(
     two(taken, cell, short)
 }
 
-#[inline(always)]
+#[inline(never)]
 fn insert_rc(
     taken: Taken,
     places: &mut Places,
@@ -343,7 +346,7 @@ fn insert_rc(
     two(taken, cell, short)
 }
 
-#[inline(always)]
+#[inline(never)]
 fn leak_reference(
     taken: Taken,
     places: &mut Places,
@@ -368,7 +371,7 @@ fn leak_reference(
     two(taken, asked.id, short)
 }
 
-#[inline(always)]
+#[inline(never)]
 fn point_to(
     taken: Taken,
     places: &mut Places,
