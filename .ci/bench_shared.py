@@ -13,8 +13,9 @@ each worker makes a checkpoint after every 100,000 steps of its own. Bytes a ste
 its most, less what it has with no round at all, over the steps: those of `unaudited` are the history's, and
 those of `shared` have the list that the audit answers as well.
 
-For each number of live values there is told by the wall how long a first checkpoint stops the others, and a second
-one, whose first was at half as many.
+For each number of live values there is told by the wall how long a first checkpoint stops the others, and a fourth:
+the longest time that another worker's read took meanwhile. Whatever else stops that worker counts as well, so it
+tells something on a quiet machine alone.
 
 The first line and the last tell the load, and how many processors others than these runs kept busy meanwhile.
 """
@@ -60,12 +61,11 @@ def measure(program, store, calls, workers, wanted):
     return (wall - base_wall) / made * 1e9, (used - base_used) / made * 1e9, bytes_a_step
 
 
-def stop(program, live, between):
-    """Milliseconds by the wall of the checkpoint at so many live values, of a worker that is alone."""
-    words = [program, "unaudited", "keeps", 1]
-    before, *_ = run([*words, live, between])
-    after, *_ = run([*words, live + 1, between])
-    return (after - before) * 1000
+def stop(program, live, first):
+    """Milliseconds of the longest read beside a checkpoint at so many live values, which comes after so many others."""
+    words = [program, "unaudited", "stops", "2", str(live), str(first)]
+    line = subprocess.run(words, capture_output=True, text=True, check=True).stdout.splitlines()[0]
+    return int(line.split()[-2]) / 1000
 
 
 class Busy:
@@ -113,7 +113,7 @@ def main():
                     found = measure(path, store, calls, workers, chosen.calls)
                     seen.setdefault((calls, workers, name), []).append(found)
         for live in chosen.live:
-            found = stop(chosen.program, live, live), stop(chosen.program, live, live // 2)
+            found = stop(chosen.program, live, 0), stop(chosen.program, live, 3)
             stops.setdefault(live, []).append(found)
     for (calls, workers, name), found in seen.items():
         wall, used, most = (statistics.median(it) for it in zip(*found))
@@ -122,8 +122,8 @@ def main():
         print(f"{calls:8} {workers} workers {name:10} {wall:7.1f} ns a call by the wall, {ratio:5.2f} of the floor, "
               f"{used:7.1f} of processor time, {most:6.1f} bytes a step")
     for live, found in stops.items():
-        first, second = (statistics.median(it) for it in zip(*found))
-        print(f"a checkpoint at {live} live values: the first {first:.1f} ms, a second {second:.1f}")
+        first, later = (statistics.median(it) for it in zip(*found))
+        print(f"a checkpoint at {live} live values: the first {first:.1f} ms, a fourth {later:.1f}")
     print(f"meanwhile: {busy.told()}")
 
 

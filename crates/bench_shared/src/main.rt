@@ -16,6 +16,7 @@
 //! | `together` | the same, under one lock |
 //! | `writes` | an owner's boxes are made, written and pointed elsewhere, and end with the owner: 12 calls |
 //! | `keeps`  | a box is made, and stays: 1 call                                       |
+//! | `stops`  | the last worker makes that many boxes, BETWEEN checkpoints and one more, and the others read beside that one |
 //! | a number | calls drawn from it, over boxes that workers of a shared store hand each other: a few a round |
 //!
 //! Of drawn calls the audits are printed, a base and each step a line (`.ci/replay.py` replays them).
@@ -30,21 +31,25 @@ mod history;
 mod locked;
 mod plain;
 mod rounds;
+mod stopping;
 
-use crate::calls::place;
+use crate::calls::{Calls, place};
 use crate::history::{Course, print_history};
 use crate::locked::Worker;
 use crate::plain::Plain;
 use crate::rounds::{List, run};
+use crate::stopping::Part;
 use generational_box::{Storage, UnsyncStorage};
 use generational_sync::{Count, SyncStorage, Tally};
 use std::alloc::Global;
 use std::marker::Brand;
 use std::process::ExitCode;
 use std::rt::Env;
+use std::sync::atomic::AtomicBool;
 use std::sync::ledger::Blank;
 use std::sync::{Arc, Mutex, Wait};
 use std::thread::Threads;
+use std::time::{Clock, Duration};
 use std::{env, thread};
 
 /// What a run did.
@@ -116,6 +121,7 @@ impl Words {
             "together" => List::Together,
             "writes" => List::Writes,
             "keeps" => List::Keeps,
+            "stops" => List::Stops,
             word => List::Drawn(word.parse::<u64>().ok()?),
         };
         let workers = words.next()?.parse::<usize>().ok()?;
@@ -143,7 +149,7 @@ fn shared<
     B: Count + Send + Sync,
     C: Count + Send + Sync,
     D: Count + Send + Sync,
-    H: Threads + Wait + Print + Sync,
+    H: Threads + Wait + Clock + Print + Sync,
 >(
     rt: &H,
     alloc: Global,
@@ -186,6 +192,9 @@ fn shared<
         };
         return print_history(rt, alloc, workers, course);
     }
+    if list == List::Stops {
+        return stops(rt, alloc, workers, rounds, between);
+    }
     let parts = thread::map_vec(
         rt,
         workers,
@@ -207,6 +216,53 @@ fn shared<
         _ => 0,
     };
     Some(Done { calls, steps })
+}
+
+// Lets the last worker make so many boxes, and `first` checkpoints; and then one more, while the others
+// read. The longest read is answered, in microseconds.
+fn stops<W: Calls + Drop + Send, H: Threads + Wait + Clock + Print + Sync>(
+    rt: &H,
+    alloc: Global,
+    mut workers: Vec<W>,
+    live: u64,
+    first: u64,
+) -> Option<Done> {
+    let mut last = workers.pop()?;
+    run(&mut last, rt, List::Keeps, live, 0)?;
+    for _ in 0..first {
+        if !last.checkpoint(rt) {
+            return None;
+        }
+    }
+    let done = Arc::new(alloc, AtomicBool::new(false)).ok()?;
+    let mut parts = Vec::new(alloc);
+    for worker in workers {
+        let done = Arc::try_clone(&done).ok()?;
+        parts
+            .push(Part {
+                worker,
+                trims: false,
+                done,
+            })
+            .ok()?;
+    }
+    parts
+        .push(Part {
+            worker: last,
+            trims: true,
+            done,
+        })
+        .ok()?;
+    let longest = thread::map_vec(rt, parts, &|mut part: Part<W>| part.run(rt, 1)).ok()?;
+    let mut most = Duration::ZERO;
+    for one in longest {
+        most = most.max(one?);
+    }
+    println!(rt; "the longest read took {} microseconds", most.as_micros()).ok()?;
+    Some(Done {
+        calls: live,
+        steps: 0,
+    })
 }
 
 // All tallies in one, and how many calls were made.

@@ -28,7 +28,7 @@ pub(crate) fn run<S: Calls>(
             List::Together => store.reads_together(rt, value)?,
             List::Writes => writing_round(store, rt, value)?,
             List::Keeps => keeping_round(store, rt, value)?,
-            List::Drawn(_) => return None,
+            List::Stops | List::Drawn(_) => return None,
         };
         calls = calls.wrapping_add(made);
     }
@@ -36,7 +36,7 @@ pub(crate) fn run<S: Calls>(
 }
 
 /// Which calls a round makes.
-#[derive(Clone, Copy)]
+#[derive(Clone, Copy, PartialEq)]
 pub(crate) enum List {
     /// A box is made, read twice and ended, and read once more.
     Reads,
@@ -46,6 +46,8 @@ pub(crate) enum List {
     Writes,
     /// A box is made, and stays.
     Keeps,
+    /// Boxes are made, and stay; then others read while a checkpoint is made.
+    Stops,
     /// Calls that are drawn from a number, which only a shared store has.
     Drawn(u64),
 }
