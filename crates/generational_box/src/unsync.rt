@@ -492,6 +492,9 @@ impl<T: Drop, P: SlotPool> Storage<T> for Store<T, P> {
         let Some(name) = self.own(pointer.id) else {
             return Err(Refused::Borrow(dropped(pointer.created_at)));
         };
+        if self.next == u64::MAX {
+            return Err(self.refusal_to_read(pointer));
+        }
         match self.slots.readable(name, pointer.created_at) {
             Ok((name, is_unborrowed)) => self.begin_read(pointer, name, location, is_unborrowed),
             Err(error) => Err(Refused::Borrow(error)),
@@ -573,10 +576,10 @@ impl<T: Drop, P: SlotPool> Storage<T> for Store<T, P> {
 
 // What the calls ask and do.
 impl<T: Drop, P: SlotPool> Store<T, P> {
-    ghost use Rattle.std.specs.Prelude.{◌≡◌, true, None, Some, option_copied};
+    ghost use Rattle.std.specs.Prelude.{◌≡◌, ◌<◌, true, None, Some, option_copied};
     ghost use Rattle.std.specs.Prelude.{if◌then◌else◌, nat_eq, not, option_map};
     ghost use Rattle.std.specs.List.{IsDistinct};
-    ghost use Rattle.generational_core.specs.Answers.{read_answer, write_answer};
+    ghost use Rattle.generational_core.specs.Answers.{read_answer, read_refused, write_answer};
     ghost use Rattle.generational_core.specs.Boxes.{name_in};
     ghost use Rattle.generational_core.specs.Borrowing.{reach, read_refusal, write_refusal};
     ghost use Rattle.generational_core.specs.Borrowing.{refusal_to_read, refusal_to_write};
@@ -588,7 +591,7 @@ impl<T: Drop, P: SlotPool> Store<T, P> {
     ghost use Rattle.generational_core.specs.Names.{is_name};
     ghost use Rattle.generational_core.specs.StepCalls.{meets_no_borrow, may_set, tells_of_borrow};
     ghost use Rattle.generational_core.specs.State.{content_at};
-    ghost use Rattle.generational_core.specs.Steps.{Meets};
+    ghost use Rattle.generational_core.specs.Steps.{Meets, last_ticket};
     ghost use Rattle.store_parts.specs.CellNames.{name_of_cell};
 
     // The name in an id, exactly where the id is of this store.
@@ -693,6 +696,24 @@ impl<T: Drop, P: SlotPool> Store<T, P> {
         self.owners.permits(self.number, owner)
     }
 
+    // Why a read is refused where no ticket is left.
+    #[cold]
+    #[inline(never)]
+    fn refusal_to_read(&self, pointer: GenerationalPointer) -> Refused<BorrowError>
+        requires { self.now.state.next ≡ last_ticket }
+        ensures { (location : Location) → Meets self.now.state (Read pointer location)
+            (read_refused result) self.now.state }
+    {
+        let Some(name) = self.own(pointer.id) else {
+            return Refused::Borrow(dropped(pointer.created_at));
+        };
+        let found = self.slots.readable(name, pointer.created_at);
+        match found {
+            Ok(_) => Refused::Store(StoreError::NumbersExhausted),
+            Err(error) => Refused::Borrow(error),
+        }
+    }
+
     // Begins a read of the value that the box reaches, and no writer has.
     #[inline(always)]
     fn begin_read(
@@ -703,15 +724,13 @@ impl<T: Drop, P: SlotPool> Store<T, P> {
         is_unborrowed: bool,
     ) -> BorrowResult<GenerationalRef<T>>
         requires to { reach self.old.state pointer ≡ Some (name_of_cell name) }
+        requires left { self.old.state.next < last_ticket }
         requires free { read_refusal (content_at self.old.state (name_of_cell name)) ≡ None }
         requires alone { is_unborrowed ≡ true
             → write_refusal (content_at self.old.state (name_of_cell name)) ≡ None }
         ensures { Meets self.old.state (Read pointer location) (read_answer result) self.new.state }
     {
         let ticket = self.next;
-        if ticket == u64::MAX {
-            return Err(Refused::Store(StoreError::NumbersExhausted));
-        }
         let borrow = Borrow { ticket, location };
         match self.slots.begin_read(name, borrow, is_unborrowed) {
             Ok(()) => {

@@ -28,3 +28,8 @@ returns-in-Err g c =
     subst (Meets c.args.self.now.state (Read c.args.pointer c.args.location) _) (sym view)
     (read_hindered c.args.pointer c.args.location _
     (read_own c.list_noted.new.self.state view c.args.pointer own.name own.store ∙ c.in-Err.ensures))
+
+pub returns-then-self : goal.returns-then-self
+returns-then-self g c =
+    let view = rw (← c.list_noted.ensures) at (state_is c.self.view_is) in
+    rw (← view) (c.refusal_to_read.ensures c.args.location)
