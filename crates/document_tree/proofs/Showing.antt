@@ -1,7 +1,7 @@
 -- What places show after each call of their document.
 use Rattle.std.specs.Borrow.{MutBor}
 use Rattle.std.specs.FinMap as map
-use Rattle.std.specs.Fn.{FnOnceReturnsAtMut, Once}
+use Rattle.std.specs.Fn.{Once}
 use Rattle.std.proofs.Common.{ℕ, ◌≡◌, ◌≢◌, true, Option, None, Some, refl, sym, ap, subst}
 use Rattle.std.proofs.Common.{◌∙◌, ⊎_elim}
 use Rattle.std.proofs.lemmas.Bool.{true≢false}
@@ -10,7 +10,7 @@ use Rattle.std.specs.Prelude.{List, filter, is_some}
 use Rattle.generational_core.specs.Borrowing.{BorrowRefusal, reach, refusal_to_read}
 use Rattle.generational_core.specs.Boxes.{name_of}
 use Rattle.generational_core.specs.Conditions.{fresh}
-use Rattle.generational_core.specs.Leaving.{IsUnchanged, LeavesContent}
+use Rattle.generational_core.specs.Leaving.{HasNoBorrows, IsUnchanged, LeavesContent}
 use Rattle.generational_core.specs.Cells.{Cell, location_of}
 use Rattle.generational_core.specs.Cells.Cell.{Shared}
 use Rattle.generational_core.specs.Machine.{Action, Answer, Outcome, cell_at, refer, unless}
@@ -23,15 +23,17 @@ use Rattle.generational_core.specs.Steps.{Meets}
 use Rattle.generational_core.specs.declared.boxes.GenerationalPointer.{GenerationalPointer}
 use Rattle.generational_core.proofs.maps.Maps.{name_cases}
 use Rattle.generational_core.proofs.machine.Boxing.{reached_boxed}
-use Rattle.generational_core.proofs.machine.Calling.{sets, unseen}
+use Rattle.generational_core.proofs.machine.Calling.{seen_reached, sets, unseen}
 use Rattle.generational_core.proofs.machine.Ends.{none≢some, some_live}
 use Rattle.generational_core.proofs.machine.Leaving.{given_other, leaves}
 use Rattle.generational_core.proofs.machine.Seeing.{led_box, reaches}
 use Rattle.generational_core.proofs.machine.Stepping.{meets_cases, meets_given, meets_number}
+use Rattle.generational_core.proofs.machine.Unborrowed.{quiet_free, quiet_gone}
+use Rattle.generational_core.specs.Changing as change
+use Rattle.generational_core.specs.Borrowing.{can_write}
 use Rattle.document_tree.specs.declared.part.Part.{Part}
 use Rattle.document_tree.specs.declared.place.Place.{Place}
-use Rattle.document_tree.specs.Documents.{Shown, shown_by, shown_of, shown_in, part_in, content_of, live_among, with_children, with_content, WasMade, Leaves, Changes, ChangesContent}
-use Rattle.document_tree.specs.declared.part.Body.{Body}
+use Rattle.document_tree.specs.Documents.{Shown, shown_by, shown_of, shown_in, part_in, children_of, live_among, with_children, WasMade, Leaves, Changes}
 use Rattle.generational_sessions.proofs.callers.Ids.{same_id_reach, same_value_there, unreached}
 use Rattle.document_tree.specs.Places.{IsSame}
 
@@ -134,7 +136,7 @@ module _ {T : Type 0} where
   -- ---- changes of one part
 
   pub set_changes : {D E : State (Part T)} (p : Place) (v old : Part T) → IsSound D
-      → Meets D (SetValue p.raw v) (Old old) E → Changes D p (shown_by v.body) E
+      → Meets D (SetValue p.raw v) (Old old) E → Changes D p (shown_by v) E
   set_changes {D} {E} p v old s m =
       let told = sets p.raw v old m in record {
         here = λ q same. ap shown_of (told.2 q.raw same);
@@ -144,33 +146,23 @@ module _ {T : Type 0} where
         kept = λ q. meets_given D E (SetValue p.raw v) (Old old) m (name_of q.raw);
       }
 
-  -- what is answered, and shown, where a closure changed the content of a part that a place shows
-  pub content_changed : {D E : State (Part T)} {F R : Type 0}
-      (g : Once F (MutBor T × Unit {0}) (R × (MutBor T × Unit {0}))) (f : F) (p : Place) (old new : Part T)
-      (r : Option R) → Meets D (SetValue p.raw new) (Old old) E → ChangesContent g f old r new
-      → is_some (shown_in D p) ≡ true
-      → (answer : R) × (before : T) × (changed : T) × (r ≡ Some answer)
-      × (content_of (shown_in D p) ≡ Some before) × FnOnceReturnsAtMut g f before answer changed
-      × (shown_by new.body ≡ with_content changed (shown_in D p))
-  content_changed {D} {E} {F} {R} g f p old new r m told live = at old.body refl
-    where
-      seen : shown_in D p ≡ shown_by old.body
-      seen = ap shown_of (sets p.raw new old m).0
+  pub shows_as : {D E : State (Part T)} {p : Place} {x y : Option (Shown T)} → Changes D p x E → x ≡ y
+      → Changes D p y E
+  shows_as {D} {E} {p} it same = subst (λ shown. Changes D p shown E) same it
 
-      at : (o : Option (Body T)) → old.body ≡ o → (answer : R) × (before : T) × (changed : T) × (r ≡ Some answer)
-          × (content_of (shown_in D p) ≡ Some before) × FnOnceReturnsAtMut g f before answer changed
-          × (shown_by new.body ≡ with_content changed (shown_in D p))
-      at None is = absurd (true≢false (sym live ∙ ap is_some (seen ∙ ap shown_by is)))
-      at (Some body) is =
-          let call = told body is in (
-            call.0,
-            body.content,
-            call.1,
-            call.2,
-            ap content_of (seen ∙ ap shown_by is),
-            call.3,
-            call.4 ∙ ap (with_content call.1) (sym seen),
-          )
+  -- what a place showed, and what it shows, whose part a closure changed
+  pub changes_part : {D E : State (Part T)} {F R : Type 0}
+      {g : Once F (MutBor (Part T) × Unit {0}) (R × (MutBor (Part T) × Unit {0}))} {f : F} (p : Place) {r : R}
+      → IsSound D → (it : change.Changes g f D p.raw r E)
+      → (shown_in D p ≡ shown_by it.old) × Changes D p (shown_by it.new) E
+  changes_part p s it =
+      (ap shown_of (sets p.raw it.new it.old it.set).0, set_changes p it.new it.old s it.set)
+
+  -- a part to which a place leads may be changed
+  pub may_change : {D : State (Part T)} → HasNoBorrows D → (p : Place) → is_some (part_in D p) ≡ true
+      → can_write D p.raw ≡ true
+  may_change {D} quiet p live =
+      let to = some_live (part_in D p) live in quiet_free D quiet p.raw to.0 to.1
 
   pub changed_twice : {D E F : State (Part T)} {p : Place} {x y : Option (Shown T)}
       → Changes D p x E → Changes E p y F → Changes D p y F
@@ -201,23 +193,47 @@ module _ {T : Type 0} where
       at (Some n) is = ⊎_elim (λ one. same (is ∙ (ap Some one ∙ sym to.1)))
           (λ ne. apart (λ one. ne (same_Some n to.0 (sym is ∙ (one ∙ to.1))))) (name_cases n to.0)
 
-  pub put_back : {D E F : State (Part T)} {p : Place} {x y : Option (Shown T)} → Changes D p x E
-      → Changes E p y F → y ≡ shown_in D p → is_some (part_in D p) ≡ true → (q : Place) → Leaves D q F
-  put_back {D} {E} {F} {p} first second same =
-      unchanged (subst (λ shown. Changes D p shown F) same (changed_twice first second))
+  -- where a part's children were taken out and put back each place is left
+  pub put_back : {D E F : State (Part T)} {p : Place} (list rest after : List Place)
+      → Changes D p (with_children (λ xs. rest) (shown_in D p)) E
+      → Changes E p (with_children (λ xs. after) (shown_in E p)) F → after ≡ list
+      → children_of (shown_in D p) ≡ Some list → is_some (part_in D p) ≡ true → (q : Place) → Leaves D q F
+  put_back {D} {F = F} {p = p} list rest after first second same old =
+      unchanged (shows_as (changed_twice first second)
+      (ap (with_children (λ xs. after)) (first.here p refl) ∙ at (shown_in D p) old))
+    where
+      at : (o : Option (Shown T)) → children_of o ≡ Some list
+          → with_children (λ xs. after) (with_children (λ xs. rest) o) ≡ o
+      at None is = absurd cc
+      at (Some shown) is = ap (λ xs. Some (record shown { children = xs }))
+          (same ∙ sym (same_Some shown.children list is))
 
-  -- what a part shows whose children were looked through while it was out
-  pub shows_live : {D E F : State (Part T)} {p : Place} {x : Option (Shown T)} (content : T)
-      (list after : List Place) → Changes D p x E → after ≡ live_among E list
-      → Changes E p (Some (record { content = content; children = after })) F
-      → Some (record { content = content; children = list }) ≡ shown_in D p
+  -- what a part shows whose children were looked through while they were out
+  pub shows_live : {D E F : State (Part T)} {p : Place} (list rest after : List Place)
+      → Changes D p (with_children (λ xs. rest) (shown_in D p)) E → after ≡ live_among E list
+      → Changes E p (with_children (λ xs. after) (shown_in E p)) F
+      → children_of (shown_in D p) ≡ Some list
       → (q : Place) → part_in D q ≡ part_in D p
       → shown_in F q ≡ with_children (live_among D) (shown_in D p)
-  shows_live {D} {p = p} content list after first left second old q same =
+  shows_live {D} {p = p} list rest after first left second old q same =
       second.here q (first.parts q ∙ (same ∙ sym (first.parts p)))
-      ∙ (ap (λ xs. Some (record { content = content; children = xs }))
-      (left ∙ λ i. filter (λ r. is_some (first.parts r i)) list)
-      ∙ ap (with_children (live_among D)) old)
+      ∙ (ap (with_children (λ xs. after)) (first.here p refl) ∙ at (shown_in D p) old)
+    where
+      at : (o : Option (Shown T)) → children_of o ≡ Some list
+          → with_children (λ xs. after) (with_children (λ xs. rest) o) ≡ with_children (live_among D) o
+      at None is = absurd cc
+      at (Some shown) is = ap (λ xs. Some (record shown { children = xs }))
+          (left ∙ ((λ i. filter (λ r. is_some (first.parts r i)) list)
+          ∙ ap (live_among D) (sym (same_Some shown.children list is))))
+
+  -- a place shows something exactly where it leads to a part
+  pub live_shows : {D : State (Part T)} → IsSound D → HasNoBorrows D → (p : Place)
+      → is_some (part_in D p) ≡ is_some (shown_in D p)
+  live_shows {D} s quiet p = at (value_in D p.raw) refl
+    where
+      at : (x : Option (Part T)) → value_in D p.raw ≡ x → is_some (part_in D p) ≡ is_some (shown_in D p)
+      at None is = ap is_some (quiet_gone D quiet p.raw s is) ∙ sym (ap (λ v. is_some (shown_of v)) is)
+      at (Some v) is = ap is_some (seen_reached D p.raw v is).1 ∙ sym (ap (λ v. is_some (shown_of v)) is)
 
   -- ---- where a part was added
 

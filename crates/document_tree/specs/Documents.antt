@@ -10,7 +10,6 @@ use Rattle.generational_core.specs.Machine.{cell_at}
 use Rattle.generational_core.specs.Names.{Name}
 use Rattle.generational_core.specs.Seeing.{value_in}
 use Rattle.generational_core.specs.State.{State, IsGiven}
-use Rattle.document_tree.specs.declared.part.Body.{Body}
 use Rattle.document_tree.specs.declared.part.Part.{Part}
 use Rattle.document_tree.specs.declared.place.Place.{Place}
 use Rattle.document_tree.specs.Places.{made_at, IsOther}
@@ -22,13 +21,12 @@ pub record Shown (T : Type 0) : Type 0 where
   pub children : List Place
 
 module _ {T : Type 0} where
-  abbrev pub shown_by : Option (Body T) → Option (Shown T)
-  shown_by None = None
-  shown_by (Some body) = Some (record { content = body.content; children = body.children.items })
+  abbrev pub shown_by : Part T → Option (Shown T)
+  shown_by part = Some (record { content = part.content; children = part.children.items })
 
   abbrev pub shown_of : Option (Part T) → Option (Shown T)
   shown_of None = None
-  shown_of (Some part) = shown_by part.body
+  shown_of (Some part) = shown_by part
 
   -- what a place shows in a document, or nothing once it is gone
   abbrev pub shown_in : State (Part T) → Place → Option (Shown T)
@@ -67,11 +65,9 @@ module _ {T : Type 0} where
 
   -- a call of a closure on a part's content, with what it answers and leaves there
   abbrev pub ChangesContent : {F R : Type 0} → Once F (MutBor T × Unit {0}) (R × (MutBor T × Unit {0}))
-      → F → Part T → Option R → Part T → Type 0
-  ChangesContent {R = R} g f old r new = (body : Body T) → old.body ≡ Some body
-      → (answer : R) × (changed : T) × (r ≡ Some answer)
-      × FnOnceReturnsAtMut g f body.content answer changed
-      × (shown_by new.body ≡ with_content changed (shown_by old.body))
+      → F → Part T → R → Part T → Type 0
+  ChangesContent g f old r new = (changed : T) × FnOnceReturnsAtMut g f old.content r changed
+      × (shown_by new ≡ with_content changed (shown_by old))
 
   -- a list of places without those that lead to no part
   abbrev pub live_among : State (Part T) → List Place → List Place

@@ -9,18 +9,19 @@ ghost use Rattle.generational_core.specs.Slots.{free};
 ghost use Rattle.generational_core.specs.Conditions.{IsFresh};
 ghost use Rattle.generational_errors.specs.declared.error.StoreError.TheVariants.{OutOfMemory};
 ghost use Rattle.document_tree.specs.declared.place.Place.{Place};
-ghost use Rattle.document_tree.specs.Documents.{shown_by, shown_in, part_in, content_of, children_of};
+ghost use Rattle.document_tree.specs.Documents.{shown_by, shown_in, shown_of, part_in, content_of, children_of};
 ghost use Rattle.document_tree.specs.Documents.{with_content, with_child, with_children, live_among, WasMade, Leaves, Changes};
 ghost use Rattle.document_tree.specs.Documents.{added_in, first_gone, ChangesContent, EndsPart, IsOnlyPlace};
 ghost use Rattle.document_tree.specs.declared.place.PlaceError.TheVariants as errors;
 ghost use Rattle.document_tree.specs.Outlines.{children_in, deep_outline_of, outline_of};
 ghost use Rattle.document_tree.specs.Places.{made_at, IsSame, IsOther};
 
-use crate::part::{Body, Part};
+use crate::part::Part;
 use crate::place::{Gone, Place, PlaceError};
 use generational_core::{Location, Refusal, Refused, Storage};
 use std::alloc::{AllocError, Global};
 use std::marker::{Model, PhantomData};
+use std::mem;
 
 /// A document. Contracts see the machine's state, which says what each place shows.
 #[derive(Drop)]
@@ -94,8 +95,8 @@ impl<T, S: Storage<Part<T>>> Document<T, S> {
         ensures short { OnErr result (free self.old < 2) }
     {
         let children = Vec::new(self.alloc);
-        let body = Some(Body { content, children });
-        let raw = match self.store.new_rc(Part { body }, here, None) {
+        let part = Part { content, children };
+        let raw = match self.store.new_rc(part, here, None) {
             Ok(raw) => raw,
             Err(refusal) => return Err(content_back(refusal)),
         };
@@ -150,12 +151,25 @@ impl<T, S: Storage<Part<T>>> Document<T, S> {
         ensures gone { IsErr result ↔ shown_in self.now place ≡ None }
         ensures told { IfErr result (λ gone. gone.made_at ≡ made_at place) }
     {
-        match self.body(place) {
-            Some(body) => Ok(&body.content),
+        match self.part(place) {
+            Some(part) => Ok(&part.content),
             None => Err(Gone {
                 made_at: place.made_at(),
             }),
         }
+    }
+
+    /// Whether a place shows a part: false where it was removed, or is another document's. Takes no
+    /// memory, and is O(1).
+    ///
+    /// ```rust
+    /// let is_there = document.is_alive(heading);
+    /// ```
+    #[inline(always)]
+    pub fn is_alive(&self, place: Place) -> bool
+        ensures { result ≡ is_some (shown_in self.now place) }
+    {
+        self.store.is_live(place.raw)
     }
 
     /// The children of a place's part, in order. The document is lent meanwhile.
@@ -173,8 +187,8 @@ impl<T, S: Storage<Part<T>>> Document<T, S> {
         ensures gone { IsErr result ↔ shown_in self.now place ≡ None }
         ensures told { IfErr result (λ gone. gone.made_at ≡ made_at place) }
     {
-        match self.body(place) {
-            Some(body) => Ok(body.children.as_slice()),
+        match self.part(place) {
+            Some(part) => Ok(part.children.as_slice()),
             None => Err(Gone {
                 made_at: place.made_at(),
             }),
@@ -300,13 +314,10 @@ impl<T, S: Storage<Part<T>>> Document<T, S> {
         ensures refused { OnErr result (self.new ≡ self.old) }
     {
         self.find(place)?;
-        match self
-            .store
-            .change_value(place.raw, |part: &mut Part<T>| change_content(part, f))
-        {
-            Some(answer) => Ok(answer),
-            None => unreachable!(),
-        }
+        Ok(
+            self.store
+                .change_value(place.raw, |part: &mut Part<T>| change_content(part, f)),
+        )
     }
 
     /// The child becomes the last child of the parent's part, at each place that leads there. Every
@@ -342,11 +353,9 @@ impl<T, S: Storage<Part<T>>> Document<T, S> {
     {
         self.find(parent)?;
         self.find(child)?;
-        let Some(mut body) = self.swap(parent, None) else {
-            unreachable!();
-        };
-        let pushed = push_place(&mut body.children, child);
-        self.swap(parent, Some(body));
+        let mut children = self.swap_children(parent, Vec::new(self.alloc));
+        let pushed = push_place(&mut children, child);
+        self.swap_children(parent, children);
         if !pushed {
             return Err(PlaceError::OutOfMemory);
         }
@@ -393,11 +402,9 @@ impl<T, S: Storage<Part<T>>> Document<T, S> {
         if count < index {
             return Err(PlaceError::OutOfRange);
         }
-        let Some(mut body) = self.swap(parent, None) else {
-            unreachable!();
-        };
-        let inserted = insert_place(&mut body.children, index, child);
-        self.swap(parent, Some(body));
+        let mut children = self.swap_children(parent, Vec::new(self.alloc));
+        let inserted = insert_place(&mut children, index, child);
+        self.swap_children(parent, children);
         if !inserted {
             return Err(PlaceError::OutOfMemory);
         }
@@ -473,11 +480,9 @@ impl<T, S: Storage<Part<T>>> Document<T, S> {
         ensures told { IfErr result (λ gone. gone.made_at ≡ made_at parent) }
     {
         self.find(parent)?;
-        let Some(mut body) = self.swap(parent, None) else {
-            unreachable!();
-        };
-        self.retain_live(&mut body.children);
-        self.swap(parent, Some(body));
+        let mut children = self.swap_children(parent, Vec::new(self.alloc));
+        self.retain_live(&mut children);
+        self.swap_children(parent, children);
         Ok(())
     }
 
@@ -592,48 +597,51 @@ impl<T, S: Storage<Part<T>>> Document<T, S> {
         }
     }
 
-    // Puts another body in the place of a part's.
-    fn swap(&mut self, place: Place, body: Option<Body<T>>) -> Option<Body<T>>
+    // Puts other children in the place of a part's, which are answered.
+    fn swap_children(&mut self, place: Place, children: Vec<Place>) -> Vec<Place>
         requires { is_some (part_in self.old place) ≡ true }
-        ensures old { shown_by result ≡ shown_in self.old place }
-        ensures changed { Changes self.old place (shown_by body) self.new }
+        ensures old { children_of (shown_in self.old place) ≡ Some result.items }
+        ensures changed { Changes self.old place
+            (with_children (λ list. children.items) (shown_in self.old place)) self.new }
     {
-        self.store.replace_value(place.raw, Part { body }).body
+        self.store.change_value(place.raw, |part: &mut Part<T>| {
+            replace_children(part, children)
+        })
+    }
+
+    // The part of a place.
+    #[inline(always)]
+    fn part(&self, place: Place) -> Option<&Part<T>>
+        ensures { shown_of (option_copied result) ≡ shown_in self.now place }
+    {
+        self.store.peek(place.raw)
     }
 
     // Whether a place shows a part.
+    #[inline(always)]
     fn find(&self, place: Place) -> Result<(), Gone>
         ensures gone { IsErr result ↔ shown_in self.now place ≡ None }
-        ensures shown { OnOk result (is_some (shown_in self.now place) ≡ true) }
+        ensures live { OnOk result (is_some (part_in self.now place) ≡ true) }
         ensures told { IfErr result (λ gone. gone.made_at ≡ made_at place) }
     {
-        match self.body(place) {
-            Some(_) => Ok(()),
-            None => Err(Gone {
-                made_at: place.made_at(),
-            }),
+        if self.is_alive(place) {
+            return Ok(());
         }
-    }
-
-    // What the part of a place has.
-    fn body(&self, place: Place) -> Option<&Body<T>>
-        ensures { shown_by (option_copied result) ≡ shown_in self.now place }
-    {
-        self.store.peek(place.raw)?.body.as_ref()
+        Err(Gone {
+            made_at: place.made_at(),
+        })
     }
 }
 
 // The content of a part that wasn't taken.
+#[cold]
+#[inline(never)]
 fn content_back<T>(refusal: Refusal<Part<T>>) -> Refusal<T>
-    requires { is_some refusal.value.body ≡ true }
-    ensures value { content_of (shown_by refusal.value.body) ≡ Some result.value }
+    ensures value { result.value ≡ refusal.value.content }
     ensures cause { result.cause ≡ refusal.cause }
 {
     let Refusal { value, cause } = refusal;
-    let Part { body } = value;
-    let Some(Body { content, .. }) = body else {
-        unreachable!();
-    };
+    let Part { content, .. } = value;
     Refusal {
         value: content,
         cause,
@@ -659,36 +667,37 @@ fn insert_place(places: &mut Vec<Place>, index: usize, place: Place) -> bool
 
 // Takes the child at an index out of a part's, if there is one.
 fn remove_child<T>(part: &mut Part<T>, index: usize) -> Option<Place>
-    ensures removed { IfSome result (λ child. (list : List Place)
-        × (children_of (shown_by part.old.body) ≡ Some list)
-        × (slice_get list index ≡ Some child)
-        × (shown_by part.new.body
-        ≡ with_children (λ list. remove list index) (shown_by part.old.body))) }
-    ensures none { IfNone result ((list : List Place) →
-        children_of (shown_by part.old.body) ≡ Some list → length list ≤ index) }
+    ensures removed { IfSome result (λ child.
+        (slice_get part.old.children.items index ≡ Some child)
+        × (shown_by part.new ≡ with_children (λ list. remove list index) (shown_by part.old))) }
+    ensures none { IfNone result (length part.old.children.items ≤ index) }
 {
-    match &mut part.body {
-        Some(body) if index < body.children.len() => Some(body.children.remove(index)),
-        _ => None,
+    if part.children.len() <= index {
+        return None;
     }
+    Some(part.children.remove(index))
+}
+
+// Puts other children in the place of a part's, which are answered.
+fn replace_children<T>(part: &mut Part<T>, children: Vec<Place>) -> Vec<Place>
+    ensures old { result ≡ part.old.children }
+    ensures shown { shown_by part.new
+        ≡ with_children (λ list. children.items) (shown_by part.old) }
+{
+    mem::replace(&mut part.children, children)
 }
 
 // Puts another content in the place of a part's.
 fn put_content<T: Drop>(part: &mut Part<T>, content: T)
-    ensures { shown_by part.new.body ≡ with_content content (shown_by part.old.body) }
+    ensures { shown_by part.new ≡ with_content content (shown_by part.old) }
 {
-    if let Some(body) = &mut part.body {
-        body.content = content;
-    }
+    part.content = content;
 }
 
 // Changes the content of a part by a closure, which is called once.
-fn change_content<T, R, F: FnOnce(&mut T) -> R>(part: &mut Part<T>, f: F) -> Option<R>
+fn change_content<T, R, F: FnOnce(&mut T) -> R>(part: &mut Part<T>, f: F) -> R
     requires { F.IsAlwaysCallable f }
     ensures { ChangesContent F.FnOnce f part.old result part.new }
 {
-    match &mut part.body {
-        Some(body) => Some(f(&mut body.content)),
-        None => None,
-    }
+    f(&mut part.content)
 }

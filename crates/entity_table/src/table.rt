@@ -72,6 +72,7 @@ impl<T, S: Storage<T>> EntityTable<T, S> {
     /// ```rust
     /// let entity = table.spawn(7, here)?;
     /// ```
+    #[inline(always)]
     pub fn spawn(&mut self, element: T, here: Location) -> Result<Entity<T>, Refusal<T>>
         ensures shown { IfOk result (λ e. element_in self.new e ≡ Some element) }
         ensures others { IfOk result (λ e. (f : Entity T) → IsOther e f →
@@ -112,6 +113,7 @@ impl<T, S: Storage<T>> EntityTable<T, S> {
     /// ```rust
     /// table.despawn(entity)?;
     /// ```
+    #[inline(always)]
     pub fn despawn(&mut self, entity: Entity<T>) -> Result<(), Stale>
         ensures gone { element_in self.new entity ≡ None }
         ensures others { (f : Entity T) → IsOther entity f →
@@ -309,6 +311,17 @@ impl<T, S: Storage<T>> EntityTable<T, S> {
         ensures { result ≡ length self.now.rows }
     {
         self.rows.len()
+    }
+
+    /// Whether no entity is live. Takes no memory, and is O(1).
+    ///
+    /// ```rust
+    /// let is_over = table.is_empty();
+    /// ```
+    pub fn is_empty(&self) -> bool
+        ensures { IsTrue result ↔ self.now.rows ≡ [] }
+    {
+        self.rows.is_empty()
     }
 
     /// The live entities, each once, in rows without gaps. Takes no memory, and is O(1).

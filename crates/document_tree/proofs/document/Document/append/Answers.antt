@@ -1,19 +1,9 @@
-use Rattle.std.proofs.Common.{arith, Some, sym, ap, ◌∙◌}
-use Rattle.std.proofs.lemmas.Bool.{true≢false}
-use Rattle.std.specs.Prelude.{is_some}
-use Rattle.document_tree.proofs.Showing.{put_back, shown_part}
+use Rattle.std.proofs.Common.{arith}
+use Rattle.document_tree.proofs.Showing.{put_back}
 use Rattle.document_tree.proofs.document.Document.append.Goals as goal
-
-pub swap-requires : goal.swap-requires
-swap-requires g c = shown_part _ _ (λ none. true≢false (sym (c.in_ok-find.ensures.gone.1 none)))
-
-pub swap-requires-2 : goal.swap-requires-2
-swap-requires-2 g c = ap is_some (c.in-Some.ensures.changed.parts c.args.parent)
-    ∙ shown_part _ _ (λ none. true≢false (sym (c.in_ok-find.ensures.gone.1 none)))
 
 pub returns-then-not-pushed-clause-refused : goal.returns-then-not-pushed-clause-refused
 returns-then-not-pushed-clause-refused g c =
-    put_back c.in-Some.ensures.changed c.swap-2.ensures.changed
-    (ap (λ places. Some (record { content = c.in-Some.body.content; children = places }))
-    (c.push_place-pushed.ensures.same (grind arith)) ∙ c.in-Some.ensures.old)
-    (shown_part _ _ (λ none. true≢false (sym (c.in_ok-find.ensures.gone.1 none))))
+    put_back _ _ _ c.swap_children-children.ensures.changed c.swap_children-2.ensures.changed
+    (c.push_place-pushed.ensures.same (grind arith)) c.swap_children-children.ensures.old
+    c.in_ok-find.ensures.live

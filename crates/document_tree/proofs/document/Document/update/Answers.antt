@@ -1,28 +1,12 @@
-use Rattle.std.proofs.Common.{rules, sym, subst, ◌∙◌, ◌≡◌, true}
-use Rattle.std.specs.Fn.{FnOnceReturnsAtMut}
-use Rattle.std.specs.Prelude.{is_some}
-use Rattle.std.proofs.lemmas.Bool.{true≢false}
-use Rattle.std.proofs.lemmas.Option.{none-some, same_Some}
-use Rattle.generational_core.proofs.machine.Ends.{some_live}
-use Rattle.generational_core.proofs.machine.Unborrowed.{quiet_free}
-use Rattle.document_tree.specs.Documents.{ChangesContent, shown_in}
+use Rattle.std.proofs.Common.{rules, sym, ap, ◌∙◌}
+use Rattle.document_tree.specs.Documents.{content_of, with_content, ChangesContent}
 use Rattle.document_tree.proofs.Keeping.{stays_kept}
-use Rattle.document_tree.proofs.Showing.{content_changed, set_changes, shown_part}
+use Rattle.document_tree.proofs.Showing.{changes_part, may_change}
 use Rattle.document_tree.proofs.document.Document.update.Goals as goal
 
 pub change_value-requires-clause-free : goal.change_value-requires-clause-free
 change_value-requires-clause-free g c =
-    let to = some_live _ (shown_part _ c.args.place (λ none. true≢false (sym (c.in_ok-find.ensures.gone.1 none)))) in
-    quiet_free _ c.self.invariant.unborrowed c.args.place.raw to.0 (rw c.self.view_is to.1)
-
-pub unreachable-requires : goal.unreachable-requires
-unreachable-requires g c =
-    let done = c.change_value.ensures in
-    let called = done.called in
-    let told : ChangesContent g.F.FnOnce c.args.f done.old c.change_value.result done.new = search rules in
-    let it = content_changed g.F.FnOnce c.args.f c.args.place done.old done.new c.change_value.result done.set told
-    (subst (λ D. is_some (shown_in D c.args.place) ≡ true) (sym c.self.view_is) c.in_ok-find.ensures.shown) in
-    none-some it.0 (sym c.in-None.is ∙ it.3)
+    may_change c.self.invariant.unborrowed c.args.place (rw c.self.view_is c.in_ok-find.ensures.live)
 
 pub invariant_of-self : goal.invariant_of-self
 invariant_of-self g c = stays_kept _ _ c.change_value.ensures.set tt c.self.invariant
@@ -32,25 +16,23 @@ returns-clause-changed g c =
     let done = c.change_value.ensures in
     let called = done.called in
     let told : ChangesContent g.F.FnOnce c.args.f done.old c.change_value.result done.new = search rules in
-    let it = content_changed g.F.FnOnce c.args.f c.args.place done.old done.new c.change_value.result done.set told
-    (subst (λ D. is_some (shown_in D c.args.place) ≡ true) (sym c.self.view_is) c.in_ok-find.ensures.shown) in
-    let same = same_Some it.0 c.in-Some.answer (sym it.3 ∙ c.in-Some.is) in
+    let it = changes_part c.args.place (g.met.S.AnyStorage.sound _) done in
     rw (← c.self.view_is) (
-      it.1,
-      it.2,
-      it.4,
-      subst (λ r. FnOnceReturnsAtMut g.F.FnOnce c.args.f it.1 r it.2) same it.5,
-      λ q is. (set_changes c.args.place _ _ (g.met.S.AnyStorage.sound _) done.set).here q is ∙ it.6,
+      done.old.content,
+      told.0,
+      ap content_of it.0,
+      told.1,
+      λ q is. it.1.here q is ∙ (told.2 ∙ ap (with_content told.0) (sym it.0)),
     )
 
 pub returns-clause-others : goal.returns-clause-others
 returns-clause-others g c = rw (← c.self.view_is)
-    (set_changes c.args.place _ _ (g.met.S.AnyStorage.sound _) c.change_value.ensures.set).others
+    (changes_part c.args.place (g.met.S.AnyStorage.sound _) c.change_value.ensures).1.others
 
 pub returns-clause-parts : goal.returns-clause-parts
 returns-clause-parts g c = rw (← c.self.view_is)
-    (set_changes c.args.place _ _ (g.met.S.AnyStorage.sound _) c.change_value.ensures.set).parts
+    (changes_part c.args.place (g.met.S.AnyStorage.sound _) c.change_value.ensures).1.parts
 
 pub returns-clause-kept : goal.returns-clause-kept
 returns-clause-kept g c = rw (← c.self.view_is)
-    (set_changes c.args.place _ _ (g.met.S.AnyStorage.sound _) c.change_value.ensures.set).kept
+    (changes_part c.args.place (g.met.S.AnyStorage.sound _) c.change_value.ensures).1.kept
