@@ -178,13 +178,13 @@ impl<T: Value + Drop> Effects<T> {
     }
 
     /// Brings each watched node up to date, in order, and pushes one entry for each that means another
-    /// value than was last reported, or has begun to mean nothing. No node means something else afterwards.
+    /// value than was last reported, or no longer means one. No node means something else afterwards.
     ///
     /// Of a node that means nothing, since it has ended, needs itself, or its rule gives no value, the
     /// fault is reported once, and nothing more until it means something. Its effect stays until
     /// `unwatch`.
     ///
-    /// Refused as `Reactive::refresh` by the store, where memory runs out: what was pushed until then is
+    /// Refused if memory runs out, or by the store as `Reactive::refresh` is: what was pushed until then is
     /// right, and a later flush reports the rest. Takes the time of a `refresh` of each watched node, and
     /// memory for what is reported.
     ///

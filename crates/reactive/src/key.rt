@@ -6,7 +6,7 @@ ghost use Rattle.generational_core.specs.Texts.{id_text};
 use generational_core::GenerationalBoxId;
 use std::fmt;
 
-/// A handle of a node: a source or a memo. It is copied freely, owns nothing, and outlives
+/// A handle to a node: a source or a memo. It is copied freely, owns nothing, and outlives
 /// its node: no later node is mistaken for it.
 #[derive(Clone, Copy, PartialEq, Eq, PartialOrd, Ord, Hash, Debug)]
 pub struct Key {

@@ -145,7 +145,7 @@ impl<T: Value + Drop, R: Rule<T>, S: Storage<Node<T, R>>> Reactive<T, R, S> {
     ///
     /// Refused, and then the node means nothing, by `Gone`, where it or a node that it needs has ended;
     /// by `Cycle`, where one of them needs itself; by `NoValue`, where a rule gives none. Refused too
-    /// where memory runs out, and after 2^64 steps by `NumbersExhausted`. A later call begins again. A
+    /// if memory runs out, and after 2^64 steps by `NumbersExhausted`. A later call begins again. A
     /// node that is known already, as a source always is, is never refused.
     ///
     /// A rule is run only where something that it read has changed since its last run. Time is linear in
@@ -169,8 +169,8 @@ impl<T: Value + Drop, R: Rule<T>, S: Storage<Node<T, R>>> Reactive<T, R, S> {
         self.nodes.refresh(key)
     }
 
-    /// The value of a node, if that is known without a step: what the node means. A source's is always.
-    /// The graph is lent meanwhile. Takes no memory, and is O(1).
+    /// The value of a node, if it is known without a step, as a source's always is: what the node means.
+    /// It is borrowed from the graph. Takes no memory, and is O(1).
     ///
     /// ```rust
     /// match graph.peek(key) {
@@ -185,10 +185,9 @@ impl<T: Value + Drop, R: Rule<T>, S: Storage<Node<T, R>>> Reactive<T, R, S> {
         known_value(&self.nodes.store, self.nodes.revision, key)
     }
 
-    /// A copy of what a node means now, which is brought up to date for it. No node means something else
-    /// afterwards.
+    /// Brings a node up to date, and copies what it means now. No node means something else afterwards.
     ///
-    /// Refused as `refresh`, and where memory runs out for the copy: so a node that is known, as a source
+    /// Refused as `refresh` is, and if memory runs out for the copy: so a node that is known, as a source
     /// always is, is never refused where copies take no memory.
     ///
     /// ```rust
@@ -215,7 +214,7 @@ impl<T: Value + Drop, R: Rule<T>, S: Storage<Node<T, R>>> Reactive<T, R, S> {
         }
     }
 
-    /// Sets a source, where its value is another. Nothing is computed: several sets are a batch.
+    /// Sets a source, unless it has the value already. Nothing is computed: several sets are a batch.
     ///
     /// Refused, in this order: `Gone`, where the node has ended, or is another graph's; `NoSource`, where
     /// it has a rule; `NumbersExhausted`, after 2^64 sets. The graph is unchanged then. Takes no
