@@ -1,6 +1,6 @@
 //! Documents in which one part stands in several places.
 
-ghost use Rattle.std.specs.Prelude.{◌≡◌, ◌≢◌, ◌∷◌, Some, OnOk, OnErr};
+ghost use Rattle.std.specs.Prelude.{◌≡◌, ◌≢◌, ◌∷◌, None, Some, OnOk, OnErr, is_some};
 ghost use Rattle.document_tree.specs.declared.place.Place.{Place};
 ghost use Rattle.document_tree.specs.Documents.{shown_in, part_in, content_of, with_children, Leaves, WasMade};
 ghost use Rattle.document_tree.specs.Places.{IsOther};
@@ -65,4 +65,16 @@ pub fn behead_page<S: Storage<Part<u64>>>(
 {
     document.clear_gone(page)?;
     document.take_child(page, 0)
+}
+
+/// Ends a heading where it still stands, and answers whether it did. It shows nothing then.
+pub fn closed<S: Storage<Part<u64>>>(document: &mut Document<u64, S>, heading: Place) -> bool
+    ensures stood { result ≡ is_some (shown_in document.old heading) }
+    ensures gone { shown_in document.new heading ≡ None }
+{
+    if !document.is_alive(heading) {
+        return false;
+    }
+    let _ = document.remove(heading);
+    true
 }

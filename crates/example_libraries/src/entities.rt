@@ -1,7 +1,7 @@
 //! Entities, and their handles.
 
 ghost use Rattle.std.specs.Prelude.{◌≡◌, ◌≤◌, ◌<◌, ◌+◌, ◌^◌, ℕ, None, Some, IsErr, IfErr, OnOk, true};
-ghost use Rattle.std.specs.Prelude.{IfOk, IfSome, IsTrue, OnErr, is_some};
+ghost use Rattle.std.specs.Prelude.{IfOk, IfSome, IsFalse, IsTrue, OnErr, is_some};
 ghost use Rattle.entity_table.specs.declared.entity.Entity.{Entity};
 ghost use Rattle.entity_table.specs.Components.{component_in};
 ghost use Rattle.entity_table.specs.Entities.{spawned_at, IsOther};
@@ -159,4 +159,18 @@ pub fn handed_over<S: Storage<u64>>(
         Some(coat) => coats.insert(to, coat, here).is_ok(),
         None => false,
     }
+}
+
+/// Ends the entities that are left, and answers whether there was one.
+pub fn swept_out<S: Storage<u64>>(table: &mut EntityTable<u64, S>) -> bool
+    ensures none { IsFalse result → (e : Entity ℕ) → element_in table.old e ≡ None }
+    ensures gone { (e : Entity ℕ) → element_in table.new e ≡ None }
+{
+    if table.is_empty() {
+        // The rows have all live entities.
+        let _ = table.entities();
+        return false;
+    }
+    table.clear();
+    true
 }
