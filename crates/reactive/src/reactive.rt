@@ -250,10 +250,7 @@ impl<T: Value + Drop, R: Rule<T>, S: Storage<Node<T, R>>> Reactive<T, R, S> {
         if node.rule.is_some() {
             return Err(Fault::NoSource(key));
         }
-        match &node.value {
-            Some(kept) => Ok(kept.same(value)),
-            None => Ok(false),
-        }
+        Ok(node.has(value))
     }
 
     /// Gives a memo another rule, or makes a source a memo. Nothing is computed.
