@@ -14,7 +14,7 @@ use example_callers::values::{
 };
 use generational_box::{
     BorrowMutError, BoxAt, Call, GenerationalBox, LastFirst, Location, OldestFirst, Reply, Session,
-    Storage, Store, ValueDroppedError,
+    SlotPool, Storage, Store, ValueDroppedError,
 };
 use std::alloc::Global;
 use std::process::Abort;
@@ -196,18 +196,17 @@ fn values_under_conditions(rt: HostRuntime) {
     play::<u64, Conditions>(&rt, rt.alloc());
 }
 
-/// Asserts what the rows of a table show.
-fn assert_rows<S: Storage<u64> + Drop>(rt: &impl Abort, alloc: Global, store: S) {
+/// Asserts what the rows of a table show, over a store that takes free slots in this order.
+fn assert_rows<P: SlotPool + Drop>(rt: &impl Abort, alloc: Global) {
+    let store: Store<u64, P> = Store::new(alloc, 1);
     let rows = [Some(3), None, Some(5), None];
     assert_same(rt, &rows_of_table(alloc, store), &Some(rows));
 }
 
 #[test]
 fn tables_over_both_pools(rt: HostRuntime) {
-    let last: Store<u64, LastFirst> = Store::new(rt.alloc(), 1);
-    assert_rows(&rt, rt.alloc(), last);
-    let oldest: Store<u64, OldestFirst> = Store::new(rt.alloc(), 1);
-    assert_rows(&rt, rt.alloc(), oldest);
+    assert_rows::<LastFirst>(&rt, rt.alloc());
+    assert_rows::<OldestFirst>(&rt, rt.alloc());
 }
 
 struct AFlag;

@@ -6,13 +6,14 @@ use crate::expected::{
     written,
 };
 use crate::fresh::{
-    Life, Scenario, TwoStoreScenario, live, play, play_at_last_generation, play_in_two_stores,
+    Life, LifeOfTwo, Scenario, TwoStoreScenario, live, live_in_two_stores, play,
+    play_at_last_generation, play_in_two_stores,
 };
 use crate::sessions::{call, session_over};
 use crate::sharing::{insert_rc, insert_reference, leak_rc, leak_reference, point};
 use generational_box::{
     BoxAt, Call, GenerationalBox, GenerationalRef, GenerationalRefMut, Owner, Refusal, Session,
-    Storage, Store, UnsyncStorage,
+    Storage,
 };
 use signals::{Scope, Signal};
 use std::alloc::Global;
@@ -464,18 +465,32 @@ fn spend<S: Storage<Counted> + Drop>(
     assert_count(rt, value, 1);
 }
 
+struct Filled;
+
+impl Life<Counted> for Filled {
+    fn live<R: Abort, S: Storage<Counted> + Drop>(rt: &R, alloc: Global, store: S) {
+        let value = counted(rt, alloc);
+        fill(rt, store, &value);
+        assert_count(rt, &value, 1);
+    }
+}
+
+struct OutlivedByGuards;
+
+impl LifeOfTwo<Counted> for OutlivedByGuards {
+    fn live<R: Abort, S: Storage<Counted> + Drop>(rt: &R, alloc: Global, store: S, other: S) {
+        let value = counted(rt, alloc);
+        let guards = borrow_two(rt, store, &value);
+        spend(rt, other, guards, &value);
+    }
+}
+
 // What is live, what is shared, what is leaked by its owner and what is read goes with the store.
 // What is written goes with its guard.
 #[test]
 fn values_of_a_store(rt: HostRuntime) {
-    let value = counted(&rt, rt.alloc());
-    let store: UnsyncStorage<Counted> = Store::new(rt.alloc(), 7);
-    fill(&rt, store, &value);
-    assert_count(&rt, &value, 1);
-    let store: UnsyncStorage<Counted> = Store::new(rt.alloc(), 7);
-    let guards = borrow_two(&rt, store, &value);
-    let other: UnsyncStorage<Counted> = Store::new(rt.alloc(), 8);
-    spend(&rt, other, guards, &value);
+    live::<Counted, Filled>(&rt, rt.alloc());
+    live_in_two_stores::<Counted, OutlivedByGuards>(&rt, rt.alloc());
 }
 
 /// The calls of the next tests, by their places. Those that hand in no value let it go.

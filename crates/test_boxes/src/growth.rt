@@ -60,6 +60,24 @@ impl Gauge {
     }
 }
 
+/// What grows in a store that goes in the end.
+pub(crate) trait Growth<T> {
+    fn grow<R: Files + AllocGlobal + Abort, S: Storage<T> + Drop>(
+        rt: &R,
+        alloc: Global,
+        store: S,
+    ) -> Result<(), Fail>;
+}
+
+/// Hands an empty store over.
+pub(crate) fn grow<T: Drop, P: Growth<T>, R: Files + AllocGlobal + Abort>(
+    rt: &R,
+    alloc: Global,
+) -> Result<(), Fail> {
+    let store: UnsyncStorage<T> = Store::new(alloc, 7);
+    P::grow(rt, alloc, store)
+}
+
 /// Makes a hundred boxes by nobody.
 fn make<S: Storage<u32>>(rt: &impl Abort, store: &mut S) {
     for value in 0..100 {
@@ -68,27 +86,31 @@ fn make<S: Storage<u32>>(rt: &impl Abort, store: &mut S) {
 }
 
 /// Makes boxes by nobody, and looks how the memory grows.
-fn leaked<R: Files + AllocGlobal + Abort, S: Storage<u32> + Drop>(
-    rt: &R,
-    mut store: S,
-) -> Result<(), Fail> {
-    let mut gauge = Gauge::new(rt)?;
-    leak(rt, &mut store, 0, made());
-    gauge.look(rt)?;
-    gauge.assert_grew(rt, 1_000);
-    for _ in 0..1_000 {
-        make(rt, &mut store);
+struct Leaks;
+
+impl Growth<u32> for Leaks {
+    fn grow<R: Files + AllocGlobal + Abort, S: Storage<u32> + Drop>(
+        rt: &R,
+        _: Global,
+        mut store: S,
+    ) -> Result<(), Fail> {
+        let mut gauge = Gauge::new(rt)?;
+        leak(rt, &mut store, 0, made());
         gauge.look(rt)?;
+        gauge.assert_grew(rt, 1_000);
+        for _ in 0..1_000 {
+            make(rt, &mut store);
+            gauge.look(rt)?;
+        }
+        gauge.assert_grew(rt, 10_000);
+        Ok(())
     }
-    gauge.assert_grew(rt, 10_000);
-    Ok(())
 }
 
 // A hundred thousand slots.
 #[test]
 fn slots(rt: HostRuntime) -> Result<(), Fail> {
-    let store: UnsyncStorage<u32> = Store::new(rt.alloc(), 7);
-    leaked(&rt, store)
+    grow::<u32, Leaks, _>(&rt, rt.alloc())
 }
 
 /// Makes a shared value and a hundred references to it.
@@ -100,24 +122,28 @@ fn share<S: Storage<u32>>(rt: &impl Abort, store: &mut S) {
 }
 
 /// Makes shared values and references, and looks how the memory grows.
-fn shared<R: Files + AllocGlobal + Abort, S: Storage<u32> + Drop>(
-    rt: &R,
-    mut store: S,
-) -> Result<(), Fail> {
-    let mut gauge = Gauge::new(rt)?;
-    for _ in 0..1_000 {
-        share(rt, &mut store);
-        gauge.look(rt)?;
+struct Shares;
+
+impl Growth<u32> for Shares {
+    fn grow<R: Files + AllocGlobal + Abort, S: Storage<u32> + Drop>(
+        rt: &R,
+        _: Global,
+        mut store: S,
+    ) -> Result<(), Fail> {
+        let mut gauge = Gauge::new(rt)?;
+        for _ in 0..1_000 {
+            share(rt, &mut store);
+            gauge.look(rt)?;
+        }
+        gauge.assert_grew(rt, 10_000);
+        Ok(())
     }
-    gauge.assert_grew(rt, 10_000);
-    Ok(())
 }
 
 // A hundred thousand references and a thousand shared values.
 #[test]
 fn references(rt: HostRuntime) -> Result<(), Fail> {
-    let store: UnsyncStorage<u32> = Store::new(rt.alloc(), 7);
-    shared(&rt, store)
+    grow::<u32, Shares, _>(&rt, rt.alloc())
 }
 
 /// Makes a hundred boxes by an owner.
@@ -142,24 +168,28 @@ fn make_all_by<R: Files + AllocGlobal + Abort, S: Storage<u32>>(
 }
 
 /// Makes boxes by an owner that is leaked in the end.
-fn owned<R: Files + AllocGlobal + Abort, S: Storage<u32> + Drop>(
-    rt: &R,
-    mut store: S,
-) -> Result<(), Fail> {
-    let mut gauge = Gauge::new(rt)?;
-    let owner = new_owner(rt, &mut store);
-    let looked = make_all_by(rt, &mut store, &owner, &mut gauge);
-    owner.leak();
-    looked?;
-    gauge.assert_grew(rt, 12_000);
-    Ok(())
+struct Owns;
+
+impl Growth<u32> for Owns {
+    fn grow<R: Files + AllocGlobal + Abort, S: Storage<u32> + Drop>(
+        rt: &R,
+        _: Global,
+        mut store: S,
+    ) -> Result<(), Fail> {
+        let mut gauge = Gauge::new(rt)?;
+        let owner = new_owner(rt, &mut store);
+        let looked = make_all_by(rt, &mut store, &owner, &mut gauge);
+        owner.leak();
+        looked?;
+        gauge.assert_grew(rt, 12_000);
+        Ok(())
+    }
 }
 
 // A hundred thousand boxes of one owner.
 #[test]
 fn an_owners_list(rt: HostRuntime) -> Result<(), Fail> {
-    let store: UnsyncStorage<u32> = Store::new(rt.alloc(), 7);
-    owned(&rt, store)
+    grow::<u32, Owns, _>(&rt, rt.alloc())
 }
 
 /// Makes signals of a scope, and ends it.
@@ -201,23 +231,26 @@ fn ask_all<R: Files + AllocGlobal + Abort, S: Storage<u32>>(
 }
 
 /// Makes calls of a session over a store, and ends it.
-fn called<R: Files + AllocGlobal + Abort, S: Storage<u32> + Drop>(
-    rt: &R,
-    alloc: Global,
-    store: S,
-) -> Result<(), Fail> {
-    let mut gauge = Gauge::new(rt)?;
-    let mut session = session_over(rt, alloc, store);
-    let looked = ask_all(rt, &mut session, &mut gauge);
-    let _store = session.finish();
-    looked?;
-    gauge.assert_grew(rt, 8_000);
-    Ok(())
+struct Calls;
+
+impl Growth<u32> for Calls {
+    fn grow<R: Files + AllocGlobal + Abort, S: Storage<u32> + Drop>(
+        rt: &R,
+        alloc: Global,
+        store: S,
+    ) -> Result<(), Fail> {
+        let mut gauge = Gauge::new(rt)?;
+        let mut session = session_over(rt, alloc, store);
+        let looked = ask_all(rt, &mut session, &mut gauge);
+        let _store = session.finish();
+        looked?;
+        gauge.assert_grew(rt, 8_000);
+        Ok(())
+    }
 }
 
 // A hundred thousand places of a session.
 #[test]
 fn places(rt: HostRuntime) -> Result<(), Fail> {
-    let store: UnsyncStorage<u32> = Store::new(rt.alloc(), 7);
-    called(&rt, rt.alloc(), store)
+    grow::<u32, Calls, _>(&rt, rt.alloc())
 }

@@ -289,8 +289,9 @@ fn make_forty_cells<S: Storage<u32>>(rt: &impl Abort, store: &mut S) {
     }
 }
 
-/// Makes room in a store, and values there, twice.
-fn make_in_room<P: SlotPool + Drop>(rt: &impl Abort, mut store: Store<u32, P>) {
+/// Makes room in a store that takes free slots in this order, and values there, twice.
+fn make_in_room<P: SlotPool + Drop>(rt: &impl Abort, alloc: Global) {
+    let mut store: Store<u32, P> = Store::new(alloc, 7);
     for _ in 0..2 {
         reserve_or_again(rt, &mut store, 40);
         make_forty_cells(rt, &mut store);
@@ -300,10 +301,8 @@ fn make_in_room<P: SlotPool + Drop>(rt: &impl Abort, mut store: Store<u32, P>) {
 // What room was made for takes no memory: no making is tried a second time.
 #[test]
 fn makings_in_reserved_room(rt: HostRuntime) {
-    let last: Store<u32, LastFirst> = Store::new(rt.alloc(), 7);
-    make_in_room(&rt, last);
-    let oldest: Store<u32, OldestFirst> = Store::new(rt.alloc(), 7);
-    make_in_room(&rt, oldest);
+    make_in_room::<LastFirst>(&rt, rt.alloc());
+    make_in_room::<OldestFirst>(&rt, rt.alloc());
 }
 
 /// Asserts that there is no room for so many cells.

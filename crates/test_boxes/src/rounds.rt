@@ -4,12 +4,11 @@ use crate::expected::{
     assert_kept, assert_released, begin, begin_write, borrowed, end, insert, leak, made,
     made_later, new_owner, read, release, written,
 };
-use crate::growth::Gauge;
+use crate::fresh::{Life, LifeOfTwo, live, live_in_two_stores};
+use crate::growth::{Gauge, Growth, grow};
 use crate::sessions::session_over;
 use crate::sharing::{insert_rc, leak_rc, leak_reference, point};
-use generational_box::{
-    BoxAt, Call, GenerationalBox, GenerationalRef, Storage, Store, UnsyncStorage,
-};
+use generational_box::{BoxAt, Call, GenerationalBox, GenerationalRef, Storage};
 use std::alloc::Global;
 use std::process::Abort;
 use std::rt::Files;
@@ -129,13 +128,17 @@ impl<S: Storage<String>> Round for OneStore<S> {
     }
 }
 
-/// Plays rounds in one store.
-fn assert_one_store_steady<R: Files + AllocGlobal + Abort, S: Storage<String> + Drop>(
-    rt: &R,
-    alloc: Global,
-    store: S,
-) -> Result<(), Fail> {
-    assert_steady(rt, alloc, &mut OneStore { store })
+/// Rounds in one store, in which nothing is left.
+struct InOneStore;
+
+impl Growth<String> for InOneStore {
+    fn grow<R: Files + AllocGlobal + Abort, S: Storage<String> + Drop>(
+        rt: &R,
+        alloc: Global,
+        store: S,
+    ) -> Result<(), Fail> {
+        assert_steady(rt, alloc, &mut OneStore { store })
+    }
 }
 
 /// Leaves values, an owner's list and three readers in a store, of which another one spends the
@@ -152,27 +155,28 @@ fn leave<S: Storage<String>>(rt: &impl Abort, alloc: Global, store: &mut S, othe
     assert_released(rt, other, third, false);
 }
 
-/// Leaves values in a store that goes.
-fn own_and_leave<S: Storage<String> + Drop>(
-    rt: &impl Abort,
-    alloc: Global,
-    mut store: S,
-    other: &mut S,
-) {
-    own(rt, alloc, &mut store);
-    leave(rt, alloc, &mut store, other);
+/// Values that are left in a store that goes.
+struct LeftWithStore;
+
+impl LifeOfTwo<String> for LeftWithStore {
+    fn live<R: Abort, S: Storage<String> + Drop>(
+        rt: &R,
+        alloc: Global,
+        mut store: S,
+        mut other: S,
+    ) {
+        own(rt, alloc, &mut store);
+        leave(rt, alloc, &mut store, &mut other);
+    }
 }
 
-/// Each round in a store of its own.
+/// Each round in stores of its own.
 #[derive(Drop)]
-struct NewStores {
-    other: UnsyncStorage<String>,
-}
+struct NewStores;
 
 impl Round for NewStores {
     fn play(&mut self, rt: &impl Abort, alloc: Global) {
-        let store: UnsyncStorage<String> = Store::new(alloc, 7);
-        own_and_leave(rt, alloc, store, &mut self.other);
+        live_in_two_stores::<String, LeftWithStore>(rt, alloc);
     }
 }
 
@@ -204,13 +208,17 @@ fn calls(rt: &impl Abort, alloc: Global) -> Vec<Call<String>> {
     calls
 }
 
-/// Runs the list in a session, makes a call more, and ends it.
-fn run<S: Storage<String> + Drop>(rt: &impl Abort, alloc: Global, store: S) {
-    let mut session = session_over(rt, alloc, store);
-    let ran = session.run(calls(rt, alloc)).is_ok();
-    let called = session.call(call_at(12, text(rt, alloc))).is_ok();
-    let _store = session.finish();
-    assert!(rt; ran && called);
+/// The list, run in a session, and a call more. Then it ends.
+struct ListInSession;
+
+impl Life<String> for ListInSession {
+    fn live<R: Abort, S: Storage<String> + Drop>(rt: &R, alloc: Global, store: S) {
+        let mut session = session_over(rt, alloc, store);
+        let ran = session.run(calls(rt, alloc)).is_ok();
+        let called = session.call(call_at(12, text(rt, alloc))).is_ok();
+        let _store = session.finish();
+        assert!(rt; ran && called);
+    }
 }
 
 /// Each round in a session of its own.
@@ -219,8 +227,7 @@ struct NewSessions;
 
 impl Round for NewSessions {
     fn play(&mut self, rt: &impl Abort, alloc: Global) {
-        let store: UnsyncStorage<String> = Store::new(alloc, 7);
-        run(rt, alloc, store);
+        live::<String, ListInSession>(rt, alloc);
     }
 }
 
@@ -228,9 +235,7 @@ impl Round for NewSessions {
 #[test]
 fn memory_is_given_back(rt: HostRuntime) -> Result<(), Fail> {
     let alloc = rt.alloc();
-    let store: UnsyncStorage<String> = Store::new(alloc, 7);
-    assert_one_store_steady(&rt, alloc, store)?;
-    let other = Store::new(alloc, 8);
-    assert_steady(&rt, alloc, &mut NewStores { other })?;
+    grow::<String, InOneStore, _>(&rt, alloc)?;
+    assert_steady(&rt, alloc, &mut NewStores)?;
     assert_steady(&rt, alloc, &mut NewSessions)
 }
