@@ -163,7 +163,7 @@ impl<T: Value + Drop, R: Rule<T>, S: Storage<Node<T, R>>> Nodes<T, R, S> {
             if !node.is_known(self.revision) {
                 return Verdict::Unknown(key, place);
             }
-            if node.has_changed(since) {
+            if node.changed > since {
                 return Verdict::Changed;
             }
         }

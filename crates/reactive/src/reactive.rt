@@ -250,7 +250,10 @@ impl<T: Value + Drop, R: Rule<T>, S: Storage<Node<T, R>>> Reactive<T, R, S> {
         if node.rule.is_some() {
             return Err(Fault::NoSource(key));
         }
-        Ok(node.has(value))
+        match &node.value {
+            Some(kept) => Ok(kept.same(value)),
+            None => Ok(false),
+        }
     }
 
     /// Gives a memo another rule, or makes a source a memo. Nothing is computed.

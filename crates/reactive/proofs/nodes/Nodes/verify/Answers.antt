@@ -23,7 +23,7 @@ returns-then-not-is_known g c = λ answers same stand known.
 pub loop-place-preserved : goal.loop-place-preserved
 loop-place-preserved g c = λ answers same stand known.
     let lt : c.loop-place.place < length c.args.reads.now = search (rules, arith) in
-    let low : c.in-Some.node.now.changed ≤ c.args.since = c.has_changed.ensures c.if-has_changed.false in
+    let low : c.in-Some.node.now.changed ≤ c.args.since = search (rules, arith) in
     known_more_at (nodes_in (g.S.AnyStorage.state c.args.self.now.store)) c.args.self.now.revision c.args.since
     answers c.args.reads.now c.loop-place.place _ c.in-Some.node.now same lt stand
     (c.loop-place.invariant answers same stand known) (sym c.in-Some.ensures)
