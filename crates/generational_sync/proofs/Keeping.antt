@@ -432,3 +432,12 @@ module _ {T : Type 0} (lawful : AreLawful T) (sound : LeadTo Sound) (numbered : 
       step = λ w. stepped w.before R log w.action c w.answer r w.answered after counts based more raised
           count;
     }
+
+  -- what isn't recorded leaves the log and the tally as they are
+  pub settled_not : (R : State T) (log : LogState) (c : StepCall) (r : Option StepReply)
+      (counts : Counts) → WasAnswered number log c r R → r ≡ None
+      → IsSettled number log counts c r R log counts
+  settled_not R log c r counts it is =
+      subst (λ x. IsSettled number log counts c x R log counts) (sym is)
+      (settled R log log c None counts counts refl refl refl
+      (subst (λ x. WasAnswered number log c x R) is it) (omega arith))

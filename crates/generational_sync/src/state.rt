@@ -1,6 +1,6 @@
 //! What lies under the lock.
 
-ghost use Rattle.std.specs.Prelude.{◌≡◌, ◌<◌, ◌+◌, ◌^◌, [], IfOk, IfErr, OnErr, OnOk, length};
+ghost use Rattle.std.specs.Prelude.{◌≡◌, ◌<◌, ◌+◌, ◌^◌, [], IfOk, IfErr, IfSome, OnErr, OnOk, Some, length};
 ghost use Rattle.std.specs.Prelude.{option_copied};
 ghost use Rattle.std.specs.Bool.{OnFalse, OnTrue};
 ghost use Rattle.generational_errors.specs.declared.error.StoreError.TheVariants.{OutOfMemory};
@@ -24,12 +24,13 @@ use crate::laws::{
 };
 use generational_box::laws::{calls_are_ready_where_no_borrow_is_told, steps_keep_the_store};
 use generational_box::{
-    AnyStorage, GenerationalRef, Owner, StepCall, Storage, StoreError, UnsyncStorage,
+    AnyStorage, GenerationalPointer, GenerationalRef, Location, Owner, StepCall, Storage,
+    StoreError, UnsyncStorage,
 };
 use shared_history::kept::KeptBase;
 use shared_history::log::{Log, Outdated};
 use shared_history::{Base, Count, Tally, tallies};
-use shared_records::{Step, StepReply};
+use shared_records::{AnyEntry, Entry, ReadDropped, Step, StepReply};
 use std::alloc::Global;
 use std::marker::Model;
 use std::sync::ledger::Blank;
@@ -304,9 +305,32 @@ impl WantedRoom {
     }
 }
 
-// Records the step of a call that the store has answered, if its reply is one that is recorded.
+// Records the step of a call that the store has answered.
 #[inline(always)]
-fn settle<T: Drop, const NUMBER: u64, M: Count, L: Count, C: Count, R: Count>(
+fn settle<T: Drop, const NUMBER: u64, M: Count, L: Count, C: Count, R: Count, E: Entry>(
+    store: &UnsyncStorage<T>,
+    log: &mut Log<NUMBER, M, L, C, R>,
+    entry: E,
+    tally: &mut Tally<M, L, C, R>,
+)
+    requires room { 1 < log.old.room }
+    requires answered { WasAnswered NUMBER log.old (E.as_call entry) (Some (E.as_reply entry))
+        store.now.state }
+    ensures { IsSettled NUMBER log.old tally.old (E.as_call entry) (Some (E.as_reply entry))
+        store.now.state log.new tally.new }
+{
+    let _ = store;
+    recorded_calls_are_lawful::<T>();
+    histories_lead_to_sound_states();
+    steps_keep_the_store::<T>();
+    free_calls_are_answered_so::<T>();
+    log.settle(entry, tally);
+}
+
+// Records the step of any call that the store has answered, if its reply is one that is recorded. It
+// is inlined, so that what is handed to the other function is put into memory here.
+#[inline(always)]
+fn settle_any<T: Drop, const NUMBER: u64, M: Count, L: Count, C: Count, R: Count>(
     store: &UnsyncStorage<T>,
     log: &mut Log<NUMBER, M, L, C, R>,
     call: StepCall,
@@ -317,18 +341,64 @@ fn settle<T: Drop, const NUMBER: u64, M: Count, L: Count, C: Count, R: Count>(
     requires answered { WasAnswered NUMBER log.old call reply store.now.state }
     ensures { IsSettled NUMBER log.old tally.old call reply store.now.state log.new tally.new }
 {
-    let _ = store;
+    settle_told(store, log, call, reply, tally);
+}
+
+#[cold]
+#[inline(never)]
+fn settle_told<T: Drop, const NUMBER: u64, M: Count, L: Count, C: Count, R: Count>(
+    store: &UnsyncStorage<T>,
+    log: &mut Log<NUMBER, M, L, C, R>,
+    call: StepCall,
+    reply: Option<StepReply>,
+    tally: &mut Tally<M, L, C, R>,
+)
+    requires room { 1 < log.old.room }
+    requires answered { WasAnswered NUMBER log.old call reply store.now.state }
+    ensures { IsSettled NUMBER log.old tally.old call reply store.now.state log.new tally.new }
+{
     recorded_calls_are_lawful::<T>();
     histories_lead_to_sound_states();
     steps_keep_the_store::<T>();
     free_calls_are_answered_so::<T>();
-    log.settle(call, reply, tally);
+    match reply {
+        Some(reply) => settle(store, log, AnyEntry { call, reply }, tally),
+        None => {}
+    }
+}
+
+// Records the refusal of a read, which left the store as it was, if no writer stands in its way. The
+// answer is whether none does. That a value is gone is told often, since a handle may be kept for
+// longer.
+#[inline(always)]
+fn settle_refused_read<T: Drop, const NUMBER: u64, M: Count, L: Count, C: Count, R: Count>(
+    store: &UnsyncStorage<T>,
+    log: &mut Log<NUMBER, M, L, C, R>,
+    asked: GenerationalPointer,
+    at: Location,
+    reply: Option<StepReply>,
+    tally: &mut Tally<M, L, C, R>,
+) -> bool
+    requires room { 1 < log.old.room }
+    requires refused { WasRefused NUMBER log.old (call.Read asked at) reply store.now.state }
+    ensures ready { result ≡ is_ready store.now.state (call.Read asked at) }
+    ensures settled { OnTrue result (IsSettled NUMBER log.old tally.old (call.Read asked at) reply
+        store.now.state log.new tally.new) }
+    ensures left { OnFalse result ((log.new ≡ log.old) × (tally.new ≡ tally.old)) }
+{
+    calls_are_ready_where_no_borrow_is_told::<T>();
+    if let Some(answer) = reply {
+        if let StepReply::Dropped(told) = answer {
+            settle(store, log, ReadDropped { asked, at, told }, tally);
+            return true;
+        }
+    }
+    settle_refused(store, log, StepCall::Read(asked, at), reply, tally)
 }
 
 // Records the refusal of a call, which left the store as it was, if no borrow stands in its way. The
-// answer is whether none does. That a value is gone is told often, since a handle may be kept for
-// longer. It is inlined, so that what is handed to the other function is put into memory here, and
-// not where a call is granted.
+// answer is whether none does. It is inlined, so that what is handed to the other function is put into
+// memory here, and not where a call is granted.
 #[inline(always)]
 fn settle_refused<T: Drop, const NUMBER: u64, M: Count, L: Count, C: Count, R: Count>(
     store: &UnsyncStorage<T>,
@@ -344,13 +414,6 @@ fn settle_refused<T: Drop, const NUMBER: u64, M: Count, L: Count, C: Count, R: C
         (IsSettled NUMBER log.old tally.old call reply store.now.state log.new tally.new) }
     ensures left { OnFalse result ((log.new ≡ log.old) × (tally.new ≡ tally.old)) }
 {
-    calls_are_ready_where_no_borrow_is_told::<T>();
-    if let Some(told) = reply {
-        if let StepReply::Dropped(_) = told {
-            settle(store, log, call, reply, tally);
-            return true;
-        }
-    }
     settle_seldom(store, log, call, reply, tally)
 }
 
@@ -374,26 +437,32 @@ fn settle_seldom<T: Drop, const NUMBER: u64, M: Count, L: Count, C: Count, R: Co
     if !store.ready(&call) {
         return false;
     }
-    settle(store, log, call, reply, tally);
+    settle_told(store, log, call, reply, tally);
     true
 }
 
-// Records the end of a borrow, for which there is room since the borrow began.
+// Records the end of a borrow, if the reply tells that the store knew its guard. There is room since the
+// borrow began.
 #[inline(always)]
-fn settle_end<T: Drop, const NUMBER: u64, M: Count, L: Count, C: Count, R: Count>(
+fn settle_end<T: Drop, const NUMBER: u64, M: Count, L: Count, C: Count, R: Count, E: Entry>(
     store: &UnsyncStorage<T>,
     log: &mut Log<NUMBER, M, L, C, R>,
-    call: StepCall,
+    entry: E,
     reply: Option<StepReply>,
     tally: &mut Tally<M, L, C, R>,
 )
-    requires { HasEnded NUMBER log.old call reply store.now.state }
-    ensures { IsSettled NUMBER log.old tally.old call reply store.now.state log.new tally.new }
+    requires ended { HasEnded NUMBER log.old (E.as_call entry) reply store.now.state }
+    requires told { IfSome reply (λ r. r ≡ E.as_reply entry) }
+    ensures { IsSettled NUMBER log.old tally.old (E.as_call entry) reply store.now.state log.new
+        tally.new }
 {
     let _ = store;
     recorded_calls_are_lawful::<T>();
     histories_lead_to_sound_states();
     steps_keep_the_store::<T>();
     free_calls_are_answered_so::<T>();
-    log.settle_end(call, reply, tally);
+    match reply {
+        Some(_) => log.settle_end(entry, tally),
+        None => {}
+    }
 }

@@ -1,21 +1,20 @@
 //! The history of a store, with its books.
 
 ghost use Rattle.std.specs.Prelude.{◌≡◌, ◌+◌, ◌^◌, ◌<◌, ◌≤◌, [], IfOk, IfSome, OnOk};
-ghost use Rattle.std.specs.Prelude.{OnErr, OnSome, IfNone, length, option_to_list};
+ghost use Rattle.std.specs.Prelude.{OnErr, OnSome, IfNone, length};
+ghost use Rattle.std.specs.Bool.{OnFalse, OnTrue};
 ghost use Rattle.shared_history.specs.Bases.{IsCounted, Trims, all_trimmed, counts_of, new_base};
 ghost use Rattle.shared_history.specs.Counts.{raised};
 ghost use Rattle.shared_records.specs.Kinds.{count, step_kind, step_of};
 ghost use Rattle.shared_records.specs.declared.step.Kind.TheVariants.{Made, Lent, Changed, Refused};
 ghost use Rattle.shared_records.specs.Letters.{Appends};
 ghost use Rattle.shared_records.specs.Records.{HasRecord};
-ghost use Rattle.shared_history.specs.Replies.{Records, tallied};
-ghost use Rattle.shared_history.specs.Standing.{lent_in};
+ghost use Rattle.shared_history.specs.Standing.{lent_by};
 
 use crate::base::{Base, TrimmedSteps};
 use crate::kept::KeptBase;
 use crate::tally::{Count, Tally};
-use generational_core::StepCall;
-use shared_records::{Kind, OldSteps, Step, StepList, StepReply};
+use shared_records::{Entry, Kind, OldSteps, Step, StepList, StepReply};
 use std::alloc::{AllocError, Global};
 use std::marker::Model;
 use std::mem;
@@ -124,19 +123,19 @@ impl<const NUMBER: u64, M: Count, L: Count, C: Count, R: Count> Log<NUMBER, M, L
     // Appends a step of the tally's worker, for which there is room.
     #[tactic(auto, using(crate::proofs::Appending::one_more))]
     #[inline(always)]
-    fn append(&mut self, call: StepCall, reply: StepReply, tally: &mut Tally<M, L, C, R>)
+    fn append<E: Entry>(&mut self, entry: E, tally: &mut Tally<M, L, C, R>)
         requires room { 0 < self.old.room }
-        requires record { HasRecord NUMBER call reply }
+        requires record { HasRecord NUMBER (E.as_call entry) (E.as_reply entry) }
         ensures base { self.new.base ≡ self.old.base }
-        ensures steps { Appends self.old.steps (step_of tally.old.worker call reply)
-            self.new.steps }
+        ensures steps { Appends self.old.steps
+            (step_of tally.old.worker (E.as_call entry) (E.as_reply entry)) self.new.steps }
         ensures standing { self.new.standing ≡ self.old.standing }
         ensures room { self.old.room ≤ self.new.room + 1 }
         ensures bounded { self.new.standing + self.new.room < 2 ^ 64 }
-        ensures tally { tally.new ≡ raised (step_kind reply) tally.old }
+        ensures tally { tally.new ≡ raised (step_kind (E.as_reply entry)) tally.old }
     {
-        self.history.append(tally.number(), call, reply);
-        match reply.kind() {
+        self.history.append(tally.number(), entry);
+        match kind_of(entry) {
             Kind::Made => {
                 self.made.add(&mut tally.made, 1);
                 self.made_steps += 1;
@@ -156,50 +155,36 @@ impl<const NUMBER: u64, M: Count, L: Count, C: Count, R: Count> Log<NUMBER, M, L
         }
     }
 
-    // Appends the step of the tally's worker, if the reply is one that is recorded. Where it begins
-    // a borrow, that stands from then on.
+    // Appends the step of the tally's worker. Where it begins a borrow, that stands from then on.
     #[inline(always)]
-    pub fn settle(
-        &mut self,
-        call: StepCall,
-        reply: Option<StepReply>,
-        tally: &mut Tally<M, L, C, R>,
-    )
+    pub fn settle<E: Entry>(&mut self, entry: E, tally: &mut Tally<M, L, C, R>)
         requires room { 1 < self.old.room }
-        requires record { IfSome reply (HasRecord NUMBER call) }
+        requires record { HasRecord NUMBER (E.as_call entry) (E.as_reply entry) }
         ensures base { self.new.base ≡ self.old.base }
-        ensures steps { Records self.old.steps tally.old.worker call reply self.new.steps }
-        ensures standing { self.new.standing ≡ self.old.standing + lent_in reply }
-        ensures tally { tally.new ≡ tallied reply tally.old }
+        ensures steps { Appends self.old.steps
+            (step_of tally.old.worker (E.as_call entry) (E.as_reply entry)) self.new.steps }
+        ensures standing { self.new.standing ≡ self.old.standing + lent_by (E.as_reply entry) }
+        ensures tally { tally.new ≡ raised (step_kind (E.as_reply entry)) tally.old }
     {
-        let Some(reply) = reply else {
-            return;
-        };
-        self.append(call, reply, tally);
-        if let StepReply::Reader(_) | StepReply::Writer(_) = reply {
+        self.append(entry, tally);
+        if begins_borrow(entry) {
             self.borrow_begins();
         }
     }
 
-    // Appends the step of a borrow's end, if it is one, and counts it. The step has room since the
-    // borrow began.
+    // Appends the step of a borrow's end, and counts it. It has room since the borrow began.
     #[inline(always)]
-    pub fn settle_end(
-        &mut self,
-        call: StepCall,
-        reply: Option<StepReply>,
-        tally: &mut Tally<M, L, C, R>,
-    )
-        requires standing { IfSome reply (λ r. 0 < self.old.standing) }
-        requires record { IfSome reply (HasRecord NUMBER call) }
+    pub fn settle_end<E: Entry>(&mut self, entry: E, tally: &mut Tally<M, L, C, R>)
+        requires standing { 0 < self.old.standing }
+        requires record { HasRecord NUMBER (E.as_call entry) (E.as_reply entry) }
         ensures base { self.new.base ≡ self.old.base }
-        ensures steps { Records self.old.steps tally.old.worker call reply self.new.steps }
-        ensures standing { self.new.standing + length (option_to_list reply) ≡ self.old.standing }
-        ensures tally { tally.new ≡ tallied reply tally.old }
+        ensures steps { Appends self.old.steps
+            (step_of tally.old.worker (E.as_call entry) (E.as_reply entry)) self.new.steps }
+        ensures standing { self.new.standing + 1 ≡ self.old.standing }
+        ensures tally { tally.new ≡ raised (step_kind (E.as_reply entry)) tally.old }
     {
-        if let Some(reply) = reply {
-            self.borrow_ends(call, reply, tally);
-        }
+        self.standing -= 1;
+        self.append(entry, tally);
     }
 
     // One borrow more stands, for whose release there is room.
@@ -212,21 +197,6 @@ impl<const NUMBER: u64, M: Count, L: Count, C: Count, R: Count> Log<NUMBER, M, L
         ensures standing { self.new.standing ≡ self.old.standing + 1 }
     {
         self.standing += 1;
-    }
-
-    // A borrow that stood is over: its release is appended, without any memory.
-    #[inline(always)]
-    fn borrow_ends(&mut self, call: StepCall, reply: StepReply, tally: &mut Tally<M, L, C, R>)
-        requires standing { 0 < self.old.standing }
-        requires record { HasRecord NUMBER call reply }
-        ensures base { self.new.base ≡ self.old.base }
-        ensures steps { Appends self.old.steps (step_of tally.old.worker call reply)
-            self.new.steps }
-        ensures standing { self.new.standing + 1 ≡ self.old.standing }
-        ensures tally { tally.new ≡ raised (step_kind reply) tally.old }
-    {
-        self.standing -= 1;
-        self.append(call, reply, tally);
     }
 
     // How many steps of each kind are trimmed where the history begins anew. None where they would
@@ -317,6 +287,23 @@ impl<const NUMBER: u64, M: Count, L: Count, C: Count, R: Count> Log<NUMBER, M, L
         let base = self.base.unpacked(self.alloc)?;
         Ok((base, steps))
     }
+}
+
+// The kind of a step.
+#[inline(always)]
+fn kind_of<E: Entry>(entry: E) -> Kind
+    ensures { result ≡ step_kind (E.as_reply entry) }
+{
+    entry.reply().kind()
+}
+
+// Whether a step begins a borrow.
+#[inline(always)]
+fn begins_borrow<E: Entry>(entry: E) -> bool
+    ensures begins { OnTrue result (lent_by (E.as_reply entry) ≡ 1) }
+    ensures none { OnFalse result (lent_by (E.as_reply entry) ≡ 0) }
+{
+    matches!(entry.reply(), StepReply::Reader(_) | StepReply::Writer(_))
 }
 
 /// Steps and room that are kept no more.

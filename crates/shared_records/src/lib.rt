@@ -6,6 +6,7 @@
 //! need.
 #![tactic(auto)]
 
+mod entry;
 mod places;
 mod record;
 mod short;
@@ -14,6 +15,11 @@ mod shorten;
 mod step;
 mod step_list;
 
+pub use crate::entry::{
+    AnyEntry, BoxEnded, BoxMade, BoxPointed, Entry, OwnerEnded, OwnerMade, ReadBegun, ReadDropped,
+    ReadEnded, ReferenceMade, SharedMade, ValueSet, WriteBegun, WriteEnded, making,
+    making_reference, making_shared,
+};
 pub use crate::record::{Record, pack};
 pub use crate::step::{Kind, Step, StepReply};
 pub use crate::step_list::{OldSteps, StepList};

@@ -29,72 +29,6 @@ pub enum Form {
     Two(u32, u32, Short),
 }
 
-/// How a step is kept in 16 bytes, or in twice as many; None where it has no form or a number
-/// doesn't fit.
-///
-/// The forms of the calls that are made most are inlined, and no others: a function that would grow
-/// very large isn't inlined at all.
-#[inline(always)]
-pub fn shorten(taken: Taken, places: &mut Places, call: StepCall, reply: StepReply) -> Option<Form>
-    ensures extends { Extends places.old places.new }
-    ensures form { IfSome result
-        (IsForm taken.number places.new taken.reached (step_of taken.worker call reply)) }
-{
-    match (call, reply) {
-        (StepCall::Leak(at), StepReply::Made(made)) => leak(taken, places, at, made),
-        (StepCall::LeakRc(at), StepReply::MadeShared(cell, made)) => {
-            leak_rc(taken, places, at, cell, made)
-        }
-        (StepCall::LeakReference(asked), StepReply::Made(made)) => {
-            leak_reference(taken, places, asked, made)
-        }
-        (StepCall::Insert(owner, at), StepReply::Made(made)) => {
-            insert(taken, places, owner, at, made)
-        }
-        (StepCall::InsertRc(owner, at), StepReply::MadeShared(cell, made)) => {
-            insert_rc(taken, places, owner, at, cell, made)
-        }
-        (StepCall::Read(asked, at), StepReply::Reader(ticket)) => {
-            read(taken, places, asked, at, ticket)
-        }
-        (StepCall::Read(asked, at), StepReply::Dropped(told)) => {
-            read_dropped(taken, places, asked, at, told)
-        }
-        (StepCall::Write(asked, at), StepReply::Writer(ticket)) => {
-            write(taken, places, asked, at, ticket)
-        }
-        (StepCall::Owner, StepReply::Owner(owner))
-            if owner.store == taken.number && owner.key == taken.reached.next => {
-            Some(Form::One(Short::Owner(taken.worker)))
-        }
-        (call, StepReply::Done) => shorten_done(taken, places, call),
-        _ => None,
-    }
-}
-
-// How a step is kept that was carried out and gives nothing.
-#[inline(always)]
-fn shorten_done(taken: Taken, places: &mut Places, call: StepCall) -> Option<Form>
-    ensures extends { Extends places.old places.new }
-    ensures form { IfSome result
-        (IsForm taken.number places.new taken.reached (step_of taken.worker call reply.Done)) }
-{
-    match call {
-        StepCall::ReleaseRead(ticket) => Some(Form::One(Short::ReleaseRead(taken.worker, ticket))),
-        StepCall::ReleaseWrite(ticket) => Some(Form::One(Short::ReleaseWrite(
-            taken.worker,
-            ticket,
-        ))),
-        StepCall::Set(asked) => set(taken, places, asked),
-        StepCall::ManuallyDrop(asked) => end(taken, places, asked),
-        StepCall::PointTo(asked, other) => point_to(taken, places, asked, other),
-        StepCall::ReleaseOwner(owner) if owner.store == taken.number => {
-            Some(Form::One(Short::ReleaseOwner(taken.worker, owner.key)))
-        }
-        _ => None,
-    }
-}
-
 // Whether the worker's number and the box's fit, and the box is of the store.
 #[inline(always)]
 fn fits(taken: Taken, asked: GenerationalPointer) -> bool
@@ -108,7 +42,12 @@ fn fits(taken: Taken, asked: GenerationalPointer) -> bool
 }
 
 #[inline(always)]
-fn leak(taken: Taken, places: &mut Places, at: Location, made: GenerationalPointer) -> Option<Form>
+pub fn leak(
+    taken: Taken,
+    places: &mut Places,
+    at: Location,
+    made: GenerationalPointer,
+) -> Option<Form>
     ensures extends { Extends places.old places.new }
     ensures form { IfSome result (IsForm taken.number places.new taken.reached
         (step_of taken.worker (call.Leak at) (reply.Made made))) }
@@ -126,8 +65,8 @@ fn leak(taken: Taken, places: &mut Places, at: Location, made: GenerationalPoint
     Some(Form::One(short))
 }
 
-#[inline(never)]
-fn insert(
+#[inline(always)]
+pub fn insert(
     taken: Taken,
     places: &mut Places,
     owner: OwnerId,
@@ -154,7 +93,7 @@ fn insert(
 }
 
 #[inline(always)]
-fn read(
+pub fn read(
     taken: Taken,
     places: &mut Places,
     asked: GenerationalPointer,
@@ -180,7 +119,7 @@ fn read(
 }
 
 #[inline(always)]
-fn read_dropped(
+pub fn read_dropped(
     taken: Taken,
     places: &mut Places,
     asked: GenerationalPointer,
@@ -206,7 +145,7 @@ fn read_dropped(
 }
 
 #[inline(always)]
-fn write(
+pub fn write(
     taken: Taken,
     places: &mut Places,
     asked: GenerationalPointer,
@@ -231,8 +170,8 @@ fn write(
     Some(Form::One(short))
 }
 
-#[inline(never)]
-fn set(taken: Taken, places: &mut Places, asked: GenerationalPointer) -> Option<Form>
+#[inline(always)]
+pub fn set(taken: Taken, places: &mut Places, asked: GenerationalPointer) -> Option<Form>
     ensures extends { Extends places.old places.new }
     ensures form { IfSome result (IsForm taken.number places.new taken.reached
         (step_of taken.worker (call.Set asked) reply.Done)) }
@@ -251,7 +190,7 @@ fn set(taken: Taken, places: &mut Places, asked: GenerationalPointer) -> Option<
 }
 
 #[inline(always)]
-fn end(taken: Taken, places: &mut Places, asked: GenerationalPointer) -> Option<Form>
+pub fn end(taken: Taken, places: &mut Places, asked: GenerationalPointer) -> Option<Form>
     ensures extends { Extends places.old places.new }
     ensures form { IfSome result (IsForm taken.number places.new taken.reached
         (step_of taken.worker (call.ManuallyDrop asked) reply.Done)) }
@@ -293,8 +232,8 @@ fn two(taken: Taken, first: GenerationalBoxId, short: Short) -> Option<Form>
     Some(Form::Two(first.slot as u32, first.generation as u32, short))
 }
 
-#[inline(never)]
-fn leak_rc(
+#[inline(always)]
+pub fn leak_rc(
     taken: Taken,
     places: &mut Places,
     at: Location,
@@ -318,8 +257,8 @@ fn leak_rc(
     two(taken, cell, short)
 }
 
-#[inline(never)]
-fn insert_rc(
+#[inline(always)]
+pub fn insert_rc(
     taken: Taken,
     places: &mut Places,
     owner: OwnerId,
@@ -346,8 +285,8 @@ fn insert_rc(
     two(taken, cell, short)
 }
 
-#[inline(never)]
-fn leak_reference(
+#[inline(always)]
+pub fn leak_reference(
     taken: Taken,
     places: &mut Places,
     asked: GenerationalPointer,
@@ -371,8 +310,8 @@ fn leak_reference(
     two(taken, asked.id, short)
 }
 
-#[inline(never)]
-fn point_to(
+#[inline(always)]
+pub fn point_to(
     taken: Taken,
     places: &mut Places,
     asked: GenerationalPointer,

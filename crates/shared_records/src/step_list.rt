@@ -2,17 +2,18 @@
 
 ghost use Rattle.std.specs.Prelude.{◌≡◌, ◌+◌, ◌<◌, ◌≤◌, ◌^◌, [], ◌∷◌, ◌++◌, IfOk, OnOk, OnErr};
 ghost use Rattle.std.specs.Prelude.{Some, length, map};
-ghost use Rattle.shared_records.specs.Decoding.{AreWithin, advanced, decode, reached_by};
+ghost use Rattle.shared_records.specs.Decoding.{AreWithin, decode, next_after, reached_by};
 ghost use Rattle.shared_records.specs.Decoding.{reached_first};
 ghost use Rattle.shared_records.specs.declared.short.Short.TheVariants.{Long};
 ghost use Rattle.shared_records.specs.Kinds.{step_of};
 ghost use Rattle.shared_records.specs.Letters.{Appends};
 ghost use Rattle.shared_records.specs.Records.{HasRecord, unpack};
 
+use crate::entry::Entry;
 use crate::places::Places;
 use crate::record::{Record, pack};
 use crate::short::{Reached, Short, decode_all};
-use crate::shorten::{Form, Taken, shorten};
+use crate::shorten::{Form, Taken};
 use crate::step::{Step, StepReply};
 use generational_core::StepCall;
 use shared_chunks::Chunks;
@@ -116,10 +117,11 @@ impl<const NUMBER: u64> StepList<NUMBER> {
     /// isn't kept yet, and where there is none, the step is kept in more bytes.
     #[tactic(auto, using(crate::proofs::Decodes::decode_length))]
     #[inline(always)]
-    pub fn append(&mut self, worker: u32, call: StepCall, reply: StepReply)
+    pub fn append<E: Entry>(&mut self, worker: u32, entry: E)
         requires room { 0 < self.old.room }
-        requires record { HasRecord NUMBER call reply }
-        ensures steps { Appends self.old.steps (step_of worker call reply) self.new.steps }
+        requires record { HasRecord NUMBER (E.as_call entry) (E.as_reply entry) }
+        ensures steps { Appends self.old.steps
+            (step_of worker (E.as_call entry) (E.as_reply entry)) self.new.steps }
         ensures room { self.new.room + 1 ≡ self.old.room }
         ensures bounded { length self.new.steps + self.new.room < 2 ^ 64 }
     {
@@ -135,8 +137,7 @@ impl<const NUMBER: u64> StepList<NUMBER> {
             &mut self.places,
             &mut self.short,
             &mut self.long,
-            call,
-            reply,
+            entry,
         );
         self.len += 1;
     }
@@ -195,14 +196,13 @@ pub struct OldSteps {
 // Appends a step to the short steps, where decoding begins at `start`. The answer is what it comes to
 // after the step.
 #[inline(always)]
-fn keep(
+fn keep<E: Entry>(
     taken: Taken,
     start: u64,
     places: &mut Places,
     list: &mut Chunks<Short>,
     long: &mut Chunks<Record>,
-    call: StepCall,
-    reply: StepReply,
+    entry: E,
 ) -> Reached
     requires within { AreWithin (length places.old)
         (length (map (unpack taken.number) long.old.items)) list.old.items }
@@ -210,7 +210,7 @@ fn keep(
         reached_by taken.number places.old (map (unpack taken.number) long.old.items)
         (reached_first start) list.old.items }
     requires room { (1 < list.old.room) × (0 < long.old.room) }
-    requires record { HasRecord taken.number call reply }
+    requires record { HasRecord taken.number (E.as_call entry) (E.as_reply entry) }
     ensures within { AreWithin (length places.new)
         (length (map (unpack taken.number) long.new.items)) list.new.items }
     ensures reached { result ≡
@@ -219,51 +219,58 @@ fn keep(
     ensures steps { Appends
         (decode taken.number places.old (map (unpack taken.number) long.old.items)
         (reached_first start) list.old.items)
-        (step_of taken.worker call reply)
+        (step_of taken.worker (E.as_call entry) (E.as_reply entry))
         (decode taken.number places.new (map (unpack taken.number) long.new.items)
         (reached_first start) list.new.items) }
     ensures room { list.old.room ≤ list.new.room + 2 }
     ensures bounded { length list.new.items + list.new.room < 2 ^ 64 }
     ensures long { long.old.room ≤ long.new.room + 1 }
 {
-    match shorten(taken, places, call, reply) {
+    match entry.form(taken, places) {
         Some(Form::One(short)) => {
             list.push(short);
-            taken.reached.after(reply)
+            after(taken.reached, entry)
         }
         Some(Form::Two(slot, generation, short)) => {
             list.push(Short::Name(slot, generation));
             list.push(short);
-            taken.reached.named(slot, generation).after(reply)
+            after(taken.reached.named(slot, generation), entry)
         }
         None => {
-            keep_whole(taken.number, taken.worker, list, long, call, reply);
-            taken.reached.after(reply)
+            keep_whole(taken.number, taken.worker, list, long, entry);
+            after(taken.reached, entry)
         }
     }
+}
+
+// What decoding comes to after the step.
+#[inline(always)]
+fn after<E: Entry>(reached: Reached, entry: E) -> Reached
+    ensures { result ≡ record reached { next = next_after reached.next (E.as_reply entry) } }
+{
+    reached.after(entry.reply())
 }
 
 // Appends a step that has no short form. It is a function of its own that is inlined, so that what is
 // handed to the other is put into memory here, and not where a short step is kept.
 #[inline(always)]
-fn keep_whole(
+fn keep_whole<E: Entry>(
     number: u64,
     worker: u32,
     list: &mut Chunks<Short>,
     long: &mut Chunks<Record>,
-    call: StepCall,
-    reply: StepReply,
+    entry: E,
 )
     requires room { (0 < list.old.room) × (0 < long.old.room) }
-    requires record { HasRecord number call reply }
+    requires record { HasRecord number (E.as_call entry) (E.as_reply entry) }
     ensures list { list.new.items ≡ list.old.items ++ Long (length long.old.items) ∷ [] }
     ensures room { list.new.room + 1 ≡ list.old.room }
     ensures bounded { length list.new.items + list.new.room < 2 ^ 64 }
-    ensures long { map (unpack number) long.new.items
-        ≡ map (unpack number) long.old.items ++ step_of worker call reply ∷ [] }
+    ensures long { map (unpack number) long.new.items ≡ map (unpack number) long.old.items
+        ++ step_of worker (E.as_call entry) (E.as_reply entry) ∷ [] }
     ensures long_room { long.new.room + 1 ≡ long.old.room }
 {
-    push_whole(number, worker, list, long, call, reply);
+    push_whole(number, worker, list, long, entry.call(), entry.reply());
 }
 
 #[cold]

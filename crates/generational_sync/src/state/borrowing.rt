@@ -14,16 +14,16 @@ ghost use Rattle.generational_sync.specs.Keeping.{IsHindered};
 ghost use Rattle.generational_sync.specs.Shared.{IsStep};
 ghost use Rattle.shared_history.specs.Replies.{set_answer};
 
-use super::{SyncState, settle, settle_end, settle_refused};
+use super::{SyncState, settle, settle_any, settle_end, settle_refused, settle_refused_read};
 use generational_box::laws::calls_are_ready_where_no_borrow_is_told;
 use generational_box::{
     AnyStorage, BorrowMutError, BorrowMutResult, BorrowResult, GenerationalBox,
     GenerationalPointer, GenerationalRef, GenerationalRefMut, Location, Refused, StepCall, Storage,
     StoreError, UnsyncStorage, ValueDroppedError,
 };
-use shared_history::replies::{back_reply, end_refusal, flag_reply, read_refusal, set_reply};
+use shared_history::replies::{back_reply, end_refusal, flag_reply, read_refusal};
 use shared_history::{Count, Tally};
-use shared_records::StepReply;
+use shared_records::{ReadBegun, ReadEnded, ValueSet, WriteBegun, WriteEnded};
 
 impl<T: Drop, const NUMBER: u64, M: Count, L: Count, C: Count, R: Count> SyncState<
     T,
@@ -88,15 +88,18 @@ impl<T: Drop, const NUMBER: u64, M: Count, L: Count, C: Count, R: Count> SyncSta
         calls_are_ready_where_no_borrow_is_told::<T>();
         match begin_read(&mut self.store, pointer, location) {
             Ok(guard) => {
-                let call = StepCall::Read(pointer, location);
-                let reply = Some(StepReply::Reader(guard.ticket()));
-                settle(&self.store, &mut self.log, call, reply, tally);
+                let entry = ReadBegun {
+                    asked: pointer,
+                    at: location,
+                    ticket: guard.ticket(),
+                };
+                settle(&self.store, &mut self.log, entry, tally);
                 Some(Ok(guard))
             }
             Err(refused) => {
-                let call = StepCall::Read(pointer, location);
                 let reply = read_refusal::<T>(&refused);
-                if !settle_refused(&self.store, &mut self.log, call, reply, tally) {
+                let (store, log) = (&self.store, &mut self.log);
+                if !settle_refused_read(store, log, pointer, location, reply, tally) {
                     return None;
                 }
                 Some(Err(refused))
@@ -179,9 +182,12 @@ impl<T: Drop, const NUMBER: u64, M: Count, L: Count, C: Count, R: Count> SyncSta
         calls_are_ready_where_no_borrow_is_told::<T>();
         match self.store.try_write(pointer, location) {
             Ok(guard) => {
-                let call = StepCall::Write(pointer, location);
-                let reply = Some(StepReply::Writer(guard.ticket()));
-                settle(&self.store, &mut self.log, call, reply, tally);
+                let entry = WriteBegun {
+                    asked: pointer,
+                    at: location,
+                    ticket: guard.ticket(),
+                };
+                settle(&self.store, &mut self.log, entry, tally);
                 Some(Ok(guard))
             }
             Err(refused) => {
@@ -228,10 +234,12 @@ impl<T: Drop, const NUMBER: u64, M: Count, L: Count, C: Count, R: Count> SyncSta
         ensures step { IsStep NUMBER self.old tally.old (ReleaseReader guard) (Flag result) self.new
             tally.new }
     {
-        let call = StepCall::ReleaseRead(guard.ticket());
+        let entry = ReadEnded {
+            ticket: guard.ticket(),
+        };
         let known = self.store.release_read(guard);
         let reply = flag_reply::<T>(known);
-        settle_end(&self.store, &mut self.log, call, reply, tally);
+        settle_end(&self.store, &mut self.log, entry, reply, tally);
         known
     }
 
@@ -251,10 +259,12 @@ impl<T: Drop, const NUMBER: u64, M: Count, L: Count, C: Count, R: Count> SyncSta
         ensures step { IsStep NUMBER self.old tally.old (ReleaseWriter guard.guard guard.value)
             (back_answer result) self.new tally.new }
     {
-        let call = StepCall::ReleaseWrite(guard.ticket());
+        let entry = WriteEnded {
+            ticket: guard.ticket(),
+        };
         let released = self.store.release_write(guard);
         let reply = back_reply(&released);
-        settle_end(&self.store, &mut self.log, call, reply, tally);
+        settle_end(&self.store, &mut self.log, entry, reply, tally);
         released
     }
 
@@ -289,11 +299,19 @@ impl<T: Drop, const NUMBER: u64, M: Count, L: Count, C: Count, R: Count> SyncSta
             return Err((value, Refused::Store(StoreError::OutOfMemory)));
         }
         let pointer = asked.pointer();
-        let call = StepCall::Set(pointer);
-        let set = set_value(&mut self.store, pointer, value);
-        let reply = set_reply(&set);
-        settle(&self.store, &mut self.log, call, reply, tally);
-        set
+        match set_value(&mut self.store, pointer, value) {
+            Ok(_) => {
+                let entry = ValueSet { asked: pointer };
+                settle(&self.store, &mut self.log, entry, tally);
+                Ok(())
+            }
+            Err(back) => {
+                let call = StepCall::Set(pointer);
+                let reply = end_refusal::<T>(&back.1);
+                settle_any(&self.store, &mut self.log, call, reply, tally);
+                Err(back)
+            }
+        }
     }
 }
 

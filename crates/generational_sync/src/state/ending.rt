@@ -8,15 +8,15 @@ ghost use Rattle.generational_core.specs.StepCalls.{id_of_owner, is_ready};
 ghost use Rattle.generational_sync.specs.Keeping.{IsHindered};
 ghost use Rattle.generational_sync.specs.Shared.{IsStep};
 
-use super::{SyncState, settle, settle_refused};
+use super::{SyncState, settle, settle_any, settle_refused};
 use generational_box::laws::calls_are_ready_where_no_borrow_is_told;
 use generational_box::{
     AnyStorage, BorrowMutError, BorrowMutResult, GenerationalBox, Owner, Refused, StepCall,
     Storage, StoreError,
 };
-use shared_history::replies::{end_refusal, end_reply, release_reply};
+use shared_history::replies::end_refusal;
 use shared_history::{Count, Tally};
-use shared_records::StepReply;
+use shared_records::{BoxEnded, BoxPointed, OwnerEnded};
 
 impl<T: Drop, const NUMBER: u64, M: Count, L: Count, C: Count, R: Count> SyncState<
     T,
@@ -76,9 +76,8 @@ impl<T: Drop, const NUMBER: u64, M: Count, L: Count, C: Count, R: Count> SyncSta
         calls_are_ready_where_no_borrow_is_told::<T>();
         match self.store.recycle(pointer) {
             Ok(_) => {
-                let call = StepCall::ManuallyDrop(pointer);
-                let reply = Some(StepReply::Done);
-                settle(&self.store, &mut self.log, call, reply, tally);
+                let entry = BoxEnded { asked: pointer };
+                settle(&self.store, &mut self.log, entry, tally);
                 Some(Ok(()))
             }
             Err(refused) => {
@@ -127,11 +126,22 @@ impl<T: Drop, const NUMBER: u64, M: Count, L: Count, C: Count, R: Count> SyncSta
         }
         let pointer = asked.pointer();
         let target = other.pointer();
-        let call = StepCall::PointTo(pointer, target);
-        let pointed = self.store.change_reference(pointer, target);
-        let reply = end_reply::<T>(&pointed);
-        settle(&self.store, &mut self.log, call, reply, tally);
-        pointed
+        match self.store.change_reference(pointer, target) {
+            Ok(_) => {
+                let entry = BoxPointed {
+                    asked: pointer,
+                    other: target,
+                };
+                settle(&self.store, &mut self.log, entry, tally);
+                Ok(())
+            }
+            Err(refused) => {
+                let call = StepCall::PointTo(pointer, target);
+                let reply = end_refusal::<T>(&refused);
+                settle_any(&self.store, &mut self.log, call, reply, tally);
+                Err(refused)
+            }
+        }
     }
 
     /// Spends an owner value, in whose way no borrow stands. With the last one of its record all
@@ -160,10 +170,19 @@ impl<T: Drop, const NUMBER: u64, M: Count, L: Count, C: Count, R: Count> SyncSta
         if self.log.reserve(2).is_err() {
             return Err((owner, Refused::Store(StoreError::OutOfMemory)));
         }
-        let call = StepCall::ReleaseOwner(owner.id());
-        let released = self.store.release_owner(owner);
-        let reply = release_reply::<T>(&released);
-        settle(&self.store, &mut self.log, call, reply, tally);
-        released
+        let id = owner.id();
+        match self.store.release_owner(owner) {
+            Ok(_) => {
+                let entry = OwnerEnded { owner: id };
+                settle(&self.store, &mut self.log, entry, tally);
+                Ok(())
+            }
+            Err(back) => {
+                let call = StepCall::ReleaseOwner(id);
+                let reply = end_refusal::<T>(&back.1);
+                settle_any(&self.store, &mut self.log, call, reply, tally);
+                Err(back)
+            }
+        }
     }
 }

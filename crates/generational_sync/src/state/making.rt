@@ -1,6 +1,6 @@
 //! Calls that make boxes and owners.
 
-ghost use Rattle.std.specs.Prelude.{◌≡◌, true, None, Some, IfOk, IfErr, option_copied};
+ghost use Rattle.std.specs.Prelude.{◌≡◌, true, None, Some, IfOk, IfErr, is_some, option_copied};
 ghost use Rattle.generational_core.specs.declared.steps.StepCall.TheVariants as call;
 ghost use Rattle.generational_core.specs.Answers.{box_answer, owner_answer, pointer_of};
 ghost use Rattle.generational_core.specs.Answers.{reference_box_answer};
@@ -8,16 +8,19 @@ ghost use Rattle.generational_core.specs.Machine.Action.{CloneOwner, Make, MakeS
 ghost use Rattle.generational_core.specs.Machine.Action.{Refer};
 ghost use Rattle.generational_core.specs.StepCalls.{id_of_owner, is_ready, recorded_as, target_of};
 ghost use Rattle.generational_sync.specs.Shared.{IsStep};
+ghost use Rattle.shared_records.specs.Kinds.{made_by, referred_by, shared_by};
 
-use super::{SyncState, settle, settle_refused};
+use super::{SyncState, settle, settle_any, settle_refused};
 use generational_box::{
     AnyStorage, BorrowResult, GenerationalBox, GenerationalBoxId, GenerationalPointer, Location,
-    Owner, Refusal, Refused, StepCall, Storage, StoreError, UnsyncStorage,
+    Owner, OwnerId, Refusal, Refused, StepCall, Storage, StoreError, UnsyncStorage,
 };
 use generational_core::parts::box_at;
-use shared_history::replies::{owner_reply, reference_reply, shared_reply, store_reply};
+use shared_history::replies::{owner_reply, read_refusal, store_reply};
 use shared_history::{Count, Tally};
-use shared_records::StepReply;
+use shared_records::{
+    BoxMade, OwnerMade, ReferenceMade, SharedMade, making, making_reference, making_shared,
+};
 
 impl<T: Drop, const NUMBER: u64, M: Count, L: Count, C: Count, R: Count> SyncState<
     T,
@@ -47,7 +50,7 @@ impl<T: Drop, const NUMBER: u64, M: Count, L: Count, C: Count, R: Count> SyncSta
             (box_answer result) self.new tally.new }
         ensures back { IfErr result (λ r. r.value ≡ value) }
     {
-        self.make(None, StepCall::Leak(location), value, location, tally)
+        self.make(None, None, value, location, tally)
     }
 
     /// A new box of a value, which ends when the last owner value of this record is released. The
@@ -74,21 +77,21 @@ impl<T: Drop, const NUMBER: u64, M: Count, L: Count, C: Count, R: Count> SyncSta
             (box_answer result) self.new tally.new }
         ensures back { IfErr result (λ r. r.value ≡ value) }
     {
-        let call = StepCall::Insert(owner.id(), location);
-        self.make(Some(owner), call, value, location, tally)
+        self.make(Some(owner), Some(owner.id()), value, location, tally)
     }
 
-    // Makes a box of a value, on the owner's list if there is one, by the call that is recorded so.
+    // Makes a box of a value, on the list of the owner with this id if there is one.
     #[inline(always)]
     fn make(
         &mut self,
         owner: Option<&Owner>,
-        call: StepCall,
+        id: Option<OwnerId>,
         value: T,
         location: Location,
         tally: &mut Tally<M, L, C, R>,
     ) -> Result<GenerationalBox<T>, Refusal<T>>
-        requires { recorded_as (Make (option_copied owner) value location) ≡ Some call }
+        requires { recorded_as (Make (option_copied owner) value location)
+            ≡ Some (made_by id location) }
         ensures step { IsStep NUMBER self.old tally.old
             (Make (option_copied owner.entry) value location) (box_answer result) self.new tally.new }
         ensures back { IfErr result (λ r. r.value ≡ value) }
@@ -99,11 +102,16 @@ impl<T: Drop, const NUMBER: u64, M: Count, L: Count, C: Count, R: Count> SyncSta
         }
         match self.store.new(value, location, owner) {
             Ok(pointer) => {
-                let reply = Some(StepReply::Made(pointer));
-                settle(&self.store, &mut self.log, call, reply, tally);
+                let entry = BoxMade {
+                    owner: id,
+                    at: location,
+                    made: pointer,
+                };
+                settle(&self.store, &mut self.log, entry, tally);
                 Ok(box_at(pointer))
             }
             Err(refusal) => {
+                let call = making(id, location);
                 let reply = store_reply::<T>(refusal.cause);
                 settle_refused(&self.store, &mut self.log, call, reply, tally);
                 Err(refusal)
@@ -133,7 +141,7 @@ impl<T: Drop, const NUMBER: u64, M: Count, L: Count, C: Count, R: Count> SyncSta
             (box_answer result) self.new tally.new }
         ensures back { IfErr result (λ r. r.value ≡ value) }
     {
-        self.make_shared(None, StepCall::LeakRc(location), value, location, tally)
+        self.make_shared(None, None, value, location, tally)
     }
 
     /// A new shared value, and a first reference to it, whose box is given. The reference ends
@@ -162,22 +170,22 @@ impl<T: Drop, const NUMBER: u64, M: Count, L: Count, C: Count, R: Count> SyncSta
             (box_answer result) self.new tally.new }
         ensures back { IfErr result (λ r. r.value ≡ value) }
     {
-        let call = StepCall::InsertRc(owner.id(), location);
-        self.make_shared(Some(owner), call, value, location, tally)
+        self.make_shared(Some(owner), Some(owner.id()), value, location, tally)
     }
 
-    // Makes a shared value and a first reference to it, on the owner's list if there is one, by the
-    // call that is recorded so.
+    // Makes a shared value and a first reference to it, on the list of the owner with this id if there
+    // is one.
     #[inline(always)]
     fn make_shared(
         &mut self,
         owner: Option<&Owner>,
-        call: StepCall,
+        id: Option<OwnerId>,
         value: T,
         location: Location,
         tally: &mut Tally<M, L, C, R>,
     ) -> Result<GenerationalBox<T>, Refusal<T>>
-        requires { recorded_as (MakeShared (option_copied owner) value location) ≡ Some call }
+        requires { recorded_as (MakeShared (option_copied owner) value location)
+            ≡ Some (shared_by id location) }
         ensures step { IsStep NUMBER self.old tally.old
             (MakeShared (option_copied owner.entry) value location) (box_answer result) self.new
             tally.new }
@@ -187,13 +195,23 @@ impl<T: Drop, const NUMBER: u64, M: Count, L: Count, C: Count, R: Count> SyncSta
             let cause = StoreError::OutOfMemory;
             return Err(Refusal { value, cause });
         }
-        let made = self.store.new_rc(value, location, owner);
-        let shared = shared_cell(&self.store, &made);
-        let reply = shared_reply(&made, shared);
-        settle(&self.store, &mut self.log, call, reply, tally);
-        match made {
-            Ok(pointer) => Ok(box_at(pointer)),
-            Err(refusal) => Err(refusal),
+        match self.store.new_rc(value, location, owner) {
+            Ok(pointer) => {
+                let entry = SharedMade {
+                    owner: id,
+                    at: location,
+                    cell: shared_cell(&self.store, pointer),
+                    made: pointer,
+                };
+                settle(&self.store, &mut self.log, entry, tally);
+                Ok(box_at(pointer))
+            }
+            Err(refusal) => {
+                let call = making_shared(id, location);
+                let reply = store_reply::<T>(refusal.cause);
+                settle_any(&self.store, &mut self.log, call, reply, tally);
+                Err(refusal)
+            }
         }
     }
 
@@ -222,7 +240,7 @@ impl<T: Drop, const NUMBER: u64, M: Count, L: Count, C: Count, R: Count> SyncSta
             (reference_box_answer result) self.new tally.new }
     {
         let asked = asked.pointer();
-        self.refer(None, StepCall::LeakReference(asked), asked, tally)
+        self.refer(None, None, asked, tally)
     }
 
     /// One reference more to the shared value that a box reaches, at which no writer stands.
@@ -255,34 +273,43 @@ impl<T: Drop, const NUMBER: u64, M: Count, L: Count, C: Count, R: Count> SyncSta
             (reference_box_answer result) self.new tally.new }
     {
         let asked = asked.pointer();
-        let call = StepCall::InsertReference(owner.id(), asked);
-        self.refer(Some(owner), call, asked, tally)
+        self.refer(Some(owner), Some(owner.id()), asked, tally)
     }
 
-    // Makes a reference to what the box reaches, on the owner's list if there is one, by the call
-    // that is recorded so.
+    // Makes a reference to what the box reaches, on the list of the owner with this id if there is one.
     #[inline(always)]
     fn refer(
         &mut self,
         owner: Option<&Owner>,
-        call: StepCall,
+        id: Option<OwnerId>,
         asked: GenerationalPointer,
         tally: &mut Tally<M, L, C, R>,
     ) -> BorrowResult<GenerationalBox<T>>
-        requires call { recorded_as {T = T} (Refer (option_copied owner) asked) ≡ Some call }
-        requires ready { is_ready self.old.state call ≡ true }
+        requires call { recorded_as {T = T} (Refer (option_copied owner) asked)
+            ≡ Some (referred_by id asked) }
+        requires ready { is_ready self.old.state (referred_by id asked) ≡ true }
         ensures step { IsStep NUMBER self.old tally.old (Refer (option_copied owner.entry) asked)
             (reference_box_answer result) self.new tally.new }
     {
         if self.log.reserve(2).is_err() {
             return Err(Refused::Store(StoreError::OutOfMemory));
         }
-        let made = self.store.new_reference(asked, owner);
-        let reply = reference_reply::<T>(&made);
-        settle(&self.store, &mut self.log, call, reply, tally);
-        match made {
-            Ok(pointer) => Ok(box_at(pointer)),
-            Err(refused) => Err(refused),
+        match self.store.new_reference(asked, owner) {
+            Ok(pointer) => {
+                let entry = ReferenceMade {
+                    owner: id,
+                    asked,
+                    made: pointer,
+                };
+                settle(&self.store, &mut self.log, entry, tally);
+                Ok(box_at(pointer))
+            }
+            Err(refused) => {
+                let call = making_reference(id, asked);
+                let reply = read_refusal::<T>(&refused);
+                settle_any(&self.store, &mut self.log, call, reply, tally);
+                Err(refused)
+            }
         }
     }
 
@@ -302,10 +329,18 @@ impl<T: Drop, const NUMBER: u64, M: Count, L: Count, C: Count, R: Count> SyncSta
         if self.log.reserve(2).is_err() {
             return Err(StoreError::OutOfMemory);
         }
-        let owner = self.store.owner();
-        let reply = owner_reply::<T>(&owner);
-        settle(&self.store, &mut self.log, StepCall::Owner, reply, tally);
-        owner
+        match self.store.owner() {
+            Ok(owner) => {
+                let entry = OwnerMade { owner: owner.id() };
+                settle(&self.store, &mut self.log, entry, tally);
+                Ok(owner)
+            }
+            Err(error) => {
+                let reply = store_reply::<T>(error);
+                settle_any(&self.store, &mut self.log, StepCall::Owner, reply, tally);
+                Err(error)
+            }
+        }
     }
 
     /// Another owner value of the same record.
@@ -332,20 +367,16 @@ impl<T: Drop, const NUMBER: u64, M: Count, L: Count, C: Count, R: Count> SyncSta
         let call = StepCall::CloneOwner(owner.id());
         let clone = self.store.clone_owner(owner);
         let reply = owner_reply::<T>(&clone);
-        settle(&self.store, &mut self.log, call, reply, tally);
+        settle_any(&self.store, &mut self.log, call, reply, tally);
         clone
     }
 }
 
 // The cell that the box of a new shared value names.
-fn shared_cell<T: Drop>(
-    store: &UnsyncStorage<T>,
-    made: &Result<GenerationalPointer, Refusal<T>>,
-) -> Option<GenerationalBoxId>
-    ensures { IfOk made.now (λ b. result ≡ target_of store.now.state b) }
+#[inline(always)]
+fn shared_cell<T: Drop>(store: &UnsyncStorage<T>, made: GenerationalPointer) -> GenerationalBoxId
+    requires { is_some (target_of store.now.state made) ≡ true }
+    ensures { Some result ≡ target_of store.now.state made }
 {
-    match made {
-        Ok(pointer) => store.target(*pointer),
-        Err(_) => None,
-    }
+    store.target(made).unwrap()
 }

@@ -2,8 +2,8 @@ use Rattle.std.proofs.Common.{rules, sym, ◌∙◌}
 use Rattle.generational_sync.proofs.Granting.{refused_answered}
 use Rattle.generational_sync.proofs.state.settle_seldom.Goals as goal
 
-pub settle-requires : goal.settle-requires
-settle-requires g c = (
+pub settle_told-requires : goal.settle_told-requires
+settle_told-requires g c = (
   search rules,
   (
     search rules,

@@ -18,78 +18,78 @@ stay : (places : List Location) → Extends places places
 stay places = record { more = []; is = sym (append-nil places) }
 
 pub returns-in-Some-One-clause-within : goal.returns-in-Some-One-clause-within
-returns-in-Some-One-clause-within c =
+returns-in-Some-One-clause-within g c =
     let arm = c.in-Some-One in
     let ls = map (unpack c.args.taken.number) c.args.long.now.items in
-    let wider = c.shorten.new.places in
+    let wider = c.form.new.places in
     let stands = subst (λ f. IsForm c.args.taken.number wider c.args.taken.reached
-    (step_of c.args.taken.worker c.args.call c.args.reply) f) arm.field-0-is arm.ensures.form in
+    (step_of c.args.taken.worker (g.E.Entry.as_call c.args.entry) (g.E.Entry.as_reply c.args.entry)) f) arm.field-0-is arm.ensures.form in
     grown_within c.args.taken.number (reached_first c.args.start) c.args.places.now wider ls ls
-    c.args.list.now.items c.push.new.self.items arm.short c.shorten.ensures.extends []
+    c.args.list.now.items c.push.new.self.items arm.short c.form.ensures.extends []
     (sym (append-nil ls)) c.push.ensures.items c.requires.within
     (within_grows (length wider) 0 (length wider) (length ls) arm.short (omega arith) (omega arith)
     stands.within)
 
 pub returns-in-Some-One-clause-reached : goal.returns-in-Some-One-clause-reached
-returns-in-Some-One-clause-reached c =
+returns-in-Some-One-clause-reached g c =
     let arm = c.in-Some-One in
     let ls = map (unpack c.args.taken.number) c.args.long.now.items in
-    let wider = c.shorten.new.places in
+    let wider = c.form.new.places in
     let stands = subst (λ f. IsForm c.args.taken.number wider c.args.taken.reached
-    (step_of c.args.taken.worker c.args.call c.args.reply) f) arm.field-0-is arm.ensures.form in
+    (step_of c.args.taken.worker (g.E.Entry.as_call c.args.entry) (g.E.Entry.as_reply c.args.entry)) f) arm.field-0-is arm.ensures.form in
     c.after.ensures
     ∙ sym (stands.goes_on ls)
     ∙ grown_reached c.args.taken.number (reached_first c.args.start) c.args.places.now wider ls ls
-    c.args.list.now.items c.push.new.self.items arm.short c.shorten.ensures.extends []
+    c.args.list.now.items c.push.new.self.items arm.short c.form.ensures.extends []
     (sym (append-nil ls)) c.push.ensures.items c.requires.within c.args.taken.reached
     c.requires.reached
 
 pub returns-in-Some-One-clause-steps : goal.returns-in-Some-One-clause-steps
-returns-in-Some-One-clause-steps c =
+returns-in-Some-One-clause-steps g c =
     let arm = c.in-Some-One in
     let n = c.args.taken.number in
     let start = reached_first c.args.start in
     let ls = map (unpack n) c.args.long.now.items in
-    let wider = c.shorten.new.places in
-    let step = step_of c.args.taken.worker c.args.call c.args.reply in
+    let wider = c.form.new.places in
+    let step = step_of c.args.taken.worker (g.E.Entry.as_call c.args.entry) (g.E.Entry.as_reply c.args.entry) in
     let stands = subst (λ f. IsForm n wider c.args.taken.reached step f) arm.field-0-is
     arm.ensures.form in
     appends_one (decode n c.args.places.now ls start c.args.list.now.items)
     (decode n wider ls start c.push.new.self.items)
     (step_at n wider ls c.args.taken.reached arm.short) step
     (grown_steps n start c.args.places.now wider ls ls c.args.list.now.items c.push.new.self.items
-    arm.short c.shorten.ensures.extends [] (sym (append-nil ls)) c.push.ensures.items
+    arm.short c.form.ensures.extends [] (sym (append-nil ls)) c.push.ensures.items
     c.requires.within c.args.taken.reached c.requires.reached) (stands.same ls)
 
 pub returns-in-Some-Two-clause-within : goal.returns-in-Some-Two-clause-within
-returns-in-Some-Two-clause-within c =
+returns-in-Some-Two-clause-within g c =
     let arm = c.in-Some-Two in
     let n = c.args.taken.number in
     let start = reached_first c.args.start in
     let places = c.args.places.now in
     let ls = map (unpack n) c.args.long.now.items in
-    let wider = c.shorten.new.places in
-    let step = step_of c.args.taken.worker c.args.call c.args.reply in
+    let wider = c.form.new.places in
+    let step = step_of c.args.taken.worker (g.E.Entry.as_call c.args.entry) (g.E.Entry.as_reply c.args.entry) in
     let stands = subst (λ f. IsForm n wider c.args.taken.reached step f) arm.field-0-is
     arm.ensures.form in
     let one = grown_within n start places places ls ls c.args.list.now.items c.push-in-Some-Two.new.self.items
     (short.Name arm.slot arm.generation) (stay places) [] (sym (append-nil ls)) c.push-in-Some-Two.ensures.items
     c.requires.within tt in
     grown_within n start places wider ls ls c.push-in-Some-Two.new.self.items c.push-in-Some-Two-2.new.self.items arm.short
-    c.shorten.ensures.extends [] (sym (append-nil ls)) c.push-in-Some-Two-2.ensures.items one
+    c.form.ensures.extends [] (sym (append-nil ls)) c.push-in-Some-Two-2.ensures.items one
     (within_grows (length wider) 0 (length wider) (length ls) arm.short (omega arith) (omega arith)
     stands.within)
 
 pub returns-in-Some-Two-clause-reached : goal.returns-in-Some-Two-clause-reached
-returns-in-Some-Two-clause-reached c =
+returns-in-Some-Two-clause-reached g c =
     let arm = c.in-Some-Two in
     let n = c.args.taken.number in
     let start = reached_first c.args.start in
     let places = c.args.places.now in
     let ls = map (unpack n) c.args.long.now.items in
-    let wider = c.shorten.new.places in
-    let reply = c.args.reply in
-    let step = step_of c.args.taken.worker c.args.call reply in
+    let wider = c.form.new.places in
+    let reply = g.E.Entry.as_reply c.args.entry in
+    let step = step_of c.args.taken.worker (g.E.Entry.as_call c.args.entry) reply in
     let name = short.Name arm.slot arm.generation in
     let now = named c.args.taken.reached name in
     let stands = subst (λ f. IsForm n wider c.args.taken.reached step f) arm.field-0-is
@@ -103,17 +103,17 @@ returns-in-Some-Two-clause-reached c =
     ∙ ap (λ (r : Reached). advanced r (Some step)) c.named.ensures
     ∙ sym (stands.goes_on ls)
     ∙ grown_reached n start places wider ls ls c.push-in-Some-Two.new.self.items c.push-in-Some-Two-2.new.self.items arm.short
-    c.shorten.ensures.extends [] (sym (append-nil ls)) c.push-in-Some-Two-2.ensures.items one now come
+    c.form.ensures.extends [] (sym (append-nil ls)) c.push-in-Some-Two-2.ensures.items one now come
 
 pub returns-in-Some-Two-clause-steps : goal.returns-in-Some-Two-clause-steps
-returns-in-Some-Two-clause-steps c =
+returns-in-Some-Two-clause-steps g c =
     let arm = c.in-Some-Two in
     let n = c.args.taken.number in
     let start = reached_first c.args.start in
     let places = c.args.places.now in
     let ls = map (unpack n) c.args.long.now.items in
-    let wider = c.shorten.new.places in
-    let step = step_of c.args.taken.worker c.args.call c.args.reply in
+    let wider = c.form.new.places in
+    let step = step_of c.args.taken.worker (g.E.Entry.as_call c.args.entry) (g.E.Entry.as_reply c.args.entry) in
     let name = short.Name arm.slot arm.generation in
     let now = named c.args.taken.reached name in
     let stands = subst (λ f. IsForm n wider c.args.taken.reached step f) arm.field-0-is
@@ -131,52 +131,52 @@ returns-in-Some-Two-clause-steps c =
     appends_one (decode n places ls start c.args.list.now.items)
     (decode n wider ls start c.push-in-Some-Two-2.new.self.items) (step_at n wider ls now arm.short) step
     (grown_steps n start places wider ls ls c.push-in-Some-Two.new.self.items c.push-in-Some-Two-2.new.self.items arm.short
-    c.shorten.ensures.extends [] (sym (append-nil ls)) c.push-in-Some-Two-2.ensures.items one now come
+    c.form.ensures.extends [] (sym (append-nil ls)) c.push-in-Some-Two-2.ensures.items one now come
     ∙ ap (λ steps. steps ++ last) same) (stands.same ls)
 
 pub returns-in-None-clause-within : goal.returns-in-None-clause-within
-returns-in-None-clause-within c =
+returns-in-None-clause-within g c =
     let n = c.args.taken.number in
-    let step = step_of c.args.taken.worker c.args.call c.args.reply in
+    let step = step_of c.args.taken.worker (g.E.Entry.as_call c.args.entry) (g.E.Entry.as_reply c.args.entry) in
     let ls = map (unpack n) c.args.long.now.items in
     let more = map (unpack n) c.keep_whole.new.long.items in
     let longer = c.keep_whole.ensures.long in
     let lengths = ap length longer ∙ length-append ls (step ∷ []) in
     let old = length-map c.args.long.now.items (unpack n) in
     grown_within n (reached_first c.args.start) c.args.places.now
-    c.shorten.new.places ls more c.args.list.now.items c.keep_whole.new.list.items
-    (short.Long (length c.args.long.now.items)) c.shorten.ensures.extends (step ∷ []) longer
+    c.form.new.places ls more c.args.list.now.items c.keep_whole.new.list.items
+    (short.Long (length c.args.long.now.items)) c.form.ensures.extends (step ∷ []) longer
     c.keep_whole.ensures.list c.requires.within (omega arith)
 
 pub returns-in-None-clause-reached : goal.returns-in-None-clause-reached
-returns-in-None-clause-reached c =
+returns-in-None-clause-reached g c =
     let n = c.args.taken.number in
-    let step = step_of c.args.taken.worker c.args.call c.args.reply in
+    let step = step_of c.args.taken.worker (g.E.Entry.as_call c.args.entry) (g.E.Entry.as_reply c.args.entry) in
     let ls = map (unpack n) c.args.long.now.items in
     let more = map (unpack n) c.keep_whole.new.long.items in
     let is = long_last (unpack n) c.args.long.now.items more step c.keep_whole.ensures.long in
     c.after-in-None.ensures
     ∙ sym (ap (λ (s : Step). advanced c.args.taken.reached (Some s)) is)
     ∙ grown_reached n (reached_first c.args.start) c.args.places.now
-    c.shorten.new.places ls more c.args.list.now.items c.keep_whole.new.list.items
-    (short.Long (length c.args.long.now.items)) c.shorten.ensures.extends (step ∷ [])
+    c.form.new.places ls more c.args.list.now.items c.keep_whole.new.list.items
+    (short.Long (length c.args.long.now.items)) c.form.ensures.extends (step ∷ [])
     c.keep_whole.ensures.long c.keep_whole.ensures.list c.requires.within c.args.taken.reached
     c.requires.reached
 
 pub returns-in-None-clause-steps : goal.returns-in-None-clause-steps
-returns-in-None-clause-steps c =
+returns-in-None-clause-steps g c =
     let n = c.args.taken.number in
-    let step = step_of c.args.taken.worker c.args.call c.args.reply in
+    let step = step_of c.args.taken.worker (g.E.Entry.as_call c.args.entry) (g.E.Entry.as_reply c.args.entry) in
     let start = reached_first c.args.start in
     let ls = map (unpack n) c.args.long.now.items in
     let more = map (unpack n) c.keep_whole.new.long.items in
     let is = long_last (unpack n) c.args.long.now.items more step c.keep_whole.ensures.long in
     appends_one (decode n c.args.places.now ls start c.args.list.now.items)
-    (decode n c.shorten.new.places more start c.keep_whole.new.list.items)
-    (step_at n c.shorten.new.places more c.args.taken.reached
+    (decode n c.form.new.places more start c.keep_whole.new.list.items)
+    (step_at n c.form.new.places more c.args.taken.reached
     (short.Long (length c.args.long.now.items))) step
-    (grown_steps n start c.args.places.now c.shorten.new.places ls more c.args.list.now.items
+    (grown_steps n start c.args.places.now c.form.new.places ls more c.args.list.now.items
     c.keep_whole.new.list.items (short.Long (length c.args.long.now.items))
-    c.shorten.ensures.extends (step ∷ []) c.keep_whole.ensures.long c.keep_whole.ensures.list
+    c.form.ensures.extends (step ∷ []) c.keep_whole.ensures.long c.keep_whole.ensures.list
     c.requires.within c.args.taken.reached c.requires.reached)
     (ap (λ (s : Step). Some (lettered_step s)) is)

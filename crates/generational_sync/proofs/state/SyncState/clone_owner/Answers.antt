@@ -5,8 +5,8 @@ use Rattle.generational_core.specs.declared.steps.StepCall.TheVariants as call
 use Rattle.generational_sync.proofs.Keeping.{answered, room_shared, seen}
 use Rattle.generational_sync.proofs.state.SyncState.clone_owner.Goals as goal
 
-pub settle-requires : goal.settle-requires
-settle-requires g c = (
+pub settle_any-requires : goal.settle_any-requires
+settle_any-requires g c = (
   search rules,
   (
     search rules,
@@ -19,10 +19,10 @@ settle-requires g c = (
 )
 
 pub returns : goal.returns
-unfolding settle-requires
+unfolding settle_any-requires
 returns g c = record {
   step = seen (room_shared c.self.inside.store.state c.self.inside.log c.reserve.new.self
       c.reserve.ensures.base c.reserve.ensures.steps c.self.view_is) refl
-      (c.settle.ensures.step (settle-requires g c.before).1.1)
+      (c.settle_any.ensures.step (settle_any-requires g c.before).1.1)
       refl;
 }

@@ -24,8 +24,8 @@ settle-requires g c = (
   ),
 )
 
-pub settle_refused-requires : goal.settle_refused-requires
-settle_refused-requires g c = (
+pub settle_refused_read-requires : goal.settle_refused_read-requires
+settle_refused_read-requires g c = (
   search rules,
   (
     search rules,
@@ -37,12 +37,12 @@ settle_refused-requires g c = (
   ),
 )
 
-pub invariant_of-self-then-not-settle_refused : goal.invariant_of-self-then-not-settle_refused
-invariant_of-self-then-not-settle_refused g c =
+pub invariant_of-self-then-not-settle_refused_read : goal.invariant_of-self-then-not-settle_refused_read
+invariant_of-self-then-not-settle_refused_read g c =
     left_kept c.self.inside.store.state c.begin_read.new.store.state (Read c.pointer-pointer.result c.args.location)
     (read_refused c.in-Err.refused) c.self.invariant c.reserve.ensures.base c.reserve.ensures.steps
     c.reserve.ensures.standing c.in-Err.ensures (read_leaves g.row.T.Denot c.in-Err.refused)
-    c.if-not-settle_refused.ensures.left.0
+    c.if-not-settle_refused_read.ensures.left.0
 
 pub returns-in-Ok-clause-step : goal.returns-in-Ok-clause-step
 unfolding settle-requires
@@ -51,14 +51,14 @@ returns-in-Ok-clause-step g c =
     c.reserve.ensures.base c.reserve.ensures.steps c.self.view_is) (ap (λ b. Read b c.args.location) c.pointer-pointer.ensures)
     (c.settle.ensures.step (settle-requires g c.before).1.1) refl
 
-pub returns-else-not-settle_refused-clause-step : goal.returns-else-not-settle_refused-clause-step
-unfolding settle_refused-requires
-returns-else-not-settle_refused-clause-step g c =
+pub returns-else-not-settle_refused_read-clause-step : goal.returns-else-not-settle_refused_read-clause-step
+unfolding settle_refused_read-requires
+returns-else-not-settle_refused_read-clause-step g c =
     let same = left_as c.self.inside.store.state c.begin_read.new.store.state (Read c.pointer-pointer.result c.args.location)
     (read_refused c.in-Err.refused) c.in-Err.ensures (read_leaves g.row.T.Denot c.in-Err.refused) in
     seen (ap (λ s. shared s c.reserve.new.self) same
     ∙ room_shared c.self.inside.store.state c.self.inside.log c.reserve.new.self
     c.reserve.ensures.base c.reserve.ensures.steps c.self.view_is) (ap (λ b. Read b c.args.location) c.pointer-pointer.ensures)
-    (c.if-not-settle_refused.ensures.settled.step
-    (refused_answered (settle_refused-requires g c.before.before).1.1
-    (sym c.if-not-settle_refused.ensures.ready))) refl
+    (c.if-not-settle_refused_read.ensures.settled.step
+    (refused_answered (settle_refused_read-requires g c.before.before).1.1
+    (sym c.if-not-settle_refused_read.ensures.ready))) refl

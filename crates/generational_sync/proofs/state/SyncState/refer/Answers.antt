@@ -1,11 +1,11 @@
-use Rattle.std.proofs.Common.{rules, ap, refl, sym, ◌∙◌}
+use Rattle.std.proofs.Common.{rules, Some, ap, refl, sym, ◌∙◌}
 use Rattle.std.specs.Prelude.{option_copied}
-use Rattle.generational_core.specs.Answers.{reference_answer, reference_box_answer}
+use Rattle.generational_core.specs.Answers.{read_refused}
 use Rattle.generational_core.specs.Machine.Action.{Refer}
 use Rattle.generational_core.specs.Machine.Answer.{Made}
+use Rattle.shared_records.specs.Kinds.{referred_by}
 use Rattle.generational_sync.proofs.Keeping.{answered, ready_as, room_shared, seen}
 use Rattle.generational_sync.proofs.state.SyncState.refer.Goals as goal
-use Rattle.generational_sync.proofs.state.SyncState.refer.Goals.{in-Ok, in-Err}
 
 pub settle-requires : goal.settle-requires
 settle-requires g c = (
@@ -13,22 +13,42 @@ settle-requires g c = (
   (
     search rules,
     answered c.self.inside.store.state (Refer (option_copied c.args.owner) c.args.asked)
-        (reference_answer c.new_reference-made.result) c.self.invariant
-        c.reserve.ensures.base c.reserve.ensures.steps c.reserve.ensures.standing c.requires.call
-        (ready_as {c = c.args.call} c.self.view_is refl c.requires.ready) c.new_reference-made.ensures
-        (c.reference_reply-reply.ensures.reply c.new_reference-made.new.self.state (option_copied c.args.owner) c.args.asked),
+        (Made c.in-Ok.pointer) c.self.invariant
+        c.reserve.ensures.base c.reserve.ensures.steps c.reserve.ensures.standing
+        c.requires.call
+        (ready_as {c = referred_by c.args.id c.args.asked} c.self.view_is refl c.requires.ready) c.in-Ok.ensures
+        refl,
   ),
 )
 
-pub returns : goal.returns
+pub settle_any-requires : goal.settle_any-requires
+settle_any-requires g c = (
+  search rules,
+  (
+    search rules,
+    answered c.self.inside.store.state (Refer (option_copied c.args.owner) c.args.asked)
+        (read_refused c.in-Err.refused) c.self.invariant
+        c.reserve.ensures.base c.reserve.ensures.steps c.reserve.ensures.standing
+        (c.requires.call ∙ ap Some (sym c.making_reference-call.ensures))
+        (ready_as c.self.view_is c.making_reference-call.ensures c.requires.ready) c.in-Err.ensures
+        (c.read_refusal-reply.ensures.reply c.new_reference.new.self.state (Refer (option_copied c.args.owner) c.args.asked)),
+  ),
+)
+
+pub returns-in-Ok : goal.returns-in-Ok
 unfolding settle-requires
-returns g c = record {
+returns-in-Ok g c = record {
   step = seen (room_shared c.self.inside.store.state c.self.inside.log c.reserve.new.self
       c.reserve.ensures.base c.reserve.ensures.steps c.self.view_is) refl
       (c.settle.ensures.step (settle-requires g c.before.before).1.1)
-      (elim c.match-made.branch [
-        | in-Ok w ↦ ap reference_answer w.in-Ok.is
-            ∙ (ap Made (sym w.box_at.ensures) ∙ ap reference_box_answer (sym w.result-is))
-        | in-Err w ↦ ap reference_answer w.in-Err.is ∙ ap reference_box_answer (sym w.result-is)
-      ]);
+      (ap Made (sym c.box_at.ensures));
+}
+
+pub returns-in-Err : goal.returns-in-Err
+unfolding settle_any-requires
+returns-in-Err g c = record {
+  step = seen (room_shared c.self.inside.store.state c.self.inside.log c.reserve.new.self
+      c.reserve.ensures.base c.reserve.ensures.steps c.self.view_is) refl
+      (c.settle_any.ensures.step (settle_any-requires g c.before).1.1)
+      refl;
 }

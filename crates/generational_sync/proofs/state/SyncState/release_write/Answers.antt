@@ -8,20 +8,23 @@ use Rattle.generational_sync.proofs.state.SyncState.release_write.Goals as goal
 pub settle_end-requires : goal.settle_end-requires
 settle_end-requires g c = (
   search rules,
-  record {
-    some = answered c.self.inside.store.state (ReleaseWriter c.args.guard.guard c.args.guard.value)
-        (back_answer c.release_write-released.result) c.self.invariant
-        refl refl refl (ap (λ t. Some (call.ReleaseWrite t)) (sym c.ticket.ensures))
-        refl c.release_write-released.ensures
-        (c.back_reply-reply.ensures.reply c.release_write-released.new.self.state (ReleaseWriter c.args.guard.guard c.args.guard.value));
-    ends = refl;
-  },
+  (
+    record {
+      some = answered c.self.inside.store.state (ReleaseWriter c.args.guard.guard c.args.guard.value)
+          (back_answer c.release_write-released.result) c.self.invariant
+          refl refl refl (ap (λ t. Some (call.ReleaseWrite t)) (sym c.ticket.ensures))
+          refl c.release_write-released.ensures
+          (c.back_reply-reply.ensures.reply c.release_write-released.new.self.state (ReleaseWriter c.args.guard.guard c.args.guard.value));
+      ends = refl;
+    },
+    c.back_reply-reply.ensures.done,
+  ),
 )
 
 pub returns : goal.returns
 unfolding settle_end-requires
 returns g c = record {
   step = seen c.self.view_is refl
-      (c.settle_end.ensures.step (settle_end-requires g c.before).1.some)
+      (c.settle_end.ensures.step (settle_end-requires g c.before).1.0.some)
       refl;
 }

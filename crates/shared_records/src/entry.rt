@@ -1,0 +1,483 @@
+//! What a list of steps is told of a call and its reply.
+
+ghost use Rattle.std.specs.Prelude.{◌≡◌, IfSome};
+ghost use Rattle.generational_core.specs.declared.steps.StepCall.{StepCall};
+ghost use Rattle.generational_core.specs.declared.steps.StepCall.TheVariants as call;
+ghost use Rattle.shared_records.specs.declared.step.StepReply.{StepReply};
+ghost use Rattle.shared_records.specs.declared.step.StepReply.TheVariants as reply;
+ghost use Rattle.shared_records.specs.Decoding.{Extends, IsForm};
+ghost use Rattle.shared_records.specs.Kinds.{made_by, referred_by, shared_by, step_of};
+
+use crate::places::Places;
+use crate::short::Short;
+use crate::shorten::{
+    Form, Taken, end, insert, insert_rc, leak, leak_rc, leak_reference, point_to, read,
+    read_dropped, set, write,
+};
+use crate::step::StepReply;
+use generational_core::{GenerationalBoxId, GenerationalPointer, Location, OwnerId, StepCall};
+
+/// A call with its reply, in whatever form the caller has them. The calls that are made most have a
+/// type each, so that no call is put together and taken apart again on its way into the list.
+pub trait Entry: Copy {
+    ghost as_call: { Self → StepCall };
+
+    ghost as_reply: { Self → StepReply };
+
+    /// How the step is kept in 16 bytes, or in twice as many; None where it has no form or a number
+    /// doesn't fit.
+    fn form(self, taken: Taken, places: &mut Places) -> Option<Form>
+        ensures extends { Extends places.old places.new }
+        ensures form { IfSome result (IsForm taken.number places.new taken.reached
+            (step_of taken.worker (Self.as_call self) (Self.as_reply self))) };
+
+    /// The call.
+    fn call(self) -> StepCall
+        ensures { result ≡ Self.as_call self };
+
+    /// Its reply.
+    fn reply(self) -> StepReply
+        ensures { result ≡ Self.as_reply self };
+}
+
+/// Any call with its reply, which has no short form.
+#[derive(Clone, Copy)]
+pub struct AnyEntry {
+    pub call: StepCall,
+    pub reply: StepReply,
+}
+
+impl Entry for AnyEntry {
+    ghost as_call = { λ e. e.call };
+
+    ghost as_reply = { λ e. e.reply };
+
+    #[inline(always)]
+    fn form(self, _taken: Taken, _places: &mut Places) -> Option<Form> {
+        None
+    }
+
+    #[inline(always)]
+    fn call(self) -> StepCall {
+        self.call
+    }
+
+    #[inline(always)]
+    fn reply(self) -> StepReply {
+        self.reply
+    }
+}
+
+/// The call that makes a box there, on an owner's list if there is one.
+#[inline(always)]
+pub fn making(owner: Option<OwnerId>, at: Location) -> StepCall
+    ensures { result ≡ made_by owner at }
+{
+    match owner {
+        None => StepCall::Leak(at),
+        Some(owner) => StepCall::Insert(owner, at),
+    }
+}
+
+/// The call that makes a shared value there, on an owner's list if there is one.
+#[inline(always)]
+pub fn making_shared(owner: Option<OwnerId>, at: Location) -> StepCall
+    ensures { result ≡ shared_by owner at }
+{
+    match owner {
+        None => StepCall::LeakRc(at),
+        Some(owner) => StepCall::InsertRc(owner, at),
+    }
+}
+
+/// The call that makes a reference, on an owner's list if there is one.
+#[inline(always)]
+pub fn making_reference(owner: Option<OwnerId>, asked: GenerationalPointer) -> StepCall
+    ensures { result ≡ referred_by owner asked }
+{
+    match owner {
+        None => StepCall::LeakReference(asked),
+        Some(owner) => StepCall::InsertReference(owner, asked),
+    }
+}
+
+/// A box of a value was made, on an owner's list if there is one.
+#[derive(Clone, Copy)]
+pub struct BoxMade {
+    pub owner: Option<OwnerId>,
+    pub at: Location,
+    pub made: GenerationalPointer,
+}
+
+impl Entry for BoxMade {
+    ghost as_call = { λ e. made_by e.owner e.at };
+
+    ghost as_reply = { λ e. reply.Made e.made };
+
+    #[inline(always)]
+    fn form(self, taken: Taken, places: &mut Places) -> Option<Form> {
+        match self.owner {
+            None => leak(taken, places, self.at, self.made),
+            Some(owner) => insert(taken, places, owner, self.at, self.made),
+        }
+    }
+
+    #[inline(always)]
+    fn call(self) -> StepCall {
+        making(self.owner, self.at)
+    }
+
+    #[inline(always)]
+    fn reply(self) -> StepReply {
+        StepReply::Made(self.made)
+    }
+}
+
+/// A read began, with this ticket.
+#[derive(Clone, Copy)]
+pub struct ReadBegun {
+    pub asked: GenerationalPointer,
+    pub at: Location,
+    pub ticket: u64,
+}
+
+impl Entry for ReadBegun {
+    ghost as_call = { λ e. call.Read e.asked e.at };
+
+    ghost as_reply = { λ e. reply.Reader e.ticket };
+
+    #[inline(always)]
+    fn form(self, taken: Taken, places: &mut Places) -> Option<Form> {
+        read(taken, places, self.asked, self.at, self.ticket)
+    }
+
+    #[inline(always)]
+    fn call(self) -> StepCall {
+        StepCall::Read(self.asked, self.at)
+    }
+
+    #[inline(always)]
+    fn reply(self) -> StepReply {
+        StepReply::Reader(self.ticket)
+    }
+}
+
+/// A read was told of the box's own location, since its value is gone.
+#[derive(Clone, Copy)]
+pub struct ReadDropped {
+    pub asked: GenerationalPointer,
+    pub at: Location,
+    pub told: Location,
+}
+
+impl Entry for ReadDropped {
+    ghost as_call = { λ e. call.Read e.asked e.at };
+
+    ghost as_reply = { λ e. reply.Dropped e.told };
+
+    #[inline(always)]
+    fn form(self, taken: Taken, places: &mut Places) -> Option<Form> {
+        read_dropped(taken, places, self.asked, self.at, self.told)
+    }
+
+    #[inline(always)]
+    fn call(self) -> StepCall {
+        StepCall::Read(self.asked, self.at)
+    }
+
+    #[inline(always)]
+    fn reply(self) -> StepReply {
+        StepReply::Dropped(self.told)
+    }
+}
+
+/// A write began, with this ticket.
+#[derive(Clone, Copy)]
+pub struct WriteBegun {
+    pub asked: GenerationalPointer,
+    pub at: Location,
+    pub ticket: u64,
+}
+
+impl Entry for WriteBegun {
+    ghost as_call = { λ e. call.Write e.asked e.at };
+
+    ghost as_reply = { λ e. reply.Writer e.ticket };
+
+    #[inline(always)]
+    fn form(self, taken: Taken, places: &mut Places) -> Option<Form> {
+        write(taken, places, self.asked, self.at, self.ticket)
+    }
+
+    #[inline(always)]
+    fn call(self) -> StepCall {
+        StepCall::Write(self.asked, self.at)
+    }
+
+    #[inline(always)]
+    fn reply(self) -> StepReply {
+        StepReply::Writer(self.ticket)
+    }
+}
+
+/// A box was ended.
+#[derive(Clone, Copy)]
+pub struct BoxEnded {
+    pub asked: GenerationalPointer,
+}
+
+impl Entry for BoxEnded {
+    ghost as_call = { λ e. call.ManuallyDrop e.asked };
+
+    ghost as_reply = { λ _. reply.Done };
+
+    #[inline(always)]
+    fn form(self, taken: Taken, places: &mut Places) -> Option<Form> {
+        end(taken, places, self.asked)
+    }
+
+    #[inline(always)]
+    fn call(self) -> StepCall {
+        StepCall::ManuallyDrop(self.asked)
+    }
+
+    #[inline(always)]
+    fn reply(self) -> StepReply {
+        StepReply::Done
+    }
+}
+
+/// A reader was released.
+#[derive(Clone, Copy)]
+pub struct ReadEnded {
+    pub ticket: u64,
+}
+
+impl Entry for ReadEnded {
+    ghost as_call = { λ e. call.ReleaseRead e.ticket };
+
+    ghost as_reply = { λ _. reply.Done };
+
+    #[inline(always)]
+    fn form(self, taken: Taken, _places: &mut Places) -> Option<Form> {
+        Some(Form::One(Short::ReleaseRead(taken.worker, self.ticket)))
+    }
+
+    #[inline(always)]
+    fn call(self) -> StepCall {
+        StepCall::ReleaseRead(self.ticket)
+    }
+
+    #[inline(always)]
+    fn reply(self) -> StepReply {
+        StepReply::Done
+    }
+}
+
+/// A writer was released.
+#[derive(Clone, Copy)]
+pub struct WriteEnded {
+    pub ticket: u64,
+}
+
+impl Entry for WriteEnded {
+    ghost as_call = { λ e. call.ReleaseWrite e.ticket };
+
+    ghost as_reply = { λ _. reply.Done };
+
+    #[inline(always)]
+    fn form(self, taken: Taken, _places: &mut Places) -> Option<Form> {
+        Some(Form::One(Short::ReleaseWrite(taken.worker, self.ticket)))
+    }
+
+    #[inline(always)]
+    fn call(self) -> StepCall {
+        StepCall::ReleaseWrite(self.ticket)
+    }
+
+    #[inline(always)]
+    fn reply(self) -> StepReply {
+        StepReply::Done
+    }
+}
+
+/// A shared value was made, whose cell has this id, with a first reference on an owner's list if there
+/// is one.
+#[derive(Clone, Copy)]
+pub struct SharedMade {
+    pub owner: Option<OwnerId>,
+    pub at: Location,
+    pub cell: GenerationalBoxId,
+    pub made: GenerationalPointer,
+}
+
+impl Entry for SharedMade {
+    ghost as_call = { λ e. shared_by e.owner e.at };
+
+    ghost as_reply = { λ e. reply.MadeShared e.cell e.made };
+
+    #[inline(always)]
+    fn form(self, taken: Taken, places: &mut Places) -> Option<Form> {
+        match self.owner {
+            None => leak_rc(taken, places, self.at, self.cell, self.made),
+            Some(owner) => insert_rc(taken, places, owner, self.at, self.cell, self.made),
+        }
+    }
+
+    #[inline(always)]
+    fn call(self) -> StepCall {
+        making_shared(self.owner, self.at)
+    }
+
+    #[inline(always)]
+    fn reply(self) -> StepReply {
+        StepReply::MadeShared(self.cell, self.made)
+    }
+}
+
+/// A reference was made, on an owner's list if there is one. It has no short form there.
+#[derive(Clone, Copy)]
+pub struct ReferenceMade {
+    pub owner: Option<OwnerId>,
+    pub asked: GenerationalPointer,
+    pub made: GenerationalPointer,
+}
+
+impl Entry for ReferenceMade {
+    ghost as_call = { λ e. referred_by e.owner e.asked };
+
+    ghost as_reply = { λ e. reply.Made e.made };
+
+    #[inline(always)]
+    fn form(self, taken: Taken, places: &mut Places) -> Option<Form> {
+        match self.owner {
+            None => leak_reference(taken, places, self.asked, self.made),
+            Some(_) => None,
+        }
+    }
+
+    #[inline(always)]
+    fn call(self) -> StepCall {
+        making_reference(self.owner, self.asked)
+    }
+
+    #[inline(always)]
+    fn reply(self) -> StepReply {
+        StepReply::Made(self.made)
+    }
+}
+
+/// An owner was given.
+#[derive(Clone, Copy)]
+pub struct OwnerMade {
+    pub owner: OwnerId,
+}
+
+impl Entry for OwnerMade {
+    ghost as_call = { λ _. call.Owner };
+
+    ghost as_reply = { λ e. reply.Owner e.owner };
+
+    #[inline(always)]
+    fn form(self, taken: Taken, _places: &mut Places) -> Option<Form> {
+        if self.owner.store != taken.number || self.owner.key != taken.reached.next {
+            return None;
+        }
+        Some(Form::One(Short::Owner(taken.worker)))
+    }
+
+    #[inline(always)]
+    fn call(self) -> StepCall {
+        StepCall::Owner
+    }
+
+    #[inline(always)]
+    fn reply(self) -> StepReply {
+        StepReply::Owner(self.owner)
+    }
+}
+
+/// A value was set.
+#[derive(Clone, Copy)]
+pub struct ValueSet {
+    pub asked: GenerationalPointer,
+}
+
+impl Entry for ValueSet {
+    ghost as_call = { λ e. call.Set e.asked };
+
+    ghost as_reply = { λ _. reply.Done };
+
+    #[inline(always)]
+    fn form(self, taken: Taken, places: &mut Places) -> Option<Form> {
+        set(taken, places, self.asked)
+    }
+
+    #[inline(always)]
+    fn call(self) -> StepCall {
+        StepCall::Set(self.asked)
+    }
+
+    #[inline(always)]
+    fn reply(self) -> StepReply {
+        StepReply::Done
+    }
+}
+
+/// A box was pointed at another.
+#[derive(Clone, Copy)]
+pub struct BoxPointed {
+    pub asked: GenerationalPointer,
+    pub other: GenerationalPointer,
+}
+
+impl Entry for BoxPointed {
+    ghost as_call = { λ e. call.PointTo e.asked e.other };
+
+    ghost as_reply = { λ _. reply.Done };
+
+    #[inline(always)]
+    fn form(self, taken: Taken, places: &mut Places) -> Option<Form> {
+        point_to(taken, places, self.asked, self.other)
+    }
+
+    #[inline(always)]
+    fn call(self) -> StepCall {
+        StepCall::PointTo(self.asked, self.other)
+    }
+
+    #[inline(always)]
+    fn reply(self) -> StepReply {
+        StepReply::Done
+    }
+}
+
+/// An owner was released.
+#[derive(Clone, Copy)]
+pub struct OwnerEnded {
+    pub owner: OwnerId,
+}
+
+impl Entry for OwnerEnded {
+    ghost as_call = { λ e. call.ReleaseOwner e.owner };
+
+    ghost as_reply = { λ _. reply.Done };
+
+    #[inline(always)]
+    fn form(self, taken: Taken, _places: &mut Places) -> Option<Form> {
+        if self.owner.store != taken.number {
+            return None;
+        }
+        Some(Form::One(Short::ReleaseOwner(taken.worker, self.owner.key)))
+    }
+
+    #[inline(always)]
+    fn call(self) -> StepCall {
+        StepCall::ReleaseOwner(self.owner)
+    }
+
+    #[inline(always)]
+    fn reply(self) -> StepReply {
+        StepReply::Done
+    }
+}
