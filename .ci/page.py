@@ -25,9 +25,10 @@ PAGES += [it for it in sorted((ROOT / "docs").rglob("*.md")) if it.parent.name !
 WITH_MAIN = [it for it in (ROOT / "docs/guide").glob("*.md") if it.name != "faq.md"]
 WITH_MAIN += [ROOT / f"docs/{it}.md" for it in ("signals", "reactive", "entities", "sessions", "scenes", "documents")]
 USES = ["example_callers", "example_libraries", "example_guide"]
-# What the gate runs.
+# What the gate runs, the last one with those programs among the callers whose `main` it calls.
 RUN = ["test_boxes", "test_libraries", "test_reactive", "test_shared", "test_shared_workers", "bench_shared",
        "example_guide"]
+PROGRAMS = set(re.findall(r"(\w+)::main\(", (ROOT / "crates/example_guide/src/main.rt").read_text(encoding="utf-8")))
 SOURCES = [
     path
     for crate in dict.fromkeys(USES + RUN)
@@ -83,6 +84,12 @@ def missing_piece(block, source):
     return None
 
 
+def is_run(path):
+    """Whether the gate runs what this source has."""
+    crate = path.parts[-3]
+    return crate in RUN or crate == "example_libraries" and path.stem in PROGRAMS
+
+
 def fault_of(block, sources):
     """What is wrong with a block, or None."""
     if not pieces_of(block):
@@ -91,9 +98,7 @@ def fault_of(block, sources):
     if all(missing):
         furthest = max(missing, key=lambda piece: block.index(piece[0]))
         return f"no file has the block from {block[0]!r} on, with its piece {furthest[0]!r}"
-    run = "\n".join(
-        line for path, lines in sources.items() if path.parts[-3] in RUN for line in lines
-    )
+    run = "\n".join(line for path, lines in sources.items() if is_run(path) for line in lines)
     for name in re.findall(r"^pub fn (\w+)", "\n".join(block), re.M):
         if not re.search(rf"(?<!fn )\b{name}\b", run):
             return f"nothing that is run calls {name}"

@@ -1,22 +1,15 @@
-//! The programs with which the pages of the guide begin, run one after the other.
+//! Runs the programs with which the pages begin, one after the other.
 #![tactic(auto)]
 
-mod actors;
-mod dialog;
-mod memory;
-mod memos;
-mod pages;
-mod proving;
-mod started;
 mod threads;
-mod values;
-mod window;
+
+use example_libraries::{actors, dialog, memory, pages, prices, proving, started, values, window};
 
 fn main(rt: HostRuntime) -> anyhow::Result<()> {
     started::main(rt)?;
     values::main(rt)?;
     dialog::main(rt)?;
-    memos::main(rt)?;
+    prices::main(rt)?;
     actors::main(rt)?;
     window::main(rt)?;
     pages::main(rt)?;

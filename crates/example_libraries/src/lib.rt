@@ -1,11 +1,20 @@
 //! Small callers of the libraries above the boxes, which show that their contracts say what a caller
-//! needs.
+//! needs; and the programs with which the pages begin, each with a `main` of its own.
 #![tactic(auto)]
 
+pub mod actors;
+pub mod dialog;
 pub mod documents;
 pub mod entities;
 pub mod errors;
+pub mod memory;
 pub mod memos;
+pub mod pages;
+pub mod prices;
+pub mod proving;
 pub mod scopes;
 pub mod sessions;
+pub mod started;
 pub mod trees;
+pub mod values;
+pub mod window;

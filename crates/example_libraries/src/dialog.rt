@@ -31,17 +31,22 @@ fn show<R: Print, S: Storage<u64>>(rt: &R, store: &mut S, page: &Scope) -> Resul
         dialog.leak();
     }
     let kept = kept?;
+    tell(rt, store, kept)?;
+    Ok(kept)
+}
+
+fn tell<R: Print, S: Storage<u64>>(rt: &R, store: &S, kept: Signal<u64>) -> Result<()> {
     let id = kept.id();
     if kept.is_readable(store) {
         let twice = kept.with(store, |count| count.wrapping_mul(2));
         println!(rt; "{id:?} has {:?}, twice {twice:?}", kept.peek(store))?;
     }
-    Ok(kept)
+    Ok(())
 }
 
 // Counts in a signal of the dialog, and answers an alias of it that the page keeps.
 fn count<S: Storage<u64>>(store: &mut S, page: &Scope, dialog: &Scope) -> Result<Signal<u64>> {
-    let here = Location::new("dialog.rt", 44, 16);
+    let here = Location::new("dialog.rt", 49, 16);
     let clicks = dialog.signal(store, 6, here)?;
     let kept = page.alias(store, clicks)?;
     clicks.update(store, here, |count| *count = count.wrapping_add(1))?;

@@ -1,7 +1,7 @@
 //! Documents: two pages show one heading.
 
 use anyhow::Result;
-use document_tree::{Document, Part};
+use document_tree::{Document, Part, Place};
 use generational_box::{Location, Storage, UnsyncStorage};
 
 pub fn main(rt: HostRuntime) -> Result<()> {
@@ -17,16 +17,30 @@ fn write<R: Print, S: Storage<Part<u64>>>(rt: &R, document: &mut Document<u64, S
     document.append(first, heading)?;
     document.append(second, heading)?;
 
-    // The heading shows another part, on both pages.
-    let next = document.add(20, here)?;
-    document.exchange(heading, next)?;
-    document.remove(next)?;
-    for place in document.outline(second, 10)?.iter() {
-        println!(rt; "{}", document.get(*place)?)?;
-    }
+    change(document, heading)?;
+    show(rt, document, second)?;
     document.remove(heading)?;
     if let Err(gone) = document.get(heading) {
         println!(rt; "{gone}")?;
+    }
+    Ok(())
+}
+
+// The heading shows another part, on both pages.
+fn change<S: Storage<Part<u64>>>(document: &mut Document<u64, S>, heading: Place) -> Result<()> {
+    let next = document.add(20, Location::new("pages.rt", 31, 16))?;
+    document.exchange(heading, next)?;
+    document.remove(next)?;
+    Ok(())
+}
+
+fn show<R: Print, S: Storage<Part<u64>>>(
+    rt: &R,
+    document: &Document<u64, S>,
+    page: Place,
+) -> Result<()> {
+    for place in document.outline(page, 10)?.iter() {
+        println!(rt; "{}", document.get(*place)?)?;
     }
     Ok(())
 }

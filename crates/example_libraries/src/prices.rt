@@ -1,6 +1,6 @@
 //! Signals and memos: the price of an order follows from its parts.
 
-ghost use Rattle.example_guide.specs.Formulas.{plan_of};
+ghost use Rattle.example_libraries.specs.Prices.{plan_of};
 
 use anyhow::Result;
 use generational_box::{Location, Storage, UnsyncStorage};
@@ -45,20 +45,40 @@ fn order<R: Print, S: Storage<Node<u64, Formula>>>(
     graph: &mut Reactive<u64, Formula, S>,
 ) -> Result<()> {
     // Sources are set, and memos follow from other nodes.
-    let here = Location::new("memos.rt", 48, 16);
+    let here = Location::new("prices.rt", 48, 16);
     let pieces = graph.source(3, here)?;
     let price = graph.source(20, here)?;
     let postage = graph.source(5, here)?;
     let goods = graph.memo(Formula::Product(pieces, price), here)?;
     let total = graph.memo(Formula::Sum(goods, postage), here)?;
-    println!(rt; "total {}", graph.get(total)?)?;
+    change(rt, graph, pieces, price, total)?;
+    watch(rt, alloc, graph, postage, total)?;
+    end(rt, graph, price, total)
+}
 
+fn change<R: Print, S: Storage<Node<u64, Formula>>>(
+    rt: &R,
+    graph: &mut Reactive<u64, Formula, S>,
+    pieces: Key,
+    price: Key,
+    total: Key,
+) -> Result<()> {
+    println!(rt; "total {}", graph.get(total)?)?;
     // Several sets are a batch: no rule is run before something is asked for.
     graph.set(pieces, 4)?;
     graph.set(price, 18)?;
     println!(rt; "total {}, {} runs", graph.get(total)?, graph.runs())?;
+    Ok(())
+}
 
-    // An effect reports where its node means something else.
+// An effect reports where its node means something else.
+fn watch<R: Print, S: Storage<Node<u64, Formula>>>(
+    rt: &R,
+    alloc: Global,
+    graph: &mut Reactive<u64, Formula, S>,
+    postage: Key,
+    total: Key,
+) -> Result<()> {
     let mut effects = Effects::new(alloc);
     let mut told = Vec::new(alloc);
     effects.watch(total)?;
@@ -69,8 +89,16 @@ fn order<R: Print, S: Storage<Node<u64, Formula>>>(
         println!(rt; "told: {:?}", change.answer)?;
     }
     effects.unwatch(total);
+    Ok(())
+}
 
-    // What needs a node that has ended says so.
+// What needs a node that has ended says so.
+fn end<R: Print, S: Storage<Node<u64, Formula>>>(
+    rt: &R,
+    graph: &mut Reactive<u64, Formula, S>,
+    price: Key,
+    total: Key,
+) -> Result<()> {
     graph.end_all(&[price])?;
     if let Err(fault) = graph.get(total) {
         println!(rt; "{fault}")?;

@@ -1,7 +1,7 @@
 //! Entities: actors with a strength each, and some with a score beside.
 
 use anyhow::Result;
-use entity_table::{ComponentTable, EntityTable};
+use entity_table::{ComponentTable, Entity, EntityTable};
 use generational_box::{Location, Storage, UnsyncStorage};
 
 pub fn main(rt: HostRuntime) -> Result<()> {
@@ -20,7 +20,23 @@ fn play<R: Print, A: Storage<u64>, C: Storage<u64>>(
     actors: &mut EntityTable<u64, A>,
     scores: &mut ComponentTable<u64, u64, C>,
 ) -> Result<()> {
-    let here = Location::new("actors.rt", 23, 16);
+    let dog = begin(actors, scores)?;
+    // The dog goes, and its handle finds nobody, whoever takes its slot.
+    actors.despawn(dog)?;
+    scores.sweep(actors);
+    show(rt, actors, scores)?;
+    if let Err(stale) = actors.get(dog) {
+        println!(rt; "{stale}")?;
+    }
+    Ok(())
+}
+
+// Spawns a cat with a score, which gets stronger, and a dog. The answer is the dog.
+fn begin<A: Storage<u64>, C: Storage<u64>>(
+    actors: &mut EntityTable<u64, A>,
+    scores: &mut ComponentTable<u64, u64, C>,
+) -> Result<Entity<u64>> {
+    let here = Location::new("actors.rt", 39, 16);
     let cat = actors.spawn(9, here)?;
     let dog = actors.spawn(7, here)?;
     scores.attach(actors, cat, 100, here)?;
@@ -28,16 +44,17 @@ fn play<R: Print, A: Storage<u64>, C: Storage<u64>>(
         cat,
         |strength: &mut u64| *strength = strength.wrapping_add(1),
     )?;
+    Ok(dog)
+}
 
-    // The dog goes, and its handle finds nobody, whoever takes its slot.
-    actors.despawn(dog)?;
-    scores.sweep(actors);
+fn show<R: Print, A: Storage<u64>, C: Storage<u64>>(
+    rt: &R,
+    actors: &EntityTable<u64, A>,
+    scores: &ComponentTable<u64, u64, C>,
+) -> Result<()> {
     for (actor, strength) in actors.iter() {
         let score = scores.get(actor).copied();
         println!(rt; "{actor:?}: strength {strength}, score {score:?}")?;
-    }
-    if let Err(stale) = actors.get(dog) {
-        println!(rt; "{stale}")?;
     }
     Ok(())
 }

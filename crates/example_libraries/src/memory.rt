@@ -1,7 +1,7 @@
 //! When memory runs out: a refused insertion hands its value back, and the store goes on.
 
 use anyhow::Result;
-use generational_box::{GenerationalBox, Location, Refusal, UnsyncStorage};
+use generational_box::{GenerationalBox, Location, Refusal, Storage, UnsyncStorage};
 
 pub fn main(rt: HostRuntime) -> Result<()> {
     let mut store = UnsyncStorage::<u64>::new(rt.alloc(), 1);
@@ -11,8 +11,12 @@ pub fn main(rt: HostRuntime) -> Result<()> {
     if let Err(cause) = store.reserve(usize::MAX) {
         println!(rt; "{cause}")?;
     }
-    match GenerationalBox::leak(&mut store, 7, Location::new("memory.rt", 14, 11)) {
-        Ok(kept) => println!(rt; "kept {:?}", kept.peek(&store))?,
+    keep(&rt, &mut store)
+}
+
+fn keep<R: Print, S: Storage<u64>>(rt: &R, store: &mut S) -> Result<()> {
+    match GenerationalBox::leak(store, 7, Location::new("memory.rt", 18, 11)) {
+        Ok(kept) => println!(rt; "kept {:?}", kept.peek(store))?,
         Err(Refusal { value, cause }) => println!(rt; "{value} comes back: {cause}")?,
     }
     Ok(())

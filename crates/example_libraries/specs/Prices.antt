@@ -1,8 +1,8 @@
--- The plans of formulas.
+-- The plans of the formulas of prices.
 use Rattle.std.specs.Prelude.{ℕ, ◌+◌, ◌*◌, ◌%◌, ◌^◌}
 use Rattle.reactive.specs.Plans.{Plan, Give, Ask}
-use Rattle.example_guide.specs.declared.memos.Formula.{Formula}
-use Rattle.example_guide.specs.declared.memos.Formula.TheVariants as formula
+use Rattle.example_libraries.specs.declared.prices.Formula.{Formula}
+use Rattle.example_libraries.specs.declared.prices.Formula.TheVariants as formula
 
 abbrev pub plan_of : Formula → Plan ℕ
 plan_of (formula.Sum a b) = Ask a (λ x. Ask b (λ y. Give ((x + y) % 2 ^ 64)))
