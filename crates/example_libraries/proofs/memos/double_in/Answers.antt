@@ -1,4 +1,4 @@
-use Rattle.std.proofs.Common.{ap, sym, ◌∙◌, ◌≡◌, ◌≢◌}
+use Rattle.std.proofs.Common.{ap, sym, ◌∙◌, ◌≢◌}
 use Rattle.reactive.specs.Graphs.{kind_in}
 use Rattle.example_libraries.proofs.memos.double_in.Goals as goal
 

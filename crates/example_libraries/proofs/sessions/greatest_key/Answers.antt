@@ -1,4 +1,4 @@
-use Rattle.std.proofs.Common.{nat_eq, ◌≤◌, ap, sym, subst, ◌∙◌}
+use Rattle.std.proofs.Common.{nat_eq, ◌≤◌, sym, subst, ◌∙◌}
 use Rattle.std.proofs.lemmas.Bool.{eqb-true}
 use Rattle.std.proofs.lemmas.Iterator.Consumers.{YieldsList-from_first, YieldsList-end}
 use Rattle.std.proofs.lemmas.Map.Entries.{place_from_lookup}
