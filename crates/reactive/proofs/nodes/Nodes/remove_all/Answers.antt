@@ -1,4 +1,4 @@
-use Rattle.std.proofs.Common.{refl}
+use Rattle.std.proofs.Common.{arith, refl}
 use Rattle.reactive.proofs.Ending.{lost_more}
 use Rattle.reactive.proofs.nodes.Nodes.remove_all.Goals as goal
 
@@ -8,3 +8,6 @@ loop-key-preserved g c = (
   lost_more _ _ _ c.args.keys.now c.loop-key.key-index _ _ c.loop-key-test.true refl c.loop-key.invariant.1
       c.remove.ensures.ended c.remove.ensures.others,
 )
+
+pub returns-clause-later : goal.returns-clause-later
+returns-clause-later g c = let h = c.in-Some.ensures in omega arith

@@ -21,3 +21,9 @@ returns-clause-put g c =
       later,
       c.in-Some-replace.ensures.put,
     )
+
+pub returns-in_default-replace-clause-put : goal.returns-in_default-replace-clause-put
+returns-in_default-replace-clause-put g c = tt
+
+pub returns-in_default-replace-clause-live : goal.returns-in_default-replace-clause-live
+returns-in_default-replace-clause-live g c = tt
