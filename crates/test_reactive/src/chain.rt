@@ -1,7 +1,8 @@
 //! A chain of 100,000 memos: no call is a recursion.
 
+use crate::expected::assert_same;
 use crate::formula::Formula;
-use crate::graph::{Graph, Scene, play};
+use crate::graph::{Graph, Scene, play_whole};
 use reactive::Fault;
 use std::alloc::Global;
 use std::process::Abort;
@@ -18,21 +19,21 @@ impl Scene for Chain {
         for _ in 0..LONG {
             last = graph.memo(Formula::Add(last, zero)).expect(rt, "a memo");
         }
-        assert_eq!(rt; graph.get(last), Ok(1));
-        assert_eq!(rt; graph.runs(), LONG);
-        assert_eq!(rt; graph.set(first, 2), Ok(()));
-        assert_eq!(rt; graph.get(last), Ok(2));
-        assert_eq!(rt; graph.runs(), 2 * LONG);
+        assert_same(rt, &graph.get(last), &Ok(1));
+        assert_same(rt, &graph.runs(), &LONG);
+        assert_same(rt, &graph.set(first, 2), &Ok(()));
+        assert_same(rt, &graph.get(last), &Ok(2));
+        assert_same(rt, &graph.runs(), &(2 * LONG));
         // closed to a ring, it means nothing
-        assert_eq!(rt; graph.set_rule(first, Formula::Same(last)), Ok(()));
+        assert_same(rt, &graph.set_rule(first, Formula::Same(last)), &Ok(()));
         assert!(rt; matches!(graph.get(last), Err(Fault::Cycle(_))));
-        assert_eq!(rt; graph.set_rule(first, Formula::Same(zero)), Ok(()));
-        assert_eq!(rt; graph.get(last), Ok(0));
-        assert_eq!(rt; graph.runs(), 3 * LONG + 1);
+        assert_same(rt, &graph.set_rule(first, Formula::Same(zero)), &Ok(()));
+        assert_same(rt, &graph.get(last), &Ok(0));
+        assert_same(rt, &graph.runs(), &(3 * LONG + 1));
     }
 }
 
 #[test]
 fn a_long_chain_is_no_recursion(rt: HostRuntime) {
-    assert_eq!(rt; play(&rt, rt.alloc(), &Chain), 0);
+    play_whole(&rt, rt.alloc(), &Chain);
 }

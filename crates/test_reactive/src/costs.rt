@@ -1,7 +1,8 @@
 //! How often rules are run.
 
+use crate::expected::assert_same;
 use crate::formula::Formula;
-use crate::graph::{Graph, Scene, play};
+use crate::graph::{Graph, Scene, play_whole};
 use crate::lines::Line::{Memo, Set, SetRule, Shows, Source};
 use crate::lines::Lines;
 use crate::plain::Plain::{Add, Odd, Pick, Same};
@@ -23,7 +24,7 @@ fn what_is_fresh_runs_no_rule(rt: HostRuntime) {
         Set(0, 1),
         Shows(2, 2, 0),
     ]);
-    assert_eq!(rt; play(&rt, rt.alloc(), &lines), 0);
+    play_whole(&rt, rt.alloc(), &lines);
 }
 
 #[test]
@@ -42,7 +43,7 @@ fn a_diamond_runs_its_foot_once(rt: HostRuntime) {
         Set(0, 7),
         Shows(3, 21, 3),
     ]);
-    assert_eq!(rt; play(&rt, rt.alloc(), &lines), 0);
+    play_whole(&rt, rt.alloc(), &lines);
 }
 
 #[test]
@@ -58,7 +59,7 @@ fn what_reads_a_value_that_stays_is_not_run(rt: HostRuntime) {
         Set(0, 6),
         Shows(3, 100, 2),
     ]);
-    assert_eq!(rt; play(&rt, rt.alloc(), &lines), 0);
+    play_whole(&rt, rt.alloc(), &lines);
 }
 
 #[test]
@@ -76,7 +77,7 @@ fn what_was_not_read_runs_nothing(rt: HostRuntime) {
         Set(1, 11),
         Shows(3, 21, 0),
     ]);
-    assert_eq!(rt; play(&rt, rt.alloc(), &lines), 0);
+    play_whole(&rt, rt.alloc(), &lines);
 }
 
 struct Ladder;
@@ -93,14 +94,14 @@ impl Scene for Ladder {
             right = graph.memo(Formula::Add(right, left)).expect(rt, "a memo");
             left = sum;
         }
-        assert_eq!(rt; graph.get(left), Ok(1 << RUNGS));
-        assert_eq!(rt; graph.runs(), 2 * RUNGS - 1);
-        assert_eq!(rt; graph.set(foot, 2), Ok(()));
-        assert_eq!(rt; graph.get(left), Ok(2 << RUNGS));
-        assert_eq!(rt; graph.runs(), 4 * RUNGS - 2);
+        assert_same(rt, &graph.get(left), &Ok(1 << RUNGS));
+        assert_same(rt, &graph.runs(), &(2 * RUNGS - 1));
+        assert_same(rt, &graph.set(foot, 2), &Ok(()));
+        assert_same(rt, &graph.get(left), &Ok(2 << RUNGS));
+        assert_same(rt, &graph.runs(), &(4 * RUNGS - 2));
         // a rule that is put is run, and what reads it means nothing
         for rule in [Formula::Odd(foot), Formula::Blank] {
-            assert_eq!(rt; graph.set_rule(foot, rule), Ok(()));
+            assert_same(rt, &graph.set_rule(foot, rule), &Ok(()));
             assert!(rt; graph.get(left).is_err());
         }
     }
@@ -108,5 +109,5 @@ impl Scene for Ladder {
 
 #[test]
 fn many_paths_run_each_rule_once(rt: HostRuntime) {
-    assert_eq!(rt; play(&rt, rt.alloc(), &Ladder), 0);
+    play_whole(&rt, rt.alloc(), &Ladder);
 }

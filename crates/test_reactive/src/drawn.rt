@@ -1,7 +1,8 @@
 //! Drawn graphs beside a plain recomputation.
 
-use crate::graph::{Graph, Scene, play};
-use crate::plain::Plain;
+use crate::expected::assert_same;
+use crate::graph::{Graph, Scene, play_whole};
+use crate::plain::{Plain, value_at};
 use reactive::{Effects, Fault, Key};
 use std::alloc::Global;
 use std::process::Abort;
@@ -81,17 +82,18 @@ impl World {
         };
         let key = self.key(rt, node);
         let rule = plain.rule(&self.keys).expect(rt, "a rule");
-        match graph.set_rule(key, rule) {
-            Ok(()) => self.put(node, plain),
-            Err(fault) => {
-                assert_eq!(rt; fault, Fault::Gone(key));
-                assert!(rt; matches!(self.plains.get(node), Some(Plain::Ended)));
-            }
+        let wanted = match self.plains.get(node) {
+            Some(Plain::Ended) => Err(Fault::Gone(key)),
+            _ => Ok(()),
+        };
+        assert_same(rt, &graph.set_rule(key, rule), &wanted);
+        if wanted.is_ok() {
+            self.put(node, plain);
         }
     }
 
     fn end(&mut self, rt: &impl Abort, graph: &mut impl Graph, node: usize) {
-        assert_eq!(rt; graph.end(self.key(rt, node)), Ok(()));
+        assert_same(rt, &graph.end(self.key(rt, node)), &Ok(()));
         self.put(node, Plain::Ended);
     }
 
@@ -101,7 +103,7 @@ impl World {
         self.end(rt, graph, node);
         let value = self.below(3);
         let key = graph.source(value).expect(rt, "a source");
-        assert_eq!(rt; graph.get(old), Err(Fault::Gone(old)));
+        assert_same(rt, &graph.get(old), &Err(Fault::Gone(old)));
         self.effects.unwatch(old);
         self.watch(rt, key);
         self.plains = self.plains.map(|plain| plain.without(node, NODES));
@@ -116,14 +118,14 @@ impl World {
     fn set(&mut self, rt: &impl Abort, graph: &mut impl Graph, node: usize) {
         let key = self.key(rt, node);
         let value = self.below(3);
-        let answer = graph.set(key, value);
-        match self.plains.get(node) {
-            Some(Plain::Value(_)) => {
-                assert_eq!(rt; answer, Ok(()));
-                self.put(node, Plain::Value(value));
-            }
-            Some(Plain::Ended) => assert_eq!(rt; answer, Err(Fault::Gone(key))),
-            _ => assert_eq!(rt; answer, Err(Fault::NoSource(key))),
+        let wanted = match self.plains.get(node) {
+            Some(Plain::Value(_)) => Ok(()),
+            Some(Plain::Ended) => Err(Fault::Gone(key)),
+            _ => Err(Fault::NoSource(key)),
+        };
+        assert_same(rt, &graph.set(key, value), &wanted);
+        if wanted.is_ok() {
+            self.put(node, Plain::Value(value));
         }
     }
 
@@ -131,13 +133,13 @@ impl World {
     fn ask(&mut self, rt: &impl Abort, graph: &mut impl Graph, node: usize) {
         let answer = graph.get(self.key(rt, node));
         let values = self.recomputed();
-        assert_eq!(rt; answer.ok(), values.get(node).copied().flatten());
+        assert_same(rt, &answer.ok(), &value_at(&values, node));
     }
 
     /// Flushes: what each watched node meant at the last flush, and what was told since, is what it means.
     fn flush(&mut self, rt: &impl Abort, graph: &mut impl Graph) {
         let mut told = Vec::new(self.alloc);
-        assert_eq!(rt; graph.flush(&mut self.effects, &mut told), Ok(()));
+        assert_same(rt, &graph.flush(&mut self.effects, &mut told), &Ok(()));
         for change in told.iter() {
             for (key, seen) in self.keys.iter().zip(self.seen.iter_mut()) {
                 if *key == change.key {
@@ -193,5 +195,5 @@ fn drawn_graphs_answer_as_a_recomputation_does(rt: HostRuntime) {
         seed: 20,
         count: 2_000,
     };
-    assert_eq!(rt; play(&rt, rt.alloc(), &calls), 0);
+    play_whole(&rt, rt.alloc(), &calls);
 }

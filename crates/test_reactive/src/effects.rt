@@ -1,6 +1,6 @@
 //! Effects: what a flush tells.
 
-use crate::graph::play;
+use crate::graph::play_whole;
 use crate::lines::Answer::{Gone, NoValue, Value};
 use crate::lines::Line::{End, Memo, Set, SetRule, Shows, Source, Tells, Unwatch, Watch};
 use crate::lines::Lines;
@@ -35,7 +35,7 @@ fn a_flush_tells_what_has_changed_once(rt: HostRuntime) {
         Set(1, 1),
         Tells(&[(1, Value(1))]),
     ]);
-    assert_eq!(rt; play(&rt, rt.alloc(), &lines), 0);
+    play_whole(&rt, rt.alloc(), &lines);
 }
 
 #[test]
@@ -61,5 +61,5 @@ fn a_node_that_means_nothing_is_told_once(rt: HostRuntime) {
         Shows(3, 9, 0),
         Tells(&[]),
     ]);
-    assert_eq!(rt; play(&rt, rt.alloc(), &lines), 0);
+    play_whole(&rt, rt.alloc(), &lines);
 }

@@ -1,6 +1,6 @@
 //! What is told of nodes that mean nothing, and which refusal comes first.
 
-use crate::graph::play;
+use crate::graph::play_whole;
 use crate::lines::Answer::{AnyCycle, Cycle, Gone, NoSource, NoValue};
 use crate::lines::Line::{
     EndScope, Fails, Memo, SetRule, Shows, Source, SourceIn, Unknown, Unruled, Unset,
@@ -31,7 +31,7 @@ fn what_has_ended_is_told_by_name(rt: HostRuntime) {
         Unset(2, NoSource(2)),
         Shows(3, 71, 0),
     ]);
-    assert_eq!(rt; play(&rt, rt.alloc(), &lines), 0);
+    play_whole(&rt, rt.alloc(), &lines);
 }
 
 #[test]
@@ -59,5 +59,5 @@ fn cycles_are_told_and_can_be_broken(rt: HostRuntime) {
         SetRule(1, Same(4)),
         Shows(3, 8, 4),
     ]);
-    assert_eq!(rt; play(&rt, rt.alloc(), &lines), 0);
+    play_whole(&rt, rt.alloc(), &lines);
 }

@@ -1,7 +1,5 @@
 //! Rules of memos.
 
-ghost use Rattle.test_reactive.specs.Formulas.{plan_of};
-
 use reactive::{Key, Reads, Rule};
 
 /// What a memo computes of other nodes.
@@ -20,7 +18,17 @@ pub enum Formula {
 }
 
 impl Rule<u64> for Formula {
-    ghost plan = { plan_of };
+    ghost use Rattle.std.specs.Prelude.{◌+◌, ◌%◌, ◌^◌, if◌then◌else◌, nat_eq};
+    ghost use Rattle.reactive.specs.Plans.{Give, Stop, Ask};
+    ghost use Rattle.test_reactive.specs.declared.formula.Formula.TheVariants as formula;
+
+    ghost plan = { elim [
+      | formula.Blank ↦ Stop
+      | formula.Same a ↦ Ask a (λ x. Give x)
+      | formula.Odd a ↦ Ask a (λ x. Give (x % 2))
+      | formula.Add a b ↦ Ask a (λ x. Ask b (λ y. Give ((x + y) % 2 ^ 64)))
+      | formula.Pick test a b ↦ Ask test (λ t. Ask (if nat_eq t 0 then b else a) (λ x. Give x))
+    ] };
 
     fn compute<D: Reads<u64>>(&self, reader: &mut D) -> Option<u64> {
         match *self {

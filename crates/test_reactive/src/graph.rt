@@ -1,6 +1,7 @@
 //! Graphs over stores of either order of free slots, and what tests call of them. These calls have no
 //! contracts, so that a test is proved without the library's.
 
+use crate::expected::assert_same;
 use crate::formula::Formula;
 use generational_box::{LastFirst, Location, OldestFirst, Storage, Store, StoreError};
 use reactive::{Effects, Fault, Key, Node, Reactive, Scope, Told};
@@ -161,6 +162,11 @@ impl<S: Storage<Node<u64, Formula>>> Graph for Tried<Reactive<u64, Formula, S>> 
 /// What is done with a new graph.
 pub(crate) trait Scene {
     fn play<R: Abort, G: Graph>(&self, rt: &R, alloc: Global, graph: &mut G);
+}
+
+/// Plays a scene where no call lacks memory.
+pub(crate) fn play_whole<P: Scene>(rt: &impl Abort, alloc: Global, scene: &P) {
+    assert_same(rt, &play(rt, alloc, scene), &0);
 }
 
 /// Plays a scene over a new graph, once with each order of free slots. Returns how often a call

@@ -12,8 +12,11 @@ mod drawn;
 #[cfg(test)]
 mod effects;
 #[cfg(test)]
+mod expected;
+#[cfg(test)]
 mod faults;
-pub mod formula;
+#[cfg(test)]
+mod formula;
 #[cfg(test)]
 mod graph;
 #[cfg(test)]

@@ -19,27 +19,31 @@ impl Plain {
     /// The rule of a memo, by the keys of the nodes. None where one is named that there isn't, or the
     /// node isn't a memo.
     pub(crate) fn rule(self, keys: &[Key]) -> Option<Formula> {
-        let at = |node: usize| keys.get(node).copied();
         match self {
             Plain::Ended | Plain::Value(_) => None,
             Plain::Blank => Some(Formula::Blank),
-            Plain::Same(a) => Some(Formula::Same(at(a)?)),
-            Plain::Odd(a) => Some(Formula::Odd(at(a)?)),
-            Plain::Add(a, b) => Some(Formula::Add(at(a)?, at(b)?)),
-            Plain::Pick(test, a, b) => Some(Formula::Pick(at(test)?, at(a)?, at(b)?)),
+            Plain::Same(a) => Some(Formula::Same(key_at(keys, a)?)),
+            Plain::Odd(a) => Some(Formula::Odd(key_at(keys, a)?)),
+            Plain::Add(a, b) => Some(Formula::Add(key_at(keys, a)?, key_at(keys, b)?)),
+            Plain::Pick(test, a, b) => {
+                let test = key_at(keys, test)?;
+                Some(Formula::Pick(test, key_at(keys, a)?, key_at(keys, b)?))
+            }
         }
     }
 
     /// What the node gives by what others gave in the round before.
     pub(crate) fn given(self, values: &[Option<u64>]) -> Option<u64> {
-        let at = |node: usize| values.get(node).copied().flatten();
         match self {
             Plain::Ended | Plain::Blank => None,
             Plain::Value(value) => Some(value),
-            Plain::Same(a) => at(a),
-            Plain::Odd(a) => Some(at(a)? % 2),
-            Plain::Add(a, b) => Some(at(a)?.wrapping_add(at(b)?)),
-            Plain::Pick(test, a, b) => { if at(test)? != 0 { at(a) } else { at(b) } }
+            Plain::Same(a) => value_at(values, a),
+            Plain::Odd(a) => Some(value_at(values, a)? % 2),
+            Plain::Add(a, b) => Some(value_at(values, a)?.wrapping_add(value_at(values, b)?)),
+            Plain::Pick(test, a, b) => {
+                let place = if value_at(values, test)? != 0 { a } else { b };
+                value_at(values, place)
+            }
         }
     }
 
@@ -54,4 +58,13 @@ impl Plain {
             Plain::Pick(test, a, b) => Plain::Pick(to(test), to(a), to(b)),
         }
     }
+}
+
+fn key_at(keys: &[Key], node: usize) -> Option<Key> {
+    keys.get(node).copied()
+}
+
+/// What a node has given, if anything.
+pub(crate) fn value_at(values: &[Option<u64>], node: usize) -> Option<u64> {
+    *values.get(node)?
 }

@@ -1,7 +1,8 @@
 //! The texts of faults.
 
+use crate::expected::assert_same;
 use crate::formula::Formula;
-use crate::graph::{Graph, Scene, play};
+use crate::graph::{Graph, Scene, play_whole};
 use generational_box::StoreError;
 use reactive::Fault;
 use std::alloc::Global;
@@ -22,12 +23,12 @@ impl Scene for Texts {
         ];
         for (fault, text) in texts {
             let printed = format!(in alloc; "{fault}").expect(rt, "a text");
-            assert_eq!(rt; printed.as_str(), text);
+            assert_same(rt, &printed.as_str(), &text);
         }
     }
 }
 
 #[test]
 fn faults_name_their_nodes(rt: HostRuntime) {
-    assert_eq!(rt; play(&rt, rt.alloc(), &Texts), 0);
+    play_whole(&rt, rt.alloc(), &Texts);
 }
