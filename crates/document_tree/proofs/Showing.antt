@@ -6,19 +6,20 @@ use Rattle.std.proofs.Common.{ℕ, ◌≡◌, ◌≢◌, true, Option, None, Som
 use Rattle.std.proofs.Common.{◌∙◌, ⊎_elim}
 use Rattle.std.proofs.lemmas.Bool.{true≢false}
 use Rattle.std.proofs.lemmas.Option.{same_Some}
-use Rattle.std.specs.Prelude.{List, filter, is_some}
-use Rattle.generational_core.specs.Borrowing.{BorrowRefusal, reach, refusal_to_read}
+use Rattle.std.specs.Prelude.{Bool, List, false, filter, if◌then◌else◌, is_some, nat_eq}
+use Rattle.generational_core.specs.Borrowing.{BorrowRefusal, leads_to, reach, refusal_to_read}
 use Rattle.generational_core.specs.Boxes.{name_of}
 use Rattle.generational_core.specs.Conditions.{fresh}
 use Rattle.generational_core.specs.Leaving.{HasNoBorrows, IsUnchanged, LeavesContent}
-use Rattle.generational_core.specs.Cells.{Cell, location_of}
-use Rattle.generational_core.specs.Cells.Cell.{Shared}
+use Rattle.generational_core.specs.Cells.{Cell, Content, location_of}
+use Rattle.generational_core.specs.Cells.Cell.{Ref, Shared, Value}
 use Rattle.generational_core.specs.Machine.{Action, Answer, Outcome, cell_at, refer, unless}
 use Rattle.generational_core.specs.Machine.Action.{Refer, SetValue}
 use Rattle.generational_core.specs.Machine.Answer.{Made, Old}
 use Rattle.generational_core.specs.Names.{Name, name_cmp}
 use Rattle.generational_core.specs.Seeing.{value_in}
 use Rattle.generational_core.specs.State.{State, IsSound}
+use Rattle.generational_core.specs.StepCalls.{target_in, target_of}
 use Rattle.generational_core.specs.Steps.{Meets}
 use Rattle.generational_core.specs.declared.boxes.GenerationalPointer.{GenerationalPointer}
 use Rattle.generational_core.proofs.maps.Maps.{name_cases}
@@ -35,7 +36,9 @@ use Rattle.document_tree.specs.declared.part.Part.{Part}
 use Rattle.document_tree.specs.declared.place.Place.{Place}
 use Rattle.document_tree.specs.Documents.{Shown, shown_by, shown_of, shown_in, part_in, children_of, live_among, with_children, WasMade, Leaves, Changes}
 use Rattle.generational_sessions.proofs.callers.Ids.{same_id_reach, same_value_there, unreached}
+use Rattle.document_tree.specs.Keeping.{IsKept}
 use Rattle.document_tree.specs.Places.{IsSame}
+use Rattle.generational_errors.specs.declared.error.Location.{Location}
 
 fresh_none : (C : Type 0) (number start next : ℕ) (b : GenerationalPointer)
     → reach (fresh {T = C} number start next) b ≡ None
@@ -234,6 +237,25 @@ module _ {T : Type 0} where
       at : (x : Option (Part T)) → value_in D p.raw ≡ x → is_some (part_in D p) ≡ is_some (shown_in D p)
       at None is = ap is_some (quiet_gone D quiet p.raw s is) ∙ sym (ap (λ v. is_some (shown_of v)) is)
       at (Some v) is = ap is_some (seen_reached D p.raw v is).1 ∙ sym (ap (λ v. is_some (shown_of v)) is)
+
+  -- where no cell is a box's own value, a box leads somewhere exactly where it is a live reference
+  names_alike : (number : ℕ) (n : Name) (x : Option (Cell (Part T)))
+      → ((c : Content (Part T)) (l : Location) → x ≡ Some (Value c l) → ⊥)
+      → is_some (target_in number x) ≡ is_some (leads_to x n)
+  names_alike number n None none = refl
+  names_alike number n (Some (Value c l)) none = absurd (none c l refl)
+  names_alike number n (Some (Shared c l)) none = refl
+  names_alike number n (Some (Ref m l)) none = refl
+
+  pub target_reached : {D : State (Part T)} → IsKept D → (b : GenerationalPointer)
+      → is_some (target_of D b) ≡ is_some (reach D b)
+  unfolding reach
+  target_reached {D} kept b = at (nat_eq b.id.store D.number)
+    where
+      at : (own : Bool) → is_some (target_in D.number (if own then map.get D.cells (name_of b) else None))
+          ≡ is_some (if own then leads_to (map.get D.cells (name_of b)) (name_of b) else None)
+      at true = names_alike D.number (name_of b) (map.get D.cells (name_of b)) (kept.linked (name_of b))
+      at false = refl
 
   -- ---- where a part was added
 

@@ -169,7 +169,8 @@ impl<T, S: Storage<Part<T>>> Document<T, S> {
     pub fn is_alive(&self, place: Place) -> bool
         ensures { result ≡ is_some (shown_in self.now place) }
     {
-        self.store.is_live(place.raw)
+        // A place that leads to a part is a live reference, and no other cell has a box here.
+        self.store.target(place.raw).is_some()
     }
 
     /// The children of a place's part, in order. The document is lent meanwhile.

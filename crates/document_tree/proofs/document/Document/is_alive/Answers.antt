@@ -1,7 +1,9 @@
-use Rattle.std.proofs.Common.{◌∙◌}
-use Rattle.document_tree.proofs.Showing.{live_shows}
+use Rattle.std.proofs.Common.{ap, ◌∙◌}
+use Rattle.std.specs.Prelude.{is_some}
+use Rattle.document_tree.proofs.Showing.{live_shows, target_reached}
 use Rattle.document_tree.proofs.document.Document.is_alive.Goals as goal
 
 pub returns : goal.returns
-returns g c = c.is_live.ensures ∙ rw (← c.self.view_is)
-    (live_shows (g.met.S.AnyStorage.sound _) c.self.invariant.unborrowed c.args.place)
+returns g c = c.is_some.ensures ∙ (ap is_some c.target.ensures ∙ rw (← c.self.view_is)
+    (target_reached c.self.invariant c.args.place.raw
+    ∙ live_shows (g.met.S.AnyStorage.sound _) c.self.invariant.unborrowed c.args.place))
