@@ -3,7 +3,7 @@ use Rattle.std.proofs.Common.{◌≡◌, ◌≢◌, ℕ, List, [], ◌∷◌, �
 use Rattle.std.proofs.Common.{inl, inr, refl, sym, ap, ◌∙◌, ⊎_elim, arith, length-set}
 use Rattle.std.specs.Prelude.{◌+◌, ◌-◌, ◌⊎◌, slice_get, slice_set, slice_index_or, swap_remove}
 use Rattle.std.proofs.lemmas.List.{length-take}
-use Rattle.std.proofs.lemmas.Option.{none-some, same_Some, slice_get_within, slice_get-get_or}
+use Rattle.std.proofs.lemmas.Option.{none-some, same_Some, slice_get_read, slice_get_within, slice_get-get_or}
 use Rattle.generational_core.proofs.maps.Maps.{by_number, key_cases}
 use Rattle.generational_sessions.proofs.callers.Elements.{get_set_apart, get_set_here, get_take}
 use Rattle.generational_sessions.proofs.callers.Elements.{take_within}
@@ -55,6 +55,12 @@ module _ {X : Type 0} where
       let same = length-set xs i (slice_index_or xs n d) in
       omega (arith, is, same)
 
+  -- the last element, as it is read
+  pub read_last : (xs : List X) (n i : ℕ) (x : X) → n ≡ length xs → i < length xs
+      → x ≡ slice_index_or xs (n - 1) x → slice_get xs (length xs - 1) ≡ Some x
+  read_last xs n i x size lt is = ap (λ m. slice_get xs (m - 1)) (sym size)
+      ∙ slice_get_read xs (length xs) (n - 1) x refl (omega (arith, lt, size)) is
+
   pub none_last : (xs : List X) → slice_get xs (length xs - 1) ≡ None → xs ≡ []
   none_last [] none = refl
   none_last (x ∷ xs) none = absurd (none-some _
@@ -63,40 +69,26 @@ module _ {X : Type 0} where
 -- ---- places
 
 module _ {T : Type 0} where
-  -- rows whose last was removed are placed as before
-  pub placed_popped : (rows : List (Entity T)) (places : List ℕ) (row : ℕ) (d : Entity T)
-      → row < length rows → ArePlaced rows places
-      → slice_get (swap_remove rows row d) row ≡ None → ArePlaced (swap_remove rows row d) places
-  placed_popped rows places row d lt placed none k e is = ⊎_elim
-      (λ here. absurd (none-some e (sym none ∙ (ap (slice_get (swap_remove rows row d)) (sym here.0) ∙ is))))
-      (λ old. placed k e old.2) (removed_get rows row k d e lt is)
+  -- the place of the last row is there
+  pub last_within : (rows : List (Entity T)) (places : List ℕ) (last : Entity T)
+      → ArePlaced rows places → slice_get rows (length rows - 1) ≡ Some last
+      → slot_in last < length places
+  last_within rows places last placed is =
+      slice_get_within places (slot_in last) (length rows - 1) (placed _ last is)
 
-  -- the place of the row that has moved is there
-  pub moved_within : (rows : List (Entity T)) (places : List ℕ) (row : ℕ) (d moved : Entity T)
-      → row < length rows → ArePlaced rows places
-      → slice_get (swap_remove rows row d) row ≡ Some moved → slot_in moved < length places
-  moved_within rows places row d moved lt placed there =
+  -- rows whose last has moved, once its place is the row that was emptied
+  pub placed_moved : (rows : List (Entity T)) (places : List ℕ) (row : ℕ) (d last : Entity T)
+      → row < length rows → ArePlaced rows places → slice_get rows (length rows - 1) ≡ Some last
+      → ArePlaced (swap_remove rows row d) (slice_set places (slot_in last) row)
+  placed_moved rows places row d last lt placed is k e there =
       let n = length rows - 1 in
-      let last : slice_get rows n ≡ Some moved = ⊎_elim (λ here. here.2)
-      (λ old. absurd (old.0 refl)) (removed_get rows row row d moved lt there) in
-      slice_get_within places (slot_in moved) n (placed n moved last)
-
-  -- and rows whose last has moved, once its place is the row that was emptied
-  pub placed_moved : (rows : List (Entity T)) (places : List ℕ) (row : ℕ) (d moved : Entity T)
-      → row < length rows → ArePlaced rows places
-      → slice_get (swap_remove rows row d) row ≡ Some moved
-      → ArePlaced (swap_remove rows row d) (slice_set places (slot_in moved) row)
-  placed_moved rows places row d moved lt placed there k e is =
-      let n = length rows - 1 in
-      let last : slice_get rows n ≡ Some moved = ⊎_elim (λ here. here.2)
-      (λ old. absurd (old.0 refl)) (removed_get rows row row d moved lt there) in
-      let place = placed n moved last in
-      let within = slice_get_within places (slot_in moved) n place in
+      let place = placed n last is in
+      let within = slice_get_within places (slot_in last) n place in
       ⊎_elim (λ here.
-      let same = same_Some moved e (sym there ∙ (ap (slice_get (swap_remove rows row d)) (sym here.0) ∙ is)) in
-      ap (slice_get (slice_set places (slot_in moved) row)) (ap slot_in (sym same))
-      ∙ (get_set_here places (slot_in moved) row within ∙ ap Some (sym here.0)))
-      (λ old. get_set_apart places (slot_in moved) (slot_in e) row
+      let same = same_Some last e (sym is ∙ here.2) in
+      ap (slice_get (slice_set places (slot_in last) row)) (ap slot_in (sym same))
+      ∙ (get_set_here places (slot_in last) row within ∙ ap Some (sym here.0)))
+      (λ old. get_set_apart places (slot_in last) (slot_in e) row
       (λ slot. let twice = same_Some n k (sym place ∙ (ap (slice_get places) (sym slot) ∙ placed k e old.2)) in
       let lt = old.1 in omega arith) ∙ placed k e old.2)
-      (removed_get rows row k d e lt is)
+      (removed_get rows row k d e lt there)

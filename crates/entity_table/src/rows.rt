@@ -44,9 +44,9 @@ fn grow<T>(rows: &mut Vec<Entity<T>>, places: &mut Vec<usize>, slots: usize) -> 
     if places.reserve(1).is_err() {
         return false;
     }
-    // All that there is room for: so most spawns find their place there.
+    // All that there is room for: so most spawns find their place there. No row is as far behind.
     let all = places.capacity().max(room);
-    places.resize(all, 0).is_ok()
+    places.resize(all, all).is_ok()
 }
 
 /// Takes a row away: the last one takes its place.
@@ -57,10 +57,9 @@ pub(crate) fn remove_row<T>(rows: &mut Vec<Entity<T>>, places: &mut Vec<usize>, 
         × (rows.new.items ≡ swap_remove rows.old.items row gone) }
     ensures placed { ArePlaced rows.new.items places.new.items }
 {
+    let last = rows[rows.len() - 1];
     rows.swap_remove(row);
-    if let Some(moved) = entity_at(rows, row) {
-        places[moved.raw.raw_ptr()] = row;
-    }
+    places[last.raw.raw_ptr()] = row;
 }
 
 /// The entity of a row, if there is such a row.
