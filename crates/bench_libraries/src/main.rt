@@ -62,18 +62,19 @@ fn main(rt: HostRuntime) -> ExitCode {
     }
 }
 
-/// Makes the list's calls. None where one wasn't carried out.
+/// Makes the list's calls. None where one wasn't carried out. Each list is in a function of its own, so
+/// that what LLVM makes of one doesn't hang on the others.
 fn seen_in(alloc: Global, words: Words) -> Option<u64> {
     let n = words.things;
     match words.list {
         List::Entities => in_entities(alloc, number_store(alloc), n),
-        List::Options => rounds::run(alloc, &mut Options::new(alloc), n),
+        List::Options => in_options(alloc, n),
         List::Scene => in_scene(alloc, number_store(alloc), n),
-        List::Forest => families::run(alloc, &mut PlainForest::new(alloc), n),
+        List::Forest => in_forest(alloc, n),
         List::Sessions => in_sessions(alloc, number_store(alloc), n),
-        List::Shelves => visits::run(alloc, &mut Shelves::new(alloc), n),
+        List::Shelves => in_shelves(alloc, n),
         List::Parts => in_parts(alloc, part_store(alloc), n),
-        List::Copies => copies::run(alloc, &mut PlainParts::new(alloc), n),
+        List::Copies => in_copies(alloc, n),
     }
 }
 
@@ -88,6 +89,7 @@ fn part_store(alloc: Global) -> UnsyncStorage<Part<u64>> {
 }
 
 /// Makes the calls over the entities of an empty store.
+#[inline(never)]
 fn in_entities<S: Storage<u64> + Drop>(alloc: Global, store: S, n: usize) -> Option<u64> {
     if !store.is_fresh() {
         return None;
@@ -95,7 +97,14 @@ fn in_entities<S: Storage<u64> + Drop>(alloc: Global, store: S, n: usize) -> Opt
     rounds::run(alloc, &mut EntityTable::new(alloc, store), n)
 }
 
+/// Makes them over the places of a plain vector.
+#[inline(never)]
+fn in_options(alloc: Global, n: usize) -> Option<u64> {
+    rounds::run(alloc, &mut Options::new(alloc), n)
+}
+
 /// Makes the calls over the nodes of an empty store.
+#[inline(never)]
 fn in_scene<S: Storage<u64> + Drop>(alloc: Global, store: S, n: usize) -> Option<u64> {
     if !store.is_fresh() {
         return None;
@@ -103,7 +112,14 @@ fn in_scene<S: Storage<u64> + Drop>(alloc: Global, store: S, n: usize) -> Option
     families::run(alloc, &mut SceneTree::new(alloc, store), n)
 }
 
+/// Makes them over nodes at places of a plain vector.
+#[inline(never)]
+fn in_forest(alloc: Global, n: usize) -> Option<u64> {
+    families::run(alloc, &mut PlainForest::new(alloc), n)
+}
+
 /// Makes the calls over what sessions keep in an empty store.
+#[inline(never)]
 fn in_sessions<S: Storage<u64> + Drop>(alloc: Global, store: S, n: usize) -> Option<u64> {
     if !store.is_fresh() {
         return None;
@@ -114,12 +130,25 @@ fn in_sessions<S: Storage<u64> + Drop>(alloc: Global, store: S, n: usize) -> Opt
     seen
 }
 
+/// Makes them over what plain vectors keep.
+#[inline(never)]
+fn in_shelves(alloc: Global, n: usize) -> Option<u64> {
+    visits::run(alloc, &mut Shelves::new(alloc), n)
+}
+
 /// Makes the calls over the parts of an empty store.
+#[inline(never)]
 fn in_parts<S: Storage<Part<u64>> + Drop>(alloc: Global, store: S, n: usize) -> Option<u64> {
     if !store.is_fresh() {
         return None;
     }
     copies::run(alloc, &mut Document::new(alloc, store), n)
+}
+
+/// Makes them over parts and places in plain vectors.
+#[inline(never)]
+fn in_copies(alloc: Global, n: usize) -> Option<u64> {
+    copies::run(alloc, &mut PlainParts::new(alloc), n)
 }
 
 /// What keeps the things.
