@@ -418,6 +418,7 @@ fn settle_refused<T: Drop, const NUMBER: u64, M: Count, L: Count, C: Count, R: C
 }
 
 // Records a refusal out of line, since few calls are refused.
+#[tactic(auto, using(crate::proofs::Granting::refused_answered))]
 #[cold]
 #[inline(never)]
 fn settle_seldom<T: Drop, const NUMBER: u64, M: Count, L: Count, C: Count, R: Count>(
