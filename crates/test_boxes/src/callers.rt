@@ -1,7 +1,9 @@
 //! The proved callers of the crate `example_callers`, run.
 
 use crate::expected::{assert_same, leak};
-use crate::fresh::{Life, Scenario, live, play};
+use crate::fresh::{
+    Beginning, Kind, Life, Over, Scenario, live, play, run_over, run_over_oldest_first,
+};
 use crate::sessions::session_over;
 use example_callers::conditions::{exchange, read_free, set_and_read, set_value};
 use example_callers::kinds::{Entry, toggle};
@@ -13,8 +15,8 @@ use example_callers::values::{
     read_value, replaced_value, shown_or, there_and_back, write_value, written_value,
 };
 use generational_box::{
-    BorrowMutError, BoxAt, Call, GenerationalBox, LastFirst, Location, OldestFirst, Reply, Session,
-    SlotPool, Storage, Store, ValueDroppedError,
+    BorrowMutError, BoxAt, Call, GenerationalBox, Location, Reply, Session, Storage,
+    ValueDroppedError,
 };
 use std::alloc::Global;
 use std::process::Abort;
@@ -196,17 +198,23 @@ fn values_under_conditions(rt: HostRuntime) {
     play::<u64, Conditions>(&rt, rt.alloc());
 }
 
-/// Asserts what the rows of a table show, over a store that takes free slots in this order.
-fn assert_rows<P: SlotPool + Drop>(rt: &impl Abort, alloc: Global) {
-    let store: Store<u64, P> = Store::new(alloc, 1);
-    let rows = [Some(3), None, Some(5), None];
-    assert_same(rt, &rows_of_table(alloc, store), &Some(rows));
+/// What the rows of a table show.
+struct RowsOfATable;
+
+impl<R: Abort> Over<u64, R> for RowsOfATable {
+    type Answer = ();
+
+    fn run<K: Kind<u64>>(rt: &R, alloc: Global, number: u64, beginning: Beginning) {
+        let store = K::make(alloc, number, beginning);
+        let rows = [Some(3), None, Some(5), None];
+        assert_same(rt, &rows_of_table(alloc, store), &Some(rows));
+    }
 }
 
 #[test]
 fn tables_over_both_pools(rt: HostRuntime) {
-    assert_rows::<LastFirst>(&rt, rt.alloc());
-    assert_rows::<OldestFirst>(&rt, rt.alloc());
+    run_over::<u64, _, RowsOfATable>(&rt, rt.alloc(), 1, Beginning::First);
+    run_over_oldest_first::<u64, _, RowsOfATable>(&rt, rt.alloc(), 1, Beginning::First);
 }
 
 struct AFlag;

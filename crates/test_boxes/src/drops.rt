@@ -15,7 +15,6 @@ use generational_box::{
     BoxAt, Call, GenerationalBox, GenerationalRef, GenerationalRefMut, Owner, Refusal, Session,
     Storage,
 };
-use signals::{Scope, Signal};
 use std::alloc::Global;
 use std::process::Abort;
 use std::rc::Rc;
@@ -25,7 +24,7 @@ type Counted = Rc<u32>;
 
 /// A value of which the test keeps a clone.
 fn counted(rt: &impl Abort, alloc: Global) -> Counted {
-    Rc::new(alloc, 5).map_err(|_| "memory").expect(rt, "memory")
+    Rc::new(alloc, 5).ok().expect(rt, "memory")
 }
 
 /// Another clone of a value.
@@ -186,62 +185,6 @@ impl Scenario<Counted> for Sets {
 #[test]
 fn a_value_that_was_set_away(rt: HostRuntime) {
     play::<Counted, Sets>(&rt, rt.alloc());
-}
-
-/// Begins a scope.
-fn scope<S: Storage<Counted>>(rt: &impl Abort, store: &mut S) -> Scope {
-    Scope::new(store).expect(rt, "a scope")
-}
-
-/// Makes a signal of a value.
-fn signal<S: Storage<Counted>>(
-    rt: &impl Abort,
-    store: &mut S,
-    scope: &Scope,
-    value: Counted,
-) -> Signal<Counted> {
-    let made = scope.signal(store, value, made());
-    made.map_err(|refusal| refusal.cause).expect(rt, "a signal")
-}
-
-/// Sets a signal.
-fn set_signal<S: Storage<Counted>>(
-    rt: &impl Abort,
-    store: &mut S,
-    asked: Signal<Counted>,
-    value: Counted,
-) {
-    assert!(rt; asked.set(store, value, made_later()).is_ok());
-}
-
-/// Ends a scope.
-fn end_scope<S: Storage<Counted>>(rt: &impl Abort, store: &mut S, scope: Scope) {
-    match scope.end(store) {
-        Ok(()) => {}
-        Err(_back) => rt.abort(),
-    }
-}
-
-struct Signals;
-
-impl Scenario<Counted> for Signals {
-    fn play<R: Abort, S: Storage<Counted>>(rt: &R, alloc: Global, store: &mut S) {
-        let first = counted(rt, alloc);
-        let second = counted(rt, alloc);
-        let scope = scope(rt, store);
-        let only = signal(rt, store, &scope, another(rt, &first));
-        set_signal(rt, store, only, another(rt, &second));
-        assert_count(rt, &first, 1);
-        assert_count(rt, &second, 2);
-        end_scope(rt, store, scope);
-        assert_count(rt, &second, 1);
-    }
-}
-
-// A signal's old value goes when another is set, and the last one with the scope.
-#[test]
-fn a_signals_value(rt: HostRuntime) {
-    play::<Counted, Signals>(&rt, rt.alloc());
 }
 
 /// Lets go of the value that a refused making hands back.

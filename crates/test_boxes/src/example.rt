@@ -1,14 +1,10 @@
 //! A text is kept in a store, read and ended.
 
 use crate::expected::assert_same;
-use generational_box::{GenerationalBox, Location, Storage, UnsyncStorage};
+use crate::fresh::{Beginning, Kind, Over, run_over};
+use generational_box::{GenerationalBox, Location, Storage};
 use std::alloc::Global;
-use std::test::Fail;
-
-/// The length of a text that is kept in a new store, read and ended.
-pub fn length_in_store(alloc: Global, text: String) -> Option<usize> {
-    length_in(UnsyncStorage::new(alloc, 1), text)
-}
+use std::process::Abort;
 
 /// The length of a text that is kept in a store, read and ended. The store goes then.
 pub fn length_in<S: Storage<String> + Drop>(mut store: S, text: String) -> Option<usize> {
@@ -40,17 +36,42 @@ pub fn back_from<S: Storage<String> + Drop>(mut store: S, text: String) -> Optio
     Some(name)
 }
 
-#[test]
-fn a_text_that_is_handed_back(rt: HostRuntime) -> Result<(), Fail> {
-    let text = String::from_str(rt.alloc(), "hello world")?;
-    let back = back_from(UnsyncStorage::new(rt.alloc(), 1), text).map(|name| name.len());
-    assert_same(&rt, &back, &Some(11));
-    Ok(())
+/// A text.
+fn hello(rt: &impl Abort, alloc: Global) -> String {
+    String::from_str(alloc, "hello world").expect(rt, "memory")
+}
+
+/// A text that its store hands back.
+struct HandedBack;
+
+impl<R: Abort> Over<String, R> for HandedBack {
+    type Answer = ();
+
+    fn run<K: Kind<String>>(rt: &R, alloc: Global, number: u64, beginning: Beginning) {
+        let store = K::make(alloc, number, beginning);
+        let back = back_from(store, hello(rt, alloc)).map(|name| name.len());
+        assert_same(rt, &back, &Some(11));
+    }
 }
 
 #[test]
-fn the_length_of_a_text_that_is_ended(rt: HostRuntime) -> Result<(), Fail> {
-    let text = String::from_str(rt.alloc(), "hello world")?;
-    assert_same(&rt, &length_in_store(rt.alloc(), text), &Some(11));
-    Ok(())
+fn a_text_that_is_handed_back(rt: HostRuntime) {
+    run_over::<String, _, HandedBack>(&rt, rt.alloc(), 1, Beginning::First);
+}
+
+/// A text that is read and ended.
+struct Ended;
+
+impl<R: Abort> Over<String, R> for Ended {
+    type Answer = ();
+
+    fn run<K: Kind<String>>(rt: &R, alloc: Global, number: u64, beginning: Beginning) {
+        let store = K::make(alloc, number, beginning);
+        assert_same(rt, &length_in(store, hello(rt, alloc)), &Some(11));
+    }
+}
+
+#[test]
+fn the_length_of_a_text_that_is_ended(rt: HostRuntime) {
+    run_over::<String, _, Ended>(&rt, rt.alloc(), 1, Beginning::First);
 }

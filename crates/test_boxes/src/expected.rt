@@ -3,7 +3,8 @@
 
 use generational_box::{
     AlreadyBorrowedError, AnyStorage, BorrowError, BorrowMutError, GenerationalBox,
-    GenerationalRef, GenerationalRefMut, Location, Owner, Refused, Storage, ValueDroppedError,
+    GenerationalRef, GenerationalRefMut, Location, Owner, Refusal, Refused, Storage, StoreError,
+    ValueDroppedError,
 };
 use std::alloc::Global;
 use std::fmt::{Debug, Display};
@@ -52,6 +53,15 @@ pub(crate) fn counts_of<T, S: AnyStorage<T>>(store: &S) -> Counts {
     }
 }
 
+/// What a call gave that must not be refused. It is proved once, for all types: a closure that takes a
+/// refusal apart is proved at each place.
+pub(crate) fn given<T, E: Drop>(rt: &impl Abort, answer: Result<T, E>) -> T {
+    match answer {
+        Ok(given) => given,
+        Err(_) => panic!(rt; "it was refused"),
+    }
+}
+
 /// Makes a box of a value.
 pub(crate) fn leak<T: Drop, S: Storage<T>>(
     rt: &impl Abort,
@@ -59,8 +69,7 @@ pub(crate) fn leak<T: Drop, S: Storage<T>>(
     value: T,
     made: Location,
 ) -> GenerationalBox<T> {
-    let answer = GenerationalBox::leak(store, value, made);
-    answer.map_err(|refusal| refusal.cause).expect(rt, "a box")
+    given(rt, GenerationalBox::leak(store, value, made))
 }
 
 /// Begins a read.
@@ -96,8 +105,7 @@ pub(crate) fn insert<T: Drop, S: Storage<T>>(
     value: T,
     made: Location,
 ) -> GenerationalBox<T> {
-    let answer = owner.insert(store, value, made);
-    answer.map_err(|refusal| refusal.cause).expect(rt, "a box")
+    given(rt, owner.insert(store, value, made))
 }
 
 /// Releases an owner.
@@ -150,8 +158,8 @@ pub(crate) fn assert_reads<S: Storage<u32>>(
     number: u32,
 ) {
     let guard = begin(rt, store, asked, read());
-    assert_same(rt, &guard.deref(store).map(|view| *view), &Some(number));
-    assert!(rt; guard.release(store));
+    assert_opens(rt, store, &guard, Some(number));
+    assert_released(rt, store, guard, true);
 }
 
 /// Asserts that a read is refused so.
@@ -167,6 +175,22 @@ pub(crate) fn assert_unread<T: Drop, S: Storage<T>>(
             assert!(rt; false, "the read was given");
         }
         Err(found) => assert_same(rt, &found, &refusal),
+    }
+}
+
+/// Asserts that a making is refused as its owner is unknown, and that this value comes back.
+pub(crate) fn assert_unknown(
+    rt: &impl Abort,
+    answer: Result<GenerationalBox<u32>, Refusal<u32>>,
+    value: u32,
+) {
+    match answer {
+        Ok(_) => panic!(rt; "the box was made"),
+        Err(refusal) => assert_same(
+            rt,
+            &(refusal.value, refusal.cause),
+            &(value, StoreError::UnknownOwner),
+        ),
     }
 }
 

@@ -1,34 +1,102 @@
-//! Scenarios that a store of their own is made for: that is done here once, for all of them. A
-//! function that makes a store is proved with all that is let go of one, which takes long; whatever
-//! is generic over the store isn't.
-
-ghost use Rattle.std.specs.Prelude.{◌≤◌};
+//! Scenarios that a store of their own is made for: that is done here once, for all of them.
+//!
+//! A function that names a store's type, and makes or hands over such a store, is proved with all that a
+//! storage must meet, which takes as long as ten others. So a store is made by its `Kind`, which its user
+//! doesn't know, and `run_over` alone says which kind that is.
 
 use crate::sessions::session_over;
-use generational_box::{Numbers, Session, Storage, Store, UnsyncStorage};
+use generational_box::{
+    LastFirst, Numbers, OldestFirst, Session, SlotPool, Storage, Store, StoreError,
+};
 use std::alloc::Global;
+use std::fmt::Debug;
 use std::process::Abort;
+
+/// Where a new store's numbers begin.
+#[derive(Clone, Copy)]
+pub(crate) enum Beginning {
+    First,
+    LastGeneration,
+    Ticket(u64),
+}
+
+/// A kind of stores, by which one is made and has room made in it.
+pub(crate) trait Kind<T> {
+    type Made: Storage<T> + Debug + Drop;
+
+    fn make(alloc: Global, number: u64, beginning: Beginning) -> Self::Made;
+
+    fn reserve(store: &mut Self::Made, more: usize) -> Result<(), StoreError>;
+}
+
+impl<T: Drop, P: SlotPool + Drop> Kind<T> for P {
+    type Made = Store<T, P>;
+
+    fn make(alloc: Global, number: u64, beginning: Beginning) -> Store<T, P> {
+        let (generation, ticket) = match beginning {
+            Beginning::First => (1, 0),
+            Beginning::LastGeneration => (u64::MAX, 0),
+            Beginning::Ticket(ticket) => (1, ticket),
+        };
+        Store::new_at(alloc, number, Numbers { generation, ticket })
+    }
+
+    fn reserve(store: &mut Store<T, P>, more: usize) -> Result<(), StoreError> {
+        store.reserve(more)
+    }
+}
+
+/// What is done with stores of whatever kind, of a number and with a beginning that are handed in.
+pub(crate) trait Over<T, R> {
+    type Answer;
+
+    fn run<K: Kind<T>>(rt: &R, alloc: Global, number: u64, beginning: Beginning) -> Self::Answer;
+}
+
+/// Does something with stores that take the slot that was freed last.
+pub(crate) fn run_over<T: Drop, R, A: Over<T, R>>(
+    rt: &R,
+    alloc: Global,
+    number: u64,
+    beginning: Beginning,
+) -> A::Answer {
+    A::run::<LastFirst>(rt, alloc, number, beginning)
+}
+
+/// Does the same with stores that take the slot that has been free for the longest.
+pub(crate) fn run_over_oldest_first<T: Drop, R, A: Over<T, R>>(
+    rt: &R,
+    alloc: Global,
+    number: u64,
+    beginning: Beginning,
+) -> A::Answer {
+    A::run::<OldestFirst>(rt, alloc, number, beginning)
+}
 
 /// What happens with a store that goes in the end.
 pub(crate) trait Life<T> {
     fn live<R: Abort, S: Storage<T> + Drop>(rt: &R, alloc: Global, store: S);
 }
 
-/// Hands an empty store over, which begins with these numbers.
-fn live_from<T: Drop, P: Life<T>>(rt: &impl Abort, alloc: Global, numbers: Numbers)
-    requires { 1 ≤ numbers.generation }
-{
-    let store: UnsyncStorage<T> = Store::new_at(alloc, 7, numbers);
-    P::live(rt, alloc, store);
+/// A life, of a store that is made for it.
+struct Lived<P>(P);
+
+impl<T, R: Abort, P: Life<T>> Over<T, R> for Lived<P> {
+    type Answer = ();
+
+    fn run<K: Kind<T>>(rt: &R, alloc: Global, number: u64, beginning: Beginning) {
+        P::live(rt, alloc, K::make(alloc, number, beginning));
+    }
+}
+
+/// Hands an empty store over, which begins so.
+fn live_from<T: Drop, P: Life<T>>(rt: &impl Abort, alloc: Global, beginning: Beginning) {
+    run_over::<T, _, Lived<P>>(rt, alloc, 7, beginning);
 }
 
 /// Hands an empty store over.
 pub(crate) fn live<T: Drop, P: Life<T>>(rt: &impl Abort, alloc: Global) {
-    let numbers = Numbers {
-        generation: 1,
-        ticket: 0,
-    };
-    live_from::<T, P>(rt, alloc, numbers);
+    live_from::<T, P>(rt, alloc, Beginning::First);
 }
 
 /// What happens in one store.
@@ -52,20 +120,12 @@ pub(crate) fn play<T: Drop, P: Scenario<T>>(rt: &impl Abort, alloc: Global) {
 
 /// Plays a scenario in an empty store whose slots have the last generation.
 pub(crate) fn play_at_last_generation<T: Drop, P: Scenario<T>>(rt: &impl Abort, alloc: Global) {
-    let numbers = Numbers {
-        generation: u64::MAX,
-        ticket: 0,
-    };
-    live_from::<T, Played<P>>(rt, alloc, numbers);
+    live_from::<T, Played<P>>(rt, alloc, Beginning::LastGeneration);
 }
 
 /// Plays a scenario in an empty store whose next ticket is this one.
 pub(crate) fn play_at_ticket<T: Drop, P: Scenario<T>>(rt: &impl Abort, alloc: Global, ticket: u64) {
-    let numbers = Numbers {
-        generation: 1,
-        ticket,
-    };
-    live_from::<T, Played<P>>(rt, alloc, numbers);
+    live_from::<T, Played<P>>(rt, alloc, Beginning::Ticket(ticket));
 }
 
 /// What happens with two stores that go in the end.
@@ -73,11 +133,21 @@ pub(crate) trait LifeOfTwo<T> {
     fn live<R: Abort, S: Storage<T> + Drop>(rt: &R, alloc: Global, seven: S, other: S);
 }
 
+/// The life of two stores that are made for it.
+struct LivedOfTwo<P>(P);
+
+impl<T, R: Abort, P: LifeOfTwo<T>> Over<T, R> for LivedOfTwo<P> {
+    type Answer = ();
+
+    fn run<K: Kind<T>>(rt: &R, alloc: Global, number: u64, beginning: Beginning) {
+        let seven = K::make(alloc, 7, beginning);
+        P::live(rt, alloc, seven, K::make(alloc, number, beginning));
+    }
+}
+
 /// Hands two empty stores over, of which one has the number 7 and the other this one.
 fn live_with<T: Drop, P: LifeOfTwo<T>>(rt: &impl Abort, alloc: Global, number: u64) {
-    let seven: UnsyncStorage<T> = Store::new(alloc, 7);
-    let other: UnsyncStorage<T> = Store::new(alloc, number);
-    P::live(rt, alloc, seven, other);
+    run_over::<T, _, LivedOfTwo<P>>(rt, alloc, number, Beginning::First);
 }
 
 /// Hands two empty stores over, with the numbers 7 and 8.

@@ -6,10 +6,10 @@
 //! one at a time changes it whenever a page is full.
 
 use crate::expected::{insert, leak, made, new_owner};
+use crate::fresh::{Beginning, Kind, Over, run_over};
 use crate::sessions::{call, session_over};
 use crate::sharing::{leak_rc, leak_reference};
-use crate::signal_calls::{end, scope, signal};
-use generational_box::{BoxAt, Call, Owner, Session, Storage, Store, UnsyncStorage};
+use generational_box::{BoxAt, Call, Owner, Session, Storage};
 use std::alloc::Global;
 use std::fs;
 use std::process::Abort;
@@ -69,13 +69,28 @@ pub(crate) trait Growth<T> {
     ) -> Result<(), Fail>;
 }
 
+/// What grows, in a store that is made for it.
+struct Grown<P>(P);
+
+impl<T, R: Files + AllocGlobal + Abort, P: Growth<T>> Over<T, R> for Grown<P> {
+    type Answer = Result<(), Fail>;
+
+    fn run<K: Kind<T>>(
+        rt: &R,
+        alloc: Global,
+        number: u64,
+        beginning: Beginning,
+    ) -> Result<(), Fail> {
+        P::grow(rt, alloc, K::make(alloc, number, beginning))
+    }
+}
+
 /// Hands an empty store over.
 pub(crate) fn grow<T: Drop, P: Growth<T>, R: Files + AllocGlobal + Abort>(
     rt: &R,
     alloc: Global,
 ) -> Result<(), Fail> {
-    let store: UnsyncStorage<T> = Store::new(alloc, 7);
-    P::grow(rt, alloc, store)
+    run_over::<T, R, Grown<P>>(rt, alloc, 7, Beginning::First)
 }
 
 /// Makes a hundred boxes by nobody.
@@ -190,23 +205,6 @@ impl Growth<u32> for Owns {
 #[test]
 fn an_owners_list(rt: HostRuntime) -> Result<(), Fail> {
     grow::<u32, Owns, _>(&rt, rt.alloc())
-}
-
-/// Makes signals of a scope, and ends it.
-fn signal_all<S: Storage<u64> + Drop>(rt: &impl Abort, mut store: S) {
-    let signals = scope(rt, &mut store);
-    for value in 0..20_000 {
-        signal(rt, &mut store, &signals, value, made());
-    }
-    end(rt, &mut store, signals);
-}
-
-// A scope of twenty thousand signals. It doesn't look how the memory grows: whoever counts what is
-// asked for finds that it isn't asked for often.
-#[test]
-fn a_scopes_signals(rt: HostRuntime) {
-    let store: UnsyncStorage<u64> = Store::new(rt.alloc(), 7);
-    signal_all(&rt, store);
 }
 
 /// Makes a hundred calls of a session that take no slot.

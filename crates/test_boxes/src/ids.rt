@@ -3,11 +3,11 @@
 use crate::expected::{
     assert_same, assert_shows, end, insert, leak, made, made_later, new_owner, release,
 };
-use crate::fresh::{Scenario, TwoStoreScenario, play, play_in_two_stores};
-use crate::sharing::{leak_rc, leak_reference};
-use generational_box::{
-    AnyStorage, GenerationalBox, GenerationalBoxId, Location, Storage, Store, UnsyncStorage,
+use crate::fresh::{
+    Beginning, Kind, Over, Scenario, TwoStoreScenario, play, play_in_two_stores, run_over,
 };
+use crate::sharing::{leak_rc, leak_reference};
+use generational_box::{AnyStorage, GenerationalBox, GenerationalBoxId, Location, Storage};
 use std::alloc::Global;
 use std::collections::{BTreeSet, HashSet};
 use std::hash::{DefaultHasher, Hash, Hasher};
@@ -140,10 +140,15 @@ fn first_hash<S: Storage<u32> + Drop>(rt: &impl Abort, mut store: S) -> u64 {
     hash_of(&id_of_next(rt, &mut store, true))
 }
 
-/// The hash of the first id of the store of a number.
-fn first_hash_in(rt: &impl Abort, alloc: Global, number: u64) -> u64 {
-    let store: UnsyncStorage<u32> = Store::new(alloc, number);
-    first_hash(rt, store)
+/// The same of a store that is made for it.
+struct FirstHash;
+
+impl<R: Abort> Over<u32, R> for FirstHash {
+    type Answer = u64;
+
+    fn run<K: Kind<u32>>(rt: &R, alloc: Global, number: u64, beginning: Beginning) -> u64 {
+        first_hash(rt, K::make(alloc, number, beginning))
+    }
 }
 
 // Ids that differ in the slot alone, in the generation alone, or in the store alone.
@@ -153,7 +158,7 @@ fn ids_have_many_hashes(rt: HostRuntime) {
     play::<u32, IdsOfGenerations>(&rt, rt.alloc());
     let mut hashes = BTreeSet::new(rt.alloc());
     for number in 0..100 {
-        let hash = first_hash_in(&rt, rt.alloc(), number);
+        let hash = run_over::<u32, _, FirstHash>(&rt, rt.alloc(), number, Beginning::First);
         hashes.insert(hash).expect(&rt, "memory");
     }
     assert!(rt; hashes.len() > 90);
@@ -161,10 +166,9 @@ fn ids_have_many_hashes(rt: HostRuntime) {
 
 /// Asserts that a store finds a box by its id, with the location where it was made.
 fn assert_found<S: Storage<u32>>(rt: &impl Abort, store: &S, given: GenerationalBox<u32>) {
-    let found = GenerationalBox::find(store, given.id());
-    assert!(rt; found == Some(given));
-    let place = found.map(|found| found.created_at());
-    assert_same(rt, &place, &Some(given.created_at()));
+    let found = GenerationalBox::find(store, given.id()).expect(rt, "a box");
+    assert!(rt; found == given);
+    assert_same(rt, &found.created_at(), &given.created_at());
 }
 
 /// Asserts that a store has no box of an id.

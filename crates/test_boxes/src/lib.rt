@@ -43,10 +43,6 @@ mod sharing;
 #[cfg(test)]
 mod shortage;
 #[cfg(test)]
-mod signal_calls;
-#[cfg(test)]
-mod signal_rows;
-#[cfg(test)]
 mod strangers;
 #[cfg(test)]
 mod texts;

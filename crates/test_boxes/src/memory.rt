@@ -4,15 +4,18 @@
 use crate::again::{begin_or_again, insert_or_again, leak_or_again, owner_or_again, readers};
 use crate::expected::{
     assert_opens, assert_reads, assert_released, assert_same, assert_unread, begin, counts_of,
-    dropped, end, leak, made, made_later, read, release,
+    dropped, end, given, leak, made, made_later, read, release,
 };
-use crate::fresh::{Scenario, SessionScenario, play, play_in_session};
+use crate::fresh::{
+    Beginning, Kind, Over, Scenario, SessionScenario, play, play_in_session, run_over,
+    run_over_oldest_first,
+};
 use crate::sharing::{leak_rc, leak_reference};
 use generational_box::{
-    AnyStorage, BoxAt, Call, GenerationalBox, GenerationalRef, LastFirst, Location, OldestFirst,
-    Owner, Refused, Reply, Session, SlotPool, Storage, Store, StoreError,
+    AnyStorage, BoxAt, Call, GenerationalBox, GenerationalRef, Location, Owner, Refused, Reply,
+    Session, Storage, StoreError,
 };
-use std::alloc::{AllocError, Global};
+use std::alloc::Global;
 use std::process::Abort;
 
 /// The owner that comes back from a release that is refused, with these readers. One that lacks
@@ -227,7 +230,7 @@ fn run_or_again<S: Storage<u32>>(
         }
         ran => ran,
     };
-    ran.map_err(|_| AllocError).expect(rt, "replies")
+    given(rt, ran)
 }
 
 /// Asserts the replies to two calls, of which the first may have lacked memory.
@@ -271,13 +274,13 @@ fn for_the_places_of_calls(rt: HostRuntime) {
 }
 
 /// Makes room for so many cells, the third time at the latest.
-fn reserve_or_again<P: SlotPool>(rt: &impl Abort, store: &mut Store<u32, P>, more: usize) {
+fn reserve_or_again<K: Kind<u32>>(rt: &impl Abort, store: &mut K::Made, more: usize) {
     for _ in 0..2 {
-        if store.reserve(more).is_ok() {
+        if K::reserve(store, more).is_ok() {
             return;
         }
     }
-    assert!(rt; store.reserve(more).is_ok());
+    assert!(rt; K::reserve(store, more).is_ok());
 }
 
 /// Values, shared values and references that take forty cells.
@@ -289,35 +292,52 @@ fn make_forty_cells<S: Storage<u32>>(rt: &impl Abort, store: &mut S) {
     }
 }
 
-/// Makes room in a store that takes free slots in this order, and values there, twice.
-fn make_in_room<P: SlotPool + Drop>(rt: &impl Abort, alloc: Global) {
-    let mut store: Store<u32, P> = Store::new(alloc, 7);
-    for _ in 0..2 {
-        reserve_or_again(rt, &mut store, 40);
-        make_forty_cells(rt, &mut store);
+/// Makes room in a store, and values there, twice.
+struct MakingsInRoom;
+
+impl<R: Abort> Over<u32, R> for MakingsInRoom {
+    type Answer = ();
+
+    fn run<K: Kind<u32>>(rt: &R, alloc: Global, number: u64, beginning: Beginning) {
+        let mut store = K::make(alloc, number, beginning);
+        for _ in 0..2 {
+            reserve_or_again::<K>(rt, &mut store, 40);
+            make_forty_cells(rt, &mut store);
+        }
     }
 }
 
 // What room was made for takes no memory: no making is tried a second time.
 #[test]
 fn makings_in_reserved_room(rt: HostRuntime) {
-    make_in_room::<LastFirst>(&rt, rt.alloc());
-    make_in_room::<OldestFirst>(&rt, rt.alloc());
+    run_over::<u32, _, MakingsInRoom>(&rt, rt.alloc(), 7, Beginning::First);
+    run_over_oldest_first::<u32, _, MakingsInRoom>(&rt, rt.alloc(), 7, Beginning::First);
 }
 
 /// Asserts that there is no room for so many cells.
-fn assert_no_room<P: SlotPool>(rt: &impl Abort, store: &mut Store<u32, P>, more: usize) {
-    assert_same(rt, &store.reserve(more), &Err(StoreError::OutOfMemory));
+fn assert_no_room<K: Kind<u32>>(rt: &impl Abort, store: &mut K::Made, more: usize) {
+    assert_same(rt, &K::reserve(store, more), &Err(StoreError::OutOfMemory));
+}
+
+/// Asks a store for too much room, before and after it has some.
+struct RoomBeyondAll;
+
+impl<R: Abort> Over<u32, R> for RoomBeyondAll {
+    type Answer = ();
+
+    fn run<K: Kind<u32>>(rt: &R, alloc: Global, number: u64, beginning: Beginning) {
+        let mut store = K::make(alloc, number, beginning);
+        for more in [usize::MAX, usize::MAX - 1, 1 << 32] {
+            assert_no_room::<K>(rt, &mut store, more);
+        }
+        reserve_or_again::<K>(rt, &mut store, 1);
+        leak(rt, &mut store, 1, made());
+        assert_no_room::<K>(rt, &mut store, usize::MAX);
+    }
 }
 
 // More room than there can be is refused, and takes none.
 #[test]
 fn room_beyond_all(rt: HostRuntime) {
-    let mut store: Store<u32, LastFirst> = Store::new(rt.alloc(), 7);
-    for more in [usize::MAX, usize::MAX - 1, 1 << 32] {
-        assert_no_room(&rt, &mut store, more);
-    }
-    reserve_or_again(&rt, &mut store, 1);
-    leak(&rt, &mut store, 1, made());
-    assert_no_room(&rt, &mut store, usize::MAX);
+    run_over::<u32, _, RoomBeyondAll>(&rt, rt.alloc(), 7, Beginning::First);
 }

@@ -1,14 +1,14 @@
 //! Plenty of everything: where there is memory nothing lacks it, however much there is already.
 
 use crate::expected::{
-    assert_reads, assert_same, assert_unread, dropped, end, insert, leak, made, made_later,
+    assert_reads, assert_same, assert_unread, dropped, end, given, insert, leak, made, made_later,
     new_owner, read, release, written,
 };
 use crate::fresh::{Scenario, SessionScenario, play, play_at_last_generation, play_in_session};
-use crate::sessions::call;
+use crate::sessions::{Told, assert_told};
 use crate::sharing::{insert_rc, insert_reference, leak_rc, leak_reference, point};
 use generational_box::{AnyStorage, BoxAt, Call, Reply, Session, Storage};
-use std::alloc::{AllocError, Global};
+use std::alloc::Global;
 use std::process::Abort;
 
 struct BoxesOfAStore;
@@ -78,49 +78,37 @@ fn shared_values_and_references(rt: HostRuntime) {
 /// Makes boxes by the owner at place 0.
 fn inserts<S: Storage<u32>>(rt: &impl Abort, session: &mut Session<u32, S>, count: u32) {
     for value in 0..count {
-        let reply = call(rt, session, Call::Insert(0, value, made()));
-        assert!(rt; matches!(&reply, Reply::Box(_)), "at {value}");
+        assert_told(rt, session, Call::Insert(0, value, made()), Told::Box);
     }
 }
 
 /// Makes boxes by nobody.
 fn leaks<S: Storage<u32>>(rt: &impl Abort, session: &mut Session<u32, S>, count: u32) {
     for value in 0..count {
-        let reply = call(rt, session, Call::Leak(value, made()));
-        assert!(rt; matches!(&reply, Reply::Box(_)), "at {value}");
+        assert_told(rt, session, Call::Leak(value, made()), Told::Box);
     }
-}
-
-/// Asserts that a call gives a box.
-fn assert_boxed<S: Storage<u32>>(rt: &impl Abort, session: &mut Session<u32, S>, asked: Call<u32>) {
-    let reply = call(rt, session, asked);
-    assert!(rt; matches!(&reply, Reply::Box(_)));
 }
 
 /// Shares values with the owner at place 0, and with nobody. The first value has place 1.
 fn shares<S: Storage<u32>>(rt: &impl Abort, session: &mut Session<u32, S>, count: u32) {
     for value in 0..count {
-        assert_boxed(rt, session, Call::InsertRc(0, value, made()));
-        assert_boxed(rt, session, Call::InsertReference(0, BoxAt::Place(1)));
-        assert_boxed(rt, session, Call::LeakRc(value, made()));
-        assert_boxed(rt, session, Call::LeakReference(BoxAt::Place(1)));
-        let reply = call(rt, session, Call::PointTo(BoxAt::Place(3), BoxAt::Place(1)));
-        assert!(rt; matches!(&reply, Reply::Done), "at {value}");
+        assert_told(rt, session, Call::InsertRc(0, value, made()), Told::Box);
+        let listed = Call::InsertReference(0, BoxAt::Place(1));
+        assert_told(rt, session, listed, Told::Box);
+        assert_told(rt, session, Call::LeakRc(value, made()), Told::Box);
+        let referred = Call::LeakReference(BoxAt::Place(1));
+        assert_told(rt, session, referred, Told::Box);
+        let pointed = Call::PointTo(BoxAt::Place(3), BoxAt::Place(1));
+        assert_told(rt, session, pointed, Told::Done);
     }
 }
 
 /// Begins reads of the box at place 1.
 fn reads<S: Storage<u32>>(rt: &impl Abort, session: &mut Session<u32, S>, count: u32) {
-    for number in 0..count {
-        let reply = call(rt, session, Call::TryRead(BoxAt::Place(1), read()));
-        assert!(rt; matches!(&reply, Reply::Reader), "at {number}");
+    for _ in 0..count {
+        let asked = Call::TryRead(BoxAt::Place(1), read());
+        assert_told(rt, session, asked, Told::Reader);
     }
-}
-
-/// Asserts that a call is told of borrows, and doesn't lack memory for them.
-fn assert_told<S: Storage<u32>>(rt: &impl Abort, session: &mut Session<u32, S>, asked: Call<u32>) {
-    let reply = call(rt, session, asked);
-    assert!(rt; matches!(&reply, Reply::Error(_)));
 }
 
 /// A list of makings.
@@ -139,8 +127,7 @@ fn run<S: Storage<u32>>(
     calls: Vec<Call<u32>>,
     count: usize,
 ) {
-    let ran = session.run(calls).map_err(|_| AllocError);
-    let replies = ran.expect(rt, "replies");
+    let replies = given(rt, session.run(calls));
     assert_same(rt, &replies.len(), &count);
     for reply in replies {
         assert!(rt; matches!(&reply, Reply::Box(_)));
@@ -151,13 +138,14 @@ struct CallsOfASession;
 
 impl SessionScenario for CallsOfASession {
     fn play<R: Abort, S: Storage<u32>>(rt: &R, alloc: Global, session: &mut Session<u32, S>) {
-        let reply = call(rt, session, Call::Owner);
-        assert!(rt; matches!(&reply, Reply::Owner));
+        assert_told(rt, session, Call::Owner, Told::Owner);
         inserts(rt, session, 2_000);
         reads(rt, session, 100);
-        assert_told(rt, session, Call::ManuallyDrop(BoxAt::Place(1)));
-        assert_told(rt, session, Call::TryWrite(BoxAt::Place(1), written()));
-        assert_told(rt, session, Call::ReleaseOwner(0));
+        let end = Call::ManuallyDrop(BoxAt::Place(1));
+        assert_told(rt, session, end, Told::Error);
+        let write = Call::TryWrite(BoxAt::Place(1), written());
+        assert_told(rt, session, write, Told::Error);
+        assert_told(rt, session, Call::ReleaseOwner(0), Told::Error);
         leaks(rt, session, 4_000);
         run(rt, session, makings(rt, alloc, 200), 200);
         reads(rt, session, 1);
@@ -174,12 +162,10 @@ struct SharedValuesOfASession;
 
 impl SessionScenario for SharedValuesOfASession {
     fn play<R: Abort, S: Storage<u32>>(rt: &R, _: Global, session: &mut Session<u32, S>) {
-        let reply = call(rt, session, Call::Owner);
-        assert!(rt; matches!(&reply, Reply::Owner));
+        assert_told(rt, session, Call::Owner, Told::Owner);
         shares(rt, session, 2_000);
         reads(rt, session, 100);
-        let reply = call(rt, session, Call::ReleaseOwner(0));
-        assert!(rt; matches!(&reply, Reply::Done));
+        assert_told(rt, session, Call::ReleaseOwner(0), Told::Done);
     }
 }
 

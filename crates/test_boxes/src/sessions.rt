@@ -1,9 +1,9 @@
 //! What a session's end leaves in its store.
 
-use crate::expected::{assert_reads, assert_same, end, made, read};
+use crate::expected::{assert_reads, assert_same, end, given, made, read};
 use crate::fresh::{Life, live};
 use generational_box::{BoxAt, Call, GenerationalBox, Reply, Session, Storage};
-use std::alloc::{AllocError, Global};
+use std::alloc::Global;
 use std::process::Abort;
 
 /// A session over an empty store.
@@ -22,10 +22,41 @@ pub(crate) fn call<T: Drop, S: Storage<T>>(
     session: &mut Session<T, S>,
     call: Call<T>,
 ) -> Reply<T> {
-    session
-        .call(call)
-        .map_err(|_| AllocError)
-        .expect(rt, "a reply")
+    given(rt, session.call(call))
+}
+
+/// What a reply tells, without what it gives: whoever compares this has no reply to let go.
+#[derive(Clone, Copy, Debug, PartialEq)]
+pub(crate) enum Told {
+    Box,
+    Owner,
+    Reader,
+    Done,
+    Error,
+    Other,
+}
+
+/// What a reply tells.
+fn told_by<T>(reply: &Reply<T>) -> Told {
+    match reply {
+        Reply::Box(_) => Told::Box,
+        Reply::Owner => Told::Owner,
+        Reply::Reader => Told::Reader,
+        Reply::Done => Told::Done,
+        Reply::Error(_) => Told::Error,
+        _ => Told::Other,
+    }
+}
+
+/// Makes a call, and asserts what its reply tells.
+pub(crate) fn assert_told<T: Drop, S: Storage<T>>(
+    rt: &impl Abort,
+    session: &mut Session<T, S>,
+    asked: Call<T>,
+    told: Told,
+) {
+    let reply = call(rt, session, asked);
+    assert_same(rt, &told_by(&reply), &told);
 }
 
 /// The box that a call gives.
@@ -42,14 +73,8 @@ fn box_of<S: Storage<u32>>(
 
 /// Begins a read of the box at a place.
 fn begin_at<S: Storage<u32>>(rt: &impl Abort, session: &mut Session<u32, S>, place: usize) {
-    let reply = call(rt, session, Call::TryRead(BoxAt::Place(place), read()));
-    assert!(rt; matches!(&reply, Reply::Reader));
-}
-
-/// Begins a new owner.
-fn begin_owner<S: Storage<u32>>(rt: &impl Abort, session: &mut Session<u32, S>) {
-    let reply = call(rt, session, Call::Owner);
-    assert!(rt; matches!(&reply, Reply::Owner));
+    let asked = Call::TryRead(BoxAt::Place(place), read());
+    assert_told(rt, session, asked, Told::Reader);
 }
 
 struct ReadersOfTwo;
@@ -83,7 +108,7 @@ impl Life<u32> for ReaderAndOwner {
         let mut session = session_over(rt, alloc, store);
         let lent = box_of(rt, &mut session, Call::Leak(1, made()));
         begin_at(rt, &mut session, 0);
-        begin_owner(rt, &mut session);
+        assert_told(rt, &mut session, Call::Owner, Told::Owner);
         let owned = box_of(rt, &mut session, Call::Insert(2, 2, made()));
         assert_same(rt, &lent.can_write(session.store()), &false);
         let store = session.finish();
@@ -104,7 +129,7 @@ struct BoxOfAnOwner;
 impl Life<u32> for BoxOfAnOwner {
     fn live<R: Abort, S: Storage<u32> + Drop>(rt: &R, alloc: Global, store: S) {
         let mut session = session_over(rt, alloc, store);
-        begin_owner(rt, &mut session);
+        assert_told(rt, &mut session, Call::Owner, Told::Owner);
         let kept = box_of(rt, &mut session, Call::Insert(0, 1, made()));
         let mut store = session.finish();
         assert_reads(rt, &mut store, kept, 1);

@@ -1,5 +1,6 @@
 //! Shared values and references, made and pointed elsewhere over any store, one call a function.
 
+use crate::expected::given;
 use generational_box::{GenerationalBox, Location, Owner, Storage};
 use std::process::Abort;
 
@@ -10,8 +11,7 @@ pub(crate) fn leak_rc<T: Drop, S: Storage<T>>(
     value: T,
     made: Location,
 ) -> GenerationalBox<T> {
-    let answer = GenerationalBox::leak_rc(store, value, made);
-    answer.map_err(|refusal| refusal.cause).expect(rt, "a box")
+    given(rt, GenerationalBox::leak_rc(store, value, made))
 }
 
 /// Makes one reference more to the shared value that a box reaches.
@@ -31,8 +31,7 @@ pub(crate) fn insert_rc<T: Drop, S: Storage<T>>(
     value: T,
     made: Location,
 ) -> GenerationalBox<T> {
-    let answer = owner.insert_rc(store, value, made);
-    answer.map_err(|refusal| refusal.cause).expect(rt, "a box")
+    given(rt, owner.insert_rc(store, value, made))
 }
 
 /// Makes one reference more, by an owner, to the shared value that a box reaches.

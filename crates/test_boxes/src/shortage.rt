@@ -4,8 +4,8 @@
 
 use crate::again::{insert_or_again, leak_or_again, owner_or_again, readers};
 use crate::expected::{
-    assert_kept, assert_opens, assert_released, assert_same, assert_unread, begin, begin_write,
-    counts_of, dropped, end, made, made_later, read, written,
+    assert_kept, assert_opens, assert_released, assert_same, assert_unknown, assert_unread, begin,
+    begin_write, counts_of, dropped, end, made, made_later, read, written,
 };
 use crate::fresh::{
     Scenario, TwoStoreScenario, play, play_at_last_generation, play_at_ticket, play_in_two_stores,
@@ -94,18 +94,6 @@ fn at_the_last_tickets(rt: HostRuntime) {
     play_at_ticket::<u32, LastTicket>(&rt, rt.alloc(), u64::MAX - 1);
 }
 
-/// Asserts that a store makes no box by an owner that it doesn't know, and hands the value back.
-fn assert_unknown<S: Storage<u32>>(rt: &impl Abort, store: &mut S, owner: &Owner) {
-    match owner.insert(store, 9, made_later()) {
-        Ok(_) => panic!(rt; "the box was made"),
-        Err(refusal) => assert_same(
-            rt,
-            &(refusal.value, refusal.cause),
-            &(9, StoreError::UnknownOwner),
-        ),
-    }
-}
-
 struct Strangers;
 
 impl TwoStoreScenario<u32> for Strangers {
@@ -116,7 +104,7 @@ impl TwoStoreScenario<u32> for Strangers {
         let before = counts_of(seven);
         assert_unread(rt, seven, foreign, dropped(made()));
         end(rt, seven, foreign);
-        assert_unknown(rt, seven, &owner);
+        assert_unknown(rt, owner.insert(seven, 9, made_later()), 9);
         let unknown = Refused::Store(StoreError::UnknownOwner);
         assert_kept(rt, seven, owner, unknown).leak();
         let writer = begin_write(rt, eight, foreign, written());

@@ -3,8 +3,8 @@
 
 use crate::expected::{
     assert_kept, assert_opens, assert_reads, assert_released, assert_same, assert_shows,
-    assert_stays, assert_unread, assert_unwritten, begin, begin_write, borrowed, counts_of,
-    dropped, end, insert, leak, made, made_later, new_owner, read, release, written,
+    assert_stays, assert_unknown, assert_unread, assert_unwritten, begin, begin_write, borrowed,
+    counts_of, dropped, end, insert, leak, made, made_later, new_owner, read, release, written,
 };
 use crate::fresh::{TwoStoreScenario, play_in_twins, play_in_two_stores};
 use crate::sharing::{insert_rc, leak_rc};
@@ -126,26 +126,10 @@ fn a_box_of_a_store_of_one_number_reaches_no_shared_value(rt: HostRuntime) {
     play_in_twins::<u32, BoxOfATwin>(&rt, rt.alloc());
 }
 
-/// Asserts that a store makes no box by an owner, and hands the value back.
+/// Asserts that a store makes no box and no shared value by an owner, and hands the values back.
 fn assert_not_inserted<S: Storage<u32>>(rt: &impl Abort, store: &mut S, owner: &Owner) {
-    match owner.insert(store, 9, made()) {
-        Ok(_) => panic!(rt; "the box was made"),
-        Err(refusal) => {
-            assert_same(rt, &refusal.value, &9);
-            assert_same(rt, &refusal.cause, &StoreError::UnknownOwner);
-        }
-    }
-}
-
-/// Asserts that a store makes no shared value by an owner, and hands the value back.
-fn assert_not_shared<S: Storage<u32>>(rt: &impl Abort, store: &mut S, owner: &Owner) {
-    match owner.insert_rc(store, 9, made()) {
-        Ok(_) => panic!(rt; "the box was made"),
-        Err(refusal) => {
-            assert_same(rt, &refusal.value, &9);
-            assert_same(rt, &refusal.cause, &StoreError::UnknownOwner);
-        }
-    }
+    assert_unknown(rt, owner.insert(store, 9, made()), 9);
+    assert_unknown(rt, owner.insert_rc(store, 9, made()), 9);
 }
 
 /// Asserts that a store makes no reference by an owner.
@@ -155,9 +139,8 @@ fn assert_not_listed<S: Storage<u32>>(
     owner: &Owner,
     asked: GenerationalBox<u32>,
 ) {
-    let answer = owner.insert_reference(store, asked);
     let unknown = Refused::Store(StoreError::UnknownOwner);
-    assert!(rt; answer.is_err_and(|found| found == unknown));
+    assert_same(rt, &owner.insert_reference(store, asked), &Err(unknown));
 }
 
 /// Asserts that a store doesn't clone an owner.
@@ -185,7 +168,6 @@ impl TwoStoreScenario<u32> for OwnersOfTwo {
         let before = counts_of(seven);
 
         assert_not_inserted(rt, seven, &owner);
-        assert_not_shared(rt, seven, &owner);
         assert_not_listed(rt, seven, &owner, shared);
         assert_not_listed(rt, seven, &owner, foreign);
         assert_not_listed(rt, seven, &owner, stale);

@@ -4,10 +4,10 @@ use crate::expected::{
     assert_prints, assert_released, assert_same, assert_shows, begin, begin_write, insert, leak,
     made, made_later, new_owner, read, written,
 };
-use crate::fresh::{Scenario, play};
+use crate::fresh::{Beginning, Kind, Over, Scenario, play, run_over};
 use generational_box::{
     AlreadyBorrowedError, AlreadyBorrowedMutError, BorrowError, BorrowMutError, GenerationalBox,
-    Location, Refused, Storage, Store, StoreError, UnsyncStorage, ValueDroppedError,
+    Location, Refused, Storage, StoreError, ValueDroppedError,
 };
 use std::alloc::{AllocError, Global};
 use std::fmt::{Debug, Display};
@@ -217,26 +217,28 @@ fn assert_wide_for_developers(rt: &impl Abort, alloc: Global, shown: &impl Debug
 }
 
 /// Asserts so of a store of eleven values, its last box, its owner and the guards of a value.
-fn assert_names_wide<S: Storage<u32> + Debug + Drop>(
-    rt: &impl Abort,
-    alloc: Global,
-    mut store: S,
-    text: &str,
-) {
-    let last = tenth(rt, &mut store);
-    assert_wide_for_developers(rt, alloc, &last, "10@1");
-    assert_wide_for_developers(rt, alloc, &last.id(), "10@1");
-    assert_wide_for_developers(rt, alloc, &store, text);
-    let owner = new_owner(rt, &mut store);
-    assert_wide_for_developers(rt, alloc, &owner, "owner 0 of store 7");
-    let only = insert(rt, &mut store, &owner, 1, made());
-    let guard = begin(rt, &mut store, only, read());
-    assert_wide_for_developers(rt, alloc, &guard, "reader 1 of 11@1");
-    assert_released(rt, &mut store, guard, true);
-    let guard = begin_write(rt, &mut store, only, written());
-    assert_wide_for_developers(rt, alloc, &guard, "writer 2 of 11@1");
-    assert!(rt; guard.release(&mut store).is_ok());
-    owner.leak();
+struct NamesWide;
+
+impl<R: Abort> Over<u32, R> for NamesWide {
+    type Answer = ();
+
+    fn run<K: Kind<u32>>(rt: &R, alloc: Global, number: u64, beginning: Beginning) {
+        let mut store = K::make(alloc, number, beginning);
+        let last = tenth(rt, &mut store);
+        assert_wide_for_developers(rt, alloc, &last, "10@1");
+        assert_wide_for_developers(rt, alloc, &last.id(), "10@1");
+        assert_wide_for_developers(rt, alloc, &store, "store 7: 11 slots, 0 free");
+        let owner = new_owner(rt, &mut store);
+        assert_wide_for_developers(rt, alloc, &owner, "owner 0 of store 7");
+        let only = insert(rt, &mut store, &owner, 1, made());
+        let guard = begin(rt, &mut store, only, read());
+        assert_wide_for_developers(rt, alloc, &guard, "reader 1 of 11@1");
+        assert_released(rt, &mut store, guard, true);
+        let guard = begin_write(rt, &mut store, only, written());
+        assert_wide_for_developers(rt, alloc, &guard, "writer 2 of 11@1");
+        assert!(rt; guard.release(&mut store).is_ok());
+        owner.leak();
+    }
 }
 
 /// Asserts so of errors and their parts.
@@ -258,7 +260,6 @@ fn assert_errors_wide(rt: &impl Abort, alloc: Global) -> Result<(), AllocError> 
 #[test]
 fn texts_with_a_width(rt: HostRuntime) -> Result<(), Fail> {
     assert_errors_wide(&rt, rt.alloc())?;
-    let store: UnsyncStorage<u32> = Store::new(rt.alloc(), 7);
-    assert_names_wide(&rt, rt.alloc(), store, "store 7: 11 slots, 0 free");
+    run_over::<u32, _, NamesWide>(&rt, rt.alloc(), 7, Beginning::First);
     Ok(())
 }

@@ -1,10 +1,10 @@
 //! First steps, run: a value, two readers, a refusal, an owner.
 
 use crate::expected::assert_same;
-use generational_box::{
-    AnyStorage, BorrowMutResult, GenerationalBox, Location, Storage, UnsyncStorage,
-};
-use std::test::Fail;
+use crate::fresh::{Beginning, Kind, Over, run_over};
+use generational_box::{AnyStorage, BorrowMutResult, GenerationalBox, Location, Storage};
+use std::alloc::Global;
+use std::process::Abort;
 
 /// Where each call is made: a refusal tells where a borrow began, and where a value was made.
 fn line(line: u32) -> Location {
@@ -57,9 +57,19 @@ pub fn first_steps<S: Storage<u64> + Drop>(mut store: S) -> Option<(u64, u64, bo
     }
 }
 
+/// The steps, in a store that is made for them.
+struct Steps;
+
+impl<R: Abort> Over<u64, R> for Steps {
+    type Answer = ();
+
+    fn run<K: Kind<u64>>(rt: &R, alloc: Global, number: u64, beginning: Beginning) {
+        let store = K::make(alloc, number, beginning);
+        assert_same(rt, &first_steps(store), &Some((14, 8, false)));
+    }
+}
+
 #[test]
-fn a_value_two_readers_a_refusal_an_owner(rt: HostRuntime) -> Result<(), Fail> {
-    let store = UnsyncStorage::new(rt.alloc(), 1);
-    assert_same(&rt, &first_steps(store), &Some((14, 8, false)));
-    Ok(())
+fn a_value_two_readers_a_refusal_an_owner(rt: HostRuntime) {
+    run_over::<u64, _, Steps>(&rt, rt.alloc(), 1, Beginning::First);
 }

@@ -1,6 +1,6 @@
 //! Values that are counted by what std's `Rc` counts, so that a test sees when one is let go.
 
-use crate::expected::assert_same;
+use crate::expected::{assert_same, given};
 use std::alloc::Global;
 use std::process::Abort;
 use std::rc::Rc;
@@ -10,7 +10,7 @@ pub(crate) type Counted = Rc<u32>;
 
 /// A value of which the test keeps a clone.
 pub(crate) fn new_counted(rt: &impl Abort, alloc: Global) -> Counted {
-    Rc::new(alloc, 5).map_err(|_| "memory").expect(rt, "memory")
+    given(rt, Rc::new(alloc, 5))
 }
 
 /// Another clone of a value.

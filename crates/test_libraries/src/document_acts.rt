@@ -1,6 +1,6 @@
 //! What is done to a document, one act a line, with what must come of it.
 
-use crate::expected::assert_same;
+use crate::expected::{assert_same, given};
 use document_tree::{Document, Part, Place, PlaceError};
 use generational_box::{Location, Storage};
 use std::alloc::Global;
@@ -61,8 +61,7 @@ pub(crate) fn add<T: Drop, S: Storage<Part<T>>>(
     document: &mut Document<T, S>,
     content: T,
 ) -> Place {
-    let added = document.add(content, added_at(1));
-    added.map_err(|refusal| refusal.cause).expect(rt, "a place")
+    given(rt, document.add(content, added_at(1)))
 }
 
 /// Sees the content of a place, or that it is gone.

@@ -1,6 +1,6 @@
 //! What is done to a table of entities, one act a line, with what must come of it.
 
-use crate::expected::assert_same;
+use crate::expected::{assert_same, given};
 use entity_table::{ComponentTable, Entity, EntityTable, Stale};
 use generational_box::{Location, Storage};
 use std::alloc::Global;
@@ -67,10 +67,7 @@ pub(crate) fn spawn<S: Storage<u64>>(
     table: &mut EntityTable<u64, S>,
     number: usize,
 ) -> Entity<u64> {
-    table
-        .spawn(0, spawned_at(number))
-        .map_err(|refusal| refusal.cause)
-        .expect(rt, "an entity")
+    given(rt, table.spawn(0, spawned_at(number)))
 }
 
 /// Gives an entity a component.
@@ -112,10 +109,7 @@ fn carries_out<S: Storage<u64>>(
     match act {
         Act::Spawn(element) => {
             let spawned = table.spawn(element, spawned_at(entities.len()));
-            let entity = spawned
-                .map_err(|refusal| refusal.cause)
-                .expect(rt, "an entity");
-            entities.push(entity).is_ok()
+            entities.push(given(rt, spawned)).is_ok()
         }
         Act::Despawn(number) => {
             let entity = entity_at(rt, entities, number);
@@ -123,12 +117,7 @@ fn carries_out<S: Storage<u64>>(
         }
         Act::Set(number, element) => {
             let entity = entity_at(rt, entities, number);
-            let answer = table.set(entity, element);
-            let answer = answer.map_err(|(back, stale)| {
-                assert_same(rt, &back, &element);
-                stale
-            });
-            told(rt, answer, number)
+            told(rt, set(rt, table, entity, element), number)
         }
         Act::Add(number, more) => {
             let entity = entity_at(rt, entities, number);
@@ -141,6 +130,22 @@ fn carries_out<S: Storage<u64>>(
         Act::Clear => {
             table.clear();
             true
+        }
+    }
+}
+
+/// Sets an entity's element. It comes back where that is refused.
+fn set<S: Storage<u64>>(
+    rt: &impl Abort,
+    table: &mut EntityTable<u64, S>,
+    entity: Entity<u64>,
+    element: u64,
+) -> Result<(), Stale> {
+    match table.set(entity, element) {
+        Ok(()) => Ok(()),
+        Err((back, stale)) => {
+            assert_same(rt, &back, &element);
+            Err(stale)
         }
     }
 }

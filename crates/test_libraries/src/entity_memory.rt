@@ -2,7 +2,7 @@
 //! nothing, and is tried a second time.
 
 use crate::entity_acts::{add, components_over, entities_over, given_at, spawned_at};
-use crate::expected::assert_same;
+use crate::expected::{assert_same, given};
 use crate::fresh::{SceneOfTwo, play_two};
 use entity_table::{ComponentTable, Entity, EntityTable};
 use example_libraries::entities::raised;
@@ -28,9 +28,7 @@ fn spawn_or_again<S: Storage<u64>>(
             table.spawn(element, spawned_at(0))
         }
     };
-    let entity = spawned
-        .map_err(|refusal| refusal.cause)
-        .expect(rt, "an entity");
+    let entity = given(rt, spawned);
     assert!(rt; table.is_alive(entity));
     entity
 }

@@ -16,11 +16,27 @@ pub(crate) fn play<T: Drop, P: Scene<T>>(rt: &impl Abort, alloc: Global, scene: 
     scene.play(rt, alloc, store);
 }
 
+/// Plays a scene over a new store that takes the slot that has been free for the longest. It has this
+/// number, and its next ticket is this one.
+fn play_oldest_first<T: Drop, P: Scene<T>>(
+    rt: &impl Abort,
+    alloc: Global,
+    number: u64,
+    ticket: u64,
+    scene: &P,
+) {
+    let numbers = Numbers {
+        generation: 1,
+        ticket,
+    };
+    let store: Store<T, OldestFirst> = Store::new_at(alloc, number, numbers);
+    scene.play(rt, alloc, store);
+}
+
 /// Plays a scene over a new store, once with each order of free slots.
 pub(crate) fn play_both<T: Drop, P: Scene<T>>(rt: &impl Abort, alloc: Global, scene: &P) {
     play(rt, alloc, scene);
-    let oldest: Store<T, OldestFirst> = Store::new(alloc, 2);
-    scene.play(rt, alloc, oldest);
+    play_oldest_first(rt, alloc, 2, 0, scene);
 }
 
 /// Plays a scene over a new store whose next ticket is this one.
@@ -30,12 +46,7 @@ pub(crate) fn play_at_ticket<T: Drop, P: Scene<T>>(
     ticket: u64,
     scene: &P,
 ) {
-    let numbers = Numbers {
-        generation: 1,
-        ticket,
-    };
-    let store: Store<T, OldestFirst> = Store::new_at(alloc, 1, numbers);
-    scene.play(rt, alloc, store);
+    play_oldest_first(rt, alloc, 1, ticket, scene);
 }
 
 /// What is done over two new stores, which go in the end.

@@ -7,6 +7,7 @@ use crate::entity_acts::{components_over, entities_over, give, spawn};
 use crate::fresh::{Scene, SceneOfTwo, play, play_two};
 use crate::session_acts::sessions_over;
 use crate::session_limits::{log_in, put};
+use crate::signal_calls::{end, first_made, scope, signal};
 use crate::tree_acts::tree_over;
 use crate::tree_memory::{child_or_again, remove_or_again, root_or_again};
 use document_tree::Part;
@@ -132,4 +133,22 @@ impl Scene<Part<u64>> for AppendAll {
 #[test]
 fn parts(rt: HostRuntime) {
     play::<Part<u64>, AppendAll>(&rt, rt.alloc(), &AppendAll);
+}
+
+/// Makes signals of a scope, and ends it.
+struct SignalAll;
+
+impl Scene<u64> for SignalAll {
+    fn play<R: Abort, S: Storage<u64> + Drop>(&self, rt: &R, _: Global, mut store: S) {
+        let signals = scope(rt, &mut store);
+        for value in 0..MANY {
+            signal(rt, &mut store, &signals, value, first_made());
+        }
+        end(rt, &mut store, signals);
+    }
+}
+
+#[test]
+fn a_scopes_signals(rt: HostRuntime) {
+    play::<u64, SignalAll>(&rt, rt.alloc(), &SignalAll);
 }

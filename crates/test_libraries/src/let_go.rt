@@ -4,7 +4,7 @@
 use crate::counted::{Counted, another, assert_count, let_go, new_counted};
 use crate::document_acts::{add, document_over};
 use crate::entity_acts::{components_over, entities_over, give, spawn, spawned_at};
-use crate::expected::assert_same;
+use crate::expected::{assert_same, given};
 use crate::fresh::{Scene, SceneOfTwo, play, play_two};
 use document_tree::{Document, Part, Place};
 use entity_table::{ComponentTable, Entity, EntityTable};
@@ -182,10 +182,7 @@ impl Scene<Counted> for ElementsComeBack {
         assert!(rt; store.is_fresh());
         let mut table = EntityTable::new(alloc, store);
         let value = new_counted(rt, alloc);
-        let entity = table
-            .spawn(another(rt, &value), spawned_at(0))
-            .map_err(|refusal| refusal.cause)
-            .expect(rt, "an entity");
+        let entity = given(rt, table.spawn(another(rt, &value), spawned_at(0)));
         let taken = table.take(entity).expect(rt, "an element");
         assert_count(rt, &value, 2);
         let_go(taken);

@@ -1,5 +1,5 @@
-//! Tests of the libraries above the boxes: tables of entities, of components and of sessions, trees and
-//! documents, over stores of either order of free slots. The expected rows are worked out by hand.
+//! Tests of the libraries above the boxes: signals, tables of entities, of components and of sessions, trees
+//! and documents, over stores of either order of free slots. The expected rows are worked out by hand.
 #![tactic(auto)]
 
 #[cfg(test)]
@@ -38,6 +38,10 @@ mod session_histories;
 mod session_limits;
 #[cfg(test)]
 mod session_memory;
+#[cfg(test)]
+mod signal_calls;
+#[cfg(test)]
+mod signal_rows;
 #[cfg(test)]
 mod tree_acts;
 #[cfg(test)]

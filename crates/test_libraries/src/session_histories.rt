@@ -25,170 +25,167 @@ fn play_lines(rt: &impl Abort, alloc: Global, lines: &[Line]) {
 }
 
 /// A line, with what must come of it.
-const fn line(
-    act: Act,
-    reply: Reply,
-    sessions: &'static [(u64, u64)],
-    shows: &'static [Option<u64>],
-) -> Line {
-    Line {
-        act,
-        reply,
-        sessions,
-        shows,
-    }
+macro_rules! answered {
+    ($act:expr, $reply:expr, $sessions:expr, $shows:expr $(,)?) => {
+        Line {
+            act: $act,
+            reply: $reply,
+            sessions: $sessions,
+            shows: $shows,
+        }
+    };
 }
 
 #[test]
 fn a_logout_ends_its_own_values(rt: HostRuntime) {
-    let lines = [
-        line(Act::Login(1, 10), Reply::Done, &[(1, 10)], &[]),
-        line(Act::Login(2, 11), Reply::Done, &[(1, 10), (2, 11)], &[]),
-        line(Act::Login(1, 12), Reply::IdInUse, &[(1, 10), (2, 11)], &[]),
-        line(Act::Put(1, 5), Reply::Done, &[(1, 10), (2, 11)], &[Some(5)]),
-        line(
+    const LINES: &[Line] = &[
+        answered!(Act::Login(1, 10), Reply::Done, &[(1, 10)], &[]),
+        answered!(Act::Login(2, 11), Reply::Done, &[(1, 10), (2, 11)], &[]),
+        answered!(Act::Login(1, 12), Reply::IdInUse, &[(1, 10), (2, 11)], &[]),
+        answered!(Act::Put(1, 5), Reply::Done, &[(1, 10), (2, 11)], &[Some(5)]),
+        answered!(
             Act::Put(2, 6),
             Reply::Done,
             &[(1, 10), (2, 11)],
             &[Some(5), Some(6)],
         ),
-        line(
+        answered!(
             Act::Put(1, 7),
             Reply::Done,
             &[(1, 10), (2, 11)],
             &[Some(5), Some(6), Some(7)],
         ),
-        line(
+        answered!(
             Act::Logout(1),
             Reply::Done,
             &[(2, 11)],
             &[None, Some(6), None],
         ),
-        line(
+        answered!(
             Act::Logout(1),
             Reply::NoSession,
             &[(2, 11)],
             &[None, Some(6), None],
         ),
-        line(
+        answered!(
             Act::Set(2, 9),
             Reply::Stale,
             &[(2, 11)],
             &[None, Some(6), None],
         ),
-        line(
+        answered!(
             Act::Set(1, 9),
             Reply::Done,
             &[(2, 11)],
             &[None, Some(9), None],
         ),
-        line(Act::Logout(2), Reply::Done, &[], &[None, None, None]),
+        answered!(Act::Logout(2), Reply::Done, &[], &[None, None, None]),
     ];
-    play_lines(&rt, rt.alloc(), &lines);
+    play_lines(&rt, rt.alloc(), LINES);
 }
 
 #[test]
 fn a_stale_entry_reads_no_later_value(rt: HostRuntime) {
-    let lines = [
-        line(Act::Put(3, 1), Reply::NoSession, &[], &[]),
-        line(Act::Login(3, 0), Reply::Done, &[(3, 0)], &[]),
-        line(Act::Put(3, 1), Reply::Done, &[(3, 0)], &[Some(1)]),
-        line(Act::Logout(3), Reply::Done, &[], &[None]),
+    const LINES: &[Line] = &[
+        answered!(Act::Put(3, 1), Reply::NoSession, &[], &[]),
+        answered!(Act::Login(3, 0), Reply::Done, &[(3, 0)], &[]),
+        answered!(Act::Put(3, 1), Reply::Done, &[(3, 0)], &[Some(1)]),
+        answered!(Act::Logout(3), Reply::Done, &[], &[None]),
         // The id comes again, and its value takes the only free slot.
-        line(Act::Login(3, 4), Reply::Done, &[(3, 4)], &[None]),
-        line(Act::Put(3, 2), Reply::Done, &[(3, 4)], &[None, Some(2)]),
-        line(Act::Set(0, 8), Reply::Stale, &[(3, 4)], &[None, Some(2)]),
+        answered!(Act::Login(3, 4), Reply::Done, &[(3, 4)], &[None]),
+        answered!(Act::Put(3, 2), Reply::Done, &[(3, 4)], &[None, Some(2)]),
+        answered!(Act::Set(0, 8), Reply::Stale, &[(3, 4)], &[None, Some(2)]),
     ];
-    play_lines(&rt, rt.alloc(), &lines);
+    play_lines(&rt, rt.alloc(), LINES);
 }
 
 // A clock may go back: the time of the last call counts, whichever is later.
 #[test]
 fn a_time_goes_back(rt: HostRuntime) {
-    let lines = [
-        line(Act::Login(1, 20), Reply::Done, &[(1, 20)], &[]),
-        line(Act::Login(2, 15), Reply::Done, &[(1, 20), (2, 15)], &[]),
-        line(Act::Touch(1, 10), Reply::Done, &[(1, 10), (2, 15)], &[]),
-        line(Act::Touch(2, 14), Reply::Done, &[(1, 10), (2, 14)], &[]),
-        line(Act::Touch(2, 0), Reply::Done, &[(1, 10), (2, 0)], &[]),
-        line(Act::Touch(2, 12), Reply::Done, &[(1, 10), (2, 12)], &[]),
-        line(Act::Expire(12), Reply::Ended(1), &[(2, 12)], &[]),
-        line(Act::Expire(13), Reply::Ended(1), &[], &[]),
+    const LINES: &[Line] = &[
+        answered!(Act::Login(1, 20), Reply::Done, &[(1, 20)], &[]),
+        answered!(Act::Login(2, 15), Reply::Done, &[(1, 20), (2, 15)], &[]),
+        answered!(Act::Touch(1, 10), Reply::Done, &[(1, 10), (2, 15)], &[]),
+        answered!(Act::Touch(2, 14), Reply::Done, &[(1, 10), (2, 14)], &[]),
+        answered!(Act::Touch(2, 0), Reply::Done, &[(1, 10), (2, 0)], &[]),
+        answered!(Act::Touch(2, 12), Reply::Done, &[(1, 10), (2, 12)], &[]),
+        answered!(Act::Expire(12), Reply::Ended(1), &[(2, 12)], &[]),
+        answered!(Act::Expire(13), Reply::Ended(1), &[], &[]),
     ];
-    play_lines(&rt, rt.alloc(), &lines);
+    play_lines(&rt, rt.alloc(), LINES);
 }
 
 #[test]
 fn old_sessions_expire(rt: HostRuntime) {
-    let lines = [
-        line(Act::Login(1, 10), Reply::Done, &[(1, 10)], &[]),
-        line(Act::Login(2, 20), Reply::Done, &[(1, 10), (2, 20)], &[]),
-        line(
+    const LINES: &[Line] = &[
+        answered!(Act::Login(1, 10), Reply::Done, &[(1, 10)], &[]),
+        answered!(Act::Login(2, 20), Reply::Done, &[(1, 10), (2, 20)], &[]),
+        answered!(
             Act::Login(3, 30),
             Reply::Done,
             &[(1, 10), (2, 20), (3, 30)],
             &[],
         ),
-        line(
+        answered!(
             Act::Put(1, 4),
             Reply::Done,
             &[(1, 10), (2, 20), (3, 30)],
             &[Some(4)],
         ),
-        line(
+        answered!(
             Act::Put(2, 5),
             Reply::Done,
             &[(1, 10), (2, 20), (3, 30)],
             &[Some(4), Some(5)],
         ),
-        line(
+        answered!(
             Act::Put(3, 6),
             Reply::Done,
             &[(1, 10), (2, 20), (3, 30)],
             &[Some(4), Some(5), Some(6)],
         ),
-        line(
+        answered!(
             Act::Touch(4, 31),
             Reply::NoSession,
             &[(1, 10), (2, 20), (3, 30)],
             &[Some(4), Some(5), Some(6)],
         ),
-        line(
+        answered!(
             Act::Touch(1, 31),
             Reply::Done,
             &[(1, 31), (2, 20), (3, 30)],
             &[Some(4), Some(5), Some(6)],
         ),
         // One that was used at the time itself is young enough.
-        line(
+        answered!(
             Act::Expire(30),
             Reply::Ended(1),
             &[(1, 31), (3, 30)],
             &[Some(4), None, Some(6)],
         ),
-        line(
+        answered!(
             Act::Expire(30),
             Reply::Ended(0),
             &[(1, 31), (3, 30)],
             &[Some(4), None, Some(6)],
         ),
-        line(Act::Expire(40), Reply::Ended(2), &[], &[None, None, None]),
+        answered!(Act::Expire(40), Reply::Ended(2), &[], &[None, None, None]),
     ];
-    play_lines(&rt, rt.alloc(), &lines);
+    play_lines(&rt, rt.alloc(), LINES);
 }
 
 /// Begins three sessions, which were last used at 10, 20 and 10, and plays a line.
 fn play_after_three(rt: &impl Abort, alloc: Global, last: Line) {
     let lines = [
-        line(Act::Login(1, 10), Reply::Done, &[(1, 10)], &[]),
-        line(Act::Login(2, 20), Reply::Done, &[(1, 10), (2, 20)], &[]),
-        line(
+        answered!(Act::Login(1, 10), Reply::Done, &[(1, 10)], &[]),
+        answered!(Act::Login(2, 20), Reply::Done, &[(1, 10), (2, 20)], &[]),
+        answered!(
             Act::Login(3, 10),
             Reply::Done,
             &[(1, 10), (2, 20), (3, 10)],
             &[],
         ),
-        line(
+        answered!(
             Act::Put(2, 7),
             Reply::Done,
             &[(1, 10), (2, 20), (3, 10)],
@@ -201,7 +198,7 @@ fn play_after_three(rt: &impl Abort, alloc: Global, last: Line) {
 
 #[test]
 fn none_expires(rt: HostRuntime) {
-    let all = line(
+    let all = answered!(
         Act::Expire(10),
         Reply::Ended(0),
         &[(1, 10), (2, 20), (3, 10)],
@@ -212,182 +209,182 @@ fn none_expires(rt: HostRuntime) {
 
 #[test]
 fn each_second_expires(rt: HostRuntime) {
-    let second = line(Act::Expire(11), Reply::Ended(2), &[(2, 20)], &[Some(7)]);
+    let second = answered!(Act::Expire(11), Reply::Ended(2), &[(2, 20)], &[Some(7)]);
     play_after_three(&rt, rt.alloc(), second);
 }
 
 #[test]
 fn one_expires_beyond_the_very_time(rt: HostRuntime) {
-    let young = line(Act::Expire(20), Reply::Ended(2), &[(2, 20)], &[Some(7)]);
+    let young = answered!(Act::Expire(20), Reply::Ended(2), &[(2, 20)], &[Some(7)]);
     play_after_three(&rt, rt.alloc(), young);
 }
 
 #[test]
 fn all_expire(rt: HostRuntime) {
-    let none = line(Act::Expire(21), Reply::Ended(3), &[], &[None]);
+    let none = answered!(Act::Expire(21), Reply::Ended(3), &[], &[None]);
     play_after_three(&rt, rt.alloc(), none);
 }
 
 #[test]
 fn a_key_keeps_its_entry(rt: HostRuntime) {
-    let lines = [
-        line(Act::Login(1, 0), Reply::Done, &[(1, 0)], &[]),
-        line(Act::Login(2, 0), Reply::Done, &[(1, 0), (2, 0)], &[]),
-        line(
+    const LINES: &[Line] = &[
+        answered!(Act::Login(1, 0), Reply::Done, &[(1, 0)], &[]),
+        answered!(Act::Login(2, 0), Reply::Done, &[(1, 0), (2, 0)], &[]),
+        answered!(
             Act::PutAt(1, 5, 8),
             Reply::Done,
             &[(1, 0), (2, 0)],
             &[Some(8)],
         ),
-        line(
+        answered!(
             Act::PutAt(1, 5, 9),
             Reply::KeyInUse,
             &[(1, 0), (2, 0)],
             &[Some(8)],
         ),
         // Another session has keys of its own.
-        line(
+        answered!(
             Act::PutAt(2, 5, 9),
             Reply::Done,
             &[(1, 0), (2, 0)],
             &[Some(8), Some(9)],
         ),
-        line(Act::Logout(1), Reply::Done, &[(2, 0)], &[None, Some(9)]),
+        answered!(Act::Logout(1), Reply::Done, &[(2, 0)], &[None, Some(9)]),
     ];
-    play_lines(&rt, rt.alloc(), &lines);
+    play_lines(&rt, rt.alloc(), LINES);
 }
 
 #[test]
 fn a_value_is_changed_in_its_place(rt: HostRuntime) {
-    let lines = [
-        line(Act::Login(1, 0), Reply::Done, &[(1, 0)], &[]),
-        line(Act::Put(1, 5), Reply::Done, &[(1, 0)], &[Some(5)]),
-        line(Act::Add(0, 2), Reply::Done, &[(1, 0)], &[Some(7)]),
-        line(Act::Put(1, 9), Reply::Done, &[(1, 0)], &[Some(7), Some(9)]),
-        line(Act::Add(0, 1), Reply::Done, &[(1, 0)], &[Some(8), Some(9)]),
-        line(Act::Logout(1), Reply::Done, &[], &[None, None]),
-        line(Act::Login(1, 3), Reply::Done, &[(1, 3)], &[None, None]),
+    const LINES: &[Line] = &[
+        answered!(Act::Login(1, 0), Reply::Done, &[(1, 0)], &[]),
+        answered!(Act::Put(1, 5), Reply::Done, &[(1, 0)], &[Some(5)]),
+        answered!(Act::Add(0, 2), Reply::Done, &[(1, 0)], &[Some(7)]),
+        answered!(Act::Put(1, 9), Reply::Done, &[(1, 0)], &[Some(7), Some(9)]),
+        answered!(Act::Add(0, 1), Reply::Done, &[(1, 0)], &[Some(8), Some(9)]),
+        answered!(Act::Logout(1), Reply::Done, &[], &[None, None]),
+        answered!(Act::Login(1, 3), Reply::Done, &[(1, 3)], &[None, None]),
         // The slot is used again, and the first entry doesn't change what stands there.
-        line(
+        answered!(
             Act::Put(1, 6),
             Reply::Done,
             &[(1, 3)],
             &[None, None, Some(6)],
         ),
-        line(
+        answered!(
             Act::Add(0, 1),
             Reply::Stale,
             &[(1, 3)],
             &[None, None, Some(6)],
         ),
     ];
-    play_lines(&rt, rt.alloc(), &lines);
+    play_lines(&rt, rt.alloc(), LINES);
 }
 
 #[test]
 fn a_session_gets_another_id(rt: HostRuntime) {
     const BOTH: &[(u64, u64)] = &[(1, 10), (2, 20)];
-    let lines = [
-        line(Act::Login(1, 10), Reply::Done, &[(1, 10)], &[]),
-        line(Act::Login(2, 20), Reply::Done, BOTH, &[]),
-        line(Act::Put(1, 5), Reply::Done, BOTH, &[Some(5)]),
-        line(Act::Rename(1, 2), Reply::IdInUse, BOTH, &[Some(5)]),
-        line(Act::Rename(1, 1), Reply::IdInUse, BOTH, &[Some(5)]),
-        line(Act::Rename(4, 2), Reply::NoSession, BOTH, &[Some(5)]),
-        line(
+    const LINES: &[Line] = &[
+        answered!(Act::Login(1, 10), Reply::Done, &[(1, 10)], &[]),
+        answered!(Act::Login(2, 20), Reply::Done, BOTH, &[]),
+        answered!(Act::Put(1, 5), Reply::Done, BOTH, &[Some(5)]),
+        answered!(Act::Rename(1, 2), Reply::IdInUse, BOTH, &[Some(5)]),
+        answered!(Act::Rename(1, 1), Reply::IdInUse, BOTH, &[Some(5)]),
+        answered!(Act::Rename(4, 2), Reply::NoSession, BOTH, &[Some(5)]),
+        answered!(
             Act::Rename(1, 3),
             Reply::Done,
             &[(2, 20), (3, 10)],
             &[Some(5)],
         ),
-        line(
+        answered!(
             Act::Put(1, 6),
             Reply::NoSession,
             &[(2, 20), (3, 10)],
             &[Some(5)],
         ),
         // What is kept goes with the session, whichever id that has.
-        line(
+        answered!(
             Act::Put(3, 7),
             Reply::Done,
             &[(2, 20), (3, 10)],
             &[Some(5), Some(7)],
         ),
-        line(Act::Logout(3), Reply::Done, &[(2, 20)], &[None, None]),
+        answered!(Act::Logout(3), Reply::Done, &[(2, 20)], &[None, None]),
     ];
-    play_lines(&rt, rt.alloc(), &lines);
+    play_lines(&rt, rt.alloc(), LINES);
 }
 
 #[test]
 fn one_value_is_taken_out(rt: HostRuntime) {
     const BOTH: &[(u64, u64)] = &[(1, 10), (2, 20)];
-    let lines = [
-        line(Act::Login(1, 10), Reply::Done, &[(1, 10)], &[]),
-        line(Act::Login(2, 20), Reply::Done, BOTH, &[]),
-        line(Act::Put(1, 5), Reply::Done, BOTH, &[Some(5)]),
-        line(Act::Put(1, 6), Reply::Done, BOTH, &[Some(5), Some(6)]),
-        line(
+    const LINES: &[Line] = &[
+        answered!(Act::Login(1, 10), Reply::Done, &[(1, 10)], &[]),
+        answered!(Act::Login(2, 20), Reply::Done, BOTH, &[]),
+        answered!(Act::Put(1, 5), Reply::Done, BOTH, &[Some(5)]),
+        answered!(Act::Put(1, 6), Reply::Done, BOTH, &[Some(5), Some(6)]),
+        answered!(
             Act::Put(1, 7),
             Reply::Done,
             BOTH,
             &[Some(5), Some(6), Some(7)],
         ),
         // Another session, a key without an entry, and an id without a session lose nothing.
-        line(
+        answered!(
             Act::Remove(2, 1),
             Reply::NoEntry,
             BOTH,
             &[Some(5), Some(6), Some(7)],
         ),
-        line(
+        answered!(
             Act::Remove(1, 3),
             Reply::NoEntry,
             BOTH,
             &[Some(5), Some(6), Some(7)],
         ),
-        line(
+        answered!(
             Act::Remove(3, 1),
             Reply::NoEntry,
             BOTH,
             &[Some(5), Some(6), Some(7)],
         ),
-        line(
+        answered!(
             Act::Remove(1, 1),
             Reply::Took(6),
             BOTH,
             &[Some(5), None, Some(7)],
         ),
-        line(
+        answered!(
             Act::Remove(1, 1),
             Reply::NoEntry,
             BOTH,
             &[Some(5), None, Some(7)],
         ),
         // Another session takes the slot, and the first one's end leaves what stands there.
-        line(
+        answered!(
             Act::PutAt(2, 1, 8),
             Reply::Done,
             BOTH,
             &[Some(5), None, Some(7), Some(8)],
         ),
-        line(
+        answered!(
             Act::Set(1, 9),
             Reply::Stale,
             BOTH,
             &[Some(5), None, Some(7), Some(8)],
         ),
-        line(
+        answered!(
             Act::Logout(1),
             Reply::Done,
             &[(2, 20)],
             &[None, None, None, Some(8)],
         ),
-        line(
+        answered!(
             Act::Remove(2, 1),
             Reply::Took(8),
             &[(2, 20)],
             &[None, None, None, None],
         ),
     ];
-    play_lines(&rt, rt.alloc(), &lines);
+    play_lines(&rt, rt.alloc(), LINES);
 }

@@ -1,7 +1,7 @@
 //! Tables of sessions whose store has given all its tickets, values that are let go, and callers.
 
 use crate::counted::{Counted, another, assert_count, new_counted};
-use crate::expected::assert_same;
+use crate::expected::{assert_same, given};
 use crate::fresh::{Scene, play, play_at_ticket};
 use crate::session_acts::{put_at, sessions_over};
 use example_libraries::sessions::{
@@ -29,10 +29,7 @@ pub(crate) fn put<T: Drop, S: Storage<T>>(
     at: (u64, u64),
     value: T,
 ) -> Entry<T> {
-    table
-        .put(&at.0, at.1, value, put_at(3))
-        .map_err(|refusal| refusal.cause)
-        .expect(rt, "an entry")
+    given(rt, table.put(&at.0, at.1, value, put_at(3)))
 }
 
 /// A session whose value is looked at and set, and an id for which no login is left.

@@ -1,6 +1,6 @@
 //! What is done to a tree, one act a line, with what must come of it.
 
-use crate::expected::assert_same;
+use crate::expected::{assert_same, given};
 use generational_box::{Location, Storage};
 use scene_tree::{Node, SceneTree, Spot, Stale, TreeError};
 use std::alloc::Global;
@@ -125,8 +125,7 @@ fn answer<S: Storage<u64>>(
     match act {
         Act::Root(value) => {
             let made = tree.add_root(value, made_at(nodes.len()));
-            let root = made.map_err(|refusal| refusal.cause).expect(rt, "a root");
-            assert!(rt; nodes.push(root).is_ok());
+            assert!(rt; nodes.push(given(rt, made)).is_ok());
             Ok(())
         }
         Act::Child(parent, value) => {

@@ -22,68 +22,61 @@ fn play_lines(rt: &impl Abort, alloc: Global, lines: &[Line]) {
     play_both::<u64, Lines>(rt, alloc, &Lines(lines));
 }
 
-/// A line whose act is carried out, and removes nothing.
-const fn done(
-    act: Act,
-    shows: &'static [Option<(u64, Option<usize>)>],
-    below: &'static [usize],
-) -> Line {
-    Line {
-        act,
-        reply: Reply::Done,
-        gone: &[],
-        shows,
-        below,
-    }
+/// A line whose act is carried out, and removes nothing. Lines of constants are proved in a quarter of
+/// the time of lines that a function gives.
+macro_rules! done {
+    ($act:expr, $shows:expr, $below:expr $(,)?) => {
+        Line {
+            act: $act,
+            reply: Reply::Done,
+            gone: &[],
+            shows: $shows,
+            below: $below,
+        }
+    };
 }
 
 /// A line that removes nodes.
-const fn removed(
-    node: usize,
-    gone: &'static [usize],
-    shows: &'static [Option<(u64, Option<usize>)>],
-    below: &'static [usize],
-) -> Line {
-    Line {
-        act: Act::Remove(node),
-        reply: Reply::Done,
-        gone,
-        shows,
-        below,
-    }
+macro_rules! removed {
+    ($node:expr, $gone:expr, $shows:expr, $below:expr $(,)?) => {
+        Line {
+            act: Act::Remove($node),
+            reply: Reply::Done,
+            gone: $gone,
+            shows: $shows,
+            below: $below,
+        }
+    };
 }
 
 /// A line whose act is refused.
-const fn refused(
-    act: Act,
-    reply: Reply,
-    shows: &'static [Option<(u64, Option<usize>)>],
-    below: &'static [usize],
-) -> Line {
-    Line {
-        act,
-        reply,
-        gone: &[],
-        shows,
-        below,
-    }
+macro_rules! refused {
+    ($act:expr, $reply:expr, $shows:expr, $below:expr $(,)?) => {
+        Line {
+            act: $act,
+            reply: $reply,
+            gone: &[],
+            shows: $shows,
+            below: $below,
+        }
+    };
 }
 
 #[test]
 fn a_subtree_goes_level_by_level(rt: HostRuntime) {
-    let lines = [
-        done(Act::Root(1), &[Some((1, None))], &[]),
-        done(
+    const LINES: &[Line] = &[
+        done!(Act::Root(1), &[Some((1, None))], &[]),
+        done!(
             Act::Child(0, 2),
             &[Some((1, None)), Some((2, Some(0)))],
             &[1],
         ),
-        done(
+        done!(
             Act::Child(1, 3),
             &[Some((1, None)), Some((2, Some(0))), Some((3, Some(1)))],
             &[1, 2],
         ),
-        done(
+        done!(
             Act::Child(0, 4),
             &[
                 Some((1, None)),
@@ -94,26 +87,26 @@ fn a_subtree_goes_level_by_level(rt: HostRuntime) {
             &[1, 3, 2],
         ),
         // Node 1 goes, with node 2 below it. Its sibling stays.
-        removed(
+        removed!(
             1,
             &[1, 2],
             &[Some((1, None)), None, None, Some((4, Some(0)))],
             &[3],
         ),
-        refused(
+        refused!(
             Act::Remove(2),
             Reply::Stale(2),
             &[Some((1, None)), None, None, Some((4, Some(0)))],
             &[3],
         ),
-        refused(
+        refused!(
             Act::Child(1, 9),
             Reply::Stale(1),
             &[Some((1, None)), None, None, Some((4, Some(0)))],
             &[3],
         ),
         // A free slot is taken again. The stale handles read nothing of the new node.
-        done(
+        done!(
             Act::Child(3, 5),
             &[
                 Some((1, None)),
@@ -124,7 +117,7 @@ fn a_subtree_goes_level_by_level(rt: HostRuntime) {
             ],
             &[3, 4],
         ),
-        refused(
+        refused!(
             Act::Set(1, 9),
             Reply::Stale(1),
             &[
@@ -136,39 +129,39 @@ fn a_subtree_goes_level_by_level(rt: HostRuntime) {
             ],
             &[3, 4],
         ),
-        removed(0, &[0, 3, 4], &[None, None, None, None, None], &[]),
+        removed!(0, &[0, 3, 4], &[None, None, None, None, None], &[]),
     ];
-    play_lines(&rt, rt.alloc(), &lines);
+    play_lines(&rt, rt.alloc(), LINES);
 }
 
 #[test]
 fn a_node_moves_with_all_below_it(rt: HostRuntime) {
-    let lines = [
-        done(Act::Root(1), &[Some((1, None))], &[]),
-        done(
+    const LINES: &[Line] = &[
+        done!(Act::Root(1), &[Some((1, None))], &[]),
+        done!(
             Act::Child(0, 2),
             &[Some((1, None)), Some((2, Some(0)))],
             &[1],
         ),
-        done(
+        done!(
             Act::Child(1, 3),
             &[Some((1, None)), Some((2, Some(0))), Some((3, Some(1)))],
             &[1, 2],
         ),
         // No node is moved below itself, at once or over two steps.
-        refused(
+        refused!(
             Act::Move(0, 0),
             Reply::Cycle,
             &[Some((1, None)), Some((2, Some(0))), Some((3, Some(1)))],
             &[1, 2],
         ),
-        refused(
+        refused!(
             Act::Move(0, 2),
             Reply::Cycle,
             &[Some((1, None)), Some((2, Some(0))), Some((3, Some(1)))],
             &[1, 2],
         ),
-        done(
+        done!(
             Act::Root(4),
             &[
                 Some((1, None)),
@@ -178,7 +171,7 @@ fn a_node_moves_with_all_below_it(rt: HostRuntime) {
             ],
             &[1, 2],
         ),
-        done(
+        done!(
             Act::Move(1, 3),
             &[
                 Some((1, None)),
@@ -189,7 +182,7 @@ fn a_node_moves_with_all_below_it(rt: HostRuntime) {
             &[2, 1],
         ),
         // A root moves, and the other order is no cycle any more.
-        done(
+        done!(
             Act::Move(0, 2),
             &[
                 Some((1, Some(2))),
@@ -199,33 +192,33 @@ fn a_node_moves_with_all_below_it(rt: HostRuntime) {
             ],
             &[2, 0, 1],
         ),
-        removed(3, &[3, 1, 2, 0], &[None, None, None, None], &[]),
-        refused(
+        removed!(3, &[3, 1, 2, 0], &[None, None, None, None], &[]),
+        refused!(
             Act::Move(3, 0),
             Reply::Stale(3),
             &[None, None, None, None],
             &[],
         ),
     ];
-    play_lines(&rt, rt.alloc(), &lines);
+    play_lines(&rt, rt.alloc(), LINES);
 }
 
 // Five children, of which the one in the middle goes, then the first, then the last.
 #[test]
 fn children_that_are_left_keep_their_order(rt: HostRuntime) {
-    let lines = [
-        done(Act::Root(0), &[Some((0, None))], &[]),
-        done(
+    const LINES: &[Line] = &[
+        done!(Act::Root(0), &[Some((0, None))], &[]),
+        done!(
             Act::Child(0, 1),
             &[Some((0, None)), Some((1, Some(0)))],
             &[1],
         ),
-        done(
+        done!(
             Act::Child(0, 2),
             &[Some((0, None)), Some((1, Some(0))), Some((2, Some(0)))],
             &[1, 2],
         ),
-        done(
+        done!(
             Act::Child(0, 3),
             &[
                 Some((0, None)),
@@ -235,7 +228,7 @@ fn children_that_are_left_keep_their_order(rt: HostRuntime) {
             ],
             &[1, 2, 3],
         ),
-        done(
+        done!(
             Act::Child(0, 4),
             &[
                 Some((0, None)),
@@ -246,7 +239,7 @@ fn children_that_are_left_keep_their_order(rt: HostRuntime) {
             ],
             &[1, 2, 3, 4],
         ),
-        done(
+        done!(
             Act::Child(0, 5),
             &[
                 Some((0, None)),
@@ -258,7 +251,7 @@ fn children_that_are_left_keep_their_order(rt: HostRuntime) {
             ],
             &[1, 2, 3, 4, 5],
         ),
-        removed(
+        removed!(
             3,
             &[3],
             &[
@@ -271,7 +264,7 @@ fn children_that_are_left_keep_their_order(rt: HostRuntime) {
             ],
             &[1, 2, 4, 5],
         ),
-        removed(
+        removed!(
             1,
             &[1],
             &[
@@ -284,7 +277,7 @@ fn children_that_are_left_keep_their_order(rt: HostRuntime) {
             ],
             &[2, 4, 5],
         ),
-        removed(
+        removed!(
             5,
             &[5],
             &[
@@ -298,66 +291,66 @@ fn children_that_are_left_keep_their_order(rt: HostRuntime) {
             &[2, 4],
         ),
     ];
-    play_lines(&rt, rt.alloc(), &lines);
+    play_lines(&rt, rt.alloc(), LINES);
 }
 
 #[test]
 fn a_node_moves_behind_its_siblings(rt: HostRuntime) {
-    let lines = [
-        done(Act::Root(1), &[Some((1, None))], &[]),
-        done(
+    const LINES: &[Line] = &[
+        done!(Act::Root(1), &[Some((1, None))], &[]),
+        done!(
             Act::Child(0, 2),
             &[Some((1, None)), Some((2, Some(0)))],
             &[1],
         ),
-        done(
+        done!(
             Act::Child(0, 3),
             &[Some((1, None)), Some((2, Some(0))), Some((3, Some(0)))],
             &[1, 2],
         ),
-        done(
+        done!(
             Act::Set(1, 5),
             &[Some((1, None)), Some((5, Some(0))), Some((3, Some(0)))],
             &[1, 2],
         ),
-        done(
+        done!(
             Act::Move(1, 0),
             &[Some((1, None)), Some((5, Some(0))), Some((3, Some(0)))],
             &[2, 1],
         ),
-        removed(2, &[2], &[Some((1, None)), Some((5, Some(0))), None], &[1]),
-        refused(
+        removed!(2, &[2], &[Some((1, None)), Some((5, Some(0))), None], &[1]),
+        refused!(
             Act::Move(1, 2),
             Reply::Stale(2),
             &[Some((1, None)), Some((5, Some(0))), None],
             &[1],
         ),
     ];
-    play_lines(&rt, rt.alloc(), &lines);
+    play_lines(&rt, rt.alloc(), LINES);
 }
 
 // Children that come before, after, first and last, then go about among themselves.
 #[test]
 fn children_are_put_at_spots(rt: HostRuntime) {
-    let lines = [
-        done(Act::Root(1), &[Some((1, None))], &[]),
-        refused(
+    const LINES: &[Line] = &[
+        done!(Act::Root(1), &[Some((1, None))], &[]),
+        refused!(
             Act::ChildAt(Side::Before, 0, 9),
             Reply::NoParent(0),
             &[Some((1, None))],
             &[],
         ),
-        done(
+        done!(
             Act::ChildAt(Side::FirstOf, 0, 2),
             &[Some((1, None)), Some((2, Some(0)))],
             &[1],
         ),
-        done(
+        done!(
             Act::ChildAt(Side::Before, 1, 3),
             &[Some((1, None)), Some((2, Some(0))), Some((3, Some(0)))],
             &[2, 1],
         ),
-        done(
+        done!(
             Act::ChildAt(Side::After, 2, 4),
             &[
                 Some((1, None)),
@@ -367,7 +360,7 @@ fn children_are_put_at_spots(rt: HostRuntime) {
             ],
             &[2, 3, 1],
         ),
-        done(
+        done!(
             Act::MoveAt(1, Side::Before, 3),
             &[
                 Some((1, None)),
@@ -377,7 +370,7 @@ fn children_are_put_at_spots(rt: HostRuntime) {
             ],
             &[2, 1, 3],
         ),
-        done(
+        done!(
             Act::MoveAt(2, Side::After, 3),
             &[
                 Some((1, None)),
@@ -388,7 +381,7 @@ fn children_are_put_at_spots(rt: HostRuntime) {
             &[1, 3, 2],
         ),
         // A node is moved beside a node that is it, or is below it.
-        refused(
+        refused!(
             Act::MoveAt(2, Side::After, 2),
             Reply::Cycle,
             &[
@@ -399,7 +392,7 @@ fn children_are_put_at_spots(rt: HostRuntime) {
             ],
             &[1, 3, 2],
         ),
-        refused(
+        refused!(
             Act::MoveAt(1, Side::Before, 0),
             Reply::NoParent(0),
             &[
@@ -410,7 +403,7 @@ fn children_are_put_at_spots(rt: HostRuntime) {
             ],
             &[1, 3, 2],
         ),
-        done(
+        done!(
             Act::MoveAt(2, Side::FirstOf, 3),
             &[
                 Some((1, None)),
@@ -420,7 +413,7 @@ fn children_are_put_at_spots(rt: HostRuntime) {
             ],
             &[1, 3, 2],
         ),
-        done(
+        done!(
             Act::Detach(3),
             &[
                 Some((1, None)),
@@ -430,7 +423,7 @@ fn children_are_put_at_spots(rt: HostRuntime) {
             ],
             &[1, 2],
         ),
-        done(
+        done!(
             Act::MoveAt(2, Side::LastOf, 0),
             &[
                 Some((1, None)),
@@ -440,35 +433,35 @@ fn children_are_put_at_spots(rt: HostRuntime) {
             ],
             &[1, 2],
         ),
-        removed(
+        removed!(
             1,
             &[1],
             &[Some((1, None)), None, Some((3, Some(0))), Some((4, None))],
             &[2],
         ),
-        refused(
+        refused!(
             Act::MoveAt(2, Side::After, 1),
             Reply::Stale(1),
             &[Some((1, None)), None, Some((3, Some(0))), Some((4, None))],
             &[2],
         ),
-        done(
+        done!(
             Act::Update(2, 5),
             &[Some((1, None)), None, Some((8, Some(0))), Some((4, None))],
             &[2],
         ),
-        refused(
+        refused!(
             Act::Update(1, 5),
             Reply::Stale(1),
             &[Some((1, None)), None, Some((8, Some(0))), Some((4, None))],
             &[2],
         ),
-        refused(
+        refused!(
             Act::ChildAt(Side::FirstOf, 1, 9),
             Reply::Stale(1),
             &[Some((1, None)), None, Some((8, Some(0))), Some((4, None))],
             &[2],
         ),
     ];
-    play_lines(&rt, rt.alloc(), &lines);
+    play_lines(&rt, rt.alloc(), LINES);
 }

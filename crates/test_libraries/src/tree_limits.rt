@@ -1,7 +1,7 @@
 //! Trees of values that are let go, trees whose store has given all its tickets, and callers of trees.
 
 use crate::counted::{Counted, another, assert_count, let_go, new_counted};
-use crate::expected::assert_same;
+use crate::expected::{assert_same, given};
 use crate::fresh::{Scene, play, play_at_ticket};
 use crate::tree_acts::{made_at, tree_over};
 use example_libraries::trees::{greatest_root, greatest_value, moved_round, taken_out, told_after};
@@ -12,9 +12,7 @@ use std::process::Abort;
 
 /// A root with a value.
 fn root<T: Drop, S: Storage<T>>(rt: &impl Abort, tree: &mut SceneTree<T, S>, value: T) -> Node<T> {
-    tree.add_root(value, made_at(0))
-        .map_err(|refusal| refusal.cause)
-        .expect(rt, "a root")
+    given(rt, tree.add_root(value, made_at(0)))
 }
 
 /// A child with a value.
@@ -24,9 +22,7 @@ fn child<T: Drop, S: Storage<T>>(
     parent: Node<T>,
     value: T,
 ) -> Node<T> {
-    tree.add_child(parent, value, made_at(1))
-        .map_err(|(_, error)| error)
-        .expect(rt, "a child")
+    given(rt, tree.add_child(parent, value, made_at(1)))
 }
 
 /// Removes a node with all below it.

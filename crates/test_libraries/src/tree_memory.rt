@@ -1,7 +1,7 @@
 //! Want of memory in trees. The test passes whichever one allocation is refused: what lacks memory
 //! changes nothing, and is tried again.
 
-use crate::expected::assert_same;
+use crate::expected::{assert_same, given};
 use crate::fresh::{Scene, play};
 use crate::tree_acts::{made_at, tree_over};
 use generational_box::{Storage, StoreError};
@@ -27,7 +27,7 @@ pub(crate) fn root_or_again<S: Storage<u64>>(
             tree.add_root(refusal.value, made_at(0))
         }
     };
-    made.map_err(|refusal| refusal.cause).expect(rt, "a root")
+    given(rt, made)
 }
 
 /// Makes a child. One that lacks memory leaves as many nodes as there were.
@@ -47,7 +47,7 @@ pub(crate) fn child_or_again<S: Storage<u64>>(
             tree.add_child(parent, back, made_at(1))
         }
     };
-    made.map_err(|(_, error)| error).expect(rt, "a child")
+    given(rt, made)
 }
 
 /// Makes a child at a spot. One that lacks memory leaves as many nodes as there were.
@@ -66,7 +66,7 @@ fn child_at_or_again<S: Storage<u64>>(
             tree.add_at(spot, back, made_at(1))
         }
     };
-    made.map_err(|(_, error)| error).expect(rt, "a child")
+    given(rt, made)
 }
 
 /// How many children a node has.

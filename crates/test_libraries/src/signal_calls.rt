@@ -1,6 +1,6 @@
 //! Calls of scopes and signals over any store, one a function, with what they must answer.
 
-use crate::expected::assert_same;
+use crate::expected::{assert_same, given};
 use generational_box::{
     AlreadyBorrowedError, AnyStorage, BorrowError, BorrowMutError, Location, Refused, Storage,
     ValueDroppedError,
@@ -25,22 +25,19 @@ pub(crate) fn asked() -> Location {
 }
 
 /// Begins a scope.
-pub(crate) fn scope<S: AnyStorage<u64>>(rt: &impl Abort, store: &mut S) -> Scope {
+pub(crate) fn scope<T, S: AnyStorage<T>>(rt: &impl Abort, store: &mut S) -> Scope {
     Scope::new(store).expect(rt, "a scope")
 }
 
 /// Makes a signal of a value.
-pub(crate) fn signal<S: Storage<u64>>(
+pub(crate) fn signal<T: Drop, S: Storage<T>>(
     rt: &impl Abort,
     store: &mut S,
     scope: &Scope,
-    value: u64,
+    value: T,
     made: Location,
-) -> Signal<u64> {
-    let answer = scope.signal(store, value, made);
-    answer
-        .map_err(|refusal| refusal.cause)
-        .expect(rt, "a signal")
+) -> Signal<T> {
+    given(rt, scope.signal(store, value, made))
 }
 
 /// Makes an alias of a signal.
@@ -54,7 +51,7 @@ pub(crate) fn alias<S: Storage<u64>>(
 }
 
 /// Ends a scope, in whose way nothing is.
-pub(crate) fn end<S: AnyStorage<u64>>(rt: &impl Abort, store: &mut S, scope: Scope) {
+pub(crate) fn end<T, S: AnyStorage<T>>(rt: &impl Abort, store: &mut S, scope: Scope) {
     match scope.end(store) {
         Ok(()) => {}
         Err(_back) => rt.abort(),

@@ -1,34 +1,30 @@
 //! Short histories of scopes and signals, with the answers that they must have.
 
+use crate::counted::{Counted, another, assert_count, new_counted};
 use crate::expected::assert_same;
+use crate::fresh;
+use crate::fresh::{Scene, play_both};
 use crate::signal_calls::{
     alias, asked, double, end, end_hindered, first_made, is_gone, scope, second_made, sees, set,
     set_ended, signal, swap, update_ended, update_hindered,
 };
 use example_libraries::scopes::{count_up, outlived, set_source, set_through_alias};
-use generational_box::{LastFirst, OldestFirst, Storage, Store};
+use generational_box::Storage;
 use signals::{Scope, Signal};
 use std::alloc::Global;
 use std::process::Abort;
 
-/// What happens in one store.
-trait History {
-    fn play<R: Abort, S: Storage<u64>>(rt: &R, alloc: Global, store: &mut S);
-}
-
 /// Plays a history in an empty store, once with each order of free slots.
-fn play<H: History>(rt: &impl Abort, alloc: Global) {
-    let mut last: Store<u64, LastFirst> = Store::new(alloc, 7);
-    H::play(rt, alloc, &mut last);
-    let mut oldest: Store<u64, OldestFirst> = Store::new(alloc, 7);
-    H::play(rt, alloc, &mut oldest);
+fn play<H: Scene<u64>>(rt: &impl Abort, alloc: Global, history: &H) {
+    play_both::<u64, H>(rt, alloc, history);
 }
 
 struct SourcesSwapped;
 
 /// Two scopes, and an alias that outlives its signal's scope and is led elsewhere.
-impl History for SourcesSwapped {
-    fn play<R: Abort, S: Storage<u64>>(rt: &R, _: Global, store: &mut S) {
+impl Scene<u64> for SourcesSwapped {
+    fn play<R: Abort, S: Storage<u64> + Drop>(&self, rt: &R, _: Global, mut store: S) {
+        let store = &mut store;
         let (old, new, third) = (1, 2, 3);
         let a = scope(rt, store);
         let s = signal(rt, store, &a, old, first_made());
@@ -63,14 +59,15 @@ fn end_both<S: Storage<u64>>(
 
 #[test]
 fn an_alias_outlives_its_scope_and_is_led_elsewhere(rt: HostRuntime) {
-    play::<SourcesSwapped>(&rt, rt.alloc());
+    play(&rt, rt.alloc(), &SourcesSwapped);
 }
 
 struct EndRefused;
 
 /// A scope whose signal is read doesn't end, and comes back.
-impl History for EndRefused {
-    fn play<R: Abort, S: Storage<u64>>(rt: &R, alloc: Global, store: &mut S) {
+impl Scene<u64> for EndRefused {
+    fn play<R: Abort, S: Storage<u64> + Drop>(&self, rt: &R, alloc: Global, mut store: S) {
+        let store = &mut store;
         let b = scope(rt, store);
         let u = signal(rt, store, &b, 4, second_made());
         let guard = u.as_box().try_read(store, asked()).expect(rt, "a reader");
@@ -87,15 +84,16 @@ impl History for EndRefused {
 
 #[test]
 fn a_scope_that_is_read_comes_back(rt: HostRuntime) {
-    play::<EndRefused>(&rt, rt.alloc());
+    play(&rt, rt.alloc(), &EndRefused);
 }
 
 struct TicketsTaken;
 
 /// Each read and set takes one ticket, and an update none; none leaves a borrow, and a refused one
 /// takes no ticket.
-impl History for TicketsTaken {
-    fn play<R: Abort, S: Storage<u64>>(rt: &R, _: Global, store: &mut S) {
+impl Scene<u64> for TicketsTaken {
+    fn play<R: Abort, S: Storage<u64> + Drop>(&self, rt: &R, _: Global, mut store: S) {
+        let store = &mut store;
         let a = scope(rt, store);
         let s = signal(rt, store, &a, 6, first_made());
         let tickets = store.tickets_left();
@@ -114,14 +112,15 @@ impl History for TicketsTaken {
 
 #[test]
 fn a_read_or_a_set_takes_one_ticket(rt: HostRuntime) {
-    play::<TicketsTaken>(&rt, rt.alloc());
+    play(&rt, rt.alloc(), &TicketsTaken);
 }
 
 struct CallersAnswer;
 
 /// What the callers answer, and a scope that is leaked: its signals live on.
-impl History for CallersAnswer {
-    fn play<R: Abort, S: Storage<u64>>(rt: &R, _: Global, store: &mut S) {
+impl Scene<u64> for CallersAnswer {
+    fn play<R: Abort, S: Storage<u64> + Drop>(&self, rt: &R, _: Global, mut store: S) {
+        let store = &mut store;
         assert_same(rt, &outlived(store, 4, asked()), &Some(4));
         let a = scope(rt, store);
         let s = signal(rt, store, &a, 6, first_made());
@@ -137,5 +136,39 @@ impl History for CallersAnswer {
 
 #[test]
 fn callers_answer_what_they_promise(rt: HostRuntime) {
-    play::<CallersAnswer>(&rt, rt.alloc());
+    play(&rt, rt.alloc(), &CallersAnswer);
+}
+
+/// Sets a signal's value, which lets the old one go.
+fn set_counted<S: Storage<Counted>>(
+    rt: &impl Abort,
+    store: &mut S,
+    signal: Signal<Counted>,
+    value: Counted,
+) {
+    assert!(rt; signal.set(store, value, asked()).is_ok());
+}
+
+/// A signal whose value is set, and whose scope ends.
+struct ValuesGo;
+
+impl Scene<Counted> for ValuesGo {
+    fn play<R: Abort, S: Storage<Counted> + Drop>(&self, rt: &R, alloc: Global, mut store: S) {
+        let store = &mut store;
+        let first = new_counted(rt, alloc);
+        let second = new_counted(rt, alloc);
+        let scope = scope(rt, store);
+        let only = signal(rt, store, &scope, another(rt, &first), first_made());
+        set_counted(rt, store, only, another(rt, &second));
+        assert_count(rt, &first, 1);
+        assert_count(rt, &second, 2);
+        end(rt, store, scope);
+        assert_count(rt, &second, 1);
+    }
+}
+
+// A signal's old value goes when another is set, and the last one with the scope.
+#[test]
+fn a_signals_value(rt: HostRuntime) {
+    fresh::play::<Counted, ValuesGo>(&rt, rt.alloc(), &ValuesGo);
 }
