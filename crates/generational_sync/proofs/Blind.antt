@@ -1,13 +1,12 @@
 -- Replays are blind to locations.
 use Rattle.std.proofs.Common.{◌≡◌, ℕ, ◌+◌, Bool, true, false, cond, not, ◌&&◌, ◌||◌, List, [], ◌∷◌, Option, None, Some, refl, sym, ap, ◌∙◌, subst, T}
-use Rattle.std.specs.Prelude.{option_map, is_some, is_none, nat_eq, nat_lt, map as list_map, max}
+use Rattle.std.specs.Prelude.{option_map, is_some, nat_eq, nat_lt, map as list_map, max}
 use Rattle.std.specs.FinMap as map
 use Rattle.std.specs.FinSet as set
 use Rattle.std.specs.FinMap.Entries.{below_all}
 use Rattle.std.specs.Ordering.{eq_by_cmp, is_lt}
 use Rattle.generational_errors.specs.declared.error.Location.{Location}
 use Rattle.generational_errors.specs.declared.error.StoreError.TheVariants.{OutOfMemory, NumbersExhausted, UnknownOwner}
-use Rattle.generational_errors.specs.Texts.{same_location}
 use Rattle.generational_core.specs.declared.boxes.GenerationalBoxId.{GenerationalBoxId}
 use Rattle.generational_core.specs.declared.boxes.GenerationalPointer.{GenerationalPointer}
 use Rattle.generational_core.specs.declared.steps.StepCall.{StepCall}
@@ -17,7 +16,7 @@ use Rattle.generational_core.specs.Boxes.{has_same_id}
 use Rattle.generational_core.specs.Cells.{Cell, Content, content_of}
 use Rattle.generational_core.specs.Cells.Content.{Here, Lent}
 use Rattle.generational_core.specs.Cells.Cell.{Value, Shared, Ref}
-use Rattle.generational_core.specs.State.{State, content_at}
+use Rattle.generational_core.specs.State.{content_at}
 use Rattle.generational_core.specs.Borrowing.{BorrowRefusal, reach, read_refusal, write_refusal, refusal_at}
 unfoldable use Rattle.generational_core.specs.Borrowing.{refusal_to_read, refusal_to_write}
 unfoldable use Rattle.generational_core.specs.Ending.{hindrance_to}
@@ -26,18 +25,18 @@ use Rattle.generational_core.specs.Borrowing.BorrowRefusal.{Dropped, BeingRead, 
 use Rattle.generational_core.specs.Machine.{Action, Answer, NewNames, Outcome, act, add_cell, cell_at, has_reader, has_writer, own_cell, own_name, is_known}
 use Rattle.generational_core.specs.Machine.Action.{Make, MakeShared, Refer, NewOwner, CloneOwner, ReleaseOwner, LeakOwner, Read, Write, ReleaseReader, ReleaseWriter, SetValue, End, Point, CanRead, CanWrite}
 use Rattle.generational_core.specs.Machine.Answer.{Made, Owned, Reads, Writes, Done, Old, Flag, Back, BorrowRefused, Refused}
-use Rattle.generational_core.specs.Slots.{slots_of, slots, free, is_free, last_name, last_generation}
+use Rattle.generational_core.specs.Slots.{slots_of, slots, is_free, last_name, last_generation}
 use Rattle.generational_core.specs.Steps.{limit_tickets, takes_ticket, last_ticket, no_names}
-use Rattle.generational_core.specs.StepCalls.{is_ready, is_hindered, tells_of_borrow, may_set, owner_of, target_in, target_of}
+use Rattle.generational_core.specs.StepCalls.{is_ready, is_hindered, tells_of_borrow, may_set, owner_of, target_in}
 use Rattle.generational_core.proofs.maps.Maps.{name_exact, name_total}
-use Rattle.generational_sync.specs.Placing.{place_borrow, place_refusal, place_content, place_cell, place_action, place_answer, AreTurned, IsTurned, AreAlike, AreBoth, KeepsTest}
+use Rattle.generational_sync.specs.Placing.{place_refusal, place_content, place_cell, place_action, place_answer, AreTurned, IsTurned, AreAlike, AreBoth, KeepsTest}
 use Rattle.shared_records.specs.Letters.{place_box, place_call, place_reply, place_step}
 use Rattle.generational_sync.proofs.Placing as placing
 use Rattle.shared_records.specs.declared.step.Step.{Step}
 use Rattle.shared_records.specs.declared.step.StepReply.{StepReply}
 use Rattle.shared_records.specs.declared.step.StepReply.TheVariants as reply
 use Rattle.shared_history.specs.Replies.{is_recorded, made_reply, recorded_reply, same_box, same_id, same_reply}
-use Rattle.shared_history.specs.History.{Plain, action_of, are_new, first_name, fits, gives_new, guard_at, is_lawful, is_new, names_of_reply, reader_cell, replay_from, replay_on, step_by, writer_cell}
+use Rattle.shared_history.specs.History.{Plain, action_of, are_new, first_name, gives_new, guard_at, is_lawful, is_new, names_of_reply, reader_cell, replay_from, replay_on, step_by, writer_cell}
 unfoldable use Rattle.shared_history.specs.History.{plain_step}
 
 -- ---- two maps with the same live keys have the same keys

@@ -22,12 +22,14 @@ use Rattle.generational_core.specs.Steps.{Meets, limit_tickets, takes_ticket, la
 use Rattle.generational_core.specs.StepCalls.{is_hindered, is_ready, recorded_as}
 use Rattle.shared_records.specs.declared.step.StepReply.{StepReply}
 use Rattle.shared_records.specs.declared.step.StepReply.TheVariants as reply
+use Rattle.shared_history.specs.Counts.{Counts}
 use Rattle.shared_history.specs.Logs.{LogState}
 use Rattle.shared_history.specs.Replies.{recorded_reply}
 use Rattle.shared_history.specs.Standing.{leaves}
-use Rattle.generational_sync.specs.Keeping.{IsKept, WasAnswered, WasRefused}
+use Rattle.generational_sync.specs.Shared.{SharedState}
+use Rattle.generational_sync.specs.Keeping.{IsHindered, IsKept, WasRefused, shared}
 use Rattle.generational_sync.proofs.Counting.{meets_fine}
-use Rattle.generational_sync.proofs.Keeping.{room_kept}
+use Rattle.generational_sync.proofs.Keeping.{room_kept, room_shared}
 
 -- what the law says: a call is ready exactly where the machine's answer tells of no borrow
 abbrev AreTold : Type 0 → Type 0
@@ -107,35 +109,37 @@ module _ {T : Type 0} where
       (subst (λ s. IsKept number s room) (sym (left_as S R a answer met left))
       (room_kept kept base steps stay))
 
-  -- a call that the store has refused, for whose step there is room
-  abbrev pub refused : {number : ℕ} {log room : LogState} {c : StepCall} {r : Option StepReply}
-      (S R : State T) (a : Action T) (answer : Answer T) → IsKept number S log
-      → room.base ≡ log.base → room.steps ≡ log.steps → room.standing ≡ log.standing
+  -- a call that was refused, where the state after it is known by another name
+  pub refused : {c : StepCall} {r : Option StepReply} (S R : State T) (a : Action T) (answer : Answer T)
       → recorded_as a ≡ Some c → Meets S a answer R → r ≡ recorded_reply R a answer
-      → leaves answer ≡ true → WasRefused number room c r R
-  refused {number = number} {room = room} S R a answer kept base steps stay asked met replied left =
-      record {
-        action = a;
-        answer = answer;
-        kept = left_kept S R a answer kept base steps stay met left refl;
-        asked = asked;
-        met = subst (λ s. Meets s a answer R) (sym (left_as S R a answer met left)) met;
-        replied = replied;
-      }
-
-  -- where no borrow stands in its way it was answered
-  abbrev pub refused_answered : {number : ℕ} {log : LogState} {c : StepCall} {r : Option StepReply}
-      {S : State T} (it : WasRefused number log c r S) → is_ready S c ≡ true
-      → WasAnswered number log c r S
-  refused_answered {S = S} it ready = record {
-    before = S;
-    action = it.action;
-    answer = it.answer;
-    answered = record {
-      kept = it.kept;
-      asked = it.asked;
-      ready = ready;
-      met = it.met;
-      replied = it.replied;
-    };
+      → leaves answer ≡ true → WasRefused c r R
+  refused S R a answer asked met replied left = record {
+    action = a;
+    answer = answer;
+    asked = asked;
+    met = subst (λ s. Meets s a answer R) (sym (left_as S R a answer met left)) met;
+    replied = replied;
   }
+
+  -- and it was ready where it is now
+  pub left_ready : (c : StepCall) (S R : State T) (a : Action T) (answer : Answer T) → Meets S a answer R
+      → leaves answer ≡ true → true ≡ is_ready R c → is_ready S c ≡ true
+  left_ready c S R a answer met left now =
+      ap (λ s. is_ready s c) (sym (left_as S R a answer met left)) ∙ sym now
+
+  -- a call in whose way a borrow stands, and that left all as it was
+  pub hindered : {old : SharedState T} {counts raised : Counts} {after : LogState}
+      {c d : StepCall} (log room : LogState) (S R : State T) (a : Action T) (answer : Answer T)
+      → room.base ≡ log.base
+      → room.steps ≡ log.steps → shared S log ≡ old → Meets S a answer R → leaves answer ≡ true
+      → after ≡ room → c ≡ d → false ≡ is_ready R c → raised ≡ counts
+      → IsHindered old counts d (shared R after) raised
+  hindered log room S R a answer base steps view met left is same stands count =
+      let stay = left_as S R a answer met left in
+      let now : R ≡ S = stay in
+      record {
+        waits = (λ i. is_ready ((ap (λ (s : SharedState T). s.state) (sym view) ∙ sym now) i) (sym same i))
+            ∙ sym stands;
+        state = (λ i. shared (now i) (is i)) ∙ room_shared S log room base steps view;
+        tally = count;
+      }

@@ -33,7 +33,6 @@ use Rattle.shared_records.specs.declared.step.Step.{Step}
 use Rattle.shared_records.specs.declared.step.StepReply.{StepReply}
 use Rattle.shared_records.specs.declared.step.StepReply.TheVariants as reply
 use Rattle.shared_records.specs.Kinds.{step_kind, step_of}
-use Rattle.shared_records.specs.Records.{HasRecord}
 use Rattle.generational_sync.specs.Answering.{GivesBox, MayAnswer}
 use Rattle.shared_history.specs.Counts.{Counts}
 use Rattle.shared_history.specs.Replies.{Records, kind_in, made_reply, raised_by, recorded_reply, tallied}
@@ -51,7 +50,6 @@ use Rattle.generational_sync.proofs.Answering.{opened_own}
 use Rattle.generational_sync.proofs.Counting.{meets_fine, written_stand}
 use Rattle.generational_sync.proofs.Leading.{led_as, led_nowhere, led_on, same_number, same_start}
 use Rattle.generational_sync.proofs.Making.{shared_named}
-use Rattle.generational_sync.proofs.Recording.{has_record}
 use Rattle.generational_sync.proofs.Standings.{without_stand}
 
 no_borrows : {T : Type 0} (es : List (Name × Cell T)) → length es ≡ 0 → borrows_in es ≡ 0
@@ -282,6 +280,21 @@ module _ {T : Type 0} where
       subst (λ (p : SharedState T × Action T × Answer T). IsStep number p.0 counts p.1 p.2 new raised)
       (λ i. (is i, asks i, same i)) step
 
+  -- what the record of a reply comes to, where the log had made room for it and was else as it was
+  pub recorded : {number : ℕ} {S R : State T} {log room after : LogState} {old : SharedState T}
+      {c : StepCall} {r : Option StepReply} {counts raised : Counts} {a b : Action T}
+      {answer told : Answer T} → IsKept number S log → room.base ≡ log.base → room.steps ≡ log.steps
+      → room.standing ≡ log.standing → shared S log ≡ old → a ≡ b → recorded_as a ≡ Some c
+      → is_ready S c ≡ true → Meets S a answer R → r ≡ recorded_reply R a answer → answer ≡ told
+      → IsSettled number room counts c r R after raised
+      → IsKept number R after × IsStep number old counts b told (shared R after) raised
+  recorded {S = S} {log = log} {room = room} {a = a} {answer = answer} kept base steps stay view asks
+      asked ready met replied same settled =
+      let it = answered S a answer kept base steps stay asked ready met replied in (
+        settled.kept it,
+        seen (room_shared S log room base steps view) asks (settled.step it) same,
+      )
+
   -- a step is one of a store that isn't seen
   pub unseen : {number : ℕ} {old new : SharedState T} {counts raised : Counts} {a : Action T}
       {answer : Answer T} → IsStep number old counts a answer new raised
@@ -328,11 +341,6 @@ module _ {T : Type 0} (lawful : AreLawful T) (sound : LeadTo Sound) (numbered : 
     may : MayAnswer number a answer
     may = subst (λ n. MayAnswer n a answer) (own_number S log it.kept)
         (answers S R a c answer it.asked it.ready it.met)
-
-    -- what is known of its step, if it is recorded
-    pub known_record : IfSome r (λ x. HasRecord number c x)
-    known_record = has_record number R a c answer r
-        (same S R a answer it.met ∙ own_number S log it.kept) may it.asked it.replied
 
     tell : Tells answer r
     tell = subst (Tells answer) (sym it.replied) (told number S R a answer it.met may)
@@ -410,34 +418,33 @@ module _ {T : Type 0} (lawful : AreLawful T) (sound : LeadTo Sound) (numbered : 
     pub has_stood : ends_borrow a ≡ true → IfSome r (λ y. 0 < log.standing)
     has_stood = stands r refl
 
-  -- what a log and a tally come to that record it
+  -- what a log and a tally come to that record its reply
   module _ (R : State T) (log after : LogState) (c : StepCall) (r : Option StepReply)
       (counts raised : Counts) (based : after.base ≡ log.base)
       (more : Records log.steps counts.worker c r after.steps)
-      (count : raised ≡ tallied r counts) (it : WasAnswered number log c r R) where
-    pub settled : after.standing ≡ log.standing + lent_in r
+      (count : raised ≡ tallied r counts) where
+    settled_as : (WasAnswered number log c r R → IsKept number R after)
         → IsSettled number log counts c r R after raised
-    settled stay = record {
-      kept = kept_more it.before R log it.action c it.answer r it.answered after counts based more stay;
+    settled_as kept = record {
+      kept = kept;
       step = λ w. stepped w.before R log w.action c w.answer r w.answered after counts based more raised
           count;
     }
 
-    pub settled_end : ends_borrow it.action ≡ true
+    pub settled : after.standing ≡ log.standing + lent_in r
+        → IsSettled number log counts c r R after raised
+    settled stay = settled_as (λ w. kept_more w.before R log w.action c w.answer r w.answered after counts
+        based more stay)
+
+    pub settled_end : (it : WasAnswered number log c r R) → ends_borrow it.action ≡ true
         → after.standing + length (option_to_list r) ≡ log.standing
         → IsSettled number log counts c r R after raised
-    settled_end ends stay = record {
-      kept = kept_fewer it.before R log it.action c it.answer r it.answered after counts based more ends
-          stay;
-      step = λ w. stepped w.before R log w.action c w.answer r w.answered after counts based more raised
-          count;
-    }
+    settled_end it ends stay = settled_as (λ w. kept_fewer it.before R log it.action c it.answer r it.answered
+        after counts based more ends stay)
 
   -- what isn't recorded leaves the log and the tally as they are
   pub settled_not : (R : State T) (log : LogState) (c : StepCall) (r : Option StepReply)
-      (counts : Counts) → WasAnswered number log c r R → r ≡ None
-      → IsSettled number log counts c r R log counts
-  settled_not R log c r counts it is =
+      (counts : Counts) → r ≡ None → IsSettled number log counts c r R log counts
+  settled_not R log c r counts is =
       subst (λ x. IsSettled number log counts c x R log counts) (sym is)
-      (settled R log log c None counts counts refl refl refl
-      (subst (λ x. WasAnswered number log c x R) is it) (omega arith))
+      (settled R log log c None counts counts refl refl refl (omega arith))

@@ -1,20 +1,19 @@
 -- The machine is blind to locations: a call does the same where each location is turned.
-use Rattle.std.proofs.Common.{◌≡◌, ◌≢◌, ℕ, [], sym, ap, ◌∙◌, ◌+◌, ◌≤◌, inl, inr, refl, subst, cond}
+use Rattle.std.proofs.Common.{◌≡◌, ℕ, [], sym, ap, ◌∙◌, refl, subst, cond}
 use Rattle.std.proofs.Common.{true, false, Bool, Option, None, Some, List, ◌∷◌, ◌++◌, not, ◌||◌, arith}
-use Rattle.std.specs.Prelude.{◌⊎◌, ◌&&◌, option_map, is_some, is_none, map as list_map, nat_eq, nat_lt}
+use Rattle.std.specs.Prelude.{◌&&◌, option_map, is_some, is_none, map as list_map, nat_eq, nat_lt}
 use Rattle.std.specs.Prelude.{max, unwrap_or}
 use Rattle.std.specs.Cmp.{both_ways}
 use Rattle.std.specs.FinMap as map
 use Rattle.std.specs.List.{filter, list_any}
 use Rattle.std.specs.Option.{option_or}
-use Rattle.std.proofs.lemmas.Bool.{or_left}
 use Rattle.std.proofs.lemmas.List.{map-append}
 use Rattle.generational_errors.specs.declared.error.Location.{Location}
 use Rattle.generational_errors.specs.declared.error.StoreError.TheVariants.{UnknownOwner}
 use Rattle.generational_core.specs.declared.borrow.Borrow.{Borrow}
 use Rattle.generational_core.specs.declared.boxes.GenerationalPointer.{GenerationalPointer}
-use Rattle.generational_core.specs.Borrowing.{BorrowRefusal, can_read, can_write, fill, leads_to}
-use Rattle.generational_core.specs.Borrowing.{read_refusal, refusal_at, take_ticket, write_refusal}
+use Rattle.generational_core.specs.Borrowing.{BorrowRefusal, fill, leads_to}
+use Rattle.generational_core.specs.Borrowing.{read_refusal, refusal_at, write_refusal}
 use Rattle.generational_core.specs.Borrowing.BorrowRefusal.{Dropped}
 use Rattle.generational_core.specs.Boxes.{has_same_id, name_of}
 use Rattle.generational_core.specs.Names.{Name, NameMap, among, change_if}
@@ -31,7 +30,7 @@ use Rattle.generational_core.specs.Machine.{set_at, has_reader, has_writer, remo
 use Rattle.generational_core.specs.Machine.{clone_owner, release_owner}
 use Rattle.generational_core.specs.Machine.Answer.{BorrowRefused, Refused, Done, Flag, Back}
 use Rattle.generational_core.proofs.maps.Maps.{get-insert_name, get-keep, named_gives, named_from}
-use Rattle.generational_core.proofs.maps.Maps.{name_cases, by_name}
+use Rattle.generational_core.proofs.maps.Maps.{by_name}
 unfoldable use Rattle.generational_core.specs.Borrowing.{reach, refusal_to_read, refusal_to_write}
 unfoldable use Rattle.generational_core.specs.Ending.{hindrance_to, sweep, take_away}
 unfoldable use Rattle.generational_core.specs.Names.{change, is_name}

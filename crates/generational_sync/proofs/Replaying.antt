@@ -4,7 +4,7 @@ use Rattle.std.proofs.Common.{Some, refl, sym, ap, subst, ◌∙◌, inl, IfSome
 use Rattle.std.specs.Prelude.{option_map}
 use Rattle.std.proofs.lemmas.Bool.{and_parts, true≢false}
 use Rattle.generational_core.specs.declared.steps.StepCall.{StepCall}
-use Rattle.generational_core.specs.State.{State, IsSound}
+use Rattle.generational_core.specs.State.{IsSound}
 use Rattle.generational_core.specs.Machine.{Action, Answer, NewNames, Outcome, act}
 use Rattle.generational_core.specs.Machine.Action.{Make, MakeShared, Refer}
 use Rattle.generational_core.specs.declared.boxes.GenerationalBoxId.{GenerationalBoxId}
@@ -13,7 +13,6 @@ use Rattle.generational_core.specs.Machine.Answer.{Made}
 use Rattle.generational_core.specs.Steps.{AreNew, Takes, Meets, limit_tickets}
 use Rattle.generational_core.specs.StepCalls.{is_ready, target_of}
 use Rattle.shared_history.specs.Replies.{is_recorded, made_reply, recorded_reply}
-use Rattle.generational_sessions.specs.History.{plain}
 use Rattle.shared_records.specs.declared.step.Step.{Step}
 use Rattle.shared_records.specs.declared.step.StepReply.{StepReply}
 use Rattle.shared_records.specs.declared.step.StepReply.TheVariants as reply

@@ -20,7 +20,7 @@ use Rattle.generational_core.specs.State.{State}
 use Rattle.generational_core.specs.StepCalls.{target_in, target_of}
 use Rattle.generational_core.specs.Machine.{Action, Answer}
 use Rattle.generational_core.specs.Machine.Action.{MakeShared}
-use Rattle.generational_core.specs.Machine.Answer.{Made, Done, Flag}
+use Rattle.generational_core.specs.Machine.Answer.{Made, Flag}
 use Rattle.generational_core.specs.Machine.Answer.{BorrowRefused, Refused}
 use Rattle.generational_sessions.specs.Carrying.{rename_cell}
 use Rattle.generational_sessions.specs.History.{bare, plain, plain_answer, plain_call}

@@ -52,12 +52,10 @@ pub record HasEnded {T : Type 0} (number : ℕ) (log : LogState) (call : StepCal
   pub some : WasAnswered number log call reply R
   pub ends : ends_borrow some.action ≡ true
 
--- A call that the store has refused, or whose answer says that it left all as it was.
-pub record WasRefused {T : Type 0} (number : ℕ) (log : LogState) (call : StepCall)
-    (reply : Option StepReply) (S : State T) : Type 0 where
+-- A call that was answered in a state which it left as it was.
+pub record WasRefused {T : Type 0} (call : StepCall) (reply : Option StepReply) (S : State T) : Type 0 where
   pub action : Action T
   pub answer : Answer T
-  pub kept : IsKept number S log
   pub asked : recorded_as action ≡ Some call
   pub met : Meets S action answer S
   pub replied : reply ≡ recorded_reply S action answer
@@ -69,10 +67,10 @@ pub record IsHindered {T : Type 0} (old : SharedState T) (counts : Counts) (call
   pub state : new ≡ old
   pub tally : raised ≡ counts
 
--- What becomes of it once its reply is recorded: whatever call it was, made in whatever state, it is a
--- step from there.
+-- What becomes of a call once its reply is recorded: whatever call it was, made in whatever state, what is
+-- kept under the lock holds again, and it is a step from there.
 pub record IsSettled {T : Type 0} (number : ℕ) (log : LogState) (counts : Counts) (call : StepCall)
     (reply : Option StepReply) (R : State T) (after : LogState) (raised : Counts) : Type 0 where
-  pub kept : IsKept number R after
+  pub kept : WasAnswered number log call reply R → IsKept number R after
   pub step : (it : WasAnswered number log call reply R)
       → IsStep number (shared it.before log) counts it.action it.answer (shared R after) raised

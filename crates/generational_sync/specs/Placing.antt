@@ -9,13 +9,12 @@ use Rattle.generational_core.specs.Names.{Name, NameMap}
 use Rattle.generational_core.specs.Cells.{Content, Cell}
 use Rattle.generational_core.specs.Cells.Content.{Here, Lent}
 use Rattle.generational_core.specs.Cells.Cell.{Value, Shared, Ref}
-use Rattle.generational_core.specs.State.{State}
 use Rattle.generational_core.specs.Borrowing.{BorrowRefusal}
 use Rattle.generational_core.specs.Borrowing.BorrowRefusal.{Dropped, BeingWritten, BeingRead}
 use Rattle.generational_core.specs.Machine.{Action, Answer, Outcome}
-use Rattle.generational_core.specs.Machine.Action.{Make, MakeShared, Refer, NewOwner, CloneOwner}
-use Rattle.generational_core.specs.Machine.Action.{ReleaseOwner, LeakOwner, Read, Write}
-use Rattle.generational_core.specs.Machine.Action.{ReleaseReader, ReleaseWriter, SetValue, End}
+use Rattle.generational_core.specs.Machine.Action.{Make, MakeShared, Refer}
+use Rattle.generational_core.specs.Machine.Action.{Read, Write}
+use Rattle.generational_core.specs.Machine.Action.{SetValue, End}
 use Rattle.generational_core.specs.Machine.Action.{Point, CanRead, CanWrite}
 use Rattle.generational_core.specs.Machine.Answer.{Made, BorrowRefused}
 use Rattle.shared_records.specs.declared.step.Step.{Step}

@@ -10,7 +10,7 @@ ghost use Rattle.generational_core.specs.Answers.{value_behind};
 ghost use Rattle.generational_core.specs.StepCalls.{id_of_owner, is_ready};
 ghost use Rattle.shared_history.specs.Counts.{new_tallies};
 ghost use Rattle.shared_history.specs.Bases.{IsCounted, all_trimmed, new_base};
-ghost use Rattle.generational_sync.specs.Keeping.{HasEnded, IsSettled, WasAnswered, WasRefused};
+ghost use Rattle.generational_sync.specs.Keeping.{HasEnded, IsSettled, WasRefused};
 ghost use Rattle.generational_sync.specs.Shared.{IsBlank, IsCheckpoint, MayRefuseCheckpoint};
 ghost use Rattle.generational_sync.specs.Shared.{Replays};
 
@@ -313,9 +313,7 @@ fn settle<T: Drop, const NUMBER: u64, M: Count, L: Count, C: Count, R: Count, E:
     entry: E,
     tally: &mut Tally<M, L, C, R>,
 )
-    requires room { 1 < log.old.room }
-    requires answered { WasAnswered NUMBER log.old (E.as_call entry) (Some (E.as_reply entry))
-        store.now.state }
+    requires { 1 < log.old.room }
     ensures { IsSettled NUMBER log.old tally.old (E.as_call entry) (Some (E.as_reply entry))
         store.now.state log.new tally.new }
 {
@@ -337,8 +335,7 @@ fn settle_any<T: Drop, const NUMBER: u64, M: Count, L: Count, C: Count, R: Count
     reply: Option<StepReply>,
     tally: &mut Tally<M, L, C, R>,
 )
-    requires room { 1 < log.old.room }
-    requires answered { WasAnswered NUMBER log.old call reply store.now.state }
+    requires { 1 < log.old.room }
     ensures { IsSettled NUMBER log.old tally.old call reply store.now.state log.new tally.new }
 {
     settle_told(store, log, call, reply, tally);
@@ -353,8 +350,7 @@ fn settle_told<T: Drop, const NUMBER: u64, M: Count, L: Count, C: Count, R: Coun
     reply: Option<StepReply>,
     tally: &mut Tally<M, L, C, R>,
 )
-    requires room { 1 < log.old.room }
-    requires answered { WasAnswered NUMBER log.old call reply store.now.state }
+    requires { 1 < log.old.room }
     ensures { IsSettled NUMBER log.old tally.old call reply store.now.state log.new tally.new }
 {
     recorded_calls_are_lawful::<T>();
@@ -379,9 +375,9 @@ fn settle_refused_read<T: Drop, const NUMBER: u64, M: Count, L: Count, C: Count,
     reply: Option<StepReply>,
     tally: &mut Tally<M, L, C, R>,
 ) -> bool
-    requires room { 1 < log.old.room }
-    requires refused { WasRefused NUMBER log.old (call.Read asked at) reply store.now.state }
-    ensures ready { result ≡ is_ready store.now.state (call.Read asked at) }
+    requires { 1 < log.old.room }
+    ensures ready { WasRefused (call.Read asked at) reply store.now.state
+        → result ≡ is_ready store.now.state (call.Read asked at) }
     ensures settled { OnTrue result (IsSettled NUMBER log.old tally.old (call.Read asked at) reply
         store.now.state log.new tally.new) }
     ensures left { OnFalse result ((log.new ≡ log.old) × (tally.new ≡ tally.old)) }
@@ -407,8 +403,7 @@ fn settle_refused<T: Drop, const NUMBER: u64, M: Count, L: Count, C: Count, R: C
     reply: Option<StepReply>,
     tally: &mut Tally<M, L, C, R>,
 ) -> bool
-    requires room { 1 < log.old.room }
-    requires refused { WasRefused NUMBER log.old call reply store.now.state }
+    requires { 1 < log.old.room }
     ensures ready { result ≡ is_ready store.now.state call }
     ensures settled { OnTrue result
         (IsSettled NUMBER log.old tally.old call reply store.now.state log.new tally.new) }
@@ -418,7 +413,6 @@ fn settle_refused<T: Drop, const NUMBER: u64, M: Count, L: Count, C: Count, R: C
 }
 
 // Records a refusal out of line, since few calls are refused.
-#[tactic(auto, using(crate::proofs::Granting::refused_answered))]
 #[cold]
 #[inline(never)]
 fn settle_seldom<T: Drop, const NUMBER: u64, M: Count, L: Count, C: Count, R: Count>(
@@ -428,8 +422,7 @@ fn settle_seldom<T: Drop, const NUMBER: u64, M: Count, L: Count, C: Count, R: Co
     reply: Option<StepReply>,
     tally: &mut Tally<M, L, C, R>,
 ) -> bool
-    requires room { 1 < log.old.room }
-    requires refused { WasRefused NUMBER log.old call reply store.now.state }
+    requires { 1 < log.old.room }
     ensures ready { result ≡ is_ready store.now.state call }
     ensures settled { OnTrue result
         (IsSettled NUMBER log.old tally.old call reply store.now.state log.new tally.new) }

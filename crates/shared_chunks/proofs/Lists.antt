@@ -1,10 +1,10 @@
 -- The items of chunks.
-use Rattle.std.proofs.Common.{◌≡◌, ℕ, ◌+◌, suc, ◌<◌, List, [], ◌∷◌, ◌++◌, length, take, map, sym, ap}
+use Rattle.std.proofs.Common.{◌≡◌, ℕ, ◌+◌, suc, ◌<◌, List, [], ◌∷◌, ◌++◌, length, take, sym, ap}
 use Rattle.std.proofs.Common.{◌∙◌, arith, length-append, get_or}
 use Rattle.std.specs.Global.{Vec}
 use Rattle.std.specs.Vec.{vec_items}
 use Rattle.std.proofs.Math.Seq.{take-suc}
-use Rattle.std.proofs.lemmas.List.{append-nil, append_assoc, map-append}
+use Rattle.std.proofs.lemmas.List.{append-nil, append_assoc}
 use Rattle.shared_chunks.specs.Listed.{joined}
 
 module _ {X : Type 0} where
@@ -16,17 +16,13 @@ module _ {X : Type 0} where
       ap (λ xs. vec_items c ++ xs) (joined_snoc cs chunk)
       ∙ sym (append_assoc (vec_items c) (joined cs) (vec_items chunk))
 
-  -- what the items of one chunk more stand for
-  pub mapped_take : {Y : Type 0} (f : X → Y) (chunks : List (Vec X)) (i : ℕ) (d : Vec X)
-      → i < length chunks
-      → map f (joined (take (i + 1) chunks))
-      ≡ map f (joined (take i chunks)) ++ map f (vec_items (get_or chunks i d))
-  mapped_take f chunks i d h =
+  -- the items of the first chunks and of one more
+  pub joined_take : (chunks : List (Vec X)) (i : ℕ) (d : Vec X) → i < length chunks
+      → joined (take (i + 1) chunks) ≡ joined (take i chunks) ++ vec_items (get_or chunks i d)
+  joined_take chunks i d h =
       let next : i + 1 ≡ suc i = omega arith in
-      let one = joined_snoc (take i chunks) (get_or chunks i d) in
-      ap (λ k. map f (joined (take k chunks))) next
-      ∙ (ap (λ cs. map f (joined cs)) (take-suc chunks i d h)
-      ∙ (ap (map f) one ∙ map-append f (joined (take i chunks)) (vec_items (get_or chunks i d))))
+      ap (λ k. joined (take k chunks)) next
+      ∙ (ap joined (take-suc chunks i d h) ∙ joined_snoc (take i chunks) (get_or chunks i d))
 
   -- how many items there are after one more, which begins a chunk
   pub turned : (full more : List (Vec X)) (last next : Vec X) (items : List X) (x : X) (n : ℕ)

@@ -6,7 +6,5 @@
 #![tactic(auto)]
 
 mod list;
-mod packed;
 
 pub use crate::list::Chunks;
-pub use crate::packed::Packed;

@@ -1,9 +1,8 @@
 //! The list.
 
 ghost use Rattle.std.specs.Prelude.{◌≡◌, ◌+◌, ◌<◌, ◌≤◌, ◌^◌, [], ◌∷◌, ◌++◌, IfOk, IfSome, OnOk};
-ghost use Rattle.std.specs.Prelude.{OnErr, length, vec_len, vec_capacity, map};
+ghost use Rattle.std.specs.Prelude.{OnErr, length, vec_len, vec_capacity};
 
-use crate::packed::{Packed, unpack_all};
 use std::alloc::{AllocError, Global};
 use std::marker::Model;
 use std::mem;
@@ -21,8 +20,8 @@ const FREE: usize = 128;
 ///
 /// The items stand in chunks that are full, and after these in the last one. Behind it there may be
 /// a spare one, which is empty: when the last chunk is full, the spare one takes its place. Each
-/// chunk has twice the room of the one before, up to 1024 items; of items with 112 bytes that is
-/// still less than what the C library gets from the system block by block. Up to 128 chunks of that
+/// chunk has twice the room of the one before, up to 1024 items; of items with 16 bytes that is
+/// less than what the C library gets from the system block by block. Up to 128 chunks of that
 /// size that `empty` frees are kept, and become spare ones again.
 #[derive(Drop)]
 pub struct Chunks<X> {
@@ -146,6 +145,19 @@ impl<X: Copy> Chunks<X> {
         self.last.capacity() - self.last.len() + self.spare.capacity()
     }
 
+    /// A copy of the items, in one piece.
+    #[tactic(auto, using(crate::proofs::Lists::joined_take))]
+    pub fn to_vec(&self) -> Result<Vec<X>, AllocError>
+        ensures { IfOk result (λ all. all.items ≡ self.now.items) }
+    {
+        let mut all = Vec::with_capacity(self.alloc, self.len)?;
+        for chunk in self.full.iter() {
+            all.extend_from_slice(chunk.as_slice())?;
+        }
+        all.extend_from_slice(self.last.as_slice())?;
+        Ok(all)
+    }
+
     /// Takes all items away, and keeps the room and up to 128 of the full chunks for later. The other
     /// ones are answered, so that who holds a lock can let them go when it is open. The full chunks
     /// to come stand in `anew`, which is empty and has room for one.
@@ -219,19 +231,4 @@ fn turn<X: Copy>(alloc: Global, full: &mut Vec<Vec<X>>, last: &mut Vec<X>, spare
     let next = mem::replace(spare, Vec::new(alloc));
     let done = mem::replace(last, next);
     full.push_reserved(done);
-}
-
-impl<X: Packed> Chunks<X> {
-    /// A list of what the items stand for, in one piece.
-    #[tactic(auto, using(crate::proofs::Lists::mapped_take))]
-    pub fn unpacked(&self, number: u64) -> Result<Vec<X::Whole>, AllocError>
-        ensures { IfOk result (λ all. all.items ≡ map (X.unpacked number) self.now.items) }
-    {
-        let mut all = Vec::with_capacity(self.alloc, self.len)?;
-        for chunk in self.full.iter() {
-            unpack_all(&mut all, chunk.as_slice(), number)?;
-        }
-        unpack_all(&mut all, self.last.as_slice(), number)?;
-        Ok(all)
-    }
 }

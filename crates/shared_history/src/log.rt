@@ -8,7 +8,6 @@ ghost use Rattle.shared_history.specs.Counts.{raised};
 ghost use Rattle.shared_records.specs.Kinds.{count, step_kind, step_of};
 ghost use Rattle.shared_records.specs.declared.step.Kind.TheVariants.{Made, Lent, Changed, Refused};
 ghost use Rattle.shared_records.specs.Letters.{Appends};
-ghost use Rattle.shared_records.specs.Records.{HasRecord};
 ghost use Rattle.shared_history.specs.Standing.{lent_by};
 
 use crate::base::{Base, TrimmedSteps};
@@ -125,7 +124,6 @@ impl<const NUMBER: u64, M: Count, L: Count, C: Count, R: Count> Log<NUMBER, M, L
     #[inline(always)]
     fn append<E: Entry>(&mut self, entry: E, tally: &mut Tally<M, L, C, R>)
         requires room { 0 < self.old.room }
-        requires record { HasRecord NUMBER (E.as_call entry) (E.as_reply entry) }
         ensures base { self.new.base ≡ self.old.base }
         ensures steps { Appends self.old.steps
             (step_of tally.old.worker (E.as_call entry) (E.as_reply entry)) self.new.steps }
@@ -159,7 +157,6 @@ impl<const NUMBER: u64, M: Count, L: Count, C: Count, R: Count> Log<NUMBER, M, L
     #[inline(always)]
     pub fn settle<E: Entry>(&mut self, entry: E, tally: &mut Tally<M, L, C, R>)
         requires room { 1 < self.old.room }
-        requires record { HasRecord NUMBER (E.as_call entry) (E.as_reply entry) }
         ensures base { self.new.base ≡ self.old.base }
         ensures steps { Appends self.old.steps
             (step_of tally.old.worker (E.as_call entry) (E.as_reply entry)) self.new.steps }
@@ -176,7 +173,6 @@ impl<const NUMBER: u64, M: Count, L: Count, C: Count, R: Count> Log<NUMBER, M, L
     #[inline(always)]
     pub fn settle_end<E: Entry>(&mut self, entry: E, tally: &mut Tally<M, L, C, R>)
         requires standing { 0 < self.old.standing }
-        requires record { HasRecord NUMBER (E.as_call entry) (E.as_reply entry) }
         ensures base { self.new.base ≡ self.old.base }
         ensures steps { Appends self.old.steps
             (step_of tally.old.worker (E.as_call entry) (E.as_reply entry)) self.new.steps }

@@ -1,16 +1,15 @@
 -- Decoding, one item more, and where the tables grow.
-use Rattle.std.proofs.Common.{◌≡◌, ℕ, zero, suc, ◌+◌, ◌<◌, ◌≤◌, List, [], ◌∷◌, ◌++◌, length, map, get_or, Option, Some, None, option_map, option_to_list, refl, sym, ap, subst, ◌∙◌, arith, append_assoc, length-append, rules}
-use Rattle.std.proofs.lemmas.List.{append-nil, get_or_append_left, length-map, map-append}
+use Rattle.std.proofs.Common.{◌≡◌, ℕ, zero, suc, ◌<◌, ◌≤◌, List, [], ◌∷◌, ◌++◌, length, get_or, Option, Some, None, option_map, option_to_list, refl, sym, ap, subst, ◌∙◌, arith, append_assoc, length-append, rules}
+use Rattle.std.proofs.lemmas.List.{append-nil, get_or_append_left}
 use Rattle.generational_errors.specs.declared.error.Location.{Location}
 use Rattle.shared_records.specs.declared.step.Step.{Step}
-use Rattle.shared_records.specs.declared.record.Record.{Record}
 use Rattle.std.proofs.Math.Seq.{get_or-append_seam}
 use Rattle.shared_records.specs.declared.short.Reached.{Reached}
 use Rattle.shared_records.specs.declared.short.Short.{Short}
 use Rattle.shared_records.specs.declared.short.Short.TheVariants as short
 use Rattle.shared_records.specs.Letters.{Appends, lettered_step}
-use Rattle.shared_records.specs.Decoding.{AreWithin, Extends, IsWithin, advanced, after, box_at, decode, named}
-use Rattle.shared_records.specs.Decoding.{next_after, no_step, nowhere, place_at, reached_by, step_at}
+use Rattle.shared_records.specs.Decoding.{AreWithin, Extends, IsWithin, advanced, after, decode, named}
+use Rattle.shared_records.specs.Decoding.{no_step, nowhere, place_at, reached_by, step_at}
 
 -- within tables, and in longer ones
 pub within_grows : (p q r s : ℕ) (x : Short) → p ≤ r → q ≤ s → IsWithin p q x → IsWithin r s x
@@ -217,9 +216,7 @@ appends_one before longer o step is same =
     }
 
 -- the newest of the long steps
-pub long_last : (f : Record → Step) (records : List Record) (steps : List Step) (step : Step)
-    → steps ≡ map f records ++ step ∷ [] → get_or steps (length records) no_step ≡ step
-long_last f records steps step is =
-    ap (λ ss. get_or ss (length records) no_step) is
-    ∙ ap (λ n. get_or (map f records ++ step ∷ []) n no_step) (sym (length-map {B = Step} records f))
-    ∙ get_or-append_seam (map f records) step [] no_step
+pub long_last : (long longer : List Step) (step : Step) → longer ≡ long ++ step ∷ []
+    → get_or longer (length long) no_step ≡ step
+long_last long longer step is =
+    ap (λ ss. get_or ss (length long) no_step) is ∙ get_or-append_seam long step [] no_step

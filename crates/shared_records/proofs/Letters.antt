@@ -1,5 +1,5 @@
 -- The test of two locations decides whether they are the same by their letters.
-use Rattle.std.proofs.Common.{◌≡◌, ℕ, ◌<◌, List, length, get_or, true, ap, ◌∙◌, rules, arith}
+use Rattle.std.proofs.Common.{◌≡◌, ℕ, ◌<◌, List, length, get_or, true, ap, ◌∙◌, arith}
 use Rattle.std.proofs.lemmas.List.{get_or_default}
 use Rattle.std.specs.Bool.{Decides}
 use Rattle.std.proofs.lemmas.Grind.{common_steps}

@@ -2,4 +2,3 @@ pub mod Decoding
 pub mod Kinds
 pub mod Letters
 pub mod Lists
-pub mod Records

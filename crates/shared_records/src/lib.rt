@@ -1,16 +1,13 @@
 //! The steps of a shared store, and how its history keeps them.
 //!
 //! A [`Step`] is a worker, its call and the reply, without values. A [`StepList`] keeps most steps in
-//! 16 bytes, with a number for each location, and any other as a [`Record`], which leaves out what
-//! the call or the store says anyway. It is a part of `generational_sync`, which exports what users
-//! need.
+//! 16 bytes, with a number for each location, and any other whole. It is a part of
+//! `generational_sync`, which exports what users need.
 #![tactic(auto)]
 
 mod entry;
 mod places;
-mod record;
 mod short;
-mod short_call;
 mod shorten;
 mod step;
 mod step_list;
@@ -20,6 +17,5 @@ pub use crate::entry::{
     ReadEnded, ReferenceMade, SharedMade, ValueSet, WriteBegun, WriteEnded, making,
     making_reference, making_shared,
 };
-pub use crate::record::{Record, pack};
 pub use crate::step::{Kind, Step, StepReply};
 pub use crate::step_list::{OldSteps, StepList};

@@ -4,12 +4,11 @@ ghost use Rattle.std.specs.Prelude.{◌≡◌, ◌<◌, ◌++◌, OnOk, length, 
 ghost use Rattle.shared_records.specs.Decoding.{AreWithin, IsWithin, advanced, box_at, decode};
 ghost use Rattle.shared_records.specs.Decoding.{named, next_after, owner_id, reached_first};
 ghost use Rattle.shared_records.specs.Decoding.{step_at};
+ghost use Rattle.shared_records.specs.Kinds.{step_of};
 
-use crate::record::step;
 use crate::step::{Step, StepReply};
 use generational_core::parts::{id_at, owner_at, pointer_at};
 use generational_core::{GenerationalPointer, Location, OwnerId, StepCall};
-use shared_chunks::Packed;
 use std::alloc::AllocError;
 use std::mem::size_of;
 
@@ -104,18 +103,20 @@ impl Reached {
     }
 }
 
-impl Packed for Short {
-    type Whole = Short;
-
-    ghost unpacked = { λ _ x. x };
-
-    fn unpack(&self, _number: u64) -> Short {
-        *self
-    }
-}
-
 // What a step takes of memory.
 const _: () = prove!(size_of::<Short>() == 16);
+
+// A worker's step.
+pub(crate) fn step(worker: u32, call: StepCall, reply: StepReply) -> Step
+    ensures { result ≡ step_of worker call reply }
+{
+    let worker = worker as usize;
+    Step {
+        worker,
+        call,
+        reply,
+    }
+}
 
 /// The step for which a short one stands, where decoding has come so far; None for a name.
 pub fn step_at(

@@ -1,18 +1,16 @@
 //! The list of a history's steps.
 
 ghost use Rattle.std.specs.Prelude.{◌≡◌, ◌+◌, ◌<◌, ◌≤◌, ◌^◌, [], ◌∷◌, ◌++◌, IfOk, OnOk, OnErr};
-ghost use Rattle.std.specs.Prelude.{Some, length, map};
+ghost use Rattle.std.specs.Prelude.{Some, length};
 ghost use Rattle.shared_records.specs.Decoding.{AreWithin, decode, next_after, reached_by};
 ghost use Rattle.shared_records.specs.Decoding.{reached_first};
 ghost use Rattle.shared_records.specs.declared.short.Short.TheVariants.{Long};
 ghost use Rattle.shared_records.specs.Kinds.{step_of};
 ghost use Rattle.shared_records.specs.Letters.{Appends};
-ghost use Rattle.shared_records.specs.Records.{HasRecord, unpack};
 
 use crate::entry::Entry;
 use crate::places::Places;
-use crate::record::{Record, pack};
-use crate::short::{Reached, Short, decode_all};
+use crate::short::{Reached, Short, decode_all, step};
 use crate::shorten::{Form, Taken};
 use crate::step::{Step, StepReply};
 use generational_core::StepCall;
@@ -21,7 +19,7 @@ use std::alloc::{AllocError, Global};
 use std::marker::Model;
 
 /// Steps of the store with this number, in 16 or 32 bytes each where they have a short form, and in
-/// 128 else. Contracts see the steps, and for how many more there is room.
+/// 208 else. Contracts see the steps, and for how many more there is room.
 ///
 /// A location's text is kept once: a step comes back with the same letters, which may stand
 /// elsewhere in memory.
@@ -37,29 +35,28 @@ pub struct StepList<const NUMBER: u64> {
     // the next ticket at the first step
     start: u64,
     places: Places,
-    long: Chunks<Record>,
+    long: Chunks<Step>,
     alloc: Global,
 }
 
 impl<const NUMBER: u64> Model for StepList<NUMBER> {
-    ghost use Rattle.std.specs.Prelude.{◌≡◌, ◌+◌, ◌≤◌, length, map};
+    ghost use Rattle.std.specs.Prelude.{◌≡◌, ◌+◌, ◌≤◌, length};
     ghost use Rattle.shared_records.specs.Decoding.{AreWithin, decode, reached_by, reached_first};
     ghost use Rattle.shared_records.specs.Lists.{StepsState};
-    ghost use Rattle.shared_records.specs.Records.{unpack};
 
     ghost Value = { StepsState };
 
     ghost view = { λ l. record {
-      steps = decode NUMBER l.places (map (unpack NUMBER) l.long.items) (reached_first l.start)
+      steps = decode NUMBER l.places l.long.items (reached_first l.start)
           l.short.items;
       room = l.room;
     } };
 
     ghost invariant = { λ l.
-        (AreWithin (length l.places) (length (map (unpack NUMBER) l.long.items)) l.short.items)
-        × (l.reached ≡ reached_by NUMBER l.places (map (unpack NUMBER) l.long.items)
+        (AreWithin (length l.places) (length l.long.items) l.short.items)
+        × (l.reached ≡ reached_by NUMBER l.places l.long.items
         (reached_first l.start) l.short.items)
-        × (l.len ≡ length (decode NUMBER l.places (map (unpack NUMBER) l.long.items)
+        × (l.len ≡ length (decode NUMBER l.places l.long.items
         (reached_first l.start) l.short.items))
         × (l.room + l.room ≤ l.short.room) × (l.room ≤ l.long.room) };
 }
@@ -119,7 +116,6 @@ impl<const NUMBER: u64> StepList<NUMBER> {
     #[inline(always)]
     pub fn append<E: Entry>(&mut self, worker: u32, entry: E)
         requires room { 0 < self.old.room }
-        requires record { HasRecord NUMBER (E.as_call entry) (E.as_reply entry) }
         ensures steps { Appends self.old.steps
             (step_of worker (E.as_call entry) (E.as_reply entry)) self.new.steps }
         ensures room { self.new.room + 1 ≡ self.old.room }
@@ -153,8 +149,8 @@ impl<const NUMBER: u64> StepList<NUMBER> {
     pub fn to_vec(&self) -> Result<Vec<Step>, AllocError>
         ensures { IfOk result (λ all. all.items ≡ self.now.steps) }
     {
-        let long = self.long.unpacked(NUMBER)?;
-        let short = self.short.unpacked(NUMBER)?;
+        let long = self.long.to_vec()?;
+        let short = self.short.to_vec()?;
         let mut all = Vec::with_capacity(self.alloc, self.len)?;
         decode_all(
             &mut all,
@@ -190,7 +186,7 @@ impl<const NUMBER: u64> StepList<NUMBER> {
 #[derive(Drop)]
 pub struct OldSteps {
     short: Vec<Vec<Short>>,
-    long: Vec<Vec<Record>>,
+    long: Vec<Vec<Step>>,
 }
 
 // Appends a step to the short steps, where decoding begins at `start`. The answer is what it comes to
@@ -201,26 +197,25 @@ fn keep<E: Entry>(
     start: u64,
     places: &mut Places,
     list: &mut Chunks<Short>,
-    long: &mut Chunks<Record>,
+    long: &mut Chunks<Step>,
     entry: E,
 ) -> Reached
     requires within { AreWithin (length places.old)
-        (length (map (unpack taken.number) long.old.items)) list.old.items }
+        (length long.old.items) list.old.items }
     requires reached { taken.reached ≡
-        reached_by taken.number places.old (map (unpack taken.number) long.old.items)
+        reached_by taken.number places.old long.old.items
         (reached_first start) list.old.items }
     requires room { (1 < list.old.room) × (0 < long.old.room) }
-    requires record { HasRecord taken.number (E.as_call entry) (E.as_reply entry) }
     ensures within { AreWithin (length places.new)
-        (length (map (unpack taken.number) long.new.items)) list.new.items }
+        (length long.new.items) list.new.items }
     ensures reached { result ≡
-        reached_by taken.number places.new (map (unpack taken.number) long.new.items)
+        reached_by taken.number places.new long.new.items
         (reached_first start) list.new.items }
     ensures steps { Appends
-        (decode taken.number places.old (map (unpack taken.number) long.old.items)
+        (decode taken.number places.old long.old.items
         (reached_first start) list.old.items)
         (step_of taken.worker (E.as_call entry) (E.as_reply entry))
-        (decode taken.number places.new (map (unpack taken.number) long.new.items)
+        (decode taken.number places.new long.new.items
         (reached_first start) list.new.items) }
     ensures room { list.old.room ≤ list.new.room + 2 }
     ensures bounded { length list.new.items + list.new.room < 2 ^ 64 }
@@ -237,7 +232,7 @@ fn keep<E: Entry>(
             after(taken.reached.named(slot, generation), entry)
         }
         None => {
-            keep_whole(taken.number, taken.worker, list, long, entry);
+            keep_whole(taken.worker, list, long, entry);
             after(taken.reached, entry)
         }
     }
@@ -254,45 +249,35 @@ fn after<E: Entry>(reached: Reached, entry: E) -> Reached
 // Appends a step that has no short form. It is a function of its own that is inlined, so that what is
 // handed to the other is put into memory here, and not where a short step is kept.
 #[inline(always)]
-fn keep_whole<E: Entry>(
-    number: u64,
-    worker: u32,
-    list: &mut Chunks<Short>,
-    long: &mut Chunks<Record>,
-    entry: E,
-)
+fn keep_whole<E: Entry>(worker: u32, list: &mut Chunks<Short>, long: &mut Chunks<Step>, entry: E)
     requires room { (0 < list.old.room) × (0 < long.old.room) }
-    requires record { HasRecord number (E.as_call entry) (E.as_reply entry) }
     ensures list { list.new.items ≡ list.old.items ++ Long (length long.old.items) ∷ [] }
     ensures room { list.new.room + 1 ≡ list.old.room }
     ensures bounded { length list.new.items + list.new.room < 2 ^ 64 }
-    ensures long { map (unpack number) long.new.items ≡ map (unpack number) long.old.items
-        ++ step_of worker (E.as_call entry) (E.as_reply entry) ∷ [] }
+    ensures long { long.new.items
+        ≡ long.old.items ++ step_of worker (E.as_call entry) (E.as_reply entry) ∷ [] }
     ensures long_room { long.new.room + 1 ≡ long.old.room }
 {
-    push_whole(number, worker, list, long, entry.call(), entry.reply());
+    push_whole(worker, list, long, entry.call(), entry.reply());
 }
 
 #[cold]
 #[inline(never)]
 fn push_whole(
-    number: u64,
     worker: u32,
     list: &mut Chunks<Short>,
-    long: &mut Chunks<Record>,
+    long: &mut Chunks<Step>,
     call: StepCall,
     reply: StepReply,
 )
     requires room { (0 < list.old.room) × (0 < long.old.room) }
-    requires record { HasRecord number call reply }
     ensures list { list.new.items ≡ list.old.items ++ Long (length long.old.items) ∷ [] }
     ensures room { list.new.room + 1 ≡ list.old.room }
     ensures bounded { length list.new.items + list.new.room < 2 ^ 64 }
-    ensures long { map (unpack number) long.new.items
-        ≡ map (unpack number) long.old.items ++ step_of worker call reply ∷ [] }
+    ensures long { long.new.items ≡ long.old.items ++ step_of worker call reply ∷ [] }
     ensures long_room { long.new.room + 1 ≡ long.old.room }
 {
     let at = long.len() as u64;
-    long.push(pack(number, worker, call, reply));
+    long.push(step(worker, call, reply));
     list.push(Short::Long(at));
 }

@@ -3,42 +3,13 @@
 
 ghost use Rattle.std.specs.Prelude.{◌≤◌};
 
-use shared_chunks::{Chunks, Packed};
+use shared_chunks::Chunks;
 use std::alloc::Global;
 use std::process::Abort;
 use std::test::*;
 
-// The number of the lists.
-const LIST: u64 = 9;
-
-/// A number in a list.
-#[derive(Clone, Copy)]
-struct Entry {
-    value: u64,
-}
-
-/// A number, and that of its list.
-#[derive(Clone, Copy, Debug, PartialEq)]
-struct Numbered {
-    list: u64,
-    value: u64,
-}
-
-impl Packed for Entry {
-    type Whole = Numbered;
-
-    ghost unpacked = { λ number entry. record { list = number; value = entry.value } };
-
-    fn unpack(&self, number: u64) -> Numbered {
-        Numbered {
-            list: number,
-            value: self.value,
-        }
-    }
-}
-
 /// Makes room. Where memory lacks the list stays as long as it was.
-fn reserve_or_again(rt: &impl Abort, list: &mut Chunks<Entry>, more: usize)
+fn reserve_or_again(rt: &impl Abort, list: &mut Chunks<u64>, more: usize)
     ensures { more ≤ list.new.room }
 {
     let before = list.len();
@@ -50,29 +21,27 @@ fn reserve_or_again(rt: &impl Abort, list: &mut Chunks<Entry>, more: usize)
 }
 
 /// Appends the numbers from this one up, room being made for each.
-fn append(rt: &impl Abort, list: &mut Chunks<Entry>, from: u64, count: u64) {
+fn append(rt: &impl Abort, list: &mut Chunks<u64>, from: u64, count: u64) {
     for more in 0..count {
         reserve_or_again(rt, list, 1);
-        list.push(Entry {
-            value: from.wrapping_add(more),
-        });
+        list.push(from.wrapping_add(more));
     }
 }
 
 /// Asserts that the list has the numbers from 0 up, so many.
-fn assert_counts_up(rt: &impl Abort, list: &Chunks<Entry>, count: u64) {
-    let all = match list.unpacked(LIST) {
+fn assert_counts_up(rt: &impl Abort, list: &Chunks<u64>, count: u64) {
+    let all = match list.to_vec() {
         Ok(all) => all,
-        Err(_) => list.unpacked(LIST).expect(rt, "memory"),
+        Err(_) => list.to_vec().expect(rt, "memory"),
     };
     assert_eq!(rt; (list.len() as u64, all.len() as u64), (count, count));
-    for (value, entry) in (0..count).zip(all.iter()) {
-        assert_eq!(rt; *entry, Numbered { list: LIST, value });
+    for (value, kept) in (0..count).zip(all.iter()) {
+        assert_eq!(rt; *kept, value);
     }
 }
 
 /// Takes all away, and asserts that nothing is left.
-fn empty_all(rt: &impl Abort, list: &mut Chunks<Entry>, alloc: Global) {
+fn empty_all(rt: &impl Abort, list: &mut Chunks<u64>, alloc: Global) {
     let anew = match Vec::with_capacity(alloc, 1) {
         Ok(anew) => anew,
         Err(_) => Vec::with_capacity(alloc, 1).expect(rt, "memory"),

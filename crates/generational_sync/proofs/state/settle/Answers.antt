@@ -1,20 +1,6 @@
-use Rattle.std.proofs.Common.{Some, rules}
-use Rattle.generational_sync.proofs.Keeping.{known_record, settled}
+use Rattle.std.proofs.Common.{Some}
+use Rattle.generational_sync.proofs.Keeping.{settled}
 use Rattle.generational_sync.proofs.state.settle.Goals as goal
-
-pub settle-requires : goal.settle-requires
-settle-requires g c = (
-  search rules,
-  (
-    search rules,
-    known_record c.recorded_calls_are_lawful.ensures.step
-        c.histories_lead_to_sound_states.ensures.sound c.histories_lead_to_sound_states.ensures.number
-        c.steps_keep_the_store.ensures.number c.free_calls_are_answered_so.ensures g.row.NUMBER
-        c.requires.answered.before c.args.store.now.state c.args.log.now c.requires.answered.action
-        (g.E.Entry.as_call c.args.entry) c.requires.answered.answer
-        (Some (g.E.Entry.as_reply c.args.entry)) c.requires.answered.answered,
-  ),
-)
 
 pub returns : goal.returns
 returns g c =
@@ -24,4 +10,4 @@ returns g c =
     c.args.store.now.state c.args.log.now c.settle.new.self (g.E.Entry.as_call c.args.entry)
     (Some (g.E.Entry.as_reply c.args.entry)) c.args.tally.now
     c.settle.new.tally c.settle.ensures.base c.settle.ensures.steps c.settle.ensures.tally
-    c.requires.answered c.settle.ensures.standing
+    c.settle.ensures.standing

@@ -1,7 +1,7 @@
 use Rattle.std.proofs.Common.{◌≡◌, Some, rules, ap, subst, sym, ◌∙◌}
 use Rattle.std.proofs.Common.{IfSome}
 use Rattle.generational_sync.specs.Keeping.{HasEnded, IsSettled}
-use Rattle.generational_sync.proofs.Keeping.{has_stood, known_record, settled_end, settled_not}
+use Rattle.generational_sync.proofs.Keeping.{has_stood, settled_end, settled_not}
 use Rattle.generational_sync.proofs.state.settle_end.Goals as goal
 
 pub settle_end-requires : goal.settle_end-requires
@@ -12,18 +12,11 @@ settle_end-requires g c =
     let it = subst (λ r. HasEnded g.row.NUMBER c.args.log.now call r c.args.store.now.state)
     (c.in-Some.is ∙ ap Some told) c.requires.ended in (
       search rules,
-      (
-        has_stood c.recorded_calls_are_lawful.ensures.step
-            c.histories_lead_to_sound_states.ensures.sound c.histories_lead_to_sound_states.ensures.number
-            c.steps_keep_the_store.ensures.number c.free_calls_are_answered_so.ensures g.row.NUMBER
-            it.some.before c.args.store.now.state c.args.log.now it.some.action call
-            it.some.answer (Some reply) it.some.answered it.ends,
-        known_record c.recorded_calls_are_lawful.ensures.step
-            c.histories_lead_to_sound_states.ensures.sound c.histories_lead_to_sound_states.ensures.number
-            c.steps_keep_the_store.ensures.number c.free_calls_are_answered_so.ensures g.row.NUMBER
-            it.some.before c.args.store.now.state c.args.log.now it.some.action call
-            it.some.answer (Some reply) it.some.answered,
-      ),
+      has_stood c.recorded_calls_are_lawful.ensures.step
+          c.histories_lead_to_sound_states.ensures.sound c.histories_lead_to_sound_states.ensures.number
+          c.steps_keep_the_store.ensures.number c.free_calls_are_answered_so.ensures g.row.NUMBER
+          it.some.before c.args.store.now.state c.args.log.now it.some.action call
+          it.some.answer (Some reply) it.some.answered it.ends,
     )
 
 pub returns-in-Some : goal.returns-in-Some
@@ -49,4 +42,4 @@ returns-in-None g c =
     c.histories_lead_to_sound_states.ensures.sound c.histories_lead_to_sound_states.ensures.number
     c.steps_keep_the_store.ensures.number c.free_calls_are_answered_so.ensures g.row.NUMBER
     c.args.store.now.state c.args.log.now (g.E.Entry.as_call c.args.entry) c.args.reply
-    c.args.tally.now c.requires.ended.some c.in-None.is
+    c.args.tally.now c.in-None.is

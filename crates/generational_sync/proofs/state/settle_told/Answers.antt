@@ -7,4 +7,4 @@ returns-in-None g c =
     c.histories_lead_to_sound_states.ensures.sound c.histories_lead_to_sound_states.ensures.number
     c.steps_keep_the_store.ensures.number c.free_calls_are_answered_so.ensures g.row.NUMBER
     c.args.store.now.state c.args.log.now c.args.call c.args.reply c.args.tally.now
-    c.requires.answered c.in-None.is
+    c.in-None.is

@@ -1,6 +1,4 @@
-use Rattle.std.proofs.Common.{◌≡◌, ◌<◌, length, get_or, ◌∙◌, ap, sym, arith, true}
-use Rattle.std.proofs.lemmas.List.{get_or_default}
-use Rattle.generational_errors.specs.Texts.{same_location}
+use Rattle.std.proofs.Common.{◌∙◌, sym}
 use Rattle.shared_records.proofs.Letters.{same_places}
 use Rattle.shared_records.proofs.places.find.Goals as goal
 

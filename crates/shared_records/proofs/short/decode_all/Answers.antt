@@ -1,4 +1,4 @@
-use Rattle.std.proofs.Common.{◌≡◌, ◌+◌, ◌++◌, ◌∷◌, [], Option, option_to_list, ap, sym, ◌∙◌, arith, append_assoc, suc, length, get_or, take}
+use Rattle.std.proofs.Common.{◌≡◌, ◌+◌, ◌++◌, Option, option_to_list, ap, sym, ◌∙◌, arith, append_assoc, suc, length, get_or, take}
 use Rattle.std.proofs.Math.Seq.{take-suc}
 use Rattle.shared_records.specs.declared.step.Step.{Step}
 use Rattle.shared_records.specs.declared.short.Reached.{Reached}

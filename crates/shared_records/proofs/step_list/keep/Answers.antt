@@ -1,16 +1,12 @@
-use Rattle.std.proofs.Common.{◌≡◌, ◌≤◌, ◌∷◌, [], ◌++◌, Some, List, length, length-append, map, option_to_list, get_or, ap, sym, subst, ◌∙◌, refl, arith}
-use Rattle.std.proofs.lemmas.List.{append-nil, length-map}
+use Rattle.std.proofs.Common.{◌∷◌, [], ◌++◌, Some, List, length, length-append, option_to_list, ap, sym, subst, ◌∙◌, arith}
+use Rattle.std.proofs.lemmas.List.{append-nil}
 use Rattle.generational_errors.specs.declared.error.Location.{Location}
 use Rattle.shared_records.specs.declared.short.Reached.{Reached}
-use Rattle.shared_records.specs.declared.short.Short.{Short}
 use Rattle.shared_records.specs.declared.short.Short.TheVariants as short
-use Rattle.shared_records.specs.declared.shorten.Form.{Form}
-use Rattle.shared_records.specs.declared.shorten.Form.TheVariants.{One, Two}
 use Rattle.shared_records.specs.declared.step.Step.{Step}
 use Rattle.shared_records.specs.Kinds.{step_of}
-use Rattle.shared_records.specs.Records.{unpack}
 use Rattle.shared_records.specs.Letters.{lettered_step}
-use Rattle.shared_records.specs.Decoding.{Extends, IsForm, StandsFor, advanced, decode, named, no_step, reached_by, reached_first, step_at}
+use Rattle.shared_records.specs.Decoding.{Extends, IsForm, advanced, decode, named, reached_first, step_at}
 use Rattle.shared_records.proofs.Decodes.{appends_one, grown_reached, grown_steps, grown_within, long_last, within_grows}
 use Rattle.shared_records.proofs.step_list.keep.Goals as goal
 
@@ -20,7 +16,7 @@ stay places = record { more = []; is = sym (append-nil places) }
 pub returns-in-Some-One-clause-within : goal.returns-in-Some-One-clause-within
 returns-in-Some-One-clause-within g c =
     let arm = c.in-Some-One in
-    let ls = map (unpack c.args.taken.number) c.args.long.now.items in
+    let ls = c.args.long.now.items in
     let wider = c.form.new.places in
     let stands = subst (λ f. IsForm c.args.taken.number wider c.args.taken.reached
     (step_of c.args.taken.worker (g.E.Entry.as_call c.args.entry) (g.E.Entry.as_reply c.args.entry)) f) arm.field-0-is arm.ensures.form in
@@ -33,7 +29,7 @@ returns-in-Some-One-clause-within g c =
 pub returns-in-Some-One-clause-reached : goal.returns-in-Some-One-clause-reached
 returns-in-Some-One-clause-reached g c =
     let arm = c.in-Some-One in
-    let ls = map (unpack c.args.taken.number) c.args.long.now.items in
+    let ls = c.args.long.now.items in
     let wider = c.form.new.places in
     let stands = subst (λ f. IsForm c.args.taken.number wider c.args.taken.reached
     (step_of c.args.taken.worker (g.E.Entry.as_call c.args.entry) (g.E.Entry.as_reply c.args.entry)) f) arm.field-0-is arm.ensures.form in
@@ -49,7 +45,7 @@ returns-in-Some-One-clause-steps g c =
     let arm = c.in-Some-One in
     let n = c.args.taken.number in
     let start = reached_first c.args.start in
-    let ls = map (unpack n) c.args.long.now.items in
+    let ls = c.args.long.now.items in
     let wider = c.form.new.places in
     let step = step_of c.args.taken.worker (g.E.Entry.as_call c.args.entry) (g.E.Entry.as_reply c.args.entry) in
     let stands = subst (λ f. IsForm n wider c.args.taken.reached step f) arm.field-0-is
@@ -67,7 +63,7 @@ returns-in-Some-Two-clause-within g c =
     let n = c.args.taken.number in
     let start = reached_first c.args.start in
     let places = c.args.places.now in
-    let ls = map (unpack n) c.args.long.now.items in
+    let ls = c.args.long.now.items in
     let wider = c.form.new.places in
     let step = step_of c.args.taken.worker (g.E.Entry.as_call c.args.entry) (g.E.Entry.as_reply c.args.entry) in
     let stands = subst (λ f. IsForm n wider c.args.taken.reached step f) arm.field-0-is
@@ -86,7 +82,7 @@ returns-in-Some-Two-clause-reached g c =
     let n = c.args.taken.number in
     let start = reached_first c.args.start in
     let places = c.args.places.now in
-    let ls = map (unpack n) c.args.long.now.items in
+    let ls = c.args.long.now.items in
     let wider = c.form.new.places in
     let reply = g.E.Entry.as_reply c.args.entry in
     let step = step_of c.args.taken.worker (g.E.Entry.as_call c.args.entry) reply in
@@ -111,7 +107,7 @@ returns-in-Some-Two-clause-steps g c =
     let n = c.args.taken.number in
     let start = reached_first c.args.start in
     let places = c.args.places.now in
-    let ls = map (unpack n) c.args.long.now.items in
+    let ls = c.args.long.now.items in
     let wider = c.form.new.places in
     let step = step_of c.args.taken.worker (g.E.Entry.as_call c.args.entry) (g.E.Entry.as_reply c.args.entry) in
     let name = short.Name arm.slot arm.generation in
@@ -138,11 +134,10 @@ pub returns-in-None-clause-within : goal.returns-in-None-clause-within
 returns-in-None-clause-within g c =
     let n = c.args.taken.number in
     let step = step_of c.args.taken.worker (g.E.Entry.as_call c.args.entry) (g.E.Entry.as_reply c.args.entry) in
-    let ls = map (unpack n) c.args.long.now.items in
-    let more = map (unpack n) c.keep_whole.new.long.items in
+    let ls = c.args.long.now.items in
+    let more = c.keep_whole.new.long.items in
     let longer = c.keep_whole.ensures.long in
     let lengths = ap length longer ∙ length-append ls (step ∷ []) in
-    let old = length-map c.args.long.now.items (unpack n) in
     grown_within n (reached_first c.args.start) c.args.places.now
     c.form.new.places ls more c.args.list.now.items c.keep_whole.new.list.items
     (short.Long (length c.args.long.now.items)) c.form.ensures.extends (step ∷ []) longer
@@ -152,9 +147,9 @@ pub returns-in-None-clause-reached : goal.returns-in-None-clause-reached
 returns-in-None-clause-reached g c =
     let n = c.args.taken.number in
     let step = step_of c.args.taken.worker (g.E.Entry.as_call c.args.entry) (g.E.Entry.as_reply c.args.entry) in
-    let ls = map (unpack n) c.args.long.now.items in
-    let more = map (unpack n) c.keep_whole.new.long.items in
-    let is = long_last (unpack n) c.args.long.now.items more step c.keep_whole.ensures.long in
+    let ls = c.args.long.now.items in
+    let more = c.keep_whole.new.long.items in
+    let is = long_last ls more step c.keep_whole.ensures.long in
     c.after-in-None.ensures
     ∙ sym (ap (λ (s : Step). advanced c.args.taken.reached (Some s)) is)
     ∙ grown_reached n (reached_first c.args.start) c.args.places.now
@@ -168,9 +163,9 @@ returns-in-None-clause-steps g c =
     let n = c.args.taken.number in
     let step = step_of c.args.taken.worker (g.E.Entry.as_call c.args.entry) (g.E.Entry.as_reply c.args.entry) in
     let start = reached_first c.args.start in
-    let ls = map (unpack n) c.args.long.now.items in
-    let more = map (unpack n) c.keep_whole.new.long.items in
-    let is = long_last (unpack n) c.args.long.now.items more step c.keep_whole.ensures.long in
+    let ls = c.args.long.now.items in
+    let more = c.keep_whole.new.long.items in
+    let is = long_last ls more step c.keep_whole.ensures.long in
     appends_one (decode n c.args.places.now ls start c.args.list.now.items)
     (decode n c.form.new.places more start c.keep_whole.new.list.items)
     (step_at n c.form.new.places more c.args.taken.reached

@@ -1,41 +1,21 @@
-use Rattle.std.proofs.Common.{rules, Some, ap, refl, sym, ◌∙◌}
+use Rattle.std.proofs.Common.{Some, ap, refl}
 use Rattle.generational_core.specs.Answers.{read_refused}
 use Rattle.generational_core.specs.Machine.Action.{Read}
 use Rattle.generational_core.specs.Machine.Answer.{Reads}
 use Rattle.generational_core.specs.declared.steps.StepCall.TheVariants as call
 use Rattle.shared_records.specs.declared.step.StepReply.TheVariants as reply
-use Rattle.generational_sync.specs.Keeping.{shared}
-use Rattle.generational_sync.proofs.Granting.{granted_ready, left_as, left_kept, read_leaves, refused, refused_answered}
-use Rattle.generational_sync.proofs.Keeping.{answered, room_shared, seen}
+use Rattle.generational_sync.proofs.Granting.{granted_ready, hindered, left_kept, left_ready, read_leaves, refused}
+use Rattle.generational_sync.proofs.Keeping.{recorded}
 use Rattle.generational_sync.proofs.state.SyncState.read_at_once.Goals as goal
 
-pub settle-requires : goal.settle-requires
-settle-requires g c = (
-  search rules,
-  (
-    search rules,
-    answered c.self.inside.store.state (Read c.pointer-pointer.result c.args.location) (Reads c.in-Ok.guard) c.self.invariant
-        c.reserve.ensures.base c.reserve.ensures.steps c.reserve.ensures.standing refl
-        (granted_ready c.calls_are_ready_where_no_borrow_is_told.ensures.answer
-        c.self.inside.store.state c.begin_read.new.store.state (Read c.pointer-pointer.result c.args.location) (call.Read c.pointer-pointer.result c.args.location) (Reads c.in-Ok.guard) refl
-        c.in-Ok.ensures refl refl)
-        c.in-Ok.ensures
-        (ap (λ t. Some (reply.Reader t)) c.ticket.ensures),
-  ),
-)
-
-pub settle_refused_read-requires : goal.settle_refused_read-requires
-settle_refused_read-requires g c = (
-  search rules,
-  (
-    search rules,
-    refused c.self.inside.store.state c.begin_read.new.store.state (Read c.pointer-pointer.result c.args.location)
-        (read_refused c.in-Err.refused) c.self.invariant
-        c.reserve.ensures.base c.reserve.ensures.steps c.reserve.ensures.standing refl
-        c.in-Err.ensures (c.read_refusal-reply.ensures.reply c.begin_read.new.store.state (Read c.pointer-pointer.result c.args.location))
-        (read_leaves g.row.T.Denot c.in-Err.refused),
-  ),
-)
+pub invariant_of-self-in-Ok : goal.invariant_of-self-in-Ok
+invariant_of-self-in-Ok g c =
+    (recorded c.self.invariant c.reserve.ensures.base c.reserve.ensures.steps
+    c.reserve.ensures.standing c.self.view_is (ap (λ b. Read b c.args.location) c.pointer-pointer.ensures) refl
+    (granted_ready c.calls_are_ready_where_no_borrow_is_told.ensures.answer c.self.inside.store.state
+    c.begin_read.new.store.state (Read c.pointer-pointer.result c.args.location)
+    (call.Read c.pointer-pointer.result c.args.location) (Reads c.in-Ok.guard) refl c.in-Ok.ensures refl refl) c.in-Ok.ensures
+    (ap (λ t. Some (reply.Reader t)) c.ticket.ensures) refl c.settle.ensures).0
 
 pub invariant_of-self-then-not-settle_refused_read : goal.invariant_of-self-then-not-settle_refused_read
 invariant_of-self-then-not-settle_refused_read g c =
@@ -44,21 +24,46 @@ invariant_of-self-then-not-settle_refused_read g c =
     c.reserve.ensures.standing c.in-Err.ensures (read_leaves g.row.T.Denot c.in-Err.refused)
     c.if-not-settle_refused_read.ensures.left.0
 
+pub invariant_of-self-in-Err : goal.invariant_of-self-in-Err
+invariant_of-self-in-Err g c =
+    (recorded c.self.invariant c.reserve.ensures.base c.reserve.ensures.steps
+    c.reserve.ensures.standing c.self.view_is (ap (λ b. Read b c.args.location) c.pointer-pointer.ensures) refl
+    (left_ready (call.Read c.pointer-pointer.result c.args.location) c.self.inside.store.state c.begin_read.new.store.state (Read c.pointer-pointer.result c.args.location)
+    (read_refused c.in-Err.refused) c.in-Err.ensures (read_leaves g.row.T.Denot c.in-Err.refused)
+    (c.if-not-settle_refused_read.ensures.ready (refused c.self.inside.store.state c.begin_read.new.store.state (Read c.pointer-pointer.result c.args.location)
+    (read_refused c.in-Err.refused) refl c.in-Err.ensures
+    (c.read_refusal-reply.ensures.reply c.begin_read.new.store.state (Read c.pointer-pointer.result c.args.location))
+    (read_leaves g.row.T.Denot c.in-Err.refused)))) c.in-Err.ensures
+    (c.read_refusal-reply.ensures.reply c.begin_read.new.store.state (Read c.pointer-pointer.result c.args.location)) refl c.if-not-settle_refused_read.ensures.settled).0
+
 pub returns-in-Ok-clause-step : goal.returns-in-Ok-clause-step
-unfolding settle-requires
 returns-in-Ok-clause-step g c =
-    seen (room_shared c.self.inside.store.state c.self.inside.log c.reserve.new.self
-    c.reserve.ensures.base c.reserve.ensures.steps c.self.view_is) (ap (λ b. Read b c.args.location) c.pointer-pointer.ensures)
-    (c.settle.ensures.step (settle-requires g c.before).1.1) refl
+    (recorded c.self.invariant c.reserve.ensures.base c.reserve.ensures.steps
+    c.reserve.ensures.standing c.self.view_is (ap (λ b. Read b c.args.location) c.pointer-pointer.ensures) refl
+    (granted_ready c.calls_are_ready_where_no_borrow_is_told.ensures.answer c.self.inside.store.state
+    c.begin_read.new.store.state (Read c.pointer-pointer.result c.args.location)
+    (call.Read c.pointer-pointer.result c.args.location) (Reads c.in-Ok.guard) refl c.in-Ok.ensures refl refl) c.in-Ok.ensures
+    (ap (λ t. Some (reply.Reader t)) c.ticket.ensures) refl c.settle.ensures).1
 
 pub returns-else-not-settle_refused_read-clause-step : goal.returns-else-not-settle_refused_read-clause-step
-unfolding settle_refused_read-requires
 returns-else-not-settle_refused_read-clause-step g c =
-    let same = left_as c.self.inside.store.state c.begin_read.new.store.state (Read c.pointer-pointer.result c.args.location)
-    (read_refused c.in-Err.refused) c.in-Err.ensures (read_leaves g.row.T.Denot c.in-Err.refused) in
-    seen (ap (λ s. shared s c.reserve.new.self) same
-    ∙ room_shared c.self.inside.store.state c.self.inside.log c.reserve.new.self
-    c.reserve.ensures.base c.reserve.ensures.steps c.self.view_is) (ap (λ b. Read b c.args.location) c.pointer-pointer.ensures)
-    (c.if-not-settle_refused_read.ensures.settled.step
-    (refused_answered (settle_refused_read-requires g c.before.before).1.1
-    (sym c.if-not-settle_refused_read.ensures.ready))) refl
+    (recorded c.self.invariant c.reserve.ensures.base c.reserve.ensures.steps
+    c.reserve.ensures.standing c.self.view_is (ap (λ b. Read b c.args.location) c.pointer-pointer.ensures) refl
+    (left_ready (call.Read c.pointer-pointer.result c.args.location) c.self.inside.store.state c.begin_read.new.store.state (Read c.pointer-pointer.result c.args.location)
+    (read_refused c.in-Err.refused) c.in-Err.ensures (read_leaves g.row.T.Denot c.in-Err.refused)
+    (c.if-not-settle_refused_read.ensures.ready (refused c.self.inside.store.state c.begin_read.new.store.state (Read c.pointer-pointer.result c.args.location)
+    (read_refused c.in-Err.refused) refl c.in-Err.ensures
+    (c.read_refusal-reply.ensures.reply c.begin_read.new.store.state (Read c.pointer-pointer.result c.args.location))
+    (read_leaves g.row.T.Denot c.in-Err.refused)))) c.in-Err.ensures
+    (c.read_refusal-reply.ensures.reply c.begin_read.new.store.state (Read c.pointer-pointer.result c.args.location)) refl c.if-not-settle_refused_read.ensures.settled).1
+
+pub returns-then-not-settle_refused_read-clause-none : goal.returns-then-not-settle_refused_read-clause-none
+returns-then-not-settle_refused_read-clause-none g c =
+    hindered c.self.inside.log c.reserve.new.self c.self.inside.store.state c.begin_read.new.store.state (Read c.pointer-pointer.result c.args.location)
+    (read_refused c.in-Err.refused) c.reserve.ensures.base c.reserve.ensures.steps c.self.view_is
+    c.in-Err.ensures (read_leaves g.row.T.Denot c.in-Err.refused)
+    c.if-not-settle_refused_read.ensures.left.0 (ap (λ b. call.Read b c.args.location) c.pointer-pointer.ensures)
+    (c.if-not-settle_refused_read.ensures.ready (refused c.self.inside.store.state c.begin_read.new.store.state (Read c.pointer-pointer.result c.args.location)
+    (read_refused c.in-Err.refused) refl c.in-Err.ensures
+    (c.read_refusal-reply.ensures.reply c.begin_read.new.store.state (Read c.pointer-pointer.result c.args.location))
+    (read_leaves g.row.T.Denot c.in-Err.refused))) c.if-not-settle_refused_read.ensures.left.1

@@ -21,6 +21,9 @@ settle_end-requires g c = (
   ),
 )
 
+pub invariant_of-self : goal.invariant_of-self
+invariant_of-self g c = c.settle_end.ensures.kept (settle_end-requires g c.before).1.0.some
+
 pub returns : goal.returns
 unfolding settle_end-requires
 returns g c = record {

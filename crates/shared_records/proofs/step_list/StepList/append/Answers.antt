@@ -1,6 +1,5 @@
-use Rattle.std.proofs.Common.{◌∷◌, [], ap, arith, length, length-append, map}
+use Rattle.std.proofs.Common.{◌∷◌, [], ap, arith, length, length-append}
 use Rattle.shared_records.specs.Decoding.{decode, reached_first}
-use Rattle.shared_records.specs.Records.{unpack}
 use Rattle.shared_records.proofs.Decodes.{decode_length}
 use Rattle.shared_records.proofs.step_list.StepList.append.Goals as goal
 
@@ -12,9 +11,9 @@ overflow_add-self g c =
     let new = c.keep-self-inside.new in
     let steps = c.keep-self-inside.ensures.steps in
     let is = ap length steps.is in
-    let sum = length-append (decode n inside.places (map (unpack n) inside.long.items) start
+    let sum = length-append (decode n inside.places inside.long.items start
     inside.short.items) (steps.last ∷ []) in
-    let few = decode_length n new.places (map (unpack n) new.long.items) start new.list.items in
+    let few = decode_length n new.places new.long.items start new.list.items in
     let bounded = c.keep-self-inside.ensures.bounded in
     let len = c.self.invariant.2 in
     omega arith
