@@ -40,7 +40,7 @@ use Rattle.shared_history.specs.History.{Plain, start, plain_step, replay_from}
 use Rattle.shared_history.specs.Standing.{borrows, borrows_in, ends_borrow, given_by, leaves, lent_by}
 use Rattle.shared_history.specs.Standing.{lent_in}
 use Rattle.shared_history.specs.Bases.{BaseState, new_base, plain_of}
-use Rattle.generational_sync.specs.Keeping.{IsAnswered, IsKept, IsSettled, WasAnswered, shared}
+use Rattle.generational_sync.specs.Keeping.{HasEnded, IsAnswered, IsKept, IsSettled, WasAnswered, shared}
 use Rattle.generational_sync.specs.Placing.{LeadsTo}
 use Rattle.generational_sync.specs.Shared.{IsStep, IsUnseenStep, RecordsCall, Replays, SharedState}
 use Rattle.shared_history.specs.Logs.{LogState}
@@ -294,6 +294,19 @@ module _ {T : Type 0} where
         settled.kept it,
         seen (room_shared S log room base steps view) asks (settled.step it) same,
       )
+
+  -- and the record of a borrow's end, for which there was room
+  pub end_recorded : {number : ℕ} {S R : State T} {log after : LogState} {old : SharedState T}
+      {c : StepCall} {r : Option StepReply} {counts raised : Counts} {a : Action T} {answer : Answer T}
+      → IsKept number S log → shared S log ≡ old → ends_borrow a ≡ true → recorded_as a ≡ Some c
+      → is_ready S c ≡ true → Meets S a answer R → r ≡ recorded_reply R a answer
+      → (HasEnded number log c r R → IsSettled number log counts c r R after raised)
+      → IsKept number R after × IsStep number old counts a answer (shared R after) raised
+  end_recorded {S = S} {log = log} {a = a} {answer = answer} kept view ends asked ready met replied
+      settles =
+      let it = answered {room = log} S a answer kept refl refl refl asked ready met replied in
+      let settled = settles (record { some = it; ends = ends }) in
+      (settled.kept it, seen view refl (settled.step it) refl)
 
   -- a step is one of a store that isn't seen
   pub unseen : {number : ℕ} {old new : SharedState T} {counts raised : Counts} {a : Action T}

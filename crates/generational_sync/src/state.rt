@@ -445,10 +445,9 @@ fn settle_end<T: Drop, const NUMBER: u64, M: Count, L: Count, C: Count, R: Count
     reply: Option<StepReply>,
     tally: &mut Tally<M, L, C, R>,
 )
-    requires ended { HasEnded NUMBER log.old (E.as_call entry) reply store.now.state }
-    requires told { IfSome reply (λ r. r ≡ E.as_reply entry) }
-    ensures { IsSettled NUMBER log.old tally.old (E.as_call entry) reply store.now.state log.new
-        tally.new }
+    requires { IfSome reply (λ r. r ≡ E.as_reply entry) }
+    ensures { HasEnded NUMBER log.old (E.as_call entry) reply store.now.state → IsSettled NUMBER
+        log.old tally.old (E.as_call entry) reply store.now.state log.new tally.new }
 {
     let _ = store;
     recorded_calls_are_lawful::<T>();

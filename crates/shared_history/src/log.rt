@@ -169,16 +169,21 @@ impl<const NUMBER: u64, M: Count, L: Count, C: Count, R: Count> Log<NUMBER, M, L
         }
     }
 
-    // Appends the step of a borrow's end, and counts it. It has room since the borrow began.
+    // Appends the step of a borrow's end, and counts it, where one stands. It has room since the borrow
+    // began. It is looked at here whether one stands, which is cheaper than to have each caller show it.
     #[inline(always)]
     pub fn settle_end<E: Entry>(&mut self, entry: E, tally: &mut Tally<M, L, C, R>)
-        requires standing { 0 < self.old.standing }
         ensures base { self.new.base ≡ self.old.base }
-        ensures steps { Appends self.old.steps
+        ensures steps { 0 < self.old.standing → Appends self.old.steps
             (step_of tally.old.worker (E.as_call entry) (E.as_reply entry)) self.new.steps }
-        ensures standing { self.new.standing + 1 ≡ self.old.standing }
-        ensures tally { tally.new ≡ raised (step_kind (E.as_reply entry)) tally.old }
+        ensures standing { 0 < self.old.standing → self.new.standing + 1 ≡ self.old.standing }
+        ensures tally { 0 < self.old.standing
+            → tally.new ≡ raised (step_kind (E.as_reply entry)) tally.old }
+        ensures none { self.old.standing ≡ 0 → (self.new ≡ self.old) × (tally.new ≡ tally.old) }
     {
+        if self.standing == 0 {
+            return;
+        }
         self.standing -= 1;
         self.append(entry, tally);
     }
