@@ -171,21 +171,44 @@ fn shared<
         changed,
         refused,
     ).ok()?;
+    let workers = workers_of(alloc, &store, tallies)?;
+    if let List::Drawn(seed) = words.list {
+        let course = Course {
+            seed,
+            rounds: words.rounds,
+            between: words.between,
+        };
+        return print_history(rt, alloc, workers, course);
+    }
+    let (mut whole, calls) = run_all(rt, workers, words)?;
+    let steps = count_steps(rt, &store, &mut whole, words.store)?;
+    Some(Done { calls, steps })
+}
+
+// A worker for each tally.
+fn workers_of<A: Count, B: Count, C: Count, D: Count>(
+    alloc: Global,
+    store: &SyncStorage<u64, 7, A, B, C, D>,
+    tallies: Vec<Tally<A, B, C, D>>,
+) -> Option<Vec<Worker<A, B, C, D>>> {
     let mut workers = Vec::new(alloc);
     for tally in tallies {
         let store = store.try_clone().ok()?;
         let at = place();
         workers.push(Worker { store, tally, at }).ok()?;
     }
+    Some(workers)
+}
+
+// Has each worker make its calls in a thread. All tallies in one, and how many calls were made.
+fn run_all<
+    A: Count + Send + Sync,
+    B: Count + Send + Sync,
+    C: Count + Send + Sync,
+    D: Count + Send + Sync,
+    H: Threads + Wait + Sync,
+>(rt: &H, workers: Vec<Worker<A, B, C, D>>, words: &Words) -> Option<(Tally<A, B, C, D>, u64)> {
     let (list, rounds, between) = (words.list, words.rounds, words.between);
-    if let List::Drawn(seed) = list {
-        let course = Course {
-            seed,
-            rounds,
-            between,
-        };
-        return print_history(rt, alloc, workers, course);
-    }
     let parts = thread::map_vec(
         rt,
         workers,
@@ -195,18 +218,24 @@ fn shared<
         },
     )
     .ok()?;
-    let (mut whole, calls) = gather(parts)?;
+    gather(parts)
+}
+
+// How many steps an audit answers, and none where it isn't asked for. None where a tally is missing.
+fn count_steps<A: Count, B: Count, C: Count, D: Count>(
+    rt: &impl Wait,
+    store: &SyncStorage<u64, 7, A, B, C, D>,
+    whole: &mut Tally<A, B, C, D>,
+    asked: Store,
+) -> Option<usize> {
     if !whole.is_whole() {
         return None;
     }
-    let steps = match words.store {
-        Store::Shared => {
-            let (_, steps) = store.audit(rt, &mut whole).ok()?;
-            steps.len()
-        }
-        _ => 0,
-    };
-    Some(Done { calls, steps })
+    if asked != Store::Shared {
+        return Some(0);
+    }
+    let (_, steps) = store.audit(rt, whole).ok()?;
+    Some(steps.len())
 }
 
 // All tallies in one, and how many calls were made.
