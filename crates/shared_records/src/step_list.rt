@@ -121,15 +121,11 @@ impl<const NUMBER: u64> StepList<NUMBER> {
         ensures room { self.new.room + 1 ≡ self.old.room }
         ensures bounded { length self.new.steps + self.new.room < 2 ^ 64 }
     {
-        let taken = Taken {
-            number: NUMBER,
-            reached: self.reached,
-            worker,
-        };
         self.room -= 1;
-        self.reached = keep(
-            taken,
+        keep::<NUMBER, E>(
+            worker,
             self.start,
+            &mut self.reached,
             &mut self.places,
             &mut self.short,
             &mut self.long,
@@ -189,61 +185,62 @@ pub struct OldSteps {
     long: Vec<Vec<Step>>,
 }
 
-// Appends a step to the short steps, where decoding begins at `start`. The answer is what it comes to
-// after the step.
+// Appends a worker's step to the short steps, where decoding begins at `start` and has come to `reached`.
+// That is written in its place, so that a step which leaves it as it is doesn't write it.
 #[inline(always)]
-fn keep<E: Entry>(
-    taken: Taken,
+fn keep<const NUMBER: u64, E: Entry>(
+    worker: u32,
     start: u64,
+    reached: &mut Reached,
     places: &mut Places,
     list: &mut Chunks<Short>,
     long: &mut Chunks<Step>,
     entry: E,
-) -> Reached
-    requires within { AreWithin (length places.old)
-        (length long.old.items) list.old.items }
-    requires reached { taken.reached ≡
-        reached_by taken.number places.old long.old.items
-        (reached_first start) list.old.items }
+)
+    requires within { AreWithin (length places.old) (length long.old.items) list.old.items }
+    requires reached { reached.old ≡
+        reached_by NUMBER places.old long.old.items (reached_first start) list.old.items }
     requires room { (1 < list.old.room) × (0 < long.old.room) }
-    ensures within { AreWithin (length places.new)
-        (length long.new.items) list.new.items }
-    ensures reached { result ≡
-        reached_by taken.number places.new long.new.items
-        (reached_first start) list.new.items }
+    ensures within { AreWithin (length places.new) (length long.new.items) list.new.items }
+    ensures reached { reached.new ≡
+        reached_by NUMBER places.new long.new.items (reached_first start) list.new.items }
     ensures steps { Appends
-        (decode taken.number places.old long.old.items
-        (reached_first start) list.old.items)
-        (step_of taken.worker (E.as_call entry) (E.as_reply entry))
-        (decode taken.number places.new long.new.items
-        (reached_first start) list.new.items) }
+        (decode NUMBER places.old long.old.items (reached_first start) list.old.items)
+        (step_of worker (E.as_call entry) (E.as_reply entry))
+        (decode NUMBER places.new long.new.items (reached_first start) list.new.items) }
     ensures room { list.old.room ≤ list.new.room + 2 }
     ensures bounded { length list.new.items + list.new.room < 2 ^ 64 }
     ensures long { long.old.room ≤ long.new.room + 1 }
 {
+    let taken = Taken {
+        number: NUMBER,
+        reached: *reached,
+        worker,
+    };
     match entry.form(taken, places) {
         Some(Form::One(short)) => {
             list.push(short);
-            after(taken.reached, entry)
+            advance(reached, entry);
         }
         Some(Form::Two(slot, generation, short)) => {
             list.push(Short::Name(slot, generation));
             list.push(short);
-            after(taken.reached.named(slot, generation), entry)
+            *reached = reached.named(slot, generation);
+            advance(reached, entry);
         }
         None => {
-            keep_whole(taken.worker, list, long, entry);
-            after(taken.reached, entry)
+            keep_whole(worker, list, long, entry);
+            advance(reached, entry);
         }
     }
 }
 
-// What decoding comes to after the step.
+// Decoding comes past the step.
 #[inline(always)]
-fn after<E: Entry>(reached: Reached, entry: E) -> Reached
-    ensures { result ≡ record reached { next = next_after reached.next (E.as_reply entry) } }
+fn advance<E: Entry>(reached: &mut Reached, entry: E)
+    ensures { reached.new ≡ record reached.old { next = next_after reached.old.next (E.as_reply entry) } }
 {
-    reached.after(entry.reply())
+    *reached = reached.after(entry.reply());
 }
 
 // Appends a step that has no short form. It is a function of its own that is inlined, so that what is

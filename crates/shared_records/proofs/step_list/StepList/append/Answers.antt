@@ -8,12 +8,12 @@ overflow_add-self g c =
     let n = g.row.NUMBER in
     let inside = c.self.inside in
     let start = reached_first inside.start in
-    let new = c.keep-self-inside.new in
-    let steps = c.keep-self-inside.ensures.steps in
+    let new = c.keep.new in
+    let steps = c.keep.ensures.steps in
     let is = ap length steps.is in
     let sum = length-append (decode n inside.places inside.long.items start
     inside.short.items) (steps.last ∷ []) in
     let few = decode_length n new.places new.long.items start new.list.items in
-    let bounded = c.keep-self-inside.ensures.bounded in
+    let bounded = c.keep.ensures.bounded in
     let len = c.self.invariant.2 in
     omega arith
