@@ -24,14 +24,10 @@ module _ {X : Type 0} where
       ap (λ k. joined (take k chunks)) next
       ∙ (ap joined (take-suc chunks i d h) ∙ joined_snoc (take i chunks) (get_or chunks i d))
 
-  -- how many items there are after one more, which begins a chunk
-  pub turned : (full more : List (Vec X)) (last next : Vec X) (items : List X) (x : X) (n : ℕ)
-      → more ≡ full ++ last ∷ [] → items ≡ vec_items next ++ x ∷ [] → vec_items next ≡ []
-      → n ≡ length (joined full ++ vec_items last) → n + 1 ≡ length (joined more ++ items)
-  turned full more last next items x n is_more is_one none had =
-      let all = ap (λ cs. length (joined cs ++ items)) is_more
-      ∙ ap (λ xs. length (xs ++ items)) (joined_snoc full last) in
-      let both = length-append (joined full ++ vec_items last) items in
-      let one = ap length is_one ∙ length-append (vec_items next) (x ∷ []) in
-      let zero = ap length none in
+  -- how many items full chunks have with one chunk more
+  pub joined_len : (full more : List (Vec X)) (last : Vec X) (n : ℕ) → more ≡ full ++ last ∷ []
+      → n ≡ length (joined full) → n + length (vec_items last) ≡ length (joined more)
+  joined_len full more last n is_more had =
+      let all = ap (λ cs. length (joined cs)) is_more ∙ ap length (joined_snoc full last) in
+      let both = length-append (joined full) (vec_items last) in
       omega arith

@@ -27,9 +27,10 @@ const FREE: usize = 128;
 pub struct Chunks<X> {
     // what each append writes stands together
     last: Vec<X>,
-    len: usize,
     spare: Vec<X>,
     full: Vec<Vec<X>>,
+    // how many items the full chunks have
+    full_len: usize,
     free: Vec<Vec<X>>,
     alloc: Global,
 }
@@ -48,8 +49,9 @@ impl<X> Model for Chunks<X> {
 
     ghost invariant = { λ c. (c.spare.items ≡ [])
         × (0 < vec_capacity c.spare → vec_len c.full < vec_capacity c.full)
-        × (c.len ≡ length (joined c.full.items ++ c.last.items))
-        × (c.len + ((vec_capacity c.last - vec_len c.last) + vec_capacity c.spare) < 2 ^ 64) };
+        × (c.full_len ≡ length (joined c.full.items))
+        × ((c.full_len + vec_len c.last) + ((vec_capacity c.last - vec_len c.last)
+        + vec_capacity c.spare) < 2 ^ 64) };
 }
 
 impl<X: Copy> Chunks<X> {
@@ -63,7 +65,7 @@ impl<X: Copy> Chunks<X> {
             last: Vec::new(alloc),
             spare: Vec::new(alloc),
             free: Vec::new(alloc),
-            len: 0,
+            full_len: 0,
         }
     }
 
@@ -98,7 +100,7 @@ impl<X: Copy> Chunks<X> {
             return Ok(());
         }
         let needed = more - here;
-        let most = usize::MAX - self.len - here;
+        let most = usize::MAX - self.len() - here;
         if most < needed {
             return Err(AllocError);
         }
@@ -122,11 +124,11 @@ impl<X: Copy> Chunks<X> {
         ensures room { self.new.room + 1 ≡ self.old.room }
         ensures bounded { length self.new.items + self.new.room < 2 ^ 64 }
     {
-        self.len += 1;
         if self.last.len() < self.last.capacity() {
             self.last.push_reserved(item);
             return;
         }
+        self.full_len += self.last.len();
         turn(self.alloc, &mut self.full, &mut self.last, &mut self.spare);
         self.last.push_reserved(item);
     }
@@ -135,7 +137,7 @@ impl<X: Copy> Chunks<X> {
     pub fn len(&self) -> usize
         ensures { result ≡ length self.now.items }
     {
-        self.len
+        self.full_len + self.last.len()
     }
 
     /// For how many items more there is room. Takes no memory, and is O(1).
@@ -150,7 +152,7 @@ impl<X: Copy> Chunks<X> {
     pub fn to_vec(&self) -> Result<Vec<X>, AllocError>
         ensures { IfOk result (λ all. all.items ≡ self.now.items) }
     {
-        let mut all = Vec::with_capacity(self.alloc, self.len)?;
+        let mut all = Vec::with_capacity(self.alloc, self.len())?;
         for chunk in self.full.iter() {
             all.extend_from_slice(chunk.as_slice())?;
         }
@@ -169,7 +171,7 @@ impl<X: Copy> Chunks<X> {
     {
         let mut full = mem::replace(&mut self.full, anew);
         self.last.clear();
-        self.len = 0;
+        self.full_len = 0;
         keep_free(&mut self.free, &mut full);
         full
     }
