@@ -27,11 +27,7 @@ pub fn fuzz_calls(
     let count = words.len() / WORDS;
     let mut calls = Vec::with_capacity(alloc, count)?;
     let mut drawing = Drawing::new(alloc, words, strangers);
-    for (place, line) in (0..count).zip(1..u32::MAX) {
-        drawing.begin(place);
-        let location = Location::new("fuzz", line, 1);
-        calls.push(drawing.call(location)?)?;
-    }
+    drawing.add_calls(&mut calls, count)?;
     Ok(calls)
 }
 
@@ -75,10 +71,19 @@ impl<'a> Drawing<'a> {
         }
     }
 
-    // Goes on to the call of a place.
-    fn begin(&mut self, place: usize) {
+    // Draws so many calls.
+    fn add_calls(&mut self, calls: &mut Vec<Call<String>>, count: usize) -> Result<(), AllocError> {
+        for (place, line) in (0..count).zip(1..u32::MAX) {
+            calls.push(self.call_at(place, line)?)?;
+        }
+        Ok(())
+    }
+
+    // The call of a place, on this line.
+    fn call_at(&mut self, place: usize, line: u32) -> Result<Call<String>, AllocError> {
         self.place = place;
         self.next = place.saturating_mul(WORDS);
+        self.call(Location::new("fuzz", line, 1))
     }
 
     // The next word.

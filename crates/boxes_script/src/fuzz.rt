@@ -51,15 +51,23 @@ pub fn fuzz_pair(alloc: Global) -> Pair
 pub fn fuzz_list(alloc: Global, seed: u64, count: usize) -> Result<Vec<Call<String>>, AllocError> {
     let words = fuzz_words(alloc, seed, count.saturating_mul(WORDS)).map_err(|_| AllocError)?;
     let mut strangers = Vec::new(alloc);
-    let next: UnsyncStorage<String> = Store::new(alloc, NUMBER + 1);
-    add_strangers(alloc, next, &mut strangers)?;
-    let same: UnsyncStorage<String> = Store::new(alloc, NUMBER);
-    add_strangers(alloc, same, &mut strangers)?;
+    add_strangers(alloc, NUMBER + 1, &mut strangers)?;
+    add_strangers(alloc, NUMBER, &mut strangers)?;
     fuzz_calls(alloc, &words, &strangers)
 }
 
+// Adds boxes of a store of this number.
+fn add_strangers(
+    alloc: Global,
+    number: u64,
+    boxes: &mut Vec<GenerationalBox<String>>,
+) -> Result<(), AllocError> {
+    let store: UnsyncStorage<String> = Store::new(alloc, number);
+    add_boxes(alloc, store, boxes)
+}
+
 // Adds boxes of a store that goes.
-fn add_strangers<S: Storage<String> + Drop>(
+fn add_boxes<S: Storage<String> + Drop>(
     alloc: Global,
     mut store: S,
     boxes: &mut Vec<GenerationalBox<String>>,
@@ -71,6 +79,23 @@ fn add_strangers<S: Storage<String> + Drop>(
         boxes.push(made.map_err(|_| AllocError)?)?;
     }
     Ok(())
+}
+
+/// Compares how two stores in which nothing was made answer the list of this many calls that is drawn
+/// from a seed, as `compare_stores` does.
+pub(crate) fn compare_drawn<S: Storage<String> + Drop, R: Storage<String> + Drop>(
+    alloc: Global,
+    seed: u64,
+    count: usize,
+    one: S,
+    other: R,
+) -> Result<Verdict, AllocError>
+    requires one { IsFresh (S.state one) }
+    requires other { IsFresh (R.state other) }
+{
+    let calls = fuzz_list(alloc, seed, count)?;
+    let again = fuzz_list(alloc, seed, count)?;
+    compare_stores(alloc, (one, calls), (other, again))
 }
 
 /// Compares how two stores in which nothing was made answer their lists of calls. Where a store has
@@ -125,17 +150,33 @@ impl Answers {
         calls: Vec<Call<String>>,
     ) -> Result<(), AllocError> {
         for (place, call) in calls.into_iter().enumerate() {
-            let Ok(reply) = session.call(call) else {
-                self.replies
-                    .push(Reply::Store(StoreError::OutOfMemory))
-                    .map_err(|_| AllocError)?;
-                return Ok(());
-            };
-            self.replies.push(reply).map_err(|_| AllocError)?;
-            if self.breach.is_none() && !is_bounded(session.store()) {
-                self.breach = Some(place);
+            if !self.answer(session, place, call)? {
+                break;
             }
         }
         Ok(())
     }
+
+    // Answers a call, and tells whether its place found memory.
+    fn answer<S: Storage<String>>(
+        &mut self,
+        session: &mut Session<String, S>,
+        place: usize,
+        call: Call<String>,
+    ) -> Result<bool, AllocError> {
+        let Some(reply) = session.call(call).ok() else {
+            add(&mut self.replies, Reply::Store(StoreError::OutOfMemory))?;
+            return Ok(false);
+        };
+        add(&mut self.replies, reply)?;
+        if self.breach.is_none() && !is_bounded(session.store()) {
+            self.breach = Some(place);
+        }
+        Ok(true)
+    }
+}
+
+// Adds to a list. It is proved once, for all types.
+fn add<T: Drop>(list: &mut Vec<T>, value: T) -> Result<(), AllocError> {
+    Ok(list.push(value)?)
 }

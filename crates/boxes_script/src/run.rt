@@ -3,7 +3,7 @@
 ghost use Rattle.generational_core.specs.Conditions.{IsFresh};
 
 use crate::fault::Fault;
-use crate::fuzz::{Pair, compare_stores, fuzz_list, fuzz_pair};
+use crate::fuzz::{Pair, compare_drawn, fuzz_pair};
 use crate::lines::Lines;
 use crate::script::Script;
 use boxes_parts::Verdict;
@@ -40,9 +40,7 @@ pub fn boxes_run<R: Read, W: Write, E: Write>(
         let ended = run(alloc, UnsyncStorage::new(alloc, 1), input, output);
         return status_of(ended, faults);
     }
-    let Pair { one, other } = fuzz_pair(alloc);
-    let ended = run_fuzz(alloc, words, one, other, output);
-    status_of(ended, faults)
+    fuzz_run(alloc, words, fuzz_pair(alloc), output, faults)
 }
 
 /// Runs the program over another pair of stores, where there are words: `boxes_run` takes those of
@@ -107,9 +105,7 @@ fn run_fuzz<S: Storage<String> + Drop, R: Storage<String> + Drop, W: Write>(
     requires other { IsFresh (R.state other) }
 {
     let (seed, count) = seed_and_count(words).ok_or(Fault::Usage)?;
-    let calls = fuzz_list(alloc, seed, count).map_err(|_| Fault::Memory)?;
-    let again = fuzz_list(alloc, seed, count).map_err(|_| Fault::Memory)?;
-    let verdict = compare_stores(alloc, (one, calls), (other, again));
+    let verdict = compare_drawn(alloc, seed, count, one, other);
     let verdict = verdict.map_err(|_| Fault::Memory)?;
     writeln!(output, "{verdict}").map_err(|_| Fault::Output)?;
     output.flush().map_err(|_| Fault::Output)?;
@@ -122,15 +118,15 @@ fn run_fuzz<S: Storage<String> + Drop, R: Storage<String> + Drop, W: Write>(
 
 // The numbers of the words `fuzz SEED COUNT`.
 fn seed_and_count(words: &[String]) -> Option<(u64, usize)> {
-    if words.len() != 3 || words.first()?.as_str() != "fuzz" {
+    let [word, seed, count] = words else {
+        return None;
+    };
+    if word.as_str() != "fuzz" {
         return None;
     }
-    let seed = decimal(words.get(1)?)?;
-    let count = decimal(words.get(2)?)? as usize;
-    if count > MOST_CALLS {
-        return None;
-    }
-    Some((seed, count))
+    let seed = decimal(seed)?;
+    let count = decimal(count)? as usize;
+    (count <= MOST_CALLS).then_some((seed, count))
 }
 
 // A decimal number without sign or leading zeros.

@@ -6,39 +6,12 @@ use crate::fault::Fault;
 use boxes_parts::numbers::line_number;
 use generational_box::{BoxAt, Call, Location, Reply, Session, Storage, StoreError};
 use std::alloc::{AllocError, Global};
+use std::fmt::Display;
 use std::io;
 use std::io::Write;
 use store_room::reserve_more;
 
-/// A command. Its numbers are those of lines.
-#[derive(Clone, Copy)]
-enum Command<'a> {
-    Leak(&'a str),
-    LeakRc(&'a str),
-    LeakReference(u32),
-    Owner,
-    Insert(u32, &'a str),
-    InsertRc(u32, &'a str),
-    InsertReference(u32, u32),
-    Clone(u32),
-    LeakOwner(u32),
-    TryRead(u32),
-    TryWrite(u32),
-    Replace(u32, &'a str),
-    Set(u32, &'a str),
-    CanRead(u32),
-    CanWrite(u32),
-    Show(u32),
-    Release(u32),
-    End(u32),
-    PointTo(u32, u32),
-    PtrEq(u32, u32),
-    Id(u32),
-    CreatedAt(u32),
-    Stats,
-}
-
-/// What a command asks of the session. The lines have become places.
+/// What a command asks of the session. Its lines have become places.
 #[derive(Drop)]
 enum Request {
     Call(Call<String>),
@@ -56,6 +29,7 @@ struct Given {
 /// The places of the lines' calls.
 #[derive(Drop)]
 struct Places {
+    alloc: Global,
     by_line: Vec<Option<Given>>,
     given: usize,
     ghost counted: { given ≤ vec_len by_line },
@@ -64,6 +38,7 @@ struct Places {
 impl Places {
     fn new(alloc: Global) -> Places {
         Places {
+            alloc,
             by_line: Vec::new(alloc),
             given: 0,
         }
@@ -103,13 +78,115 @@ impl Places {
             },
         }
     }
+
+    // What a line asks of the session, if it has the form of a command.
+    fn request(&self, line: &[u8], location: Location) -> Result<Option<Request>, AllocError> {
+        let Ok(text) = str::from_utf8(line) else {
+            return Ok(None);
+        };
+        match text.split_once(' ') {
+            Some((word, rest)) => self.of_words(word, rest, location),
+            None => Ok(of_word(text)),
+        }
+    }
+
+    // What a line of several words asks.
+    fn of_words(
+        &self,
+        word: &str,
+        rest: &str,
+        location: Location,
+    ) -> Result<Option<Request>, AllocError> {
+        match word {
+            "leak" | "leak_rc" => self.of_value(word, rest, location),
+            "insert" | "insert_rc" | "replace" | "set" => {
+                self.of_line_and_value(word, rest, location)
+            }
+            "insert_reference" | "point_to" | "ptr_eq" => Ok(self.of_lines(word, rest)),
+            _ => Ok(self.of_line(word, rest, location)),
+        }
+    }
+
+    // What `leak` and `leak_rc` ask, with a value.
+    fn of_value(
+        &self,
+        word: &str,
+        value: &str,
+        location: Location,
+    ) -> Result<Option<Request>, AllocError> {
+        let value = String::from_str(self.alloc, value)?;
+        Ok(Some(Request::Call(match word {
+            "leak" => Call::Leak(value, location),
+            _ => Call::LeakRc(value, location),
+        })))
+    }
+
+    // What `insert`, `insert_rc`, `replace` and `set` ask, with the number of a line and a value.
+    fn of_line_and_value(
+        &self,
+        word: &str,
+        rest: &str,
+        location: Location,
+    ) -> Result<Option<Request>, AllocError> {
+        let Some((line, value)) = line_and_value(rest) else {
+            return Ok(None);
+        };
+        let place = self.at(line).place;
+        let value = String::from_str(self.alloc, value)?;
+        Ok(Some(Request::Call(match word {
+            "insert" => Call::Insert(place, value, location),
+            "insert_rc" => Call::InsertRc(place, value, location),
+            "replace" => Call::Replace(place, value),
+            _ => Call::Set(BoxAt::Place(place), value),
+        })))
+    }
+
+    // What `insert_reference`, `point_to` and `ptr_eq` ask, with the numbers of two lines.
+    fn of_lines(&self, word: &str, rest: &str) -> Option<Request> {
+        let (one, other) = two_lines(rest)?;
+        let (one, other) = (self.at(one).place, BoxAt::Place(self.at(other).place));
+        Some(Request::Call(match word {
+            "insert_reference" => Call::InsertReference(one, other),
+            "point_to" => Call::PointTo(BoxAt::Place(one), other),
+            _ => Call::PtrEq(BoxAt::Place(one), other),
+        }))
+    }
+
+    // What any other word asks, with the number of a line.
+    fn of_line(&self, word: &str, rest: &str, location: Location) -> Option<Request> {
+        let Given { place, is_owner } = self.at(line_number(rest)?);
+        Some(Request::Call(match word {
+            "leak_reference" => Call::LeakReference(BoxAt::Place(place)),
+            "clone" => Call::CloneOwner(place),
+            "leak_owner" => Call::LeakOwner(place),
+            "try_read" => Call::TryRead(BoxAt::Place(place), location),
+            "try_write" => Call::TryWrite(BoxAt::Place(place), location),
+            "can_read" => Call::CanRead(BoxAt::Place(place)),
+            "can_write" => Call::CanWrite(BoxAt::Place(place)),
+            "show" => return Some(Request::View(place)),
+            "release" if is_owner => Call::ReleaseOwner(place),
+            "release" => Call::Release(place),
+            "end" => Call::ManuallyDrop(BoxAt::Place(place)),
+            "id" => Call::Id(BoxAt::Place(place)),
+            "created_at" => Call::CreatedAt(BoxAt::Place(place)),
+            _ => return None,
+        }))
+    }
+}
+
+// What a line of one word asks.
+fn of_word(word: &str) -> Option<Request> {
+    match word {
+        "owner" => Some(Request::Call(Call::Owner)),
+        "stats" => Some(Request::Stats),
+        _ => None,
+    }
 }
 
 /// A script that is being answered, over a store of texts.
 ///
 /// It must be spent by `finish`.
 pub struct Script<S: Storage<String>> {
-    alloc: Global,
     session: Session<String, S>,
     places: Places,
 }
@@ -121,7 +198,6 @@ impl<S: Storage<String>> Script<S> {
         requires { IsFresh (S.state store) }
     {
         Script {
-            alloc,
             session: Session::new(alloc, store),
             places: Places::new(alloc),
         }
@@ -137,20 +213,25 @@ impl<S: Storage<String>> Script<S> {
         output: &mut W,
     ) -> Result<(), Fault> {
         self.places.add_line().map_err(|_| Fault::Memory)?;
-        let Some(command) = parse(line) else {
-            return writeln!(output, "bad line").map_err(|_| Fault::Output);
-        };
         let location = Location::new("script", number, 1);
-        let request = self.request(command, location).map_err(|_| Fault::Memory)?;
-        match request {
-            Request::Call(call) => match self.call(call) {
+        let asked = self.places.request(line, location);
+        let asked = asked.map_err(|_| Fault::Memory)?;
+        self.carry_out(asked, output).map_err(|_| Fault::Output)
+    }
+
+    // Carries out what a line asks, and writes the reply.
+    fn carry_out<W: Write>(&mut self, asked: Option<Request>, output: &mut W) -> io::Result<()>
+        requires { self.old.places.given < vec_len self.old.places.by_line }
+    {
+        match asked {
+            Some(Request::Call(call)) => match self.call(call) {
                 Some(reply) => write_reply(output, reply),
-                None => writeln!(output, "refused: {}", StoreError::OutOfMemory),
+                None => write_shown(output, "refused: ", &StoreError::OutOfMemory),
             },
-            Request::View(place) => self.view(place, output),
-            Request::Stats => self.stats(output),
+            Some(Request::View(place)) => self.view(place, output),
+            Some(Request::Stats) => self.stats(output),
+            None => output.write_all(b"bad line\n"),
         }
-        .map_err(|_| Fault::Output)
     }
 
     /// Makes a call on the next line, which may be one that no command says, and answers its
@@ -170,66 +251,6 @@ impl<S: Storage<String>> Script<S> {
         &self.session
     }
 
-    // What a command asks of the session.
-    fn request(&self, command: Command<'_>, location: Location) -> Result<Request, AllocError> {
-        Ok(Request::Call(match command {
-            Command::Leak(value) => Call::Leak(self.value(value)?, location),
-            Command::LeakRc(value) => Call::LeakRc(self.value(value)?, location),
-            Command::LeakReference(line) => Call::LeakReference(self.box_at(line)),
-            Command::Insert(line, value) => {
-                Call::Insert(self.place(line), self.value(value)?, location)
-            }
-            Command::InsertRc(line, value) => {
-                Call::InsertRc(self.place(line), self.value(value)?, location)
-            }
-            Command::InsertReference(owner, line) => {
-                Call::InsertReference(self.place(owner), self.box_at(line))
-            }
-            Command::Owner => Call::Owner,
-            Command::Clone(line) => Call::CloneOwner(self.place(line)),
-            Command::LeakOwner(line) => Call::LeakOwner(self.place(line)),
-            Command::TryRead(line) => Call::TryRead(self.box_at(line), location),
-            Command::TryWrite(line) => Call::TryWrite(self.box_at(line), location),
-            Command::Replace(line, value) => Call::Replace(self.place(line), self.value(value)?),
-            Command::Set(line, value) => Call::Set(self.box_at(line), self.value(value)?),
-            Command::CanRead(line) => Call::CanRead(self.box_at(line)),
-            Command::CanWrite(line) => Call::CanWrite(self.box_at(line)),
-            Command::Show(line) => return Ok(Request::View(self.place(line))),
-            Command::Release(line) => self.release(line),
-            Command::End(line) => Call::ManuallyDrop(self.box_at(line)),
-            Command::PointTo(from, to) => Call::PointTo(self.box_at(from), self.box_at(to)),
-            Command::PtrEq(one, other) => Call::PtrEq(self.box_at(one), self.box_at(other)),
-            Command::Id(line) => Call::Id(self.box_at(line)),
-            Command::CreatedAt(line) => Call::CreatedAt(self.box_at(line)),
-            Command::Stats => return Ok(Request::Stats),
-        }))
-    }
-
-    // A value of its own.
-    fn value(&self, value: &str) -> Result<String, AllocError> {
-        String::from_str(self.alloc, value)
-    }
-
-    // The place of a line's call.
-    fn place(&self, line: u32) -> usize {
-        self.places.at(line).place
-    }
-
-    // The box that a line gave.
-    fn box_at(&self, line: u32) -> BoxAt<String> {
-        BoxAt::Place(self.places.at(line).place)
-    }
-
-    // The release of the owner or the guard that a line gave.
-    fn release(&self, line: u32) -> Call<String> {
-        let given = self.places.at(line);
-        if given.is_owner {
-            Call::ReleaseOwner(given.place)
-        } else {
-            Call::Release(given.place)
-        }
-    }
-
     // Makes a call. One that finds no memory gives the line no place.
     fn call(&mut self, call: Call<String>) -> Option<Reply<String>>
         requires { self.old.places.given < vec_len self.old.places.by_line }
@@ -242,8 +263,8 @@ impl<S: Storage<String>> Script<S> {
     // Writes the value that the guard at a place lends.
     fn view<W: Write>(&self, place: usize, output: &mut W) -> io::Result<()> {
         match self.session.view(place) {
-            Some(value) => writeln!(output, "value {value}"),
-            None => writeln!(output, "no such"),
+            Some(value) => write_shown(output, "value ", value),
+            None => output.write_all(b"no such\n"),
         }
     }
 
@@ -262,87 +283,8 @@ impl<S: Storage<String>> Script<S> {
 
     /// The store, after the session has ended: its guards are released and its owners leaked.
     pub fn finish(self) -> S {
-        let Script {
-            alloc: _,
-            session,
-            places: _,
-        } = self;
+        let Script { session, places: _ } = self;
         session.finish()
-    }
-}
-
-// The command of a line, if the line has the form of one.
-fn parse(line: &[u8]) -> Option<Command<'_>> {
-    let text = str::from_utf8(line).ok()?;
-    match text.split_once(' ') {
-        Some((word, rest)) => parse_words(word, rest),
-        None => parse_word(text),
-    }
-}
-
-// The command of a line of one word.
-fn parse_word(word: &str) -> Option<Command<'_>> {
-    match word {
-        "owner" => Some(Command::Owner),
-        "stats" => Some(Command::Stats),
-        _ => None,
-    }
-}
-
-// The command of a line of several words.
-fn parse_words<'a>(word: &str, rest: &'a str) -> Option<Command<'a>> {
-    match word {
-        "leak" => Some(Command::Leak(rest)),
-        "leak_rc" => Some(Command::LeakRc(rest)),
-        "insert" | "insert_rc" | "replace" | "set" => {
-            let (line, value) = line_and_value(rest)?;
-            of_value(word, line, value)
-        }
-        "insert_reference" | "point_to" | "ptr_eq" => {
-            let (one, other) = two_lines(rest)?;
-            of_lines(word, one, other)
-        }
-        _ => of_line(word, line_number(rest)?),
-    }
-}
-
-// The command of a word, the number of a line and a value.
-fn of_value<'a>(word: &str, line: u32, value: &'a str) -> Option<Command<'a>> {
-    match word {
-        "insert" => Some(Command::Insert(line, value)),
-        "insert_rc" => Some(Command::InsertRc(line, value)),
-        "replace" => Some(Command::Replace(line, value)),
-        "set" => Some(Command::Set(line, value)),
-        _ => None,
-    }
-}
-
-// The command of a word and the numbers of two lines.
-fn of_lines<'a>(word: &str, one: u32, other: u32) -> Option<Command<'a>> {
-    match word {
-        "insert_reference" => Some(Command::InsertReference(one, other)),
-        "point_to" => Some(Command::PointTo(one, other)),
-        "ptr_eq" => Some(Command::PtrEq(one, other)),
-        _ => None,
-    }
-}
-
-// The command of a word and the number of a line.
-fn of_line<'a>(word: &str, line: u32) -> Option<Command<'a>> {
-    match word {
-        "leak_reference" => Some(Command::LeakReference(line)),
-        "clone" => Some(Command::Clone(line)),
-        "leak_owner" => Some(Command::LeakOwner(line)),
-        "try_read" => Some(Command::TryRead(line)),
-        "try_write" => Some(Command::TryWrite(line)),
-        "can_read" => Some(Command::CanRead(line)),
-        "can_write" => Some(Command::CanWrite(line)),
-        "show" => Some(Command::Show(line)),
-        "release" => Some(Command::Release(line)),
-        "end" => Some(Command::End(line)),
-        "id" => Some(Command::Id(line)),
-        "created_at" => Some(Command::CreatedAt(line)),
-        _ => None,
     }
 }
 
@@ -362,18 +304,23 @@ fn two_lines(rest: &str) -> Option<(u32, u32)> {
 pub fn write_reply<W: Write>(output: &mut W, reply: Reply<String>) -> io::Result<()> {
     match reply {
         Reply::Box(made) => writeln!(output, "box {made:?}"),
-        Reply::Owner => writeln!(output, "owner"),
-        Reply::Reader => writeln!(output, "reader"),
-        Reply::Writer => writeln!(output, "writer"),
-        Reply::Done => writeln!(output, "ok"),
-        Reply::Old(value) => writeln!(output, "old {value}"),
-        Reply::Flag(flag) => writeln!(output, "{flag}"),
+        Reply::Owner => output.write_all(b"owner\n"),
+        Reply::Reader => output.write_all(b"reader\n"),
+        Reply::Writer => output.write_all(b"writer\n"),
+        Reply::Done => output.write_all(b"ok\n"),
+        Reply::Old(value) => write_shown(output, "old ", &value),
+        Reply::Flag(flag) => write_shown(output, "", &flag),
         Reply::Id(id) => writeln!(output, "{id:?}"),
-        Reply::Slot(slot) => writeln!(output, "{slot}"),
-        Reply::Created(location) => writeln!(output, "{location}"),
-        Reply::Error(error) => writeln!(output, "error: {error}"),
-        Reply::Store(error) | Reply::Back(_, error) => writeln!(output, "refused: {error}"),
-        Reply::Unready(_) => writeln!(output, "unready"),
-        Reply::NoSuch(_) => writeln!(output, "no such"),
+        Reply::Slot(slot) => write_shown(output, "", &slot),
+        Reply::Created(location) => write_shown(output, "", &location),
+        Reply::Error(error) => write_shown(output, "error: ", &error),
+        Reply::Store(error) | Reply::Back(_, error) => write_shown(output, "refused: ", &error),
+        Reply::Unready(_) => output.write_all(b"unready\n"),
+        Reply::NoSuch(_) => output.write_all(b"no such\n"),
     }
+}
+
+// Writes a word and what is shown as one line.
+fn write_shown<W: Write>(output: &mut W, word: &str, shown: &impl Display) -> io::Result<()> {
+    writeln!(output, "{word}{shown}")
 }
