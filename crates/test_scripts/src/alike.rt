@@ -1,12 +1,12 @@
 //! Replies in pairs: each is the same as itself, and no two that differ in one part are.
 
-use crate::expected::assert_same;
+use crate::expected::{assert_same, made_in, push};
 use boxes_parts::is_same;
 use generational_box::{
-    AlreadyBorrowedError, AlreadyBorrowedMutError, BorrowMutError, GenerationalBox, Location,
-    Reply, Storage, Store, StoreError, UnsyncStorage, ValueDroppedError,
+    AlreadyBorrowedError, AlreadyBorrowedMutError, BorrowMutError, Location, Reply, Storage, Store,
+    StoreError, UnsyncStorage, ValueDroppedError,
 };
-use std::alloc::{AllocError, Global};
+use std::alloc::Global;
 use std::process::Abort;
 
 /// Places of which any two differ in one part alone.
@@ -21,8 +21,8 @@ const PLACES: [(&str, u32, u32); 4] = [
 /// there, in the other order, and one of them twice.
 const READERS: [&[usize]; 6] = [&[], &[0], &[2], &[0, 2], &[2, 0], &[0, 0]];
 
-/// Values, and a place where none is.
-const VALUES: [Option<&str>; 4] = [None, Some(""), Some("a"), Some("b")];
+/// Values that come back.
+const VALUES: [&str; 3] = ["", "a", "b"];
 
 const CAUSES: [StoreError; 3] = [
     StoreError::OutOfMemory,
@@ -35,107 +35,104 @@ fn place(index: usize) -> Location {
     Location::new(file, line, column)
 }
 
-/// Replies of which no two are the same.
-#[derive(Drop)]
-struct Replies {
+/// Adds a reply to a list.
+fn add(rt: &impl Abort, list: &mut Vec<Reply<String>>, reply: Reply<String>) {
+    push(rt, list, reply);
+}
+
+/// Adds what holds nothing, or what is set aside.
+fn add_kinds(rt: &impl Abort, list: &mut Vec<Reply<String>>) {
+    add(rt, list, Reply::Owner);
+    add(rt, list, Reply::Reader);
+    add(rt, list, Reply::Writer);
+    add(rt, list, Reply::Done);
+    add(rt, list, Reply::Flag(true));
+    add(rt, list, Reply::Flag(false));
+    add(rt, list, Reply::Slot(0));
+}
+
+/// Adds an error.
+fn add_error(rt: &impl Abort, list: &mut Vec<Reply<String>>, error: BorrowMutError) {
+    add(rt, list, Reply::Error(error));
+}
+
+/// Adds a box, its location and an error for it, of each place, and the id of the first.
+fn add_places<S: Storage<String>>(
+    rt: &impl Abort,
     alloc: Global,
-    list: Vec<Reply<String>>,
-}
-
-impl Replies {
-    fn add(&mut self, reply: Reply<String>) -> Result<(), AllocError> {
-        self.list.push(reply).map_err(|_| AllocError)
-    }
-
-    // What holds nothing, or what is set aside.
-    fn add_kinds(&mut self) -> Result<(), AllocError> {
-        self.add(Reply::Owner)?;
-        self.add(Reply::Reader)?;
-        self.add(Reply::Writer)?;
-        self.add(Reply::Done)?;
-        self.add(Reply::Flag(true))?;
-        self.add(Reply::Flag(false))?;
-        self.add(Reply::Slot(0))
-    }
-
-    // A box, its id, its location and an error for it, of each place.
-    fn add_places<S: Storage<String>>(&mut self, store: &mut S) -> Result<(), AllocError> {
-        for index in 0..PLACES.len() {
-            let value = String::new(self.alloc);
-            let made = GenerationalBox::leak(store, value, place(index));
-            let made = made.map_err(|_| AllocError)?;
-            self.add(Reply::Box(made))?;
-            self.add(Reply::Created(place(index)))?;
-            let gone = ValueDroppedError::new(place(index));
-            self.add(Reply::Error(BorrowMutError::Dropped(gone)))?;
-            let written = AlreadyBorrowedMutError::new(place(index));
-            self.add(Reply::Error(BorrowMutError::AlreadyBorrowedMut(written)))?;
-            if index == 0 {
-                self.add(Reply::Id(made.id()))?;
-            }
+    store: &mut S,
+    list: &mut Vec<Reply<String>>,
+) {
+    for index in 0..PLACES.len() {
+        let at = place(index);
+        let made = made_in(rt, alloc, store, at);
+        add(rt, list, Reply::Box(made));
+        add(rt, list, Reply::Created(at));
+        let gone = ValueDroppedError::new(at);
+        add_error(rt, list, BorrowMutError::Dropped(gone));
+        let written = AlreadyBorrowedMutError::new(at);
+        add_error(rt, list, BorrowMutError::AlreadyBorrowedMut(written));
+        if index == 0 {
+            add(rt, list, Reply::Id(made.id()));
         }
-        Ok(())
-    }
-
-    // An error for the readers at each list of places.
-    fn add_readers(&mut self) -> Result<(), AllocError> {
-        for indices in READERS {
-            let mut places = Vec::new(self.alloc);
-            for index in indices {
-                places.push(place(*index))?;
-            }
-            let read = AlreadyBorrowedError::new(places);
-            self.add(Reply::Error(BorrowMutError::AlreadyBorrowed(read)))?;
-        }
-        Ok(())
-    }
-
-    // What each value comes back with, and each cause without one.
-    fn add_values(&mut self) -> Result<(), AllocError> {
-        for value in VALUES {
-            self.add(Reply::Unready(self.back(value)?))?;
-            self.add(Reply::NoSuch(self.back(value)?))?;
-            if let Some(old) = self.back(value)? {
-                self.add(Reply::Old(old))?;
-            }
-            for cause in CAUSES {
-                match self.back(value)? {
-                    Some(back) => self.add(Reply::Back(back, cause))?,
-                    None => self.add(Reply::Store(cause))?,
-                }
-            }
-        }
-        Ok(())
-    }
-
-    // A value that comes back, or none.
-    fn back(&self, value: Option<&str>) -> Result<Option<String>, AllocError> {
-        match value {
-            Some(value) => Ok(Some(String::from_str(self.alloc, value)?)),
-            None => Ok(None),
-        }
-    }
-
-    fn add_all<S: Storage<String>>(&mut self, store: &mut S) -> Result<(), AllocError> {
-        self.add_kinds()?;
-        self.add_places(store)?;
-        self.add_readers()?;
-        self.add_values()
     }
 }
 
-/// All the replies, made anew, with the boxes of a store that goes.
+/// The places of these indices.
+fn places_of(rt: &impl Abort, alloc: Global, indices: &[usize]) -> Vec<Location> {
+    let mut places = Vec::new(alloc);
+    for index in indices {
+        push(rt, &mut places, place(*index));
+    }
+    places
+}
+
+/// Adds an error for the readers at each list of places.
+fn add_readers(rt: &impl Abort, alloc: Global, list: &mut Vec<Reply<String>>) {
+    for indices in READERS {
+        let read = AlreadyBorrowedError::new(places_of(rt, alloc, indices));
+        add_error(rt, list, BorrowMutError::AlreadyBorrowed(read));
+    }
+}
+
+/// A text of its own.
+fn text(rt: &impl Abort, alloc: Global, value: &str) -> String {
+    String::from_str(alloc, value).expect(rt, "memory")
+}
+
+/// Adds what comes back with a value, and each cause with it.
+fn add_value(rt: &impl Abort, alloc: Global, list: &mut Vec<Reply<String>>, value: &str) {
+    add(rt, list, Reply::Unready(Some(text(rt, alloc, value))));
+    add(rt, list, Reply::NoSuch(Some(text(rt, alloc, value))));
+    add(rt, list, Reply::Old(text(rt, alloc, value)));
+    for cause in CAUSES {
+        add(rt, list, Reply::Back(text(rt, alloc, value), cause));
+    }
+}
+
+/// Adds what comes back without a value, and each cause.
+fn add_no_value(rt: &impl Abort, list: &mut Vec<Reply<String>>) {
+    add(rt, list, Reply::Unready(None));
+    add(rt, list, Reply::NoSuch(None));
+    for cause in CAUSES {
+        add(rt, list, Reply::Store(cause));
+    }
+}
+
+/// All the replies, made anew, with the boxes of a store that goes. No two are the same.
 fn every_reply<S: Storage<String> + Drop>(
     rt: &impl Abort,
     alloc: Global,
     mut store: S,
 ) -> Vec<Reply<String>> {
-    let mut replies = Replies {
-        alloc,
-        list: Vec::new(alloc),
-    };
-    replies.add_all(&mut store).expect(rt, "memory");
-    let Replies { alloc: _, list } = replies;
+    let mut list = Vec::new(alloc);
+    add_kinds(rt, &mut list);
+    add_places(rt, alloc, &mut store, &mut list);
+    add_readers(rt, alloc, &mut list);
+    add_no_value(rt, &mut list);
+    for value in VALUES {
+        add_value(rt, alloc, &mut list, value);
+    }
     list
 }
 
@@ -149,37 +146,32 @@ fn assert_same_in_order(rt: &impl Abort, ones: &[Reply<String>], others: &[Reply
     }
 }
 
+/// All the replies, with the boxes of a new store.
+fn every_new_reply(rt: &impl Abort, alloc: Global) -> Vec<Reply<String>> {
+    let store: UnsyncStorage<String> = Store::new(alloc, 7);
+    every_reply(rt, alloc, store)
+}
+
 // Each reply is the same as itself made anew, and as no other one.
 #[test]
 fn replies_are_the_same_in_all_parts_or_not_at_all(rt: HostRuntime) {
-    let store: UnsyncStorage<String> = Store::new(rt.alloc(), 7);
-    let ones = every_reply(&rt, rt.alloc(), store);
-    let store: UnsyncStorage<String> = Store::new(rt.alloc(), 7);
-    let others = every_reply(&rt, rt.alloc(), store);
+    let ones = every_new_reply(&rt, rt.alloc());
+    let others = every_new_reply(&rt, rt.alloc());
     assert_same(&rt, &ones.len(), &53);
     assert_same_in_order(&rt, &ones, &others);
 }
 
-/// A box of an empty text.
-fn made_in<S: Storage<String>>(
-    rt: &impl Abort,
-    alloc: Global,
-    store: &mut S,
-) -> GenerationalBox<String> {
-    let made = GenerationalBox::leak(store, String::new(alloc), place(0));
-    made.map_err(|_| AllocError).expect(rt, "a box")
-}
-
 /// Asserts that two replies are the same.
 fn assert_alike(rt: &impl Abort, one: Reply<String>, other: Reply<String>) {
-    assert!(rt; is_same(&one, &other));
+    let found = is_same(&one, &other);
+    assert_same(rt, &found, &true);
 }
 
 /// Asserts that replies are the same that tell of two boxes.
 fn assert_boxes_alike<S: Storage<String> + Drop>(rt: &impl Abort, alloc: Global, mut store: S) {
-    let one = made_in(rt, alloc, &mut store);
-    let other = made_in(rt, alloc, &mut store);
-    assert!(rt; !one.ptr_eq(&other));
+    let one = made_in(rt, alloc, &mut store, place(0));
+    let other = made_in(rt, alloc, &mut store, place(0));
+    assert_same(rt, &one.ptr_eq(&other), &false);
     assert_alike(rt, Reply::Box(one), Reply::Box(other));
     assert_alike(rt, Reply::Id(one.id()), Reply::Id(other.id()));
     assert_alike(rt, Reply::Slot(0), Reply::Slot(1));

@@ -23,33 +23,6 @@ use std::alloc::Global;
 use std::io;
 use std::io::Write;
 
-/// What a store counts, and its next ticket.
-#[derive(Clone, Copy)]
-struct Counts {
-    slots: usize,
-    free: usize,
-    retired: usize,
-    peak: usize,
-    next: u64,
-}
-
-impl Counts {
-    // Writes the counts.
-    fn write<W: Write>(self, output: &mut W) -> io::Result<()> {
-        let Counts {
-            slots,
-            free,
-            retired,
-            peak,
-            next,
-        } = self;
-        writeln!(
-            output,
-            "slots {slots} free {free} retired {retired} peak {peak} next {next}"
-        )
-    }
-}
-
 /// A script of the dialect.
 ///
 /// It must be spent by `finish`.
@@ -79,17 +52,9 @@ impl<S: Storage<String> + Drop> Dialect<S> {
         let location = Location::new("script", number, 1);
         let (word, rest) = line.split_once(' ').unwrap_or((line, ""));
         match word {
-            "counts" => {
+            "counts" | "view" | "eight" | "twin" => {
                 self.script.pass_line()?;
-                self.counts().write(output).map_err(|_| Fault::Output)
-            }
-            "view" => {
-                self.script.pass_line()?;
-                self.view(rest, output).map_err(|_| Fault::Output)
-            }
-            "eight" | "twin" => {
-                self.script.pass_line()?;
-                self.strangers.answer(word, rest, location, output)
+                self.answer_beside(word, rest, location, output)
             }
             "as" => {
                 let (place, command) = rest.split_once(' ').unwrap_or((rest, ""));
@@ -104,22 +69,39 @@ impl<S: Storage<String> + Drop> Dialect<S> {
         }
     }
 
+    // Answers a line that makes no call.
+    fn answer_beside<W: Write>(
+        &mut self,
+        word: &str,
+        rest: &str,
+        location: Location,
+        output: &mut W,
+    ) -> Result<(), Fault> {
+        match word {
+            "counts" => written(self.counts(output)),
+            "view" => written(self.view(rest, output)),
+            _ => self.strangers.answer(word, rest, location, output),
+        }
+    }
+
     // Makes a call, and writes its reply.
     fn call<W: Write>(&mut self, call: Call<String>, output: &mut W) -> Result<(), Fault> {
         let reply = self.script.call_next(call)?;
-        write_with_value(output, reply).map_err(|_| Fault::Output)
+        written(write_with_value(output, reply))
     }
 
-    // What the store counts.
-    fn counts(&self) -> Counts {
+    // Writes what the store counts, and its next ticket.
+    fn counts<W: Write>(&self, output: &mut W) -> io::Result<()> {
         let store = self.script.session().store();
-        Counts {
-            slots: store.slots(),
-            free: store.free(),
-            retired: store.retired(),
-            peak: store.peak_live(),
-            next: u64::MAX - store.tickets_left(),
-        }
+        writeln!(
+            output,
+            "slots {} free {} retired {} peak {} next {}",
+            store.slots(),
+            store.free(),
+            store.retired(),
+            store.peak_live(),
+            u64::MAX - store.tickets_left()
+        )
     }
 
     // Writes the value that a place lends.
@@ -139,6 +121,11 @@ impl<S: Storage<String> + Drop> Dialect<S> {
         } = self;
         script.finish()
     }
+}
+
+/// What a write answers.
+fn written(answer: io::Result<()>) -> Result<(), Fault> {
+    answer.map_err(|_| Fault::Output)
 }
 
 /// Writes a reply, with the value that came back.

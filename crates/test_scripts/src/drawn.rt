@@ -2,15 +2,15 @@
 
 ghost use Rattle.std.specs.Prelude.{◌≤◌};
 
-use crate::expected::assert_same;
-use crate::runs::{assert_ended, run_words};
+use crate::expected::{assert_same, given, made_in};
+use crate::runs::{assert_ended, run_words, texts};
 use boxes_parts::{Verdict, compare};
 use boxes_script::compare_stores;
 use generational_box::{
     BoxAt, Call, GenerationalBox, Location, Numbers, OldestFirst, Reply, Storage, Store,
     StoreError, UnsyncStorage,
 };
-use std::alloc::{AllocError, Global};
+use std::alloc::Global;
 use std::process::Abort;
 
 /// Asserts how the program ends with these words, and what it writes.
@@ -22,12 +22,7 @@ fn assert_fuzz(
     output: &str,
     faults: &str,
 ) {
-    let mut after = Vec::new(alloc);
-    for word in words {
-        let word = String::from_str(alloc, word).expect(rt, "memory");
-        after.push(word).expect(rt, "memory");
-    }
-    let outcome = run_words(alloc, &after, &mut "".as_bytes());
+    let outcome = run_words(alloc, &texts(rt, alloc, words), &mut "".as_bytes());
     assert_ended(rt, &outcome, status, output, faults);
 }
 
@@ -69,38 +64,15 @@ fn words_that_are_no_list(rt: HostRuntime) {
     assert_fuzz(&rt, alloc, &["buzz", "1", "1"], 2, "", USAGE);
 }
 
-/// A box of a store that goes.
-fn box_of<S: Storage<String> + Drop>(
-    rt: &impl Abort,
-    alloc: Global,
-    mut store: S,
-) -> GenerationalBox<String> {
-    let made = GenerationalBox::leak(&mut store, String::new(alloc), Location::new("b", 1, 1));
-    made.map_err(|_| AllocError).expect(rt, "a box")
-}
-
 /// A box of a new store of this number.
 fn stranger(rt: &impl Abort, alloc: Global, number: u64) -> GenerationalBox<String> {
-    let store: UnsyncStorage<String> = Store::new(alloc, number);
-    box_of(rt, alloc, store)
+    let mut store: UnsyncStorage<String> = Store::new(alloc, number);
+    made_in(rt, alloc, &mut store, Location::new("b", 1, 1))
 }
 
 /// Three replies, of which the second is another.
 fn three(rt: &impl Abort, alloc: Global, second: Reply<String>) -> Vec<Reply<String>> {
-    let mut replies = Vec::new(alloc);
-    replies
-        .push(Reply::Owner)
-        .map_err(|_| AllocError)
-        .expect(rt, "memory");
-    replies
-        .push(second)
-        .map_err(|_| AllocError)
-        .expect(rt, "memory");
-    replies
-        .push(Reply::Done)
-        .map_err(|_| AllocError)
-        .expect(rt, "memory");
-    replies
+    given(rt, vec![in alloc; Reply::Owner, second, Reply::Done])
 }
 
 /// Asserts how two lists of replies compare that have these at place 1.
@@ -123,7 +95,7 @@ fn a_shorter_list_differs_at_its_end(rt: HostRuntime) {
     let list = three(&rt, rt.alloc(), Reply::Done);
     let mut shorter = three(&rt, rt.alloc(), Reply::Done);
     for end in [2, 1, 0] {
-        let _last = shorter.pop();
+        shorter.truncate(end);
         assert_same(&rt, &compare(&list, &shorter), &Verdict::Differs(end));
         assert_same(&rt, &compare(&shorter, &list), &Verdict::Differs(end));
     }
@@ -176,7 +148,7 @@ fn calls(rt: &impl Abort, alloc: Global) -> Vec<Call<String>> {
         Call::Leak(String::new(alloc), here),
         Call::TryRead(foreign, here),
     ];
-    calls.map_err(|_| AllocError).expect(rt, "memory")
+    given(rt, calls)
 }
 
 /// Asserts how two stores compare.

@@ -5,11 +5,11 @@ ghost use Rattle.std.specs.Prelude.{◌≤◌};
 use crate::drawn_words::{
     NUMBER, boxes_in, call_word, guard_in, location_in, owner_in, reply_word, words_of,
 };
-use crate::expected::assert_same;
+use crate::expected::{assert_same, push};
 use crate::tables::run;
 use boxes_script::fuzz_list;
 use generational_box::{BoxAt, Call, Numbers, Reply, Store, UnsyncStorage};
-use std::alloc::{AllocError, Global};
+use std::alloc::Global;
 use std::process::Abort;
 
 /// How many calls the lists here have.
@@ -113,11 +113,22 @@ pub(crate) fn replies_from(
 }
 
 /// Asserts that each word of a table stands in a list at least so often.
-fn assert_at_least(rt: &impl Abort, list: &Vec<&str>, least: &[(&str, usize)]) {
+fn assert_at_least(rt: &impl Abort, list: &[&str], least: &[(&str, usize)]) {
     for (word, count) in least {
-        let found = list.iter().filter(|it| *it == word).count();
+        let found = count_of(list, word);
         assert!(rt; found >= *count, "{word}: {found}");
     }
+}
+
+/// How often a word stands in a list.
+fn count_of(list: &[&str], word: &str) -> usize {
+    let mut found: usize = 0;
+    for it in list {
+        if *it == word {
+            found = found.saturating_add(1);
+        }
+    }
+    found
 }
 
 #[test]
@@ -148,7 +159,7 @@ fn exhausted(
     let mut list = Vec::new(alloc);
     for (call, reply) in calls.iter().zip(replies.iter()) {
         if reply_word(reply) == "numbers exhausted" {
-            list.push(call_word(call)).expect(rt, "memory");
+            push(rt, &mut list, call_word(call));
         }
     }
     list
@@ -171,50 +182,63 @@ struct Distances {
 }
 
 impl Distances {
-    fn add(&mut self, place: usize, call: &Call<String>) -> Result<(), AllocError> {
+    // Adds those of the boxes that the call of a place names.
+    fn add_boxes(&mut self, rt: &impl Abort, place: usize, call: &Call<String>) {
         let (one, other) = boxes_in(call);
         for at in [one, other] {
             if let Some(BoxAt::Place(named)) = at {
-                self.boxes.push(place.saturating_sub(*named))?;
+                push(rt, &mut self.boxes, place.saturating_sub(*named));
             }
         }
+    }
+
+    // Adds those of what the call of a place names.
+    fn add(&mut self, rt: &impl Abort, place: usize, call: &Call<String>) {
+        self.add_boxes(rt, place, call);
         if let Some(named) = guard_in(call) {
-            self.guards.push(place.saturating_sub(named))?;
+            push(rt, &mut self.guards, place.saturating_sub(named));
         }
         if let Some(named) = owner_in(call) {
-            self.owners.push(place.saturating_sub(named))?;
+            push(rt, &mut self.owners, place.saturating_sub(named));
         }
-        Ok(())
     }
 
     // The distances in a list.
-    fn of(alloc: Global, calls: &[Call<String>]) -> Result<Distances, AllocError> {
+    fn of(rt: &impl Abort, alloc: Global, calls: &[Call<String>]) -> Distances {
         let mut distances = Distances {
             boxes: Vec::new(alloc),
             guards: Vec::new(alloc),
             owners: Vec::new(alloc),
         };
         for (place, call) in calls.iter().enumerate() {
-            distances.add(place, call)?;
+            distances.add(rt, place, call);
         }
-        Ok(distances)
+        distances
     }
 }
 
 /// Asserts that at least so many distances are among these many from the first on.
-fn assert_near(rt: &impl Abort, distances: &Vec<usize>, first: usize, many: usize, least: usize) {
-    let near = distances
-        .iter()
-        .filter(|it| it.saturating_sub(first) < many && **it >= first);
-    let found = near.count();
+fn assert_near(rt: &impl Abort, distances: &[usize], first: usize, many: usize, least: usize) {
+    let found = count_near(distances, first, many);
     assert!(rt; found >= least, "{found} from {first} on");
+}
+
+/// How many distances are among these many from the first on.
+fn count_near(distances: &[usize], first: usize, many: usize) -> usize {
+    let mut found: usize = 0;
+    for it in distances {
+        if it.saturating_sub(first) < many && *it >= first {
+            found = found.saturating_add(1);
+        }
+    }
+    found
 }
 
 // Any of the sixteen latest boxes, guards and owners may be named.
 #[test]
 fn calls_name_near_and_far_places(rt: HostRuntime) {
     let calls = list_of(&rt, rt.alloc(), 1);
-    let distances = Distances::of(rt.alloc(), &calls).expect(&rt, "memory");
+    let distances = Distances::of(&rt, rt.alloc(), &calls);
     for first in 1..=32 {
         assert_near(&rt, &distances.boxes, first, 1, 40);
     }

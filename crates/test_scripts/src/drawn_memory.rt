@@ -1,10 +1,11 @@
 //! Want of memory in drawn lists. Each test passes whichever one allocation is refused: a list is run
 //! twice, and all replies before the first call that is refused are the same, with their ids.
 
+use crate::expected::given;
 use boxes_parts::{is_lacking, is_same};
 use boxes_script::fuzz_list;
-use generational_box::{Call, LastFirst, OldestFirst, Reply, Session, Storage, Store};
-use std::alloc::{AllocError, Global};
+use generational_box::{Call, LastFirst, OldestFirst, Reply, Session, SlotPool, Storage, Store};
+use std::alloc::Global;
 use std::process::Abort;
 
 /// How many calls a list has.
@@ -30,7 +31,7 @@ fn replies_or_again<S: Storage<String>>(
         Err(back) => session.run(back),
         ran => ran,
     };
-    ran.map_err(|_| AllocError).expect(rt, "replies")
+    given(rt, ran)
 }
 
 /// The replies of a store to a drawn list.
@@ -81,36 +82,23 @@ fn assert_runs<S: Storage<String> + Drop>(
     assert_same_before_refusal(rt, &ones, &others);
 }
 
-/// Runs a drawn list over two stores that take the slot that was freed last.
-fn assert_last_first(rt: &impl Abort, alloc: Global, seed: u64) {
-    let one: Store<String, LastFirst> = Store::new(alloc, 1);
-    let other: Store<String, LastFirst> = Store::new(alloc, 1);
-    assert_runs(rt, alloc, one, other, seed);
+/// Runs the drawn lists of these seeds, each over two new stores.
+fn assert_seeds<P: SlotPool + Drop>(rt: &impl Abort, alloc: Global, seeds: [u64; 2]) {
+    for seed in seeds {
+        let one: Store<String, P> = Store::new(alloc, 1);
+        let other: Store<String, P> = Store::new(alloc, 1);
+        assert_runs(rt, alloc, one, other, seed);
+    }
 }
 
-/// Runs a drawn list over two stores that take the slot that has been free for the longest.
-fn assert_oldest_first(rt: &impl Abort, alloc: Global, seed: u64) {
-    let one: Store<String, OldestFirst> = Store::new(alloc, 1);
-    let other: Store<String, OldestFirst> = Store::new(alloc, 1);
-    assert_runs(rt, alloc, one, other, seed);
-}
-
+// Over stores that take the slot that was freed last.
 #[test]
-fn the_first_list(rt: HostRuntime) {
-    assert_last_first(&rt, rt.alloc(), 1);
+fn the_first_list_and_the_third(rt: HostRuntime) {
+    assert_seeds::<LastFirst>(&rt, rt.alloc(), [1, 3]);
 }
 
+// Over stores that take the slot that has been free for the longest.
 #[test]
-fn the_second_list(rt: HostRuntime) {
-    assert_oldest_first(&rt, rt.alloc(), 2);
-}
-
-#[test]
-fn the_third_list(rt: HostRuntime) {
-    assert_last_first(&rt, rt.alloc(), 3);
-}
-
-#[test]
-fn the_fourth_list(rt: HostRuntime) {
-    assert_oldest_first(&rt, rt.alloc(), 4);
+fn the_second_list_and_the_fourth(rt: HostRuntime) {
+    assert_seeds::<OldestFirst>(&rt, rt.alloc(), [2, 4]);
 }

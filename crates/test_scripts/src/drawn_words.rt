@@ -1,7 +1,8 @@
 //! What a call of a drawn list is, names and has, and what its reply is, in words.
 
+use crate::expected::push;
 use generational_box::{BorrowMutError, BoxAt, Call, Location, Reply, StoreError};
-use std::alloc::{AllocError, Global};
+use std::alloc::Global;
 use std::process::Abort;
 
 /// The number of the store that answers the lists here.
@@ -204,57 +205,38 @@ impl Holder {
     }
 }
 
-/// The words for a list of calls and its replies.
-#[derive(Drop)]
-pub(crate) struct Words<'a> {
-    calls: &'a [Call<String>],
-    replies: &'a [Reply<String>],
-    list: Vec<&'static str>,
+/// Adds the words for the boxes that the call of a place names.
+fn add_boxes(
+    rt: &impl Abort,
+    words: &mut Vec<&'static str>,
+    place: usize,
+    call: &Call<String>,
+    calls: &[Call<String>],
+) {
+    let (one, other) = boxes_in(call);
+    for at in [one, other] {
+        if let Some(at) = at {
+            push(rt, words, box_word(place, at, calls));
+        }
+    }
 }
 
-impl<'a> Words<'a> {
-    // Adds the words for the boxes that the call of a place names.
-    fn add_boxes(&mut self, place: usize, call: &Call<String>) -> Result<(), AllocError> {
-        let (one, other) = boxes_in(call);
-        for at in [one, other] {
-            if let Some(at) = at {
-                self.list.push(box_word(place, at, self.calls))?;
-            }
-        }
-        Ok(())
+/// Adds the word for the guard or the owner that the call of a place names.
+fn add_holder(
+    rt: &impl Abort,
+    words: &mut Vec<&'static str>,
+    place: usize,
+    call: &Call<String>,
+    replies: &[Reply<String>],
+    reply: &Reply<String>,
+) {
+    if let Some(named) = guard_in(call) {
+        let is_there = matches!(replies.get(named), Some(Reply::Reader | Reply::Writer));
+        push(rt, words, GUARD.word(place, named, is_there, reply));
     }
-
-    // Adds the word for the guard or the owner that the call of a place names.
-    fn add_holder(
-        &mut self,
-        place: usize,
-        call: &Call<String>,
-        reply: &Reply<String>,
-    ) -> Result<(), AllocError> {
-        if let Some(named) = guard_in(call) {
-            let given = self.replies.get(named);
-            let is_there = matches!(given, Some(Reply::Reader | Reply::Writer));
-            self.list.push(GUARD.word(place, named, is_there, reply))?;
-        }
-        if let Some(named) = owner_in(call) {
-            let is_there = matches!(self.replies.get(named), Some(Reply::Owner));
-            self.list.push(OWNER.word(place, named, is_there, reply))?;
-        }
-        Ok(())
-    }
-
-    // Adds the words for all calls.
-    fn add_all(&mut self) -> Result<(), AllocError> {
-        for (place, (call, reply)) in self.calls.iter().zip(self.replies.iter()).enumerate() {
-            self.list.push(call_word(call))?;
-            self.list.push(reply_word(reply))?;
-            if let Some(value) = value_in(call) {
-                self.list.push(value_word(value))?;
-            }
-            self.add_boxes(place, call)?;
-            self.add_holder(place, call, reply)?;
-        }
-        Ok(())
+    if let Some(named) = owner_in(call) {
+        let is_there = matches!(replies.get(named), Some(Reply::Owner));
+        push(rt, words, OWNER.word(place, named, is_there, reply));
     }
 }
 
@@ -266,16 +248,15 @@ pub(crate) fn words_of(
     calls: &[Call<String>],
     replies: &[Reply<String>],
 ) -> Vec<&'static str> {
-    let mut words = Words {
-        calls,
-        replies,
-        list: Vec::new(alloc),
-    };
-    words.add_all().expect(rt, "memory");
-    let Words {
-        calls: _,
-        replies: _,
-        list,
-    } = words;
-    list
+    let mut words = Vec::new(alloc);
+    for (place, (call, reply)) in calls.iter().zip(replies.iter()).enumerate() {
+        push(rt, &mut words, call_word(call));
+        push(rt, &mut words, reply_word(reply));
+        if let Some(value) = value_in(call) {
+            push(rt, &mut words, value_word(value));
+        }
+        add_boxes(rt, &mut words, place, call, calls);
+        add_holder(rt, &mut words, place, call, replies, reply);
+    }
+    words
 }

@@ -65,34 +65,50 @@ impl<S: Storage<String>> Strangers<S> {
         rest: &str,
         location: Location,
     ) -> Result<Call<String>, Fault> {
-        let call = self.of_place(word, rest, location);
-        call.map_err(|_| Fault::Memory)
+        let (name, value) = rest.split_once(' ').unwrap_or((rest, ""));
+        match word {
+            "leak" | "leak_rc" => self.of_value(word, name, rest, location),
+            "insert" | "insert_rc" | "replace" | "set" => {
+                self.of_value(word, name, value, location)
+            }
+            _ => Ok(self.of_place(word, name, value, location)),
+        }
     }
 
-    // The call of a line, if it takes a value or a place and no box.
-    fn of_place(
+    // The call of a line that takes a value.
+    fn of_value(
         &self,
         word: &str,
-        rest: &str,
+        name: &str,
+        value: &str,
         location: Location,
-    ) -> Result<Call<String>, AllocError> {
-        let (name, value) = rest.split_once(' ').unwrap_or((rest, ""));
+    ) -> Result<Call<String>, Fault> {
+        let Ok(value) = String::from_str(self.alloc, value) else {
+            return Err(Fault::Memory);
+        };
         let place = place(name);
         Ok(match word {
-            "leak" => Call::Leak(String::from_str(self.alloc, rest)?, location),
-            "leak_rc" => Call::LeakRc(String::from_str(self.alloc, rest)?, location),
+            "leak" => Call::Leak(value, location),
+            "leak_rc" => Call::LeakRc(value, location),
+            "insert" => Call::Insert(place, value, location),
+            "insert_rc" => Call::InsertRc(place, value, location),
+            "replace" => Call::Replace(place, value),
+            _ => Call::Set(self.named(name), value),
+        })
+    }
+
+    // The call of a line, if it takes a place and no box.
+    fn of_place(&self, word: &str, name: &str, other: &str, location: Location) -> Call<String> {
+        let place = place(name);
+        match word {
             "owner" => Call::Owner,
-            "insert" => Call::Insert(place, String::from_str(self.alloc, value)?, location),
-            "insert_rc" => Call::InsertRc(place, String::from_str(self.alloc, value)?, location),
-            "insert_reference" => Call::InsertReference(place, self.named(value)),
-            "replace" => Call::Replace(place, String::from_str(self.alloc, value)?),
-            "set" => Call::Set(self.named(name), String::from_str(self.alloc, value)?),
+            "insert_reference" => Call::InsertReference(place, self.named(other)),
             "clone" => Call::CloneOwner(place),
             "leak_owner" => Call::LeakOwner(place),
             "release_owner" => Call::ReleaseOwner(place),
             "release" => Call::Release(place),
-            _ => self.of_box(word, self.named(name), value, location),
-        })
+            _ => self.of_box(word, self.named(name), other, location),
+        }
     }
 
     // The call of a line that takes a box.

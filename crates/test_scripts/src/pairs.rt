@@ -6,11 +6,11 @@ ghost use Rattle.generational_core.specs.Conditions.{IsFresh};
 
 use crate::drawn_counts::{Beginning, COUNT, FEW_TICKETS, FIRST, replies_from};
 use crate::drawn_words::reply_word;
-use crate::expected::assert_same;
+use crate::expected::{assert_same, given, made_in};
 use crate::runs::{Outcome, assert_ended};
 use boxes_script::{Pair, fuzz_pair, fuzz_run};
-use generational_box::{GenerationalBox, Location, Numbers, Reply, Storage, Store};
-use std::alloc::{AllocError, Global};
+use generational_box::{Location, Numbers, Reply, Storage, Store};
+use std::alloc::Global;
 use std::process::Abort;
 
 /// A pair whose first store has the number 1.
@@ -27,12 +27,11 @@ fn pair(alloc: Global, numbers: Numbers, other: Beginning) -> Pair
 }
 
 /// The words `fuzz SEED COUNT`.
-fn words(alloc: Global, seed: u64, count: usize) -> Result<Vec<String>, AllocError> {
-    let mut words = Vec::new(alloc);
-    words.push(String::from_str(alloc, "fuzz")?)?;
-    words.push(format!(in alloc; "{seed}")?)?;
-    words.push(format!(in alloc; "{count}")?)?;
-    Ok(words)
+fn words(rt: &impl Abort, alloc: Global, seed: u64, count: usize) -> Vec<String> {
+    let fuzz = given(rt, String::from_str(alloc, "fuzz"));
+    let seed = given(rt, format!(in alloc; "{seed}"));
+    let count = given(rt, format!(in alloc; "{count}"));
+    given(rt, vec![in alloc; fuzz, seed, count])
 }
 
 /// Asserts with which status the list of a seed ends over a pair, and what is told of it.
@@ -40,7 +39,7 @@ fn assert_told(rt: &impl Abort, alloc: Global, list: (u64, usize), pair: Pair, t
     requires one { IsFresh pair.one.state }
     requires other { IsFresh pair.other.state }
 {
-    let words = words(alloc, list.0, list.1).expect(rt, "memory");
+    let words = words(rt, alloc, list.0, list.1);
     let mut output = Vec::new(alloc);
     let mut faults = Vec::new(alloc);
     let status = fuzz_run(alloc, &words, pair, &mut output, &mut faults);
@@ -113,21 +112,12 @@ fn slot_used_again<S: Storage<String> + Drop>(
     alloc: Global,
     mut store: S,
 ) -> usize {
-    let first = made_in(rt, alloc, &mut store);
-    let second = made_in(rt, alloc, &mut store);
-    assert!(rt; first.manually_drop(&mut store).is_ok());
-    assert!(rt; second.manually_drop(&mut store).is_ok());
-    made_in(rt, alloc, &mut store).raw_ptr()
-}
-
-/// A box of a store.
-fn made_in<S: Storage<String>>(
-    rt: &impl Abort,
-    alloc: Global,
-    store: &mut S,
-) -> GenerationalBox<String> {
-    let made = GenerationalBox::leak(store, String::new(alloc), Location::new("pair", 1, 1));
-    made.map_err(|_| AllocError).expect(rt, "a box")
+    let here = Location::new("pair", 1, 1);
+    let first = made_in(rt, alloc, &mut store, here);
+    let second = made_in(rt, alloc, &mut store, here);
+    given(rt, first.manually_drop(&mut store));
+    given(rt, second.manually_drop(&mut store));
+    made_in(rt, alloc, &mut store, here).raw_ptr()
 }
 
 // The program's own pair takes free slots in different orders.

@@ -1,6 +1,6 @@
-//! Whole runs of the program, and tables of commands with their replies.
+//! Whole runs of the program, and scripts of commands with their replies.
 
-use crate::expected::assert_same;
+use crate::expected::{assert_same, given, push};
 use boxes_script::boxes_run;
 use std::alloc::Global;
 use std::io::{Read, Write};
@@ -27,6 +27,15 @@ pub(crate) fn run_words<R: Read>(alloc: Global, words: &[String], input: &mut R)
     }
 }
 
+/// Words, each a text of its own.
+pub(crate) fn texts(rt: &impl Abort, alloc: Global, words: &[&str]) -> Vec<String> {
+    let mut texts = Vec::new(alloc);
+    for word in words {
+        push(rt, &mut texts, given(rt, String::from_str(alloc, word)));
+    }
+    texts
+}
+
 /// Runs the program.
 pub(crate) fn run<R: Read>(alloc: Global, input: &mut R) -> Outcome {
     run_words(alloc, &[], input)
@@ -50,7 +59,7 @@ pub(crate) fn assert_ended(
     assert_same(rt, &outcome.status, &status);
 }
 
-/// The texts of errors, and the words that stand for them in a table.
+/// The texts of errors, and the words that stand for them in a script.
 const ERRORS: [(&str, &str); 3] = [
     (
         "dropped: ",
@@ -66,7 +75,7 @@ const ERRORS: [(&str, &str); 3] = [
     ),
 ];
 
-/// Writes a reply of a table, with the whole text of an error.
+/// Writes a reply of a script, with the whole text of an error.
 fn write_reply(rt: &impl Abort, output: &mut Vec<u8>, reply: &str) {
     for (word, error) in ERRORS {
         if let Some(places) = reply.strip_prefix(word) {
@@ -77,23 +86,45 @@ fn write_reply(rt: &impl Abort, output: &mut Vec<u8>, reply: &str) {
     writeln!(output, "{reply}").expect(rt, "memory");
 }
 
-/// The replies of a table, a line each.
-pub(crate) fn replies_of(rt: &impl Abort, alloc: Global, table: &[(&str, &str)]) -> Vec<u8> {
+/// A script's name, and its lines: each has a command, an arrow and the reply.
+pub(crate) type Script = (&'static str, &'static [&'static str]);
+
+/// The command and the reply of a line.
+pub(crate) fn parts(line: &str) -> (&str, &str) {
+    line.split_once(" -> ").unwrap_or((line, ""))
+}
+
+/// The replies of a script, a line each.
+pub(crate) fn replies_of(rt: &impl Abort, alloc: Global, lines: &[&str]) -> Vec<u8> {
     let mut replies = Vec::new(alloc);
-    for (_, reply) in table {
-        write_reply(rt, &mut replies, reply);
+    for line in lines {
+        write_reply(rt, &mut replies, parts(line).1);
     }
     replies
 }
 
-/// Asserts that the program answers the commands of a table with the replies beside them, and that
-/// its run ends well.
-pub(crate) fn assert_replies(rt: &impl Abort, alloc: Global, table: &[(&str, &str)]) {
-    let mut script = Vec::new(alloc);
-    for (command, _) in table {
-        writeln!(&mut script, "{command}").expect(rt, "memory");
+/// The commands of a script, a line each.
+fn commands_of(rt: &impl Abort, alloc: Global, lines: &[&str]) -> Vec<u8> {
+    let mut commands = Vec::new(alloc);
+    for line in lines {
+        writeln!(&mut commands, "{}", parts(line).0).expect(rt, "memory");
     }
-    let replies = replies_of(rt, alloc, table);
-    let outcome = run(alloc, &mut script.as_slice());
-    assert_ended(rt, &outcome, 0, text(&replies), "");
+    commands
+}
+
+/// Asserts that the program answers the commands of each script with the replies beside them, and that
+/// its run ends well.
+pub(crate) fn assert_replies(rt: &impl Abort, alloc: Global, scripts: &[Script]) {
+    for (name, lines) in scripts {
+        let commands = commands_of(rt, alloc, lines);
+        let outcome = run(alloc, &mut commands.as_slice());
+        assert_written(rt, name, &outcome.output, &replies_of(rt, alloc, lines));
+        let ended = (*name, outcome.status, text(&outcome.faults));
+        assert_same(rt, &ended, &(*name, 0, ""));
+    }
+}
+
+/// Asserts that what a script's run wrote is its replies.
+pub(crate) fn assert_written(rt: &impl Abort, name: &str, written: &Vec<u8>, replies: &Vec<u8>) {
+    assert_same(rt, &(name, text(written)), &(name, text(replies)));
 }

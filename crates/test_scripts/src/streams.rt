@@ -1,13 +1,12 @@
 //! Whole runs of the program, over streams in memory and streams that fail.
 
 use crate::expected::assert_same;
-use crate::runs::{assert_ended, run, run_words, text};
+use crate::runs::{assert_ended, run, run_words, text, texts};
 use boxes_script::boxes_run;
 use std::alloc::Global;
 use std::io;
 use std::io::{Error, ErrorKind, Read, Write, repeat};
 use std::process::Abort;
-use std::test::Fail;
 
 /// Gives a line a read, and fails once no read is left.
 #[derive(Drop)]
@@ -96,14 +95,13 @@ fn no_input_and_no_fault(rt: HostRuntime) {
 }
 
 #[test]
-fn any_argument_is_a_fault(rt: HostRuntime) -> Result<(), Fail> {
+fn any_argument_is_a_fault(rt: HostRuntime) {
     let usage = "boxes: usage: boxes or boxes fuzz SEED COUNT\n";
     for word in ["", "script", "fuzz"] {
-        let words = vec![in rt.alloc(); String::from_str(rt.alloc(), word)?]?;
-        let outcome = run_words(rt.alloc(), words.as_slice(), &mut SIX_LINES.as_bytes());
+        let words = texts(&rt, rt.alloc(), &[word]);
+        let outcome = run_words(rt.alloc(), &words, &mut SIX_LINES.as_bytes());
         assert_ended(&rt, &outcome, 2, "", usage);
     }
-    Ok(())
 }
 
 // Lines of no form.
@@ -283,27 +281,29 @@ fn the_earlier_fault_is_told(rt: HostRuntime) {
     assert_output_fails(&rt, rt.alloc(), &mut input, &mut output);
 }
 
+/// Asserts with which status a run ends whose fault can't be told.
+fn assert_untold<R: Read>(
+    rt: &impl Abort,
+    alloc: Global,
+    words: &[String],
+    input: &mut R,
+    status: u8,
+) {
+    let mut faults = Narrow::new(alloc, 0, false);
+    let mut output = Vec::new(alloc);
+    let found = boxes_run(alloc, words, input, &mut output, &mut faults);
+    assert_same(rt, &found, &status);
+}
+
 #[test]
-fn faults_that_cannot_be_told(rt: HostRuntime) -> Result<(), Fail> {
-    let mut faults = Narrow::new(rt.alloc(), 0, false);
-    let mut output = Vec::new(rt.alloc());
-    let words = vec![in rt.alloc(); String::from_str(rt.alloc(), "fuzz")?]?;
-    let mut input = SIX_LINES.as_bytes();
-    let status = boxes_run(
-        rt.alloc(),
-        words.as_slice(),
-        &mut input,
-        &mut output,
-        &mut faults,
-    );
-    assert_same(&rt, &status, &2);
+fn faults_that_cannot_be_told(rt: HostRuntime) {
+    let words = texts(&rt, rt.alloc(), &["fuzz"]);
+    assert_untold(&rt, rt.alloc(), &words, &mut SIX_LINES.as_bytes(), 2);
     let mut broken = LineByLine {
         script: b"",
         reads_left: 0,
     };
-    let status = boxes_run(rt.alloc(), &[], &mut broken, &mut output, &mut faults);
-    assert_same(&rt, &status, &1);
-    Ok(())
+    assert_untold(&rt, rt.alloc(), &[], &mut broken, 1);
 }
 
 #[test]

@@ -1,20 +1,51 @@
-//! Tables of lines of the dialect, each with its reply.
+//! Scripts of lines of the dialect, each with its reply.
 
 ghost use Rattle.std.specs.Prelude.{◌≤◌};
 
 use crate::dialect::{Dialect, write_with_value};
+use crate::expected::{given, push};
 use crate::naming::Strangers;
-use crate::runs::{replies_of, text};
+use crate::runs::{Script, assert_written, parts, replies_of};
 use generational_box::{
-    Call, LastFirst, Location, Numbers, OldestFirst, Reply, Session, SlotPool, Storage, Store,
+    Call, LastFirst, Location, Numbers, Reply, Session, SlotPool, Storage, Store,
 };
-use std::alloc::{AllocError, Global};
+use std::alloc::Global;
 use std::process::Abort;
 
 /// The numbers with which a new store begins.
-const FIRST: Numbers = Numbers {
+pub(crate) const FIRST: Numbers = Numbers {
     generation: 1,
     ticket: 0,
+};
+
+/// The numbers of a store whose slots have one generation.
+pub(crate) const LAST_GENERATION: Numbers = Numbers {
+    generation: u64::MAX,
+    ticket: 0,
+};
+
+/// The numbers of a store whose slots have two generations.
+pub(crate) const LAST_BUT_ONE: Numbers = Numbers {
+    generation: u64::MAX - 1,
+    ticket: 0,
+};
+
+/// The numbers of a store that has no ticket.
+pub(crate) const NO_TICKET: Numbers = Numbers {
+    generation: 1,
+    ticket: u64::MAX,
+};
+
+/// The numbers of a store that has one ticket.
+pub(crate) const ONE_TICKET: Numbers = Numbers {
+    generation: 1,
+    ticket: u64::MAX - 1,
+};
+
+/// The numbers of a store that has two tickets.
+pub(crate) const TWO_TICKETS: Numbers = Numbers {
+    generation: 1,
+    ticket: u64::MAX - 2,
 };
 
 /// A session's own store, and those that stand beside: of number 8, and of its own number.
@@ -36,76 +67,74 @@ fn new_stores<P: SlotPool>(alloc: Global, numbers: Numbers) -> Stores<Store<Stri
     }
 }
 
-/// Asserts that the lines of a table are answered by the replies beside them, over a new store.
-pub(crate) fn assert_answers(rt: &impl Abort, alloc: Global, table: &[(&str, &str)]) {
-    assert_answers_from(rt, alloc, FIRST, table);
+/// Asserts that the lines of each script are answered by the replies beside them, over a new store that
+/// takes the slot that was freed last.
+pub(crate) fn assert_answers(rt: &impl Abort, alloc: Global, scripts: &[Script]) {
+    assert_answers_from::<LastFirst>(rt, alloc, FIRST, scripts);
 }
 
 /// Asserts the same over a store whose numbers begin where they are told to.
-pub(crate) fn assert_answers_from(
+pub(crate) fn assert_answers_from<P: SlotPool + Drop>(
     rt: &impl Abort,
     alloc: Global,
     numbers: Numbers,
-    table: &[(&str, &str)],
+    scripts: &[Script],
 )
     requires { 1 ≤ numbers.generation }
 {
-    assert_table(rt, alloc, new_stores::<LastFirst>(alloc, numbers), table);
+    for (name, lines) in scripts {
+        assert_lines(rt, alloc, new_stores::<P>(alloc, numbers), name, lines);
+    }
 }
 
-/// Asserts the same over a new store that takes the slot that has been free for the longest.
-pub(crate) fn assert_oldest_first(rt: &impl Abort, alloc: Global, table: &[(&str, &str)]) {
-    assert_table(rt, alloc, new_stores::<OldestFirst>(alloc, FIRST), table);
-}
-
-// Asserts that the lines of a table are answered by the replies beside them.
-fn assert_table<S: Storage<String> + Drop>(
+// Asserts that the lines of a script are answered by the replies beside them.
+fn assert_lines<S: Storage<String> + Drop>(
     rt: &impl Abort,
     alloc: Global,
     stores: Stores<S>,
-    table: &[(&str, &str)],
+    name: &str,
+    lines: &[&str],
 ) {
     let Stores { own, eight, twin } = stores;
     assert!(rt; own.is_fresh());
     let mut dialect = Dialect::new(alloc, own, Strangers::new(alloc, eight, twin));
     let mut answered = Vec::new(alloc);
-    for ((line, _), number) in table.iter().zip(1..u32::MAX) {
-        let answer = dialect.answer(number, line, &mut answered);
+    for (line, number) in lines.iter().zip(1..u32::MAX) {
+        let answer = dialect.answer(number, parts(line).0, &mut answered);
         answer.expect(rt, "an answer");
     }
     let _store = dialect.finish();
-    assert_eq!(rt; text(&answered), text(&replies_of(rt, alloc, table)));
+    assert_written(rt, name, &answered, &replies_of(rt, alloc, lines));
 }
 
-/// Asserts that the calls of a table, handed in as one list, are answered by the replies beside
+/// Asserts that the calls of each script, handed in as one list, are answered by the replies beside
 /// them. Lines of the stores beside are no calls, and come first.
-pub(crate) fn assert_run(rt: &impl Abort, alloc: Global, table: &[(&str, &str)]) {
-    assert_list(rt, alloc, new_stores::<LastFirst>(alloc, FIRST), table);
+pub(crate) fn assert_run<P: SlotPool + Drop>(rt: &impl Abort, alloc: Global, scripts: &[Script]) {
+    for (name, lines) in scripts {
+        assert_list(rt, alloc, new_stores::<P>(alloc, FIRST), name, lines);
+    }
 }
 
-/// Asserts the same over a store that takes the slot that has been free for the longest.
-pub(crate) fn assert_run_oldest_first(rt: &impl Abort, alloc: Global, table: &[(&str, &str)]) {
-    assert_list(rt, alloc, new_stores::<OldestFirst>(alloc, FIRST), table);
-}
-
-// Asserts that the calls of a table are answered by the replies beside them.
+// Asserts that the calls of a script are answered by the replies beside them.
 fn assert_list<S: Storage<String> + Drop>(
     rt: &impl Abort,
     alloc: Global,
     stores: Stores<S>,
-    table: &[(&str, &str)],
+    name: &str,
+    lines: &[&str],
 ) {
     let Stores { own, eight, twin } = stores;
     let mut strangers = Strangers::new(alloc, eight, twin);
     let mut calls = Vec::new(alloc);
     let mut answered = Vec::new(alloc);
-    for ((line, _), number) in table.iter().zip(1..u32::MAX) {
+    for (line, number) in lines.iter().zip(1..u32::MAX) {
+        let line = parts(line).0;
         add_line(rt, &mut strangers, number, line, &mut calls, &mut answered);
     }
     for reply in run(rt, alloc, own, calls) {
         write_with_value(&mut answered, reply).expect(rt, "memory");
     }
-    assert_eq!(rt; text(&answered), text(&replies_of(rt, alloc, table)));
+    assert_written(rt, name, &answered, &replies_of(rt, alloc, lines));
 }
 
 // Adds the call of a line to a list. A line of the stores beside is answered at once.
@@ -124,7 +153,7 @@ fn add_line<S: Storage<String>>(
         assert!(rt; answer.is_ok());
     } else {
         let call = strangers.call(word, rest, location).expect(rt, "a call");
-        assert!(rt; calls.push(call).is_ok());
+        push(rt, calls, call);
     }
 }
 
@@ -139,5 +168,5 @@ pub(crate) fn run<S: Storage<String> + Drop>(
     let mut session = Session::new(alloc, store);
     let ran = session.run(calls);
     let _store = session.finish();
-    ran.map_err(|_| AllocError).expect(rt, "replies")
+    given(rt, ran)
 }
