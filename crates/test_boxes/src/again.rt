@@ -81,3 +81,53 @@ pub(crate) fn readers(
     };
     Refused::Borrow(BorrowMutError::AlreadyBorrowed(AlreadyBorrowedError::new(began)))
 }
+
+/// Whether a call lacked memory.
+fn lacks(answer: &Result<(), Refused<BorrowMutError>>) -> bool {
+    matches!(answer, Err(Refused::Store(StoreError::OutOfMemory)))
+}
+
+/// Asserts that a call is refused with these readers.
+fn assert_readers(
+    rt: &impl Abort,
+    alloc: Global,
+    answer: &Result<(), Refused<BorrowMutError>>,
+    began: &[Location],
+) {
+    assert_same(rt, answer, &Err(readers(rt, alloc, began)));
+}
+
+/// Asserts that an end is refused with these readers, the second time at the latest.
+pub(crate) fn assert_borrowed<T, S: Storage<T>>(
+    rt: &impl Abort,
+    alloc: Global,
+    store: &mut S,
+    asked: GenerationalBox<T>,
+    began: &[Location],
+) {
+    let first = asked.manually_drop(store);
+    if lacks(&first) {
+        let second = asked.manually_drop(store);
+        assert_readers(rt, alloc, &second, began);
+    } else {
+        assert_readers(rt, alloc, &first, began);
+    }
+}
+
+/// Asserts that a box isn't pointed at another while these readers stand, the second time at the
+/// latest.
+pub(crate) fn assert_held<T, S: Storage<T>>(
+    rt: &impl Abort,
+    alloc: Global,
+    store: &mut S,
+    [from, to]: [GenerationalBox<T>; 2],
+    began: &[Location],
+) {
+    let first = from.point_to(store, to);
+    if lacks(&first) {
+        let second = from.point_to(store, to);
+        assert_readers(rt, alloc, &second, began);
+    } else {
+        assert_readers(rt, alloc, &first, began);
+    }
+}

@@ -2,15 +2,16 @@
 //! still has when it goes itself. Each is counted by what std's `Rc` counts.
 
 use crate::expected::{
-    assert_same, begin, begin_write, end, insert, leak, made, made_later, new_owner, read, release,
-    written,
+    assert_released, assert_same, begin, begin_write, end, given, insert, leak, made, new_owner,
+    push, read, release, written,
 };
 use crate::fresh::{
     Life, LifeOfTwo, Scenario, TwoStoreScenario, live, live_in_two_stores, play,
     play_at_last_generation, play_in_two_stores,
 };
-use crate::sessions::{call, session_over};
+use crate::sessions::{ask, session_over};
 use crate::sharing::{insert_rc, insert_reference, leak_rc, leak_reference, point};
+use crate::values::clone_of;
 use generational_box::{
     BoxAt, Call, GenerationalBox, GenerationalRef, GenerationalRefMut, Owner, Refusal, Session,
     Storage,
@@ -32,6 +33,34 @@ fn another(rt: &impl Abort, value: &Counted) -> Counted {
     value.clone().expect(rt, "a clone")
 }
 
+/// Makes a box of another clone.
+fn leak_clone<S: Storage<Counted>>(
+    rt: &impl Abort,
+    store: &mut S,
+    value: &Counted,
+) -> GenerationalBox<Counted> {
+    leak(rt, store, another(rt, value), made())
+}
+
+/// Makes a box of another clone by an owner.
+fn insert_clone<S: Storage<Counted>>(
+    rt: &impl Abort,
+    store: &mut S,
+    owner: &Owner,
+    value: &Counted,
+) {
+    insert(rt, store, owner, another(rt, value), made());
+}
+
+/// Makes a shared value of another clone.
+fn share_clone<S: Storage<Counted>>(
+    rt: &impl Abort,
+    store: &mut S,
+    value: &Counted,
+) -> GenerationalBox<Counted> {
+    leak_rc(rt, store, another(rt, value), made())
+}
+
 /// Asserts how many clones of a value there are.
 fn assert_count(rt: &impl Abort, value: &Counted, count: usize) {
     assert_eq!(rt; Rc::strong_count(value), count);
@@ -42,8 +71,8 @@ struct Ends;
 impl Scenario<Counted> for Ends {
     fn play<R: Abort, S: Storage<Counted>>(rt: &R, alloc: Global, store: &mut S) {
         let value = counted(rt, alloc);
-        let first = leak(rt, store, another(rt, &value), made());
-        let second = leak(rt, store, another(rt, &value), made());
+        let first = leak_clone(rt, store, &value);
+        let second = leak_clone(rt, store, &value);
         assert_count(rt, &value, 3);
         end(rt, store, first);
         assert_count(rt, &value, 2);
@@ -60,7 +89,7 @@ fn an_ended_value(rt: HostRuntime) {
 }
 
 /// Another owner value.
-fn clone_of<S: Storage<Counted>>(rt: &impl Abort, store: &mut S, owner: &Owner) -> Owner {
+fn clone_owner<S: Storage<Counted>>(rt: &impl Abort, store: &mut S, owner: &Owner) -> Owner {
     owner.clone(store).expect(rt, "a clone")
 }
 
@@ -70,9 +99,9 @@ impl Scenario<Counted> for Releases {
     fn play<R: Abort, S: Storage<Counted>>(rt: &R, alloc: Global, store: &mut S) {
         let value = counted(rt, alloc);
         let owner = new_owner(rt, store);
-        insert(rt, store, &owner, another(rt, &value), made());
-        insert(rt, store, &owner, another(rt, &value), made_later());
-        let other = clone_of(rt, store, &owner);
+        insert_clone(rt, store, &owner, &value);
+        insert_clone(rt, store, &owner, &value);
+        let other = clone_owner(rt, store, &owner);
         assert_count(rt, &value, 3);
         release(rt, store, other);
         assert_count(rt, &value, 3);
@@ -97,7 +126,7 @@ fn put_back<S: Storage<Counted>>(
     store: &mut S,
     guard: GenerationalRefMut<Counted>,
 ) {
-    assert!(rt; guard.release(store).is_ok());
+    given(rt, guard.release(store));
 }
 
 /// Writes a value in the place of a writer's.
@@ -105,13 +134,14 @@ fn overwrite(guard: &mut GenerationalRefMut<Counted>, value: Counted) {
     *guard.deref_mut() = value;
 }
 
+/// A write lets the value go that it takes the place of, and no other.
 struct Writes;
 
 impl Scenario<Counted> for Writes {
     fn play<R: Abort, S: Storage<Counted>>(rt: &R, alloc: Global, store: &mut S) {
         let first = counted(rt, alloc);
         let second = counted(rt, alloc);
-        let only = leak(rt, store, another(rt, &first), made());
+        let only = leak_clone(rt, store, &first);
         let mut guard = begin_write(rt, store, only, written());
         replace(&mut guard, another(rt, &second));
         assert_count(rt, &first, 1);
@@ -126,12 +156,6 @@ impl Scenario<Counted> for Writes {
         end(rt, store, only);
         assert_count(rt, &first, 1);
     }
-}
-
-// A write lets the value go that it takes the place of, and no other.
-#[test]
-fn a_replaced_value(rt: HostRuntime) {
-    play::<Counted, Writes>(&rt, rt.alloc());
 }
 
 /// Sets a value that may be written, and lets the old one go.
@@ -162,13 +186,14 @@ fn exchange<S: Storage<Counted>>(
     }
 }
 
+/// A set lets the old value go, an exchange hands it back.
 struct Sets;
 
 impl Scenario<Counted> for Sets {
     fn play<R: Abort, S: Storage<Counted>>(rt: &R, alloc: Global, store: &mut S) {
         let first = counted(rt, alloc);
         let second = counted(rt, alloc);
-        let only = leak(rt, store, another(rt, &first), made());
+        let only = leak_clone(rt, store, &first);
         set(rt, store, only, another(rt, &second));
         assert_count(rt, &first, 1);
         assert_count(rt, &second, 2);
@@ -181,9 +206,9 @@ impl Scenario<Counted> for Sets {
     }
 }
 
-// A set lets the old value go, an exchange hands it back.
 #[test]
-fn a_value_that_was_set_away(rt: HostRuntime) {
+fn a_value_that_is_replaced_or_set_away(rt: HostRuntime) {
+    play::<Counted, Writes>(&rt, rt.alloc());
     play::<Counted, Sets>(&rt, rt.alloc());
 }
 
@@ -226,6 +251,7 @@ fn assert_not_taken<S: Storage<Counted>>(
     assert_count(rt, value, 1);
 }
 
+/// What a refused making was handed in, and what a writer has of another store, comes back.
 struct HandedBack;
 
 impl TwoStoreScenario<Counted> for HandedBack {
@@ -234,21 +260,15 @@ impl TwoStoreScenario<Counted> for HandedBack {
         let owner = new_owner(rt, eight);
         assert_nothing_made(rt, seven, &owner, &value);
         owner.leak();
-        let own = leak(rt, seven, another(rt, &value), made());
+        let own = leak_clone(rt, seven, &value);
         let guard = begin_write(rt, seven, own, written());
         assert_not_taken(rt, eight, guard, &value);
     }
 }
 
-// What a refused making was handed in, and what a writer has of another store, comes back.
-#[test]
-fn a_value_that_is_handed_back(rt: HostRuntime) {
-    play_in_two_stores::<Counted, HandedBack>(&rt, rt.alloc());
-}
-
 /// Ends a read.
 fn end_read<S: Storage<Counted>>(rt: &impl Abort, store: &mut S, guard: GenerationalRef<Counted>) {
-    assert!(rt; guard.release(store));
+    assert_released(rt, store, guard, true);
 }
 
 /// Ends a box and lets the value go that it hands back.
@@ -272,19 +292,20 @@ fn assert_none_taken<S: Storage<Counted>>(
     assert!(rt; asked.take(store).is_none());
 }
 
+/// It is the caller's alone. One that somebody reads, or that is shared, isn't handed back.
 struct HandsOut;
 
 impl Scenario<Counted> for HandsOut {
     fn play<R: Abort, S: Storage<Counted>>(rt: &R, alloc: Global, store: &mut S) {
         let value = counted(rt, alloc);
-        let own = leak(rt, store, another(rt, &value), made());
+        let own = leak_clone(rt, store, &value);
         let guard = begin(rt, store, own, read());
         assert_none_taken(rt, store, own);
         end_read(rt, store, guard);
         take_away(rt, store, own, &value);
         assert_none_taken(rt, store, own);
         assert_count(rt, &value, 1);
-        let shared = leak_rc(rt, store, another(rt, &value), made());
+        let shared = share_clone(rt, store, &value);
         assert_none_taken(rt, store, shared);
         assert_count(rt, &value, 2);
         end(rt, store, shared);
@@ -292,13 +313,14 @@ impl Scenario<Counted> for HandsOut {
     }
 }
 
-// It is the caller's alone. One that somebody reads, or that is shared, isn't handed back.
 #[test]
-fn a_value_that_its_box_hands_back(rt: HostRuntime) {
+fn a_value_that_comes_back(rt: HostRuntime) {
+    play_in_two_stores::<Counted, HandedBack>(&rt, rt.alloc());
     play::<Counted, HandsOut>(&rt, rt.alloc());
     play_at_last_generation::<Counted, HandsOut>(&rt, rt.alloc());
 }
 
+/// It is let go once, with the last reference to it.
 struct Shares;
 
 impl Scenario<Counted> for Shares {
@@ -318,20 +340,15 @@ impl Scenario<Counted> for Shares {
     }
 }
 
-// It is let go once, with the last reference to it.
-#[test]
-fn a_shared_value(rt: HostRuntime) {
-    play::<Counted, Shares>(&rt, rt.alloc());
-}
-
+/// A reference that is pointed elsewhere lets the value go to which it was the last.
 struct Turns;
 
 impl Scenario<Counted> for Turns {
     fn play<R: Abort, S: Storage<Counted>>(rt: &R, alloc: Global, store: &mut S) {
         let old = counted(rt, alloc);
         let new = counted(rt, alloc);
-        let reference = leak_rc(rt, store, another(rt, &old), made());
-        let other = leak_rc(rt, store, another(rt, &new), made_later());
+        let reference = share_clone(rt, store, &old);
+        let other = share_clone(rt, store, &new);
         point(rt, store, reference, other);
         assert_count(rt, &old, 1);
         end(rt, store, other);
@@ -341,9 +358,9 @@ impl Scenario<Counted> for Turns {
     }
 }
 
-// A reference that is pointed elsewhere lets the value go to which it was the last.
 #[test]
-fn a_value_that_was_pointed_away_from(rt: HostRuntime) {
+fn a_value_with_references(rt: HostRuntime) {
+    play::<Counted, Shares>(&rt, rt.alloc());
     play::<Counted, Turns>(&rt, rt.alloc());
 }
 
@@ -352,13 +369,13 @@ struct Clones;
 impl Scenario<Counted> for Clones {
     fn play<R: Abort, S: Storage<Counted>>(rt: &R, alloc: Global, store: &mut S) {
         let value = counted(rt, alloc);
-        let only = leak(rt, store, another(rt, &value), made());
+        let only = leak_clone(rt, store, &value);
         let guard = begin(rt, store, only, read());
-        let clone = guard.deref(store).map(|view| view.cloned());
+        let clone = clone_of(rt, store, &guard);
         assert_count(rt, &value, 3);
         drop(clone);
         assert_count(rt, &value, 2);
-        assert!(rt; guard.release(store));
+        assert_released(rt, store, guard, true);
         end(rt, store, only);
         assert_count(rt, &value, 1);
     }
@@ -373,11 +390,11 @@ fn a_value_that_was_cloned(rt: HostRuntime) {
 /// Makes a box by nobody, one by an owner that is leaked, and a shared value with two references, in a
 /// store that goes.
 fn fill<S: Storage<Counted> + Drop>(rt: &impl Abort, mut store: S, value: &Counted) {
-    leak(rt, &mut store, another(rt, value), made());
+    leak_clone(rt, &mut store, value);
     let owner = new_owner(rt, &mut store);
-    insert(rt, &mut store, &owner, another(rt, value), made());
+    insert_clone(rt, &mut store, &owner, value);
     owner.leak();
-    let shared = leak_rc(rt, &mut store, another(rt, value), made());
+    let shared = share_clone(rt, &mut store, value);
     leak_reference(rt, &mut store, shared);
     assert_count(rt, value, 4);
 }
@@ -388,8 +405,8 @@ fn borrow_two<S: Storage<Counted> + Drop>(
     mut store: S,
     value: &Counted,
 ) -> (GenerationalRef<Counted>, GenerationalRefMut<Counted>) {
-    let first = leak(rt, &mut store, another(rt, value), made());
-    let second = leak(rt, &mut store, another(rt, value), made());
+    let first = leak_clone(rt, &mut store, value);
+    let second = leak_clone(rt, &mut store, value);
     let reader = begin(rt, &mut store, first, read());
     (reader, begin_write(rt, &mut store, second, written()))
 }
@@ -483,15 +500,8 @@ fn finish<S: Storage<Counted> + Drop>(
     assert_count(rt, value, 1);
 }
 
-/// Makes a call, and lets its reply go.
-fn make<S: Storage<Counted>>(
-    rt: &impl Abort,
-    session: &mut Session<Counted, S>,
-    asked: Call<Counted>,
-) {
-    let _reply = call(rt, session, asked);
-}
-
+/// A session lets go what it ends and what comes back in a reply, and keeps a writer's value up to
+/// the store's end.
 struct Calls;
 
 impl Life<Counted> for Calls {
@@ -499,18 +509,11 @@ impl Life<Counted> for Calls {
         let mut session = session_over(rt, alloc, store);
         let value = counted(rt, alloc);
         for (place, count) in COUNTS.iter().enumerate() {
-            make(rt, &mut session, call_at(place, another(rt, &value)));
+            ask(rt, &mut session, call_at(place, another(rt, &value)));
             assert_same(rt, &(place, Rc::strong_count(&value)), &(place, *count));
         }
         finish(rt, session, &value);
     }
-}
-
-// A session lets go what it ends and what comes back in a reply, and keeps a writer's value up to
-// the store's end.
-#[test]
-fn values_of_a_session(rt: HostRuntime) {
-    live::<Counted, Calls>(&rt, rt.alloc());
 }
 
 /// Runs the calls as one list, and lets the replies go.
@@ -523,12 +526,12 @@ fn run<S: Storage<Counted>>(
     let mut list = Vec::new(alloc);
     for place in 0..COUNTS.len() {
         let asked = call_at(place, another(rt, value));
-        assert!(rt; list.push(asked).is_ok());
+        push(rt, &mut list, asked);
     }
-    let ran = session.run(list);
-    assert!(rt; ran.is_ok());
+    given(rt, session.run(list));
 }
 
+/// So does one that runs a list.
 struct ListOfCalls;
 
 impl Life<Counted> for ListOfCalls {
@@ -540,8 +543,8 @@ impl Life<Counted> for ListOfCalls {
     }
 }
 
-// So does one that runs a list.
 #[test]
-fn values_of_a_list_of_calls(rt: HostRuntime) {
+fn values_of_a_session_and_of_a_list_of_calls(rt: HostRuntime) {
+    live::<Counted, Calls>(&rt, rt.alloc());
     live::<Counted, ListOfCalls>(&rt, rt.alloc());
 }

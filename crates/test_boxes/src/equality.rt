@@ -10,11 +10,6 @@ use generational_box::{
 use std::alloc::Global;
 use std::process::Abort;
 
-/// Asserts that two values aren't equal.
-fn assert_differ<T: PartialEq>(rt: &impl Abort, one: &T, other: &T) {
-    assert!(rt; *one != *other && *other != *one);
-}
-
 /// Asserts that of several values each is equal to itself alone.
 fn assert_all_differ<T: PartialEq>(rt: &impl Abort, values: &[T]) {
     for (place, one) in values.iter().enumerate() {
@@ -26,11 +21,14 @@ fn assert_all_differ<T: PartialEq>(rt: &impl Abort, values: &[T]) {
 
 #[test]
 fn locations(rt: HostRuntime) {
-    let first = Location::new("a.rs", 3, 5);
-    assert_same(&rt, &first, &Location::new("a.rs", 3, 5));
-    assert_differ(&rt, &first, &Location::new("b.rs", 3, 5));
-    assert_differ(&rt, &first, &Location::new("a.rs", 4, 5));
-    assert_differ(&rt, &first, &Location::new("a.rs", 3, 6));
+    let places = [
+        Location::new("a.rs", 3, 5),
+        Location::new("b.rs", 3, 5),
+        Location::new("a.rs", 4, 5),
+        Location::new("a.rs", 3, 6),
+    ];
+    assert_all_differ(&rt, &places);
+    assert_same(&rt, &places[0], &Location::new("a.rs", 3, 5));
 }
 
 /// An error of readers that began at these locations.
@@ -98,22 +96,15 @@ fn errors_of_writes_of_other_kinds(rt: HostRuntime) {
 
 #[test]
 fn refusals(rt: HostRuntime) {
-    let lacking = StoreError::OutOfMemory;
-    assert_differ(&rt, &lacking, &StoreError::NumbersExhausted);
-    assert_differ(&rt, &lacking, &StoreError::UnknownOwner);
-    assert_differ(
-        &rt,
-        &StoreError::NumbersExhausted,
-        &StoreError::UnknownOwner,
-    );
-    let refused: Refused<BorrowError> = Refused::Store(lacking);
-    assert_differ(&rt, &refused, &Refused::Store(StoreError::NumbersExhausted));
-    assert_differ(&rt, &refused, &Refused::Borrow(gone(made())));
-    assert_differ(
-        &rt,
-        &Refused::Borrow(gone(made())),
-        &Refused::Borrow(gone(made_later())),
-    );
+    let (lacking, exhausted) = (StoreError::OutOfMemory, StoreError::NumbersExhausted);
+    assert_all_differ(&rt, &[lacking, exhausted, StoreError::UnknownOwner]);
+    let refused = [
+        Refused::Store(lacking),
+        Refused::Store(exhausted),
+        Refused::Borrow(gone(made())),
+        Refused::Borrow(gone(made_later())),
+    ];
+    assert_all_differ(&rt, &refused);
 }
 
 /// Asserts that recorded calls differ in their kind, their box, their location and their ticket.

@@ -54,11 +54,6 @@ impl<R: Abort> Over<String, R> for HandedBack {
     }
 }
 
-#[test]
-fn a_text_that_is_handed_back(rt: HostRuntime) {
-    run_over::<String, _, HandedBack>(&rt, rt.alloc(), 1, Beginning::First);
-}
-
 /// A text that is read and ended.
 struct Ended;
 
@@ -72,6 +67,7 @@ impl<R: Abort> Over<String, R> for Ended {
 }
 
 #[test]
-fn the_length_of_a_text_that_is_ended(rt: HostRuntime) {
+fn a_text_that_is_handed_back_or_ended(rt: HostRuntime) {
+    run_over::<String, _, HandedBack>(&rt, rt.alloc(), 1, Beginning::First);
     run_over::<String, _, Ended>(&rt, rt.alloc(), 1, Beginning::First);
 }

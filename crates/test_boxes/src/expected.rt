@@ -30,27 +30,17 @@ pub(crate) fn written() -> Location {
     Location::new("w.rs", 4, 6)
 }
 
-/// What a store counts.
-#[derive(Clone, Copy, Debug, PartialEq)]
-pub(crate) struct Counts {
-    pub(crate) slots: usize,
-    pub(crate) live: usize,
-    pub(crate) free: usize,
-    pub(crate) retired: usize,
-    pub(crate) peak_live: usize,
-    pub(crate) tickets_left: u64,
-}
-
-/// What a store counts now.
-pub(crate) fn counts_of<T, S: AnyStorage<T>>(store: &S) -> Counts {
-    Counts {
-        slots: store.slots(),
-        live: store.len(),
-        free: store.free(),
-        retired: store.retired(),
-        peak_live: store.peak_live(),
-        tickets_left: store.tickets_left(),
-    }
+/// What a store counts now: its slots, the live ones, the free ones, the retired ones, the most that were
+/// live at once, and the tickets that are left.
+pub(crate) fn counts_of<T, S: AnyStorage<T>>(store: &S) -> [u64; 6] {
+    [
+        store.slots() as u64,
+        store.len() as u64,
+        store.free() as u64,
+        store.retired() as u64,
+        store.peak_live() as u64,
+        store.tickets_left(),
+    ]
 }
 
 /// What a call gave that must not be refused. It is proved once, for all types: a closure that takes a
@@ -60,6 +50,11 @@ pub(crate) fn given<T, E: Drop>(rt: &impl Abort, answer: Result<T, E>) -> T {
         Ok(given) => given,
         Err(_) => panic!(rt; "it was refused"),
     }
+}
+
+/// Adds to a list.
+pub(crate) fn push<T: Drop>(rt: &impl Abort, list: &mut Vec<T>, value: T) {
+    given(rt, list.push(value));
 }
 
 /// Makes a box of a value.
@@ -162,6 +157,17 @@ pub(crate) fn assert_reads<S: Storage<u32>>(
     assert_released(rt, store, guard, true);
 }
 
+/// The owner that comes back from a release while a reader stands that began at this location.
+pub(crate) fn assert_kept_by_reader<T, S: AnyStorage<T>>(
+    rt: &impl Abort,
+    alloc: Global,
+    store: &mut S,
+    owner: Owner,
+    began: Location,
+) -> Owner {
+    assert_kept(rt, store, owner, borrowed(rt, alloc, &[began]))
+}
+
 /// Asserts that a read is refused so.
 pub(crate) fn assert_unread<T: Drop, S: Storage<T>>(
     rt: &impl Abort,
@@ -229,7 +235,7 @@ pub(crate) fn assert_released<T, S: Storage<T>>(
 
 /// Ends a box's cell.
 pub(crate) fn end<T, S: Storage<T>>(rt: &impl Abort, store: &mut S, asked: GenerationalBox<T>) {
-    assert!(rt; asked.manually_drop(store).is_ok());
+    given(rt, asked.manually_drop(store));
 }
 
 /// Asserts that the end of a box's cell is refused so.

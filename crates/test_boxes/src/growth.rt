@@ -5,22 +5,21 @@
 //! memory the process has mapped. What grows by leaps changes that a few times, and what grows by
 //! one at a time changes it whenever a page is full.
 
-use crate::expected::{insert, leak, made, new_owner};
+use crate::expected::{given, insert, leak, made, new_owner};
 use crate::fresh::{Beginning, Kind, Over, run_over};
-use crate::sessions::{call, session_over};
+use crate::sessions::{assert_told, session_over, told};
 use crate::sharing::{leak_rc, leak_reference};
 use generational_box::{BoxAt, Call, Owner, Session, Storage};
 use std::alloc::Global;
 use std::fs;
 use std::process::Abort;
 use std::rt::Files;
-use std::test::Fail;
 
 /// How many pages the process has mapped.
-fn mapped<R: Files + AllocGlobal>(rt: &R) -> Result<u64, Fail> {
-    let text = fs::read_to_string(rt, "/proc/self/statm")?;
-    let pages = text.as_str().split_once(' ').map_or("", |(pages, _)| pages);
-    Ok(pages.parse::<u64>()?)
+fn mapped<R: Files + AllocGlobal + Abort>(rt: &R) -> u64 {
+    let text = given(rt, fs::read_to_string(rt, "/proc/self/statm"));
+    let (pages, _) = text.as_str().split_once(' ').unwrap_or(("", ""));
+    given(rt, pages.parse::<u64>())
 }
 
 /// How the mapped memory grows.
@@ -33,23 +32,22 @@ pub(crate) struct Gauge {
 
 impl Gauge {
     /// A gauge of what is mapped from now on.
-    pub(crate) fn new<R: Files + AllocGlobal>(rt: &R) -> Result<Gauge, Fail> {
-        let pages = mapped(rt)?;
-        Ok(Gauge {
+    pub(crate) fn new<R: Files + AllocGlobal + Abort>(rt: &R) -> Gauge {
+        let pages = mapped(rt);
+        Gauge {
             first: pages,
             last: pages,
             leaps: 0,
-        })
+        }
     }
 
     /// Looks whether more is mapped now.
-    pub(crate) fn look<R: Files + AllocGlobal>(&mut self, rt: &R) -> Result<(), Fail> {
-        let pages = mapped(rt)?;
+    pub(crate) fn look<R: Files + AllocGlobal + Abort>(&mut self, rt: &R) {
+        let pages = mapped(rt);
         if pages != self.last {
             self.leaps = self.leaps.saturating_add(1);
         }
         self.last = pages;
-        Ok(())
     }
 
     /// Asserts that there were few leaps, and that no more pages are mapped than these.
@@ -62,35 +60,23 @@ impl Gauge {
 
 /// What grows in a store that goes in the end.
 pub(crate) trait Growth<T> {
-    fn grow<R: Files + AllocGlobal + Abort, S: Storage<T> + Drop>(
-        rt: &R,
-        alloc: Global,
-        store: S,
-    ) -> Result<(), Fail>;
+    fn grow<R: Files + AllocGlobal + Abort, S: Storage<T> + Drop>(rt: &R, alloc: Global, store: S);
 }
 
 /// What grows, in a store that is made for it.
 struct Grown<P>(P);
 
 impl<T, R: Files + AllocGlobal + Abort, P: Growth<T>> Over<T, R> for Grown<P> {
-    type Answer = Result<(), Fail>;
+    type Answer = ();
 
-    fn run<K: Kind<T>>(
-        rt: &R,
-        alloc: Global,
-        number: u64,
-        beginning: Beginning,
-    ) -> Result<(), Fail> {
-        P::grow(rt, alloc, K::make(alloc, number, beginning))
+    fn run<K: Kind<T>>(rt: &R, alloc: Global, number: u64, beginning: Beginning) {
+        P::grow(rt, alloc, K::make(alloc, number, beginning));
     }
 }
 
 /// Hands an empty store over.
-pub(crate) fn grow<T: Drop, P: Growth<T>, R: Files + AllocGlobal + Abort>(
-    rt: &R,
-    alloc: Global,
-) -> Result<(), Fail> {
-    run_over::<T, R, Grown<P>>(rt, alloc, 7, Beginning::First)
+pub(crate) fn grow<T: Drop, P: Growth<T>, R: Files + AllocGlobal + Abort>(rt: &R, alloc: Global) {
+    run_over::<T, R, Grown<P>>(rt, alloc, 7, Beginning::First);
 }
 
 /// Makes a hundred boxes by nobody.
@@ -108,24 +94,23 @@ impl Growth<u32> for Leaks {
         rt: &R,
         _: Global,
         mut store: S,
-    ) -> Result<(), Fail> {
-        let mut gauge = Gauge::new(rt)?;
+    ) {
+        let mut gauge = Gauge::new(rt);
         leak(rt, &mut store, 0, made());
-        gauge.look(rt)?;
+        gauge.look(rt);
         gauge.assert_grew(rt, 1_000);
         for _ in 0..1_000 {
             make(rt, &mut store);
-            gauge.look(rt)?;
+            gauge.look(rt);
         }
         gauge.assert_grew(rt, 10_000);
-        Ok(())
     }
 }
 
 // A hundred thousand slots.
 #[test]
-fn slots(rt: HostRuntime) -> Result<(), Fail> {
-    grow::<u32, Leaks, _>(&rt, rt.alloc())
+fn slots(rt: HostRuntime) {
+    grow::<u32, Leaks, _>(&rt, rt.alloc());
 }
 
 /// Makes a shared value and a hundred references to it.
@@ -144,21 +129,20 @@ impl Growth<u32> for Shares {
         rt: &R,
         _: Global,
         mut store: S,
-    ) -> Result<(), Fail> {
-        let mut gauge = Gauge::new(rt)?;
+    ) {
+        let mut gauge = Gauge::new(rt);
         for _ in 0..1_000 {
             share(rt, &mut store);
-            gauge.look(rt)?;
+            gauge.look(rt);
         }
         gauge.assert_grew(rt, 10_000);
-        Ok(())
     }
 }
 
 // A hundred thousand references and a thousand shared values.
 #[test]
-fn references(rt: HostRuntime) -> Result<(), Fail> {
-    grow::<u32, Shares, _>(&rt, rt.alloc())
+fn references(rt: HostRuntime) {
+    grow::<u32, Shares, _>(&rt, rt.alloc());
 }
 
 /// Makes a hundred boxes by an owner.
@@ -174,12 +158,11 @@ fn make_all_by<R: Files + AllocGlobal + Abort, S: Storage<u32>>(
     store: &mut S,
     owner: &Owner,
     gauge: &mut Gauge,
-) -> Result<(), Fail> {
+) {
     for _ in 0..1_000 {
         make_by(rt, store, owner);
-        gauge.look(rt)?;
+        gauge.look(rt);
     }
-    Ok(())
 }
 
 /// Makes boxes by an owner that is leaked in the end.
@@ -190,27 +173,25 @@ impl Growth<u32> for Owns {
         rt: &R,
         _: Global,
         mut store: S,
-    ) -> Result<(), Fail> {
-        let mut gauge = Gauge::new(rt)?;
+    ) {
+        let mut gauge = Gauge::new(rt);
         let owner = new_owner(rt, &mut store);
-        let looked = make_all_by(rt, &mut store, &owner, &mut gauge);
+        make_all_by(rt, &mut store, &owner, &mut gauge);
         owner.leak();
-        looked?;
         gauge.assert_grew(rt, 12_000);
-        Ok(())
     }
 }
 
 // A hundred thousand boxes of one owner.
 #[test]
-fn an_owners_list(rt: HostRuntime) -> Result<(), Fail> {
-    grow::<u32, Owns, _>(&rt, rt.alloc())
+fn an_owners_list(rt: HostRuntime) {
+    grow::<u32, Owns, _>(&rt, rt.alloc());
 }
 
 /// Makes a hundred calls of a session that take no slot.
 fn ask<S: Storage<u32>>(rt: &impl Abort, session: &mut Session<u32, S>) {
     for _ in 0..100 {
-        let _reply = call(rt, session, Call::Id(BoxAt::Place(0)));
+        assert_told(rt, session, Call::Id(BoxAt::Place(0)), told::OTHER);
     }
 }
 
@@ -219,13 +200,12 @@ fn ask_all<R: Files + AllocGlobal + Abort, S: Storage<u32>>(
     rt: &R,
     session: &mut Session<u32, S>,
     gauge: &mut Gauge,
-) -> Result<(), Fail> {
-    let _reply = call(rt, session, Call::Leak(1, made()));
+) {
+    assert_told(rt, session, Call::Leak(1, made()), told::BOX);
     for _ in 0..1_000 {
         ask(rt, session);
-        gauge.look(rt)?;
+        gauge.look(rt);
     }
-    Ok(())
 }
 
 /// Makes calls of a session over a store, and ends it.
@@ -236,19 +216,17 @@ impl Growth<u32> for Calls {
         rt: &R,
         alloc: Global,
         store: S,
-    ) -> Result<(), Fail> {
-        let mut gauge = Gauge::new(rt)?;
+    ) {
+        let mut gauge = Gauge::new(rt);
         let mut session = session_over(rt, alloc, store);
-        let looked = ask_all(rt, &mut session, &mut gauge);
+        ask_all(rt, &mut session, &mut gauge);
         let _store = session.finish();
-        looked?;
         gauge.assert_grew(rt, 8_000);
-        Ok(())
     }
 }
 
 // A hundred thousand places of a session.
 #[test]
-fn places(rt: HostRuntime) -> Result<(), Fail> {
-    grow::<u32, Calls, _>(&rt, rt.alloc())
+fn places(rt: HostRuntime) {
+    grow::<u32, Calls, _>(&rt, rt.alloc());
 }

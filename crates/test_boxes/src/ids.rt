@@ -54,6 +54,7 @@ fn assert_slot<S: Storage<u32>>(
     assert_same(rt, &store.data_ptr(given.pointer()), &slot);
 }
 
+/// Two owners use one slot, one after the other.
 struct BoxesOneAfterTheOther;
 
 impl Scenario<u32> for BoxesOneAfterTheOther {
@@ -74,12 +75,7 @@ impl Scenario<u32> for BoxesOneAfterTheOther {
     }
 }
 
-// Two owners use one slot, one after the other.
-#[test]
-fn boxes_of_one_slot(rt: HostRuntime) {
-    play::<u32, BoxesOneAfterTheOther>(&rt, rt.alloc());
-}
-
+/// Slots are told by their numbers.
 struct BoxesBesideAnotherStore;
 
 impl TwoStoreScenario<u32> for BoxesBesideAnotherStore {
@@ -93,9 +89,9 @@ impl TwoStoreScenario<u32> for BoxesBesideAnotherStore {
     }
 }
 
-// Slots are told by their numbers.
 #[test]
-fn boxes_of_several_slots(rt: HostRuntime) {
+fn boxes_of_one_slot_and_of_several(rt: HostRuntime) {
+    play::<u32, BoxesOneAfterTheOther>(&rt, rt.alloc());
     play_in_two_stores::<u32, BoxesBesideAnotherStore>(&rt, rt.alloc());
 }
 
@@ -199,11 +195,7 @@ impl TwoStoreScenario<u32> for BoxesFoundByTheirIds {
     }
 }
 
-#[test]
-fn boxes_found_by_their_ids(rt: HostRuntime) {
-    play_in_two_stores::<u32, BoxesFoundByTheirIds>(&rt, rt.alloc());
-}
-
+/// Boxes are kept apart by their whole ids, and a copy is the same.
 struct BoxesInASet;
 
 impl TwoStoreScenario<u32> for BoxesInASet {
@@ -222,12 +214,7 @@ impl TwoStoreScenario<u32> for BoxesInASet {
     }
 }
 
-// Boxes are kept apart by their whole ids, and a copy is the same.
-#[test]
-fn boxes_in_a_set(rt: HostRuntime) {
-    play_in_two_stores::<u32, BoxesInASet>(&rt, rt.alloc());
-}
-
+/// By the store, then by the slot, then by the generation.
 struct IdsInOrder;
 
 impl TwoStoreScenario<u32> for IdsInOrder {
@@ -246,10 +233,16 @@ impl TwoStoreScenario<u32> for IdsInOrder {
     }
 }
 
-// By the store, then by the slot, then by the generation.
 #[test]
-fn ids_in_order(rt: HostRuntime) {
+fn boxes_found_by_their_ids_and_kept_by_them(rt: HostRuntime) {
+    play_in_two_stores::<u32, BoxesFoundByTheirIds>(&rt, rt.alloc());
+    play_in_two_stores::<u32, BoxesInASet>(&rt, rt.alloc());
     play_in_two_stores::<u32, IdsInOrder>(&rt, rt.alloc());
+}
+
+/// Asserts how many cells are live.
+fn assert_live<S: Storage<u32>>(rt: &impl Abort, store: &S, count: usize) {
+    assert_same(rt, &store.len(), &count);
 }
 
 struct LiveCells;
@@ -257,15 +250,15 @@ struct LiveCells;
 impl Scenario<u32> for LiveCells {
     fn play<R: Abort, S: Storage<u32>>(rt: &R, _: Global, store: &mut S) {
         let value = leak(rt, store, 1, made());
-        assert_same(rt, &store.len(), &1);
+        assert_live(rt, store, 1);
         let first = leak_rc(rt, store, 2, made());
-        assert_same(rt, &store.len(), &3);
+        assert_live(rt, store, 3);
         let second = leak_reference(rt, store, first);
-        assert_same(rt, &store.len(), &4);
+        assert_live(rt, store, 4);
         end(rt, store, first);
-        assert_same(rt, &store.len(), &3);
+        assert_live(rt, store, 3);
         end(rt, store, second);
-        assert_same(rt, &store.len(), &1);
+        assert_live(rt, store, 1);
         end(rt, store, value);
         assert_same(rt, &(store.len(), store.free()), &(0, 4));
     }

@@ -2,7 +2,7 @@
 //! it goes over the names a few times and over no name again for another's sake.
 
 use crate::expected::{
-    assert_kept, assert_reads, assert_released, assert_unread, begin, borrowed, dropped, insert,
+    assert_kept_by_reader, assert_reads, assert_released, assert_unread, begin, dropped, insert,
     made, made_later, new_owner, read, release, written,
 };
 use crate::fresh::{Scenario, play};
@@ -23,6 +23,8 @@ fn insert_references<S: Storage<u32>>(
     }
 }
 
+/// A value outside keeps the target of all: its reader is in nobody's way, and that of the last name
+/// is told, twice.
 struct ATargetThatLivesOn;
 
 impl Scenario<u32> for ATargetThatLivesOn {
@@ -34,8 +36,8 @@ impl Scenario<u32> for ATargetThatLivesOn {
         let of_all = begin(rt, store, shared, read());
         let of_last = begin(rt, store, last, written());
 
-        let owner = assert_kept(rt, store, owner, borrowed(rt, alloc, &[written()]));
-        let owner = assert_kept(rt, store, owner, borrowed(rt, alloc, &[written()]));
+        let owner = assert_kept_by_reader(rt, alloc, store, owner, written());
+        let owner = assert_kept_by_reader(rt, alloc, store, owner, written());
         assert_released(rt, store, of_last, true);
         release(rt, store, owner);
         assert_unread(rt, store, last, dropped(made_later()));
@@ -44,13 +46,7 @@ impl Scenario<u32> for ATargetThatLivesOn {
     }
 }
 
-// A value outside keeps the target of all: its reader is in nobody's way, and that of the last name
-// is told, twice.
-#[test]
-fn one_borrowed_target_lives_on(rt: HostRuntime) {
-    play::<u32, ATargetThatLivesOn>(&rt, rt.alloc());
-}
-
+/// All references to the target are on the list: its reader is told, as that of the first name.
 struct ATargetThatGoes;
 
 impl Scenario<u32> for ATargetThatGoes {
@@ -62,17 +58,17 @@ impl Scenario<u32> for ATargetThatGoes {
         let of_last = begin(rt, store, last, written());
         let of_all = begin(rt, store, shared, read());
 
-        let owner = assert_kept(rt, store, owner, borrowed(rt, alloc, &[read()]));
+        let owner = assert_kept_by_reader(rt, alloc, store, owner, read());
         assert_released(rt, store, of_all, true);
-        let owner = assert_kept(rt, store, owner, borrowed(rt, alloc, &[written()]));
+        let owner = assert_kept_by_reader(rt, alloc, store, owner, written());
         assert_released(rt, store, of_last, true);
         release(rt, store, owner);
         assert_unread(rt, store, shared, dropped(made()));
     }
 }
 
-// All references to the target are on the list: its reader is told, as that of the first name.
 #[test]
-fn one_borrowed_target_goes(rt: HostRuntime) {
+fn one_borrowed_target_lives_on_or_goes(rt: HostRuntime) {
+    play::<u32, ATargetThatLivesOn>(&rt, rt.alloc());
     play::<u32, ATargetThatGoes>(&rt, rt.alloc());
 }

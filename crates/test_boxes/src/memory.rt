@@ -1,7 +1,9 @@
 //! Want of memory. Each test passes whichever one allocation is refused: `rt try --test
 //! --fail-alloc N` refuses the Nth of each test. What may lack memory is tried a second time.
 
-use crate::again::{begin_or_again, insert_or_again, leak_or_again, owner_or_again, readers};
+use crate::again::{
+    assert_borrowed, begin_or_again, insert_or_again, leak_or_again, owner_or_again, readers,
+};
 use crate::expected::{
     assert_opens, assert_reads, assert_released, assert_same, assert_unread, begin, counts_of,
     dropped, end, given, leak, made, made_later, read, release,
@@ -41,21 +43,6 @@ fn assert_kept_by<S: AnyStorage<u32>>(
     back
 }
 
-/// Asserts that an end is refused, with these readers.
-fn assert_borrowed<S: Storage<u32>>(
-    rt: &impl Abort,
-    alloc: Global,
-    store: &mut S,
-    asked: GenerationalBox<u32>,
-    began: &[Location],
-) {
-    let refusal = match asked.manually_drop(store) {
-        Err(Refused::Store(StoreError::OutOfMemory)) => asked.manually_drop(store),
-        answer => answer,
-    };
-    assert_same(rt, &refusal, &Err(readers(rt, alloc, began)));
-}
-
 /// Begins a read beside another, if there is memory. One that lacks it changes nothing.
 fn begin_if_memory<S: Storage<u32>>(
     rt: &impl Abort,
@@ -72,6 +59,7 @@ fn begin_if_memory<S: Storage<u32>>(
     }
 }
 
+/// Only a making with no slot free may lack memory.
 struct Slots;
 
 impl Scenario<u32> for Slots {
@@ -86,12 +74,8 @@ impl Scenario<u32> for Slots {
     }
 }
 
-// Only a making with no slot free may lack memory.
-#[test]
-fn for_a_new_slot(rt: HostRuntime) {
-    play::<u32, Slots>(&rt, rt.alloc());
-}
-
+/// A cell's first reader takes no memory. One that lacks it beside others leaves those as they
+/// were, and the store goes on once there is memory.
 struct ReadersBesideOthers;
 
 impl Scenario<u32> for ReadersBesideOthers {
@@ -113,13 +97,13 @@ impl Scenario<u32> for ReadersBesideOthers {
     }
 }
 
-// A cell's first reader takes no memory. One that lacks it beside others leaves those as they
-// were, and the store goes on once there is memory.
 #[test]
-fn for_a_reader_beside_others(rt: HostRuntime) {
+fn for_slots_and_readers(rt: HostRuntime) {
+    play::<u32, Slots>(&rt, rt.alloc());
     play::<u32, ReadersBesideOthers>(&rt, rt.alloc());
 }
 
+/// The records of owners take memory. A refused owner took no ticket.
 struct Owners;
 
 impl Scenario<u32> for Owners {
@@ -130,12 +114,6 @@ impl Scenario<u32> for Owners {
             owner.leak();
         }
     }
-}
-
-// The records of owners take memory. A refused owner took no ticket.
-#[test]
-fn for_owners(rt: HostRuntime) {
-    play::<u32, Owners>(&rt, rt.alloc());
 }
 
 /// The owner that comes back while the later of two boxes is read, and then the earlier one, too.
@@ -156,6 +134,9 @@ fn assert_told_of_earlier<S: Storage<u32>>(
     owner
 }
 
+/// A making by an owner may lack memory for the owner's list also where a slot is free, as at the
+/// first box here. Each box stands in the list after the one before it: where both are read, the
+/// earlier one is told of.
 struct BoxesOfAnOwner;
 
 impl Scenario<u32> for BoxesOfAnOwner {
@@ -174,14 +155,7 @@ impl Scenario<u32> for BoxesOfAnOwner {
     }
 }
 
-// A making by an owner may lack memory for the owner's list also where a slot is free, as at the
-// first box here. Each box stands in the list after the one before it: where both are read, the
-// earlier one is told of.
-#[test]
-fn for_the_boxes_of_an_owner(rt: HostRuntime) {
-    play::<u32, BoxesOfAnOwner>(&rt, rt.alloc());
-}
-
+/// A release that lacks memory to tell of two readers hands the owner back, and the readers go on.
 struct ReadersOfAnOwnersBox;
 
 impl Scenario<u32> for ReadersOfAnOwnersBox {
@@ -200,9 +174,10 @@ impl Scenario<u32> for ReadersOfAnOwnersBox {
     }
 }
 
-// A release that lacks memory to tell of two readers hands the owner back, and the readers go on.
 #[test]
-fn for_the_readers_of_an_owners_box(rt: HostRuntime) {
+fn for_owners_and_their_boxes(rt: HostRuntime) {
+    play::<u32, Owners>(&rt, rt.alloc());
+    play::<u32, BoxesOfAnOwner>(&rt, rt.alloc());
     play::<u32, ReadersOfAnOwnersBox>(&rt, rt.alloc());
 }
 
@@ -237,22 +212,28 @@ fn run_or_again<S: Storage<u32>>(
 fn assert_two_replies<S: Storage<u32>>(
     rt: &impl Abort,
     session: &Session<u32, S>,
-    replies: Vec<Reply<u32>>,
+    replies: &[Reply<u32>],
 ) {
-    assert_eq!(rt; replies.len(), 2);
-    match (&replies[0], &replies[1]) {
-        (Reply::Box(_), Reply::Reader) => assert_same(rt, &session.view(1).copied(), &Some(5)),
-        (Reply::Back(5, StoreError::OutOfMemory), Reply::NoSuch(None)) => {}
+    match replies {
+        [Reply::Box(_), Reply::Reader] => assert_same(rt, &session.view(1).copied(), &Some(5)),
+        [Reply::Back(5, StoreError::OutOfMemory), Reply::NoSuch(None)] => {}
         _ => assert!(rt; false, "other replies"),
+    }
+}
+
+/// Whether a call was given a box, or hands itself or its value back.
+fn is_made_or_back(answer: &Result<Reply<u32>, Call<u32>>) -> bool {
+    match answer {
+        Ok(Reply::Box(_) | Reply::Back(6, StoreError::OutOfMemory)) => true,
+        Err(Call::Leak(6, _)) => true,
+        _ => false,
     }
 }
 
 /// Makes a box by a call. Where memory lacks, the call or its value comes back.
 fn assert_called<S: Storage<u32>>(rt: &impl Abort, session: &mut Session<u32, S>) {
-    match session.call(Call::Leak(6, made())) {
-        Ok(Reply::Box(_) | Reply::Back(6, StoreError::OutOfMemory)) | Err(Call::Leak(6, _)) => {}
-        _ => assert!(rt; false, "another reply"),
-    }
+    let answer = session.call(Call::Leak(6, made()));
+    assert_same(rt, &is_made_or_back(&answer), &true);
 }
 
 struct Places;
@@ -261,7 +242,7 @@ impl SessionScenario for Places {
     fn play<R: Abort, S: Storage<u32>>(rt: &R, alloc: Global, session: &mut Session<u32, S>) {
         let calls = two_calls(rt, alloc);
         let replies = run_or_again(rt, session, calls);
-        assert_two_replies(rt, session, replies);
+        assert_two_replies(rt, session, &replies);
         assert_called(rt, session);
     }
 }
@@ -280,7 +261,7 @@ fn reserve_or_again<K: Kind<u32>>(rt: &impl Abort, store: &mut K::Made, more: us
             return;
         }
     }
-    assert!(rt; K::reserve(store, more).is_ok());
+    given(rt, K::reserve(store, more));
 }
 
 /// Values, shared values and references that take forty cells.

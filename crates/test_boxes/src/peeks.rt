@@ -1,7 +1,7 @@
 //! What a box shows in passing, while its value is read, and while it is written.
 
 use crate::expected::{
-    assert_released, assert_same, begin, begin_write, leak, made, read, written,
+    assert_released, assert_same, begin, begin_write, given, leak, made, read, written,
 };
 use crate::fresh::{Scenario, play};
 use crate::sharing::{leak_rc, leak_reference};
@@ -36,7 +36,7 @@ fn look_beside_borrows<S: Storage<u32>>(
     assert_released(rt, store, second, true);
     let writer = begin_write(rt, store, lent, written());
     assert_peeks(rt, store, looking, None);
-    assert!(rt; writer.release(store).is_ok());
+    given(rt, writer.release(store));
     assert_peeks(rt, store, looking, Some(5));
 }
 

@@ -2,10 +2,10 @@
 
 use crate::expected::{
     assert_reads, assert_same, assert_unread, dropped, end, given, insert, leak, made, made_later,
-    new_owner, read, release, written,
+    new_owner, push, read, release, written,
 };
 use crate::fresh::{Scenario, SessionScenario, play, play_at_last_generation, play_in_session};
-use crate::sessions::{Told, assert_told};
+use crate::sessions::{assert_told, told};
 use crate::sharing::{insert_rc, insert_reference, leak_rc, leak_reference, point};
 use generational_box::{AnyStorage, BoxAt, Call, Reply, Session, Storage};
 use std::alloc::Global;
@@ -44,12 +44,6 @@ impl Scenario<u32> for OwnersOfAStore {
     }
 }
 
-#[test]
-fn slots_and_owners(rt: HostRuntime) {
-    play::<u32, BoxesOfAStore>(&rt, rt.alloc());
-    play::<u32, OwnersOfAStore>(&rt, rt.alloc());
-}
-
 struct SharedValuesOfAStore;
 
 impl Scenario<u32> for SharedValuesOfAStore {
@@ -70,36 +64,31 @@ impl Scenario<u32> for SharedValuesOfAStore {
     }
 }
 
-#[test]
-fn shared_values_and_references(rt: HostRuntime) {
-    play::<u32, SharedValuesOfAStore>(&rt, rt.alloc());
-}
-
 /// Makes boxes by the owner at place 0.
 fn inserts<S: Storage<u32>>(rt: &impl Abort, session: &mut Session<u32, S>, count: u32) {
     for value in 0..count {
-        assert_told(rt, session, Call::Insert(0, value, made()), Told::Box);
+        assert_told(rt, session, Call::Insert(0, value, made()), told::BOX);
     }
 }
 
 /// Makes boxes by nobody.
 fn leaks<S: Storage<u32>>(rt: &impl Abort, session: &mut Session<u32, S>, count: u32) {
     for value in 0..count {
-        assert_told(rt, session, Call::Leak(value, made()), Told::Box);
+        assert_told(rt, session, Call::Leak(value, made()), told::BOX);
     }
 }
 
 /// Shares values with the owner at place 0, and with nobody. The first value has place 1.
 fn shares<S: Storage<u32>>(rt: &impl Abort, session: &mut Session<u32, S>, count: u32) {
     for value in 0..count {
-        assert_told(rt, session, Call::InsertRc(0, value, made()), Told::Box);
+        assert_told(rt, session, Call::InsertRc(0, value, made()), told::BOX);
         let listed = Call::InsertReference(0, BoxAt::Place(1));
-        assert_told(rt, session, listed, Told::Box);
-        assert_told(rt, session, Call::LeakRc(value, made()), Told::Box);
+        assert_told(rt, session, listed, told::BOX);
+        assert_told(rt, session, Call::LeakRc(value, made()), told::BOX);
         let referred = Call::LeakReference(BoxAt::Place(1));
-        assert_told(rt, session, referred, Told::Box);
+        assert_told(rt, session, referred, told::BOX);
         let pointed = Call::PointTo(BoxAt::Place(3), BoxAt::Place(1));
-        assert_told(rt, session, pointed, Told::Done);
+        assert_told(rt, session, pointed, told::DONE);
     }
 }
 
@@ -107,7 +96,7 @@ fn shares<S: Storage<u32>>(rt: &impl Abort, session: &mut Session<u32, S>, count
 fn reads<S: Storage<u32>>(rt: &impl Abort, session: &mut Session<u32, S>, count: u32) {
     for _ in 0..count {
         let asked = Call::TryRead(BoxAt::Place(1), read());
-        assert_told(rt, session, asked, Told::Reader);
+        assert_told(rt, session, asked, told::READER);
     }
 }
 
@@ -115,7 +104,7 @@ fn reads<S: Storage<u32>>(rt: &impl Abort, session: &mut Session<u32, S>, count:
 fn makings(rt: &impl Abort, alloc: Global, count: u32) -> Vec<Call<u32>> {
     let mut calls = Vec::new(alloc);
     for value in 0..count {
-        calls.push(Call::Leak(value, made())).expect(rt, "memory");
+        push(rt, &mut calls, Call::Leak(value, made()));
     }
     calls
 }
@@ -129,52 +118,49 @@ fn run<S: Storage<u32>>(
 ) {
     let replies = given(rt, session.run(calls));
     assert_same(rt, &replies.len(), &count);
-    for reply in replies {
-        assert!(rt; matches!(&reply, Reply::Box(_)));
+    for reply in &replies {
+        assert!(rt; matches!(reply, Reply::Box(_)));
     }
 }
 
+/// Two thousand boxes of an owner, a hundred readers, six thousand calls and a list of two hundred.
 struct CallsOfASession;
 
 impl SessionScenario for CallsOfASession {
     fn play<R: Abort, S: Storage<u32>>(rt: &R, alloc: Global, session: &mut Session<u32, S>) {
-        assert_told(rt, session, Call::Owner, Told::Owner);
+        assert_told(rt, session, Call::Owner, told::OWNER);
         inserts(rt, session, 2_000);
         reads(rt, session, 100);
         let end = Call::ManuallyDrop(BoxAt::Place(1));
-        assert_told(rt, session, end, Told::Error);
+        assert_told(rt, session, end, told::ERROR);
         let write = Call::TryWrite(BoxAt::Place(1), written());
-        assert_told(rt, session, write, Told::Error);
-        assert_told(rt, session, Call::ReleaseOwner(0), Told::Error);
+        assert_told(rt, session, write, told::ERROR);
+        assert_told(rt, session, Call::ReleaseOwner(0), told::ERROR);
         leaks(rt, session, 4_000);
         run(rt, session, makings(rt, alloc, 200), 200);
         reads(rt, session, 1);
     }
 }
 
-// Two thousand boxes of an owner, a hundred readers, six thousand calls and a list of two hundred.
-#[test]
-fn places_and_readers(rt: HostRuntime) {
-    play_in_session::<CallsOfASession>(&rt, rt.alloc());
-}
-
+/// Two thousand shared values of an owner, as many of nobody, and six thousand references.
 struct SharedValuesOfASession;
 
 impl SessionScenario for SharedValuesOfASession {
     fn play<R: Abort, S: Storage<u32>>(rt: &R, _: Global, session: &mut Session<u32, S>) {
-        assert_told(rt, session, Call::Owner, Told::Owner);
+        assert_told(rt, session, Call::Owner, told::OWNER);
         shares(rt, session, 2_000);
         reads(rt, session, 100);
-        assert_told(rt, session, Call::ReleaseOwner(0), Told::Done);
+        assert_told(rt, session, Call::ReleaseOwner(0), told::DONE);
     }
 }
 
-// Two thousand shared values of an owner, as many of nobody, and six thousand references.
 #[test]
-fn places_and_references(rt: HostRuntime) {
+fn places_of_a_session(rt: HostRuntime) {
+    play_in_session::<CallsOfASession>(&rt, rt.alloc());
     play_in_session::<SharedValuesOfASession>(&rt, rt.alloc());
 }
 
+/// A slot that has retired hinders nothing.
 struct RetiredSlot;
 
 impl Scenario<u32> for RetiredSlot {
@@ -187,8 +173,10 @@ impl Scenario<u32> for RetiredSlot {
     }
 }
 
-// A slot that has retired hinders nothing.
 #[test]
-fn after_a_slot_has_retired(rt: HostRuntime) {
+fn cells_and_owners_of_a_store(rt: HostRuntime) {
+    play::<u32, BoxesOfAStore>(&rt, rt.alloc());
+    play::<u32, OwnersOfAStore>(&rt, rt.alloc());
+    play::<u32, SharedValuesOfAStore>(&rt, rt.alloc());
     play_at_last_generation::<u32, RetiredSlot>(&rt, rt.alloc());
 }

@@ -1,8 +1,8 @@
 //! A hundred thousand rounds of calls: the memory that the first hundred take is enough for all.
 
 use crate::expected::{
-    assert_kept, assert_released, begin, begin_write, borrowed, end, insert, leak, made,
-    made_later, new_owner, read, release, written,
+    assert_kept, assert_released, assert_stays, begin, begin_write, borrowed, end, given, insert,
+    leak, made, made_later, new_owner, push, read, release, written,
 };
 use crate::fresh::{Life, LifeOfTwo, live, live_in_two_stores};
 use crate::growth::{Gauge, Growth, grow};
@@ -12,7 +12,6 @@ use generational_box::{BoxAt, Call, GenerationalBox, GenerationalRef, Storage};
 use std::alloc::Global;
 use std::process::Abort;
 use std::rt::Files;
-use std::test::Fail;
 
 /// What is done in each round.
 trait Round {
@@ -21,21 +20,16 @@ trait Round {
 
 /// Plays rounds, and asserts that the process has no more memory after them all than after a
 /// hundred, but for a few pages.
-fn assert_steady<R: Files + AllocGlobal + Abort, P: Round>(
-    rt: &R,
-    alloc: Global,
-    played: &mut P,
-) -> Result<(), Fail> {
+fn assert_steady<R: Files + AllocGlobal + Abort, P: Round>(rt: &R, alloc: Global, played: &mut P) {
     for _ in 0..100 {
         played.play(rt, alloc);
     }
-    let mut gauge = Gauge::new(rt)?;
+    let mut gauge = Gauge::new(rt);
     for _ in 0..100_000 {
         played.play(rt, alloc);
     }
-    gauge.look(rt)?;
+    gauge.look(rt);
     gauge.assert_grew(rt, 64);
-    Ok(())
 }
 
 /// A text of its own.
@@ -70,7 +64,7 @@ fn read_thrice<S: Storage<String>>(
     let second = begin(rt, store, asked, made());
     let third = begin(rt, store, asked, made_later());
     let refusal = borrowed(rt, alloc, &[read(), made(), made_later()]);
-    assert!(rt; asked.manually_drop(store) == Err(refusal));
+    assert_stays(rt, store, asked, refusal);
     (first, second, third)
 }
 
@@ -83,7 +77,7 @@ fn write_and_set<S: Storage<String>>(
 ) {
     let mut guard = begin_write(rt, store, asked, written());
     let _old = guard.replace(text(rt, alloc));
-    assert!(rt; guard.release(store).is_ok());
+    given(rt, guard.release(store));
     if asked.can_write(store) {
         asked.set(store, text(rt, alloc));
     }
@@ -136,8 +130,8 @@ impl Growth<String> for InOneStore {
         rt: &R,
         alloc: Global,
         store: S,
-    ) -> Result<(), Fail> {
-        assert_steady(rt, alloc, &mut OneStore { store })
+    ) {
+        assert_steady(rt, alloc, &mut OneStore { store });
     }
 }
 
@@ -203,7 +197,7 @@ fn calls(rt: &impl Abort, alloc: Global) -> Vec<Call<String>> {
     let mut calls = Vec::new(alloc);
     for place in 0..13 {
         let asked = call_at(place, text(rt, alloc));
-        assert!(rt; calls.push(asked).is_ok());
+        push(rt, &mut calls, asked);
     }
     calls
 }
@@ -233,9 +227,9 @@ impl Round for NewSessions {
 
 // Values, owners, readers and references in one store; stores; sessions and lists of calls.
 #[test]
-fn memory_is_given_back(rt: HostRuntime) -> Result<(), Fail> {
+fn memory_is_given_back(rt: HostRuntime) {
     let alloc = rt.alloc();
-    grow::<String, InOneStore, _>(&rt, alloc)?;
-    assert_steady(&rt, alloc, &mut NewStores)?;
-    assert_steady(&rt, alloc, &mut NewSessions)
+    grow::<String, InOneStore, _>(&rt, alloc);
+    assert_steady(&rt, alloc, &mut NewStores);
+    assert_steady(&rt, alloc, &mut NewSessions);
 }

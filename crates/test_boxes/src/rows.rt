@@ -1,7 +1,8 @@
 //! The rows of a store: of slots, cells, borrows and owners' records.
 
 use crate::expected::{
-    begin, begin_write, end, insert, leak, made, made_later, new_owner, read, release, written,
+    assert_released, begin, begin_write, end, given, insert, leak, made, made_later, new_owner,
+    read, release, written,
 };
 use crate::fresh::{Scenario, play};
 use crate::sharing::{insert_reference, leak_rc};
@@ -59,16 +60,11 @@ impl Scenario<u32> for RowsOfEachKind {
             BaseRow::Owned(0, second.id()),
         ];
         assert_rows(rt, store, rows.as_slice());
-        assert!(rt; writer.release(store).is_ok());
-        assert!(rt; reader.release(store));
-        assert!(rt; beside.release(store));
+        given(rt, writer.release(store));
+        assert_released(rt, store, reader, true);
+        assert_released(rt, store, beside, true);
         release(rt, store, owner);
     }
-}
-
-#[test]
-fn rows_of_each_kind(rt: HostRuntime) {
-    play::<u32, RowsOfEachKind>(&rt, rt.alloc());
 }
 
 /// A record that came later stands where one was released, and its rows come last.
@@ -91,6 +87,7 @@ impl Scenario<u32> for RecordsInOrder {
 }
 
 #[test]
-fn records_in_order(rt: HostRuntime) {
+fn rows_of_each_kind_and_their_order(rt: HostRuntime) {
+    play::<u32, RowsOfEachKind>(&rt, rt.alloc());
     play::<u32, RecordsInOrder>(&rt, rt.alloc());
 }

@@ -1,10 +1,10 @@
 //! Want of memory where values are shared. Each test passes whichever one allocation is refused,
 //! and what may lack memory is tried a second time.
 
-use crate::again::{begin_or_again, owner_or_again, readers};
+use crate::again::{assert_held, begin_or_again, owner_or_again};
 use crate::expected::{
     assert_opens, assert_reads, assert_released, assert_same, assert_unread, begin, counts_of,
-    dropped, end, leak, made, made_later, release,
+    dropped, end, given, leak, made, made_later, release,
 };
 use crate::fresh::{Scenario, SessionScenario, play, play_in_session};
 use crate::sharing::{insert_rc, insert_reference, leak_rc, leak_reference, point};
@@ -95,21 +95,7 @@ fn insert_reference_or_again<S: Storage<u32>>(
     }
 }
 
-/// Asserts that a box isn't pointed at another while these readers stand.
-fn assert_held<S: Storage<u32>>(
-    rt: &impl Abort,
-    alloc: Global,
-    store: &mut S,
-    [from, to]: [GenerationalBox<u32>; 2],
-    began: &[Location],
-) {
-    let refusal = match from.point_to(store, to) {
-        Err(Refused::Store(StoreError::OutOfMemory)) => from.point_to(store, to),
-        answer => answer,
-    };
-    assert_same(rt, &refusal, &Err(readers(rt, alloc, began)));
-}
-
+/// Only a making with fewer than two slots free may lack memory.
 struct SharedValues;
 
 impl Scenario<u32> for SharedValues {
@@ -124,12 +110,7 @@ impl Scenario<u32> for SharedValues {
     }
 }
 
-// Only a making with fewer than two slots free may lack memory.
-#[test]
-fn for_two_new_slots(rt: HostRuntime) {
-    play::<u32, SharedValues>(&rt, rt.alloc());
-}
-
+/// A making that finds one slot free leaves it free where it lacks memory for the other.
 struct ValuesBesideOneFreeSlot;
 
 impl Scenario<u32> for ValuesBesideOneFreeSlot {
@@ -145,12 +126,13 @@ impl Scenario<u32> for ValuesBesideOneFreeSlot {
     }
 }
 
-// A making that finds one slot free leaves it free where it lacks memory for the other.
 #[test]
-fn for_one_new_slot_beside_a_free_one(rt: HostRuntime) {
+fn for_two_new_slots_and_for_one(rt: HostRuntime) {
+    play::<u32, SharedValues>(&rt, rt.alloc());
     play::<u32, ValuesBesideOneFreeSlot>(&rt, rt.alloc());
 }
 
+/// A reference lacks memory only where no slot is free.
 struct References;
 
 impl Scenario<u32> for References {
@@ -165,12 +147,8 @@ impl Scenario<u32> for References {
     }
 }
 
-// A reference lacks memory only where no slot is free.
-#[test]
-fn for_a_reference(rt: HostRuntime) {
-    play::<u32, References>(&rt, rt.alloc());
-}
-
+/// An owner's makings may lack memory for slots and for the owner's list. What is refused leaves no
+/// name in the list.
 struct NamesOfAnOwner;
 
 impl Scenario<u32> for NamesOfAnOwner {
@@ -187,13 +165,8 @@ impl Scenario<u32> for NamesOfAnOwner {
     }
 }
 
-// An owner's makings may lack memory for slots and for the owner's list. What is refused leaves no
-// name in the list.
-#[test]
-fn for_the_references_of_an_owner(rt: HostRuntime) {
-    play::<u32, NamesOfAnOwner>(&rt, rt.alloc());
-}
-
+/// To point a reference elsewhere takes memory only to tell of readers, and what lacks it leaves the
+/// reference where it was.
 struct ReadersOfTheOldValue;
 
 impl Scenario<u32> for ReadersOfTheOldValue {
@@ -212,28 +185,42 @@ impl Scenario<u32> for ReadersOfTheOldValue {
     }
 }
 
-// To point a reference elsewhere takes memory only to tell of readers, and what lacks it leaves the
-// reference where it was.
 #[test]
-fn for_the_readers_of_an_old_value(rt: HostRuntime) {
+fn for_references_and_their_readers(rt: HostRuntime) {
+    play::<u32, References>(&rt, rt.alloc());
+    play::<u32, NamesOfAnOwner>(&rt, rt.alloc());
     play::<u32, ReadersOfTheOldValue>(&rt, rt.alloc());
+}
+
+/// Whether a call was given a box, or hands itself or its value back.
+fn is_shared_or_back(answer: &Result<Reply<u32>, Call<u32>>) -> bool {
+    match answer {
+        Ok(Reply::Box(_) | Reply::Back(6, StoreError::OutOfMemory)) => true,
+        Err(Call::LeakRc(6, _)) => true,
+        _ => false,
+    }
 }
 
 /// Makes a shared value by a call. Where memory lacks, the call or its value comes back.
 fn assert_shared<S: Storage<u32>>(rt: &impl Abort, session: &mut Session<u32, S>) {
-    match session.call(Call::LeakRc(6, made())) {
-        Ok(Reply::Box(_) | Reply::Back(6, StoreError::OutOfMemory)) | Err(Call::LeakRc(6, _)) => {}
-        _ => assert!(rt; false, "another reply"),
+    let answer = session.call(Call::LeakRc(6, made()));
+    assert_same(rt, &is_shared_or_back(&answer), &true);
+}
+
+/// Whether a call was given a box, finds no such place, is refused, or hands itself back.
+fn is_referred_or_back(answer: &Result<Reply<u32>, Call<u32>>) -> bool {
+    match answer {
+        Ok(Reply::Box(_) | Reply::NoSuch(None)) => true,
+        Ok(Reply::Store(StoreError::OutOfMemory)) => true,
+        Err(Call::LeakReference(BoxAt::Place(0))) => true,
+        _ => false,
     }
 }
 
 /// Makes a reference by a call. Where memory lacks, the call comes back, or is refused.
 fn assert_referred<S: Storage<u32>>(rt: &impl Abort, session: &mut Session<u32, S>) {
-    match session.call(Call::LeakReference(BoxAt::Place(0))) {
-        Ok(Reply::Box(_) | Reply::NoSuch(None)) | Err(Call::LeakReference(BoxAt::Place(0))) => {}
-        Ok(Reply::Store(StoreError::OutOfMemory)) => {}
-        _ => assert!(rt; false, "another reply"),
-    }
+    let answer = session.call(Call::LeakReference(BoxAt::Place(0)));
+    assert_same(rt, &is_referred_or_back(&answer), &true);
 }
 
 struct Calls;

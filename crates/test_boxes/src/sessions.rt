@@ -25,26 +25,39 @@ pub(crate) fn call<T: Drop, S: Storage<T>>(
     given(rt, session.call(call))
 }
 
+/// Makes a call, and lets its reply go.
+pub(crate) fn ask<T: Drop, S: Storage<T>>(
+    rt: &impl Abort,
+    session: &mut Session<T, S>,
+    asked: Call<T>,
+) {
+    let _reply = call(rt, session, asked);
+}
+
 /// What a reply tells, without what it gives: whoever compares this has no reply to let go.
-#[derive(Clone, Copy, Debug, PartialEq)]
-pub(crate) enum Told {
-    Box,
-    Owner,
-    Reader,
-    Done,
-    Error,
-    Other,
+pub(crate) mod told {
+    pub(crate) const BOX: &str = "a box";
+
+    pub(crate) const OWNER: &str = "an owner";
+
+    pub(crate) const READER: &str = "a reader";
+
+    pub(crate) const DONE: &str = "done";
+
+    pub(crate) const ERROR: &str = "an error";
+
+    pub(crate) const OTHER: &str = "another reply";
 }
 
 /// What a reply tells.
-fn told_by<T>(reply: &Reply<T>) -> Told {
+fn told_by<T>(reply: &Reply<T>) -> &'static str {
     match reply {
-        Reply::Box(_) => Told::Box,
-        Reply::Owner => Told::Owner,
-        Reply::Reader => Told::Reader,
-        Reply::Done => Told::Done,
-        Reply::Error(_) => Told::Error,
-        _ => Told::Other,
+        Reply::Box(_) => told::BOX,
+        Reply::Owner => told::OWNER,
+        Reply::Reader => told::READER,
+        Reply::Done => told::DONE,
+        Reply::Error(_) => told::ERROR,
+        _ => told::OTHER,
     }
 }
 
@@ -53,7 +66,7 @@ pub(crate) fn assert_told<T: Drop, S: Storage<T>>(
     rt: &impl Abort,
     session: &mut Session<T, S>,
     asked: Call<T>,
-    told: Told,
+    told: &str,
 ) {
     let reply = call(rt, session, asked);
     assert_same(rt, &told_by(&reply), &told);
@@ -74,9 +87,10 @@ fn box_of<S: Storage<u32>>(
 /// Begins a read of the box at a place.
 fn begin_at<S: Storage<u32>>(rt: &impl Abort, session: &mut Session<u32, S>, place: usize) {
     let asked = Call::TryRead(BoxAt::Place(place), read());
-    assert_told(rt, session, asked, Told::Reader);
+    assert_told(rt, session, asked, told::READER);
 }
 
+/// The end of a session releases the guards that it still holds, so its boxes can be ended.
 struct ReadersOfTwo;
 
 impl Life<u32> for ReadersOfTwo {
@@ -94,13 +108,10 @@ impl Life<u32> for ReadersOfTwo {
     }
 }
 
-// The end of a session releases the guards that it still holds, so its boxes can be ended.
-#[test]
-fn a_session_ends_with_no_reader_left(rt: HostRuntime) {
-    live::<u32, ReadersOfTwo>(&rt, rt.alloc());
-}
-
 /// A session that holds a reader of one box, and an owner of another.
+///
+/// Once a session has ended nothing stands in the way of a write, of what was read and of what an
+/// owner made.
 struct ReaderAndOwner;
 
 impl Life<u32> for ReaderAndOwner {
@@ -108,7 +119,7 @@ impl Life<u32> for ReaderAndOwner {
         let mut session = session_over(rt, alloc, store);
         let lent = box_of(rt, &mut session, Call::Leak(1, made()));
         begin_at(rt, &mut session, 0);
-        assert_told(rt, &mut session, Call::Owner, Told::Owner);
+        assert_told(rt, &mut session, Call::Owner, told::OWNER);
         let owned = box_of(rt, &mut session, Call::Insert(2, 2, made()));
         assert_same(rt, &lent.can_write(session.store()), &false);
         let store = session.finish();
@@ -117,27 +128,22 @@ impl Life<u32> for ReaderAndOwner {
     }
 }
 
-// Once a session has ended nothing stands in the way of a write, of what was read and of what an
-// owner made.
-#[test]
-fn a_session_ends_with_its_boxes_free_to_write(rt: HostRuntime) {
-    live::<u32, ReaderAndOwner>(&rt, rt.alloc());
-}
-
+/// A session's end leaks the owners that it still holds: their boxes stay.
 struct BoxOfAnOwner;
 
 impl Life<u32> for BoxOfAnOwner {
     fn live<R: Abort, S: Storage<u32> + Drop>(rt: &R, alloc: Global, store: S) {
         let mut session = session_over(rt, alloc, store);
-        assert_told(rt, &mut session, Call::Owner, Told::Owner);
+        assert_told(rt, &mut session, Call::Owner, told::OWNER);
         let kept = box_of(rt, &mut session, Call::Insert(0, 1, made()));
         let mut store = session.finish();
         assert_reads(rt, &mut store, kept, 1);
     }
 }
 
-// A session's end leaks the owners that it still holds: their boxes stay.
 #[test]
-fn a_session_ends_with_its_owners_leaked(rt: HostRuntime) {
+fn the_end_of_a_session(rt: HostRuntime) {
+    live::<u32, ReadersOfTwo>(&rt, rt.alloc());
+    live::<u32, ReaderAndOwner>(&rt, rt.alloc());
     live::<u32, BoxOfAnOwner>(&rt, rt.alloc());
 }

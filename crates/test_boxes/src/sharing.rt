@@ -51,5 +51,5 @@ pub(crate) fn point<T, S: Storage<T>>(
     from: GenerationalBox<T>,
     to: GenerationalBox<T>,
 ) {
-    assert!(rt; from.point_to(store, to).is_ok());
+    given(rt, from.point_to(store, to));
 }

@@ -2,14 +2,15 @@
 //! test passes whichever one allocation is refused, and what may lack memory is tried a second
 //! time.
 
-use crate::again::{insert_or_again, leak_or_again, owner_or_again, readers};
+use crate::again::{assert_borrowed, insert_or_again, leak_or_again, owner_or_again};
 use crate::expected::{
     assert_kept, assert_opens, assert_released, assert_same, assert_unknown, assert_unread, begin,
-    begin_write, counts_of, dropped, end, made, made_later, read, written,
+    begin_write, counts_of, dropped, end, given, made, made_later, read, written,
 };
 use crate::fresh::{
     Scenario, TwoStoreScenario, play, play_at_last_generation, play_at_ticket, play_in_two_stores,
 };
+use crate::values::{Note, assert_value, clone_of};
 use generational_box::{
     AlreadyBorrowedMutError, AnyStorage, BorrowError, GenerationalRef, Owner, Refused, Storage,
     StoreError,
@@ -29,6 +30,8 @@ fn assert_counts<S: AnyStorage<u32>>(rt: &impl Abort, store: &S, counts: [usize;
 }
 
 /// Values at the last generation, one after the other.
+///
+/// A slot whose generation was the last is retired, and another is made.
 struct LastGeneration;
 
 impl Scenario<u32> for LastGeneration {
@@ -44,12 +47,6 @@ impl Scenario<u32> for LastGeneration {
     }
 }
 
-// A slot whose generation was the last is retired, and another is made.
-#[test]
-fn at_the_last_generation(rt: HostRuntime) {
-    play_at_last_generation::<u32, LastGeneration>(&rt, rt.alloc());
-}
-
 /// Asserts that no ticket is left, so that no owner is given, nor a clone of one.
 fn assert_exhausted(rt: &impl Abort, answer: Result<Owner, StoreError>) {
     match answer {
@@ -62,6 +59,8 @@ fn assert_exhausted(rt: &impl Abort, answer: Result<Owner, StoreError>) {
 }
 
 /// A store without tickets gives none, for a read or for an owner.
+///
+/// Where tickets are used up, that is told also where memory would lack.
 struct NoTicket;
 
 impl Scenario<u32> for NoTicket {
@@ -87,9 +86,9 @@ impl Scenario<u32> for LastTicket {
     }
 }
 
-// Where tickets are used up, that is told also where memory would lack.
 #[test]
-fn at_the_last_tickets(rt: HostRuntime) {
+fn at_the_last_generation_and_tickets(rt: HostRuntime) {
+    play_at_last_generation::<u32, LastGeneration>(&rt, rt.alloc());
     play_at_ticket::<u32, NoTicket>(&rt, rt.alloc(), u64::MAX);
     play_at_ticket::<u32, LastTicket>(&rt, rt.alloc(), u64::MAX - 1);
 }
@@ -125,12 +124,6 @@ fn beside_another_store(rt: HostRuntime) {
     play_in_two_stores::<u32, Strangers>(&rt, rt.alloc());
 }
 
-#[derive(Debug, PartialEq, Drop)]
-enum Note {
-    Text(String),
-    Number(u32),
-}
-
 /// A text, the second time at the latest.
 fn text(rt: &impl Abort, alloc: Global, letters: &str) -> String {
     match String::from_str(alloc, letters) {
@@ -139,20 +132,7 @@ fn text(rt: &impl Abort, alloc: Global, letters: &str) -> String {
     }
 }
 
-/// Asserts that a guard opens a note with this text.
-fn assert_text<S: Storage<Note>>(
-    rt: &impl Abort,
-    store: &S,
-    guard: &GenerationalRef<Note>,
-    letters: &str,
-) {
-    let found = guard.deref(store).map(|view| match &*view {
-        Note::Text(text) => text.as_str() == letters,
-        Note::Number(_) => false,
-    });
-    assert_same(rt, &found, &Some(true));
-}
-
+/// A value that is read stays as it is while its owner makes another, of another kind.
 struct Notes;
 
 impl Scenario<Note> for Notes {
@@ -166,16 +146,15 @@ impl Scenario<Note> for Notes {
         );
         let guard = begin(rt, store, first, read());
         insert_or_again(rt, store, &owner, Note::Number(1));
-        assert_text(rt, store, &guard, "hello world");
+        assert_value(
+            rt,
+            store,
+            &guard,
+            &Note::Text(text(rt, alloc, "hello world")),
+        );
         assert_released(rt, store, guard, true);
         owner.leak();
     }
-}
-
-// A value that is read stays as it is while its owner makes another, of another kind.
-#[test]
-fn for_texts_and_numbers(rt: HostRuntime) {
-    play::<Note, Notes>(&rt, rt.alloc());
 }
 
 /// Asserts what the views of a pair give: a clone, the second part, and none.
@@ -191,6 +170,7 @@ fn assert_parts<S: Storage<(u32, u32)>>(
     assert!(rt; other.try_map(|_pair| None::<&u32>).is_none());
 }
 
+/// Views take no memory, and the borrow stands after them.
 struct Pairs;
 
 impl Scenario<(u32, u32)> for Pairs {
@@ -198,30 +178,12 @@ impl Scenario<(u32, u32)> for Pairs {
         let pair = leak_or_again(rt, store, (1, 2));
         let guard = begin(rt, store, pair, read());
         assert_parts(rt, store, &guard);
-        let refusal = match pair.manually_drop(store) {
-            Err(Refused::Store(StoreError::OutOfMemory)) => pair.manually_drop(store),
-            answer => answer,
-        };
-        assert_same(rt, &refusal, &Err(readers(rt, alloc, &[read()])));
+        assert_borrowed(rt, alloc, store, pair, &[read()]);
         assert_released(rt, store, guard, true);
     }
 }
 
-// Views take no memory, and the borrow stands after them.
-#[test]
-fn for_the_views_of_a_pair(rt: HostRuntime) {
-    play::<(u32, u32), Pairs>(&rt, rt.alloc());
-}
-
-/// A clone of the text that a guard lends.
-fn clone_of<S: Storage<String>>(
-    rt: &impl Abort,
-    store: &S,
-    guard: &GenerationalRef<String>,
-) -> Result<String, StoreError> {
-    guard.deref(store).expect(rt, "a view").cloned()
-}
-
+/// A clone that lacks memory leaves nothing behind.
 struct Texts;
 
 impl Scenario<String> for Texts {
@@ -232,14 +194,14 @@ impl Scenario<String> for Texts {
             Err(StoreError::OutOfMemory) => clone_of(rt, store, &guard),
             answer => answer,
         };
-        let is_same = clone.is_ok_and(|clone| clone.as_str() == "hello world");
-        assert_same(rt, &is_same, &true);
+        assert_same(rt, &given(rt, clone).as_str(), &"hello world");
         assert_released(rt, store, guard, true);
     }
 }
 
-// A clone that lacks memory leaves nothing behind.
 #[test]
-fn for_a_clone_of_a_text(rt: HostRuntime) {
+fn for_values_of_several_types(rt: HostRuntime) {
+    play::<Note, Notes>(&rt, rt.alloc());
+    play::<(u32, u32), Pairs>(&rt, rt.alloc());
     play::<String, Texts>(&rt, rt.alloc());
 }

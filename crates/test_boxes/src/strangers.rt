@@ -15,6 +15,8 @@ use generational_box::{
 use std::alloc::Global;
 use std::process::Abort;
 
+/// Two stores each have a reader with ticket 0 at a cell `0@1`. A guard opens nothing in the other
+/// store, and is spent there with no change, so its own cell stays borrowed.
 struct GuardsOfTwo;
 
 impl TwoStoreScenario<u32> for GuardsOfTwo {
@@ -36,13 +38,8 @@ impl TwoStoreScenario<u32> for GuardsOfTwo {
     }
 }
 
-// Two stores each have a reader with ticket 0 at a cell `0@1`. A guard opens nothing in the other
-// store, and is spent there with no change, so its own cell stays borrowed.
-#[test]
-fn guards_of_another_store_are_unknown(rt: HostRuntime) {
-    play_in_two_stores::<u32, GuardsOfTwo>(&rt, rt.alloc());
-}
-
+/// A guard of the first store is handed to the second, which doesn't know it: it is spent there with
+/// no change, and both cells stay borrowed.
 struct GuardHandedOver;
 
 impl TwoStoreScenario<u32> for GuardHandedOver {
@@ -62,13 +59,6 @@ impl TwoStoreScenario<u32> for GuardHandedOver {
     }
 }
 
-// A guard of the first store is handed to the second, which doesn't know it: it is spent there with
-// no change, and both cells stay borrowed.
-#[test]
-fn a_guard_handed_over_is_unknown(rt: HostRuntime) {
-    play_in_two_stores::<u32, GuardHandedOver>(&rt, rt.alloc());
-}
-
 /// Asserts that a store doesn't know a writer, and hands its value back.
 fn assert_handed_back<S: Storage<u32>>(
     rt: &impl Abort,
@@ -79,6 +69,8 @@ fn assert_handed_back<S: Storage<u32>>(
     assert_same(rt, &writer.release(store), &Err(value));
 }
 
+/// A store hands another store's writer its value back, and changes nothing. The writer is spent,
+/// and its cell stays borrowed.
 struct WritersOfTwo;
 
 impl TwoStoreScenario<u32> for WritersOfTwo {
@@ -96,10 +88,10 @@ impl TwoStoreScenario<u32> for WritersOfTwo {
     }
 }
 
-// A store hands another store's writer its value back, and changes nothing. The writer is spent,
-// and its cell stays borrowed.
 #[test]
-fn a_writer_of_another_store_is_unknown(rt: HostRuntime) {
+fn borrows_of_another_store_are_unknown(rt: HostRuntime) {
+    play_in_two_stores::<u32, GuardsOfTwo>(&rt, rt.alloc());
+    play_in_two_stores::<u32, GuardHandedOver>(&rt, rt.alloc());
     play_in_two_stores::<u32, WritersOfTwo>(&rt, rt.alloc());
 }
 
@@ -154,6 +146,9 @@ fn assert_not_cloned<S: Storage<u32>>(rt: &impl Abort, store: &mut S, owner: &Ow
     }
 }
 
+/// Each of two stores has an owner of boxes, so both have a record under the same key. Only its own
+/// store knows an owner: another one makes nothing by it, which is told before anything about a box
+/// that it is asked for.
 struct OwnersOfTwo;
 
 impl TwoStoreScenario<u32> for OwnersOfTwo {
@@ -183,14 +178,6 @@ impl TwoStoreScenario<u32> for OwnersOfTwo {
     }
 }
 
-// Each of two stores has an owner of boxes, so both have a record under the same key. Only its own
-// store knows an owner: another one makes nothing by it, which is told before anything about a box
-// that it is asked for.
-#[test]
-fn an_owner_of_another_store_is_unknown(rt: HostRuntime) {
-    play_in_two_stores::<u32, OwnersOfTwo>(&rt, rt.alloc());
-}
-
 /// Asserts that a making by an owner of another store is refused, and takes no free slot: the next
 /// value has the slot that was freed last.
 fn assert_first_free<S: Storage<u32>>(
@@ -205,6 +192,7 @@ fn assert_first_free<S: Storage<u32>>(
     next
 }
 
+/// A making that is refused leaves the free slots in their order.
 struct FreeSlots;
 
 impl TwoStoreScenario<u32> for FreeSlots {
@@ -228,8 +216,8 @@ impl TwoStoreScenario<u32> for FreeSlots {
     }
 }
 
-// A making that is refused leaves the free slots in their order.
 #[test]
-fn refused_makings_leave_the_free_slots(rt: HostRuntime) {
+fn an_owner_of_another_store_is_unknown_and_takes_nothing(rt: HostRuntime) {
+    play_in_two_stores::<u32, OwnersOfTwo>(&rt, rt.alloc());
     play_in_two_stores::<u32, FreeSlots>(&rt, rt.alloc());
 }

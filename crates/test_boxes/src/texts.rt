@@ -1,8 +1,8 @@
 //! What is printed.
 
 use crate::expected::{
-    assert_prints, assert_released, assert_same, assert_shows, begin, begin_write, insert, leak,
-    made, made_later, new_owner, read, written,
+    assert_prints, assert_released, assert_same, assert_shows, begin, begin_write, given, insert,
+    leak, made, made_later, new_owner, read, written,
 };
 use crate::fresh::{Beginning, Kind, Over, Scenario, play, run_over};
 use generational_box::{
@@ -236,7 +236,7 @@ impl<R: Abort> Over<u32, R> for NamesWide {
         assert_released(rt, &mut store, guard, true);
         let guard = begin_write(rt, &mut store, only, written());
         assert_wide_for_developers(rt, alloc, &guard, "writer 2 of 11@1");
-        assert!(rt; guard.release(&mut store).is_ok());
+        given(rt, guard.release(&mut store));
         owner.leak();
     }
 }

@@ -5,18 +5,18 @@ use crate::expected::{
     made_later, new_owner, read, release,
 };
 use crate::fresh::{Scenario, play};
-use generational_box::{GenerationalRef, Storage};
+use generational_box::{GenerationalBox, GenerationalRef, Storage, StoreError};
 use std::alloc::Global;
 use std::process::Abort;
 
-#[derive(Clone, Copy, Debug, PartialEq)]
+#[derive(Clone, Copy, PartialEq)]
 enum Answer {
     Yes,
     Number(i64),
 }
 
 /// Asserts that a guard opens a value.
-fn assert_value<T: PartialEq, S: Storage<T>>(
+pub(crate) fn assert_value<T: PartialEq, S: Storage<T>>(
     rt: &impl Abort,
     store: &S,
     guard: &GenerationalRef<T>,
@@ -28,12 +28,31 @@ fn assert_value<T: PartialEq, S: Storage<T>>(
     }
 }
 
+/// A clone of the value that a guard lends.
+pub(crate) fn clone_of<T: Clone, S: Storage<T>>(
+    rt: &impl Abort,
+    store: &S,
+    guard: &GenerationalRef<T>,
+) -> Result<T, StoreError> {
+    guard.deref(store).expect(rt, "a view").cloned()
+}
+
+/// Asserts that a read gives a value.
+fn assert_read<T: PartialEq, S: Storage<T>>(
+    rt: &impl Abort,
+    store: &mut S,
+    asked: GenerationalBox<T>,
+    value: &T,
+) {
+    let guard = begin(rt, store, asked, read());
+    assert_value(rt, store, &guard, value);
+    assert_released(rt, store, guard, true);
+}
+
 /// Makes a value, reads it and ends it.
 fn live<T: PartialEq + Drop, S: Storage<T>>(rt: &impl Abort, store: &mut S, value: T, same: &T) {
     let only = leak(rt, store, value, made());
-    let guard = begin(rt, store, only, read());
-    assert_value(rt, store, &guard, same);
-    assert_released(rt, store, guard, true);
+    assert_read(rt, store, only, same);
     end(rt, store, only);
 }
 
@@ -45,11 +64,6 @@ impl Scenario<Answer> for Answers {
             live(rt, store, value, &value);
         }
     }
-}
-
-#[test]
-fn an_enum_that_is_copied(rt: HostRuntime) {
-    play::<Answer, Answers>(&rt, rt.alloc());
 }
 
 /// A text of its own.
@@ -67,11 +81,7 @@ impl Scenario<(String, u8)> for PairWithText {
     }
 }
 
-#[test]
-fn a_pair_with_a_text(rt: HostRuntime) {
-    play::<(String, u8), PairWithText>(&rt, rt.alloc());
-}
-
+/// A store of names alone.
 struct NamesAlone;
 
 impl Scenario<()> for NamesAlone {
@@ -79,25 +89,18 @@ impl Scenario<()> for NamesAlone {
         let one = leak(rt, store, (), made());
         let other = leak(rt, store, (), made());
         end(rt, store, one);
-        let guard = begin(rt, store, other, read());
-        assert_value(rt, store, &guard, &());
-        assert_released(rt, store, guard, true);
+        assert_read(rt, store, other, &());
         assert_shows(rt, alloc, &other, "1@1");
     }
 }
 
-// A store of names alone.
-#[test]
-fn values_without_size(rt: HostRuntime) {
-    play::<(), NamesAlone>(&rt, rt.alloc());
-}
-
-#[derive(Debug, PartialEq, Drop)]
-enum Note {
+#[derive(PartialEq, Drop)]
+pub(crate) enum Note {
     Text(String),
     Number(u32),
 }
 
+/// A value that is read stays where it is while its owner makes others.
 struct NotesOfAnOwner;
 
 impl Scenario<Note> for NotesOfAnOwner {
@@ -109,16 +112,16 @@ impl Scenario<Note> for NotesOfAnOwner {
         assert_value(rt, store, &guard, &Note::Text(text(rt, alloc)));
         assert_released(rt, store, guard, true);
 
-        let guard = begin(rt, store, second, read());
-        assert_value(rt, store, &guard, &Note::Number(1));
-        assert_released(rt, store, guard, true);
+        assert_read(rt, store, second, &Note::Number(1));
         release(rt, store, owner);
         assert_unread(rt, store, first, dropped(made()));
     }
 }
 
-// A value that is read stays where it is while its owner makes others.
 #[test]
-fn an_owner_of_texts_and_numbers(rt: HostRuntime) {
+fn values_of_several_types(rt: HostRuntime) {
+    play::<Answer, Answers>(&rt, rt.alloc());
+    play::<(String, u8), PairWithText>(&rt, rt.alloc());
+    play::<(), NamesAlone>(&rt, rt.alloc());
     play::<Note, NotesOfAnOwner>(&rt, rt.alloc());
 }

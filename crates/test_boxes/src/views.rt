@@ -1,10 +1,11 @@
 //! Views: their parts, clones and texts, and what is written through parts.
 
 use crate::expected::{
-    assert_prints, assert_same, assert_shows, assert_unwritten, begin, begin_write, borrowed, leak,
-    made, read, written,
+    assert_prints, assert_released, assert_same, assert_shows, assert_unwritten, begin,
+    begin_write, borrowed, given, leak, made, read, written,
 };
 use crate::fresh::{Scenario, play};
+use crate::values::clone_of;
 use generational_box::{GenerationalRef, GenerationalRefMut, Ref, Storage};
 use std::alloc::Global;
 use std::process::Abort;
@@ -37,6 +38,7 @@ fn assert_parts<S: Storage<(u32, u32)>>(
     assert!(rt; none.is_none());
 }
 
+/// A view that finds no part ends, and the borrow stands.
 struct PartsOfAPair;
 
 impl Scenario<(u32, u32)> for PartsOfAPair {
@@ -45,14 +47,8 @@ impl Scenario<(u32, u32)> for PartsOfAPair {
         let guard = begin(rt, store, pair, read());
         assert_parts(rt, alloc, store, &guard);
         assert_unwritten(rt, store, pair, borrowed(rt, alloc, &[read()]));
-        assert!(rt; guard.release(store));
+        assert_released(rt, store, guard, true);
     }
-}
-
-// A view that finds no part ends, and the borrow stands.
-#[test]
-fn a_pair_is_viewed(rt: HostRuntime) {
-    play::<(u32, u32), PartsOfAPair>(&rt, rt.alloc());
 }
 
 /// Writes both parts of a pair through its views, and looks for a third.
@@ -82,6 +78,7 @@ fn write_part_of_part(rt: &impl Abort, guard: &mut GenerationalRefMut<(u32, u32)
     assert_same(rt, &*guard.deref(), &(11, 22));
 }
 
+/// What is written through a part is the guard's, and goes back with it.
 struct PartsOfAWriter;
 
 impl Scenario<(u32, u32)> for PartsOfAWriter {
@@ -90,15 +87,15 @@ impl Scenario<(u32, u32)> for PartsOfAWriter {
         let mut guard = begin_write(rt, store, pair, written());
         write_parts(rt, &mut guard);
         write_part_of_part(rt, &mut guard);
-        assert!(rt; guard.release(store).is_ok());
+        given(rt, guard.release(store));
         let reader = begin(rt, store, pair, read());
-        assert_same(rt, &view(rt, store, &reader).cloned(), &Ok((11, 22)));
-        assert!(rt; reader.release(store));
+        assert_same(rt, &clone_of(rt, store, &reader), &Ok((11, 22)));
+        assert_released(rt, store, reader, true);
     }
 }
 
-// What is written through a part is the guard's, and goes back with it.
 #[test]
-fn a_pair_is_written_by_its_parts(rt: HostRuntime) {
+fn a_pair_is_viewed_and_written_by_its_parts(rt: HostRuntime) {
+    play::<(u32, u32), PartsOfAPair>(&rt, rt.alloc());
     play::<(u32, u32), PartsOfAWriter>(&rt, rt.alloc());
 }
