@@ -2,7 +2,7 @@
 
 use crate::document_acts::{added_at, document_over, has_content};
 use crate::document_memory::{add_or_again, append_or_again, repeat_or_again};
-use crate::expected::assert_same;
+use crate::expected::{assert_same, given};
 use crate::fresh::{Scene, play, play_at_ticket};
 use document_tree::{Document, Gone, Part, Place, PlaceError};
 use example_libraries::documents::change_heading;
@@ -19,10 +19,10 @@ impl Scene<Part<u64>> for HeadingGoes {
         let Ok(heading) = document.add(3, added_at(8)) else {
             panic!(rt; "a heading");
         };
-        assert!(rt; document.set(heading, 4).is_ok());
-        assert!(rt; change_heading(&mut document, heading, 5, added_at(9)).is_ok());
+        given(rt, document.set(heading, 4));
+        given(rt, change_heading(&mut document, heading, 5, added_at(9)));
         has_content(rt, &document, heading, Some(5));
-        assert!(rt; document.remove(heading).is_ok());
+        given(rt, document.remove(heading));
         let gone = Gone {
             made_at: added_at(8),
         };
@@ -31,11 +31,6 @@ impl Scene<Part<u64>> for HeadingGoes {
         let refused = document.append(heading, heading);
         assert_same(rt, &refused, &Err(PlaceError::Gone(gone)));
     }
-}
-
-#[test]
-fn a_place_that_is_gone_tells_where_it_was_made(rt: HostRuntime) {
-    play_at_ticket::<Part<u64>, HeadingGoes>(&rt, rt.alloc(), u64::MAX, &HeadingGoes);
 }
 
 /// Sees the contents of an outline.
@@ -73,6 +68,7 @@ impl Scene<Part<u64>> for PageIsRead {
 }
 
 #[test]
-fn an_outline_is_in_the_order_of_reading(rt: HostRuntime) {
+fn places_that_are_gone_and_outlines(rt: HostRuntime) {
+    play_at_ticket::<Part<u64>, HeadingGoes>(&rt, rt.alloc(), u64::MAX, &HeadingGoes);
     play::<Part<u64>, PageIsRead>(&rt, rt.alloc(), &PageIsRead);
 }

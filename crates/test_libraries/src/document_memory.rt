@@ -2,7 +2,7 @@
 //! changes nothing, and is tried a second time.
 
 use crate::document_acts::{add, added_at, document_over, has_content};
-use crate::expected::assert_same;
+use crate::expected::{assert_same, given};
 use crate::fresh::{Scene, play};
 use document_tree::{Document, Part, Place, PlaceError};
 use generational_box::Storage;
@@ -55,7 +55,7 @@ pub(crate) fn append_or_again<S: Storage<Part<u64>>>(
     if let Err(error) = document.append(parent, child) {
         assert_same(rt, &error, &PlaceError::OutOfMemory);
         assert_same(rt, &count(rt, document, parent), &before);
-        assert!(rt; document.append(parent, child).is_ok());
+        given(rt, document.append(parent, child));
     }
     assert_same(rt, &count(rt, document, parent), &before.wrapping_add(1));
 }
@@ -71,7 +71,7 @@ fn insert_or_again<S: Storage<Part<u64>>>(
     if let Err(error) = document.insert(parent, 0, child) {
         assert_same(rt, &error, &PlaceError::OutOfMemory);
         assert_same(rt, &count(rt, document, parent), &before);
-        assert!(rt; document.insert(parent, 0, child).is_ok());
+        given(rt, document.insert(parent, 0, child));
     }
     assert_same(rt, &count(rt, document, parent), &before.wrapping_add(1));
 }

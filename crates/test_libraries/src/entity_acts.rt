@@ -77,7 +77,7 @@ pub(crate) fn give<C: Drop, S: Storage<C>>(
     entity: Entity<u64>,
     component: C,
 ) {
-    assert!(rt; table.insert(entity, component, given_at()).is_ok());
+    given(rt, table.insert(entity, component, given_at()));
 }
 
 /// Does each line's act to a table, and sees what comes of it.

@@ -46,73 +46,65 @@ macro_rules! stale {
     };
 }
 
-#[test]
-fn the_last_row_takes_an_empty_place(rt: HostRuntime) {
-    const LINES: &[Line] = &[
-        done!(Act::Spawn(10), &[0], &[Some(10)]),
-        done!(Act::Spawn(20), &[0, 1], &[Some(10), Some(20)]),
-        done!(Act::Spawn(30), &[0, 1, 2], &[Some(10), Some(20), Some(30)]),
-        // The first row is left, and the last one moves there.
-        done!(Act::Despawn(0), &[2, 1], &[None, Some(20), Some(30)]),
-        stale!(Act::Despawn(0), &[2, 1], &[None, Some(20), Some(30)]),
-        // The last row is left, and nothing moves.
-        done!(Act::Despawn(1), &[2], &[None, None, Some(30)]),
-        done!(Act::Despawn(2), &[], &[None, None, None]),
-    ];
-    play_lines(&rt, rt.alloc(), LINES);
-}
+const THE_LAST_ROW_TAKES_AN_EMPTY_PLACE: &[Line] = &[
+    done!(Act::Spawn(10), &[0], &[Some(10)]),
+    done!(Act::Spawn(20), &[0, 1], &[Some(10), Some(20)]),
+    done!(Act::Spawn(30), &[0, 1, 2], &[Some(10), Some(20), Some(30)]),
+    // The first row is left, and the last one moves there.
+    done!(Act::Despawn(0), &[2, 1], &[None, Some(20), Some(30)]),
+    stale!(Act::Despawn(0), &[2, 1], &[None, Some(20), Some(30)]),
+    // The last row is left, and nothing moves.
+    done!(Act::Despawn(1), &[2], &[None, None, Some(30)]),
+    done!(Act::Despawn(2), &[], &[None, None, None]),
+];
+
+const A_STALE_HANDLE_READS_NO_LATER_ENTITY: &[Line] = &[
+    done!(Act::Spawn(1), &[0], &[Some(1)]),
+    done!(Act::Despawn(0), &[], &[None]),
+    // The only free slot is taken again.
+    done!(Act::Spawn(2), &[1], &[None, Some(2)]),
+    stale!(Act::Set(0, 9), &[1], &[None, Some(2)]),
+    stale!(Act::Despawn(0), &[1], &[None, Some(2)]),
+    done!(Act::Set(1, 3), &[1], &[None, Some(3)]),
+];
+
+const A_TEST_LEAVES_WHAT_PASSES: &[Line] = &[
+    done!(Act::Spawn(5), &[0], &[Some(5)]),
+    done!(Act::Spawn(8), &[0, 1], &[Some(5), Some(8)]),
+    done!(Act::Spawn(2), &[0, 1, 2], &[Some(5), Some(8), Some(2)]),
+    done!(
+        Act::Spawn(9),
+        &[0, 1, 2, 3],
+        &[Some(5), Some(8), Some(2), Some(9)],
+    ),
+    // From the last row on: 9 goes, 2 stays, 8 goes and 2 takes its place, 5 stays.
+    done!(Act::Retain(6), &[0, 2], &[Some(5), None, Some(2), None]),
+    done!(Act::Retain(6), &[0, 2], &[Some(5), None, Some(2), None]),
+    done!(
+        Act::Spawn(7),
+        &[0, 2, 4],
+        &[Some(5), None, Some(2), None, Some(7)],
+    ),
+    done!(Act::Clear, &[], &[None, None, None, None, None]),
+];
+
+const AN_ELEMENT_IS_CHANGED_IN_ITS_PLACE: &[Line] = &[
+    done!(Act::Spawn(10), &[0], &[Some(10)]),
+    done!(Act::Spawn(20), &[0, 1], &[Some(10), Some(20)]),
+    done!(Act::Add(0, 5), &[0, 1], &[Some(15), Some(20)]),
+    done!(Act::Add(0, 5), &[0, 1], &[Some(20), Some(20)]),
+    done!(Act::Despawn(0), &[1], &[None, Some(20)]),
+    stale!(Act::Add(0, 5), &[1], &[None, Some(20)]),
+    // The slot is used again, and the first handle doesn't change what stands there.
+    done!(Act::Spawn(30), &[1, 2], &[None, Some(20), Some(30)]),
+    stale!(Act::Add(0, 5), &[1, 2], &[None, Some(20), Some(30)]),
+    done!(Act::Add(2, 1), &[1, 2], &[None, Some(20), Some(31)]),
+];
 
 #[test]
-fn a_stale_handle_reads_no_later_entity(rt: HostRuntime) {
-    const LINES: &[Line] = &[
-        done!(Act::Spawn(1), &[0], &[Some(1)]),
-        done!(Act::Despawn(0), &[], &[None]),
-        // The only free slot is taken again.
-        done!(Act::Spawn(2), &[1], &[None, Some(2)]),
-        stale!(Act::Set(0, 9), &[1], &[None, Some(2)]),
-        stale!(Act::Despawn(0), &[1], &[None, Some(2)]),
-        done!(Act::Set(1, 3), &[1], &[None, Some(3)]),
-    ];
-    play_lines(&rt, rt.alloc(), LINES);
-}
-
-#[test]
-fn a_test_leaves_what_passes(rt: HostRuntime) {
-    const LINES: &[Line] = &[
-        done!(Act::Spawn(5), &[0], &[Some(5)]),
-        done!(Act::Spawn(8), &[0, 1], &[Some(5), Some(8)]),
-        done!(Act::Spawn(2), &[0, 1, 2], &[Some(5), Some(8), Some(2)]),
-        done!(
-            Act::Spawn(9),
-            &[0, 1, 2, 3],
-            &[Some(5), Some(8), Some(2), Some(9)],
-        ),
-        // From the last row on: 9 goes, 2 stays, 8 goes and 2 takes its place, 5 stays.
-        done!(Act::Retain(6), &[0, 2], &[Some(5), None, Some(2), None]),
-        done!(Act::Retain(6), &[0, 2], &[Some(5), None, Some(2), None]),
-        done!(
-            Act::Spawn(7),
-            &[0, 2, 4],
-            &[Some(5), None, Some(2), None, Some(7)],
-        ),
-        done!(Act::Clear, &[], &[None, None, None, None, None]),
-    ];
-    play_lines(&rt, rt.alloc(), LINES);
-}
-
-#[test]
-fn an_element_is_changed_in_its_place(rt: HostRuntime) {
-    const LINES: &[Line] = &[
-        done!(Act::Spawn(10), &[0], &[Some(10)]),
-        done!(Act::Spawn(20), &[0, 1], &[Some(10), Some(20)]),
-        done!(Act::Add(0, 5), &[0, 1], &[Some(15), Some(20)]),
-        done!(Act::Add(0, 5), &[0, 1], &[Some(20), Some(20)]),
-        done!(Act::Despawn(0), &[1], &[None, Some(20)]),
-        stale!(Act::Add(0, 5), &[1], &[None, Some(20)]),
-        // The slot is used again, and the first handle doesn't change what stands there.
-        done!(Act::Spawn(30), &[1, 2], &[None, Some(20), Some(30)]),
-        stale!(Act::Add(0, 5), &[1, 2], &[None, Some(20), Some(30)]),
-        done!(Act::Add(2, 1), &[1, 2], &[None, Some(20), Some(31)]),
-    ];
-    play_lines(&rt, rt.alloc(), LINES);
+fn histories_of_entities(rt: HostRuntime) {
+    play_lines(&rt, rt.alloc(), THE_LAST_ROW_TAKES_AN_EMPTY_PLACE);
+    play_lines(&rt, rt.alloc(), A_STALE_HANDLE_READS_NO_LATER_ENTITY);
+    play_lines(&rt, rt.alloc(), A_TEST_LEAVES_WHAT_PASSES);
+    play_lines(&rt, rt.alloc(), AN_ELEMENT_IS_CHANGED_IN_ITS_PLACE);
 }

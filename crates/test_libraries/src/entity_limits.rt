@@ -1,7 +1,7 @@
 //! Tables of components, and tables whose store has given all its tickets.
 
 use crate::entity_acts::{add, components_over, entities_over, give, spawn, spawned_at};
-use crate::expected::assert_same;
+use crate::expected::{assert_same, given};
 use crate::fresh::{Scene, SceneOfTwo, play, play_at_ticket, play_two};
 use entity_table::{AttachError, ComponentTable, Entity, EntityTable, Stale};
 use example_libraries::entities::{
@@ -39,7 +39,7 @@ impl SceneOfTwo<u64, u64> for ComponentsFollow {
         give(rt, &mut components, first, 11);
         give(rt, &mut components, first, 12);
         has(rt, &components, first, Some(12));
-        assert!(rt; entities.despawn(first).is_ok());
+        given(rt, entities.despawn(first));
         let second = spawn(rt, &mut entities, 1);
         has(rt, &components, second, None);
         give(rt, &mut components, second, 13);
@@ -47,11 +47,6 @@ impl SceneOfTwo<u64, u64> for ComponentsFollow {
         assert!(rt; components.remove(second));
         has(rt, &components, second, None);
     }
-}
-
-#[test]
-fn components_are_those_of_their_entities(rt: HostRuntime) {
-    play_two::<u64, u64, ComponentsFollow>(&rt, rt.alloc(), &ComponentsFollow);
 }
 
 /// An entity that goes, and one that comes.
@@ -73,11 +68,6 @@ impl Scene<u64> for StaleIsTold {
     }
 }
 
-#[test]
-fn a_caller_is_told_what_is_stale(rt: HostRuntime) {
-    play::<u64, StaleIsTold>(&rt, rt.alloc(), &StaleIsTold);
-}
-
 /// An entity that is looked at, set and tested, where no ticket is left.
 struct AnEntityGoes;
 
@@ -85,17 +75,12 @@ impl Scene<u64> for AnEntityGoes {
     fn play<R: Abort, S: Storage<u64> + Drop>(&self, rt: &R, alloc: Global, store: S) {
         let mut table = entities_over(rt, alloc, store);
         let entity = spawn(rt, &mut table, 0);
-        assert!(rt; table.set(entity, 5).is_ok());
+        given(rt, table.set(entity, 5));
         assert_same(rt, &table.get(entity).copied().ok(), &Some(5));
         table.retain(|element| *element == 5);
         assert_same(rt, &table.len(), &1);
-        assert!(rt; table.despawn(entity).is_ok());
+        given(rt, table.despawn(entity));
     }
-}
-
-#[test]
-fn no_call_of_a_table_takes_a_ticket(rt: HostRuntime) {
-    play_at_ticket::<u64, AnEntityGoes>(&rt, rt.alloc(), u64::MAX, &AnEntityGoes);
 }
 
 /// An entity that goes, and another in its slot, which is given a component by both handles.
@@ -112,9 +97,12 @@ impl SceneOfTwo<u64, u64> for AGoneHandleGivesNothing {
         let mut entities = entities_over(rt, alloc, store);
         let mut components = components_over(rt, alloc, parts);
         let first = spawn(rt, &mut entities, 0);
-        assert!(rt; entities.despawn(first).is_ok());
+        given(rt, entities.despawn(first));
         let second = spawn(rt, &mut entities, 1);
-        assert!(rt; renamed(&entities, &mut components, second, 11, spawned_at(5)).is_ok());
+        given(
+            rt,
+            renamed(&entities, &mut components, second, 11, spawned_at(5)),
+        );
         let stale = Stale {
             spawned_at: first.spawned_at(),
         };
@@ -126,11 +114,6 @@ impl SceneOfTwo<u64, u64> for AGoneHandleGivesNothing {
     }
 }
 
-#[test]
-fn a_gone_handle_gives_no_component(rt: HostRuntime) {
-    play_two::<u64, u64, AGoneHandleGivesNothing>(&rt, rt.alloc(), &AGoneHandleGivesNothing);
-}
-
 /// Entities that are gone over, before and after one of them goes.
 struct LiveOnesAreGoneOver;
 
@@ -140,11 +123,11 @@ impl Scene<u64> for LiveOnesAreGoneOver {
         assert_same(rt, &table.iter().len(), &0);
         let first = spawn(rt, &mut table, 0);
         let second = spawn(rt, &mut table, 1);
-        assert!(rt; table.set(first, 7).is_ok());
-        assert!(rt; table.set(second, 9).is_ok());
+        given(rt, table.set(first, 7));
+        given(rt, table.set(second, 9));
         assert_same(rt, &table.iter().len(), &2);
         assert_same(rt, &greatest(&table), &9);
-        assert!(rt; table.despawn(second).is_ok());
+        given(rt, table.despawn(second));
         assert_same(rt, &greatest(&table), &7);
         assert!(rt; table.iter().all(|(entity, _)| entity == first));
         assert_same(rt, &taken_out(&mut table, second), &None);
@@ -154,7 +137,9 @@ impl Scene<u64> for LiveOnesAreGoneOver {
 }
 
 #[test]
-fn live_entities_are_gone_over(rt: HostRuntime) {
+fn live_entities_and_stale_ones(rt: HostRuntime) {
+    play::<u64, StaleIsTold>(&rt, rt.alloc(), &StaleIsTold);
+    play_at_ticket::<u64, AnEntityGoes>(&rt, rt.alloc(), u64::MAX, &AnEntityGoes);
     play::<u64, LiveOnesAreGoneOver>(&rt, rt.alloc(), &LiveOnesAreGoneOver);
 }
 
@@ -178,7 +163,7 @@ impl SceneOfTwo<u64, u64> for ComponentsAreSwept {
         give(rt, &mut components, third, 12);
         // The second has none: it is passed over.
         goes_over(rt, &components, &[(first, 10), (third, 12)]);
-        assert!(rt; entities.set(third, 2).is_ok());
+        given(rt, entities.set(third, 2));
         joins(
             rt,
             &entities,
@@ -186,16 +171,16 @@ impl SceneOfTwo<u64, u64> for ComponentsAreSwept {
             &[(first, 0, 10), (third, 2, 12)],
         );
         assert!(rt; !within_limits(&entities, &components));
-        assert!(rt; entities.despawn(third).is_ok());
+        given(rt, entities.despawn(third));
         has(rt, &components, third, Some(12));
         joins(rt, &entities, &components, &[(first, 0, 10)]);
-        assert!(rt; entities.set(first, 10).is_ok());
+        given(rt, entities.set(first, 10));
         assert!(rt; within_limits(&entities, &components));
-        assert!(rt; despawned_bare(&mut entities, &mut components, second).is_ok());
+        given(rt, despawned_bare(&mut entities, &mut components, second));
         goes_over(rt, &components, &[(first, 10)]);
         has(rt, &components, third, None);
         assert!(rt; despawned_bare(&mut entities, &mut components, second).is_err());
-        assert!(rt; despawned_bare(&mut entities, &mut components, first).is_ok());
+        given(rt, despawned_bare(&mut entities, &mut components, first));
         goes_over(rt, &components, &[]);
     }
 }
@@ -239,7 +224,8 @@ fn joins<E: Storage<u64>, S: Storage<u64>>(
 }
 
 #[test]
-fn components_of_gone_entities_are_swept(rt: HostRuntime) {
+fn components_follow_their_entities(rt: HostRuntime) {
+    play_two::<u64, u64, ComponentsFollow>(&rt, rt.alloc(), &ComponentsFollow);
     play_two::<u64, u64, ComponentsAreSwept>(&rt, rt.alloc(), &ComponentsAreSwept);
 }
 
@@ -276,6 +262,7 @@ impl SceneOfTwo<u64, u64> for AForeignHandleGivesNothing {
 }
 
 #[test]
-fn a_foreign_handle_gives_no_component(rt: HostRuntime) {
+fn a_gone_handle_or_a_foreign_one_gives_no_component(rt: HostRuntime) {
+    play_two::<u64, u64, AGoneHandleGivesNothing>(&rt, rt.alloc(), &AGoneHandleGivesNothing);
     play_two::<u64, u64, AForeignHandleGivesNothing>(&rt, rt.alloc(), &AForeignHandleGivesNothing);
 }

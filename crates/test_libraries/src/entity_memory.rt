@@ -43,7 +43,7 @@ fn give_or_again<S: Storage<u64>>(
     if let Err(refusal) = table.insert(entity, component, given_at()) {
         assert_same(rt, &refusal.value, &component);
         assert!(rt; !table.contains(entity));
-        assert!(rt; table.insert(entity, component, given_at()).is_ok());
+        given(rt, table.insert(entity, component, given_at()));
     }
     assert!(rt; table.contains(entity));
 }
@@ -65,10 +65,10 @@ impl SceneOfTwo<u64, u64> for SpawnMany {
             let entity = spawn_or_again(rt, &mut entities, element);
             give_or_again(rt, &mut components, entity, element);
             // No memory is asked for from here on.
-            assert!(rt; add(rt, &mut entities, entity, 1).is_ok());
+            given(rt, add(rt, &mut entities, entity, 1));
             assert_same(rt, &raised(&mut components, entity), &Some(element));
             if element % 3 == 0 {
-                assert!(rt; entities.despawn(entity).is_ok());
+                given(rt, entities.despawn(entity));
             }
             components.sweep(&entities);
             assert_same(rt, &components.contains(entity), &entities.is_alive(entity));

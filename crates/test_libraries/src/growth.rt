@@ -4,6 +4,7 @@
 use crate::document_acts::document_over;
 use crate::document_memory::{add_or_again, append_or_again};
 use crate::entity_acts::{components_over, entities_over, give, spawn};
+use crate::expected::given;
 use crate::fresh::{Scene, SceneOfTwo, play, play_two};
 use crate::session_acts::sessions_over;
 use crate::session_limits::{log_in, put};
@@ -126,7 +127,7 @@ impl Scene<Part<u64>> for AppendAll {
             let part = add_or_again(rt, &mut document, content);
             append_or_again(rt, &mut document, page, part);
         }
-        assert!(rt; document.outline(page, 30_000).is_ok());
+        given(rt, document.outline(page, 30_000));
     }
 }
 

@@ -28,7 +28,7 @@ fn set<S: Storage<Part<Counted>>>(
     place: Place,
     content: Counted,
 ) {
-    assert!(rt; document.set(place, content).is_ok());
+    given(rt, document.set(place, content));
 }
 
 /// Lets a place lead where another does.
@@ -38,7 +38,7 @@ fn exchange<S: Storage<Part<Counted>>>(
     place: Place,
     other: Place,
 ) {
-    assert!(rt; document.exchange(place, other).is_ok());
+    given(rt, document.exchange(place, other));
 }
 
 /// Ends a place.
@@ -47,7 +47,7 @@ fn remove<S: Storage<Part<Counted>>>(
     document: &mut Document<Counted, S>,
     place: Place,
 ) {
-    assert!(rt; document.remove(place).is_ok());
+    given(rt, document.remove(place));
 }
 
 /// A part's content that is set twice.
@@ -64,11 +64,6 @@ impl Scene<Part<Counted>> for ContentsGo {
         set(rt, &mut document, place, another(rt, &first));
         assert_count(rt, &second, 1);
     }
-}
-
-#[test]
-fn a_content_goes_when_another_is_set(rt: HostRuntime) {
-    play::<Part<Counted>, ContentsGo>(&rt, rt.alloc(), &ContentsGo);
 }
 
 /// A part whose places go, the last by an exchange, and another whose places are removed.
@@ -95,7 +90,8 @@ impl Scene<Part<Counted>> for PartsGo {
 }
 
 #[test]
-fn a_part_goes_with_its_last_place(rt: HostRuntime) {
+fn contents_and_parts_of_a_document(rt: HostRuntime) {
+    play::<Part<Counted>, ContentsGo>(&rt, rt.alloc(), &ContentsGo);
     play::<Part<Counted>, PartsGo>(&rt, rt.alloc(), &PartsGo);
 }
 
@@ -142,7 +138,7 @@ fn left_ones_go<S: Storage<u64>, C: Storage<Counted>>(
     let left = new_counted(rt, alloc);
     let first = spawn(rt, entities, 0);
     give(rt, components, first, another(rt, &left));
-    assert!(rt; entities.despawn(first).is_ok());
+    given(rt, entities.despawn(first));
     assert_count(rt, &left, 2);
     let second = spawn(rt, entities, 1);
     give(rt, components, second, new_counted(rt, alloc));
@@ -169,11 +165,6 @@ impl SceneOfTwo<u64, Counted> for BothGo {
     }
 }
 
-#[test]
-fn a_component_goes_with_its_end_or_the_next_of_its_slot(rt: HostRuntime) {
-    play_two::<u64, Counted, BothGo>(&rt, rt.alloc(), &BothGo);
-}
-
 /// An entity that is taken with its element, twice.
 struct ElementsComeBack;
 
@@ -193,6 +184,7 @@ impl Scene<Counted> for ElementsComeBack {
 }
 
 #[test]
-fn an_element_that_is_taken_is_let_go_once(rt: HostRuntime) {
+fn components_and_elements_of_entities(rt: HostRuntime) {
+    play_two::<u64, Counted, BothGo>(&rt, rt.alloc(), &BothGo);
     play::<Counted, ElementsComeBack>(&rt, rt.alloc(), &ElementsComeBack);
 }

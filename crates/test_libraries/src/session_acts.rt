@@ -1,6 +1,6 @@
 //! What is done to a table of sessions, one act a line, with what must come of it.
 
-use crate::expected::assert_same;
+use crate::expected::{assert_same, given};
 use generational_box::{Location, Storage};
 use session_table::{Entry, LoginError, PutError, RenameError, SessionTable, Stale};
 use std::alloc::Global;
@@ -154,7 +154,7 @@ fn put<S: Storage<u64>>(
     let refusal = match table.put(&at.0, at.1, value, put_at(entries.len())) {
         Ok(entry) => {
             assert_same(rt, &table.entry(&at.0, &at.1), &Some(entry));
-            assert!(rt; entries.push(entry).is_ok());
+            given(rt, entries.push(entry));
             return Reply::Done;
         }
         Err(refusal) => refusal,

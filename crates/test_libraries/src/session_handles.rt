@@ -1,6 +1,6 @@
 //! Handles of what sessions keep as keys of a map, and what refusals print.
 
-use crate::expected::{assert_prints, assert_same};
+use crate::expected::{assert_prints, assert_same, given};
 use crate::fresh::{Scene, SceneOfTwo, play, play_two};
 use crate::session_acts::{put_at, sessions_over};
 use crate::session_limits::{log_in, put};
@@ -47,18 +47,13 @@ fn found_by_handles(
     foreign: Entry<u64>,
 ) {
     let mut numbers = HashMap::new(alloc);
-    assert!(rt; numbers.insert(stale, 1).is_ok());
-    assert!(rt; numbers.insert(later, 2).is_ok());
+    given(rt, numbers.insert(stale, 1));
+    given(rt, numbers.insert(later, 2));
     let alias = later;
     assert_same(rt, &numbers.get(&stale).copied(), &Some(1));
     assert_same(rt, &numbers.get(&alias).copied(), &Some(2));
     assert_same(rt, &numbers.get(&foreign).copied(), &None);
     assert!(rt; alias == later && stale != later && foreign != later);
-}
-
-#[test]
-fn handles_are_keys(rt: HostRuntime) {
-    play_two::<u64, u64, HandlesAreKeys>(&rt, rt.alloc(), &HandlesAreKeys);
 }
 
 /// The texts of refusals that a table gives.
@@ -96,6 +91,7 @@ impl Scene<u64> for RefusalsPrint {
 }
 
 #[test]
-fn refusals_print(rt: HostRuntime) {
+fn handles_are_keys_and_refusals_print(rt: HostRuntime) {
+    play_two::<u64, u64, HandlesAreKeys>(&rt, rt.alloc(), &HandlesAreKeys);
     play::<u64, RefusalsPrint>(&rt, rt.alloc(), &RefusalsPrint);
 }

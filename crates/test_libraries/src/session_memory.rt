@@ -1,7 +1,7 @@
 //! Want of memory. The test passes whichever one allocation is refused: what lacks memory changes
 //! nothing, and is tried a second time.
 
-use crate::expected::assert_same;
+use crate::expected::{assert_same, given};
 use crate::fresh::{Scene, play_both};
 use crate::session_acts::{put_at, sessions_over};
 use generational_box::{Storage, StoreError};
@@ -23,7 +23,7 @@ fn log_in_or_again<S: Storage<u64>>(
     if let Err(cause) = table.login(id, id) {
         assert_same(rt, &cause, &LoginError::Store(StoreError::OutOfMemory));
         assert_same(rt, &table.len(), &before);
-        assert!(rt; table.login(id, id).is_ok());
+        given(rt, table.login(id, id));
     }
     assert!(rt; table.has(&id));
 }
@@ -48,7 +48,7 @@ fn put_or_again<S: Storage<u64>>(
         &refusal.cause,
         &PutError::Store(StoreError::OutOfMemory),
     );
-    assert!(rt; table.put(&id, value, value, put_at(0)).is_ok());
+    given(rt, table.put(&id, value, value, put_at(0)));
 }
 
 /// Gives a session another id. A call that lacks memory leaves it under its own.
@@ -61,7 +61,7 @@ fn rename_or_again<S: Storage<u64>>(
     if let Err(cause) = table.rename(&id, to) {
         assert_same(rt, &cause, &RenameError::Store(StoreError::OutOfMemory));
         assert!(rt; table.has(&id) && !table.has(&to));
-        assert!(rt; table.rename(&id, to).is_ok());
+        given(rt, table.rename(&id, to));
     }
     assert!(rt; table.has(&to) && !table.has(&id));
 }

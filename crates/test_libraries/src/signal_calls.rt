@@ -68,9 +68,7 @@ pub(crate) fn end_hindered<S: AnyStorage<u64>>(
     match scope.end(store) {
         Ok(()) => rt.abort(),
         Err((scope, refused)) => {
-            let readers = vec![in alloc; asked()].expect(rt, "memory");
-            let read = BorrowMutError::AlreadyBorrowed(AlreadyBorrowedError::new(readers));
-            assert_same(rt, &refused, &Refused::Borrow(read));
+            assert_same(rt, &refused, &Refused::Borrow(read_once(rt, alloc)));
             scope
         }
     }
@@ -128,33 +126,44 @@ pub(crate) fn set_ended<S: Storage<u64>>(
     assert_same(rt, &answer, &Err((value, Refused::Borrow(error))));
 }
 
-/// Changes a signal that has ended: the closure isn't called.
+/// Changes a signal, which is refused so: the closure isn't called.
+fn update_refused<S: Storage<u64>>(
+    rt: &impl Abort,
+    store: &mut S,
+    signal: Signal<u64>,
+    error: BorrowMutError,
+) {
+    let mut called = false;
+    let answer = signal.update(store, asked(), |_| called = true);
+    assert_same(rt, &answer, &Err(Refused::Borrow(error)));
+    assert!(rt; !called);
+}
+
+/// Changes a signal that has ended.
 pub(crate) fn update_ended<S: Storage<u64>>(
     rt: &impl Abort,
     store: &mut S,
     signal: Signal<u64>,
     made: Location,
 ) {
-    let mut called = false;
-    let answer = signal.update(store, asked(), |_| called = true);
     let error = BorrowMutError::Dropped(ValueDroppedError::new(made));
-    assert_same(rt, &answer, &Err(Refused::Borrow(error)));
-    assert!(rt; !called);
+    update_refused(rt, store, signal, error);
 }
 
-/// Changes a signal that is read, since `asked`: the closure isn't called.
+/// The error that tells of one reader, since `asked`.
+fn read_once(rt: &impl Abort, alloc: Global) -> BorrowMutError {
+    let readers = [asked()].to_vec(alloc).expect(rt, "memory");
+    BorrowMutError::AlreadyBorrowed(AlreadyBorrowedError::new(readers))
+}
+
+/// Changes a signal that is read, since `asked`.
 pub(crate) fn update_hindered<S: Storage<u64>>(
     rt: &impl Abort,
     store: &mut S,
     signal: Signal<u64>,
     alloc: Global,
 ) {
-    let mut called = false;
-    let answer = signal.update(store, asked(), |_| called = true);
-    let readers = [asked()].to_vec(alloc).expect(rt, "memory");
-    let error = BorrowMutError::AlreadyBorrowed(AlreadyBorrowedError::new(readers));
-    assert_same(rt, &answer, &Err(Refused::Borrow(error)));
-    assert!(rt; !called);
+    update_refused(rt, store, signal, read_once(rt, alloc));
 }
 
 /// Doubles a signal's value, and answers the one before.

@@ -1,7 +1,7 @@
 //! Short histories of scopes and signals, with the answers that they must have.
 
 use crate::counted::{Counted, another, assert_count, new_counted};
-use crate::expected::assert_same;
+use crate::expected::{assert_same, given};
 use crate::fresh;
 use crate::fresh::{Scene, play_both};
 use crate::signal_calls::{
@@ -57,11 +57,6 @@ fn end_both<S: Storage<u64>>(
     assert_same(rt, &store.free(), &5);
 }
 
-#[test]
-fn an_alias_outlives_its_scope_and_is_led_elsewhere(rt: HostRuntime) {
-    play(&rt, rt.alloc(), &SourcesSwapped);
-}
-
 struct EndRefused;
 
 /// A scope whose signal is read doesn't end, and comes back.
@@ -80,11 +75,6 @@ impl Scene<u64> for EndRefused {
         end(rt, store, b);
         is_gone(rt, store, u, second_made());
     }
-}
-
-#[test]
-fn a_scope_that_is_read_comes_back(rt: HostRuntime) {
-    play(&rt, rt.alloc(), &EndRefused);
 }
 
 struct TicketsTaken;
@@ -110,11 +100,6 @@ impl Scene<u64> for TicketsTaken {
     }
 }
 
-#[test]
-fn a_read_or_a_set_takes_one_ticket(rt: HostRuntime) {
-    play(&rt, rt.alloc(), &TicketsTaken);
-}
-
 struct CallersAnswer;
 
 /// What the callers answer, and a scope that is leaked: its signals live on.
@@ -135,7 +120,10 @@ impl Scene<u64> for CallersAnswer {
 }
 
 #[test]
-fn callers_answer_what_they_promise(rt: HostRuntime) {
+fn scopes_and_their_signals(rt: HostRuntime) {
+    play(&rt, rt.alloc(), &SourcesSwapped);
+    play(&rt, rt.alloc(), &EndRefused);
+    play(&rt, rt.alloc(), &TicketsTaken);
     play(&rt, rt.alloc(), &CallersAnswer);
 }
 
@@ -146,7 +134,7 @@ fn set_counted<S: Storage<Counted>>(
     signal: Signal<Counted>,
     value: Counted,
 ) {
-    assert!(rt; signal.set(store, value, asked()).is_ok());
+    given(rt, signal.set(store, value, asked()));
 }
 
 /// A signal whose value is set, and whose scope ends.

@@ -125,19 +125,19 @@ fn answer<S: Storage<u64>>(
     match act {
         Act::Root(value) => {
             let made = tree.add_root(value, made_at(nodes.len()));
-            assert!(rt; nodes.push(given(rt, made)).is_ok());
+            given(rt, nodes.push(given(rt, made)));
             Ok(())
         }
         Act::Child(parent, value) => {
             let parent = node_at(rt, nodes, parent);
             let child = add_child(rt, tree, parent, value, nodes.len())?;
-            assert!(rt; nodes.push(child).is_ok());
+            given(rt, nodes.push(child));
             Ok(())
         }
         Act::ChildAt(side, by, value) => {
             let spot = spot_at(side, node_at(rt, nodes, by));
             let child = add_at(rt, tree, spot, value, nodes.len())?;
-            assert!(rt; nodes.push(child).is_ok());
+            given(rt, nodes.push(child));
             Ok(())
         }
         Act::Set(node, value) => set(rt, tree, node_at(rt, nodes, node), value),
@@ -335,9 +335,9 @@ fn is_gone<S: Storage<u64>>(
     let error = TreeError::Stale(stale.made_at);
     assert!(rt; !tree.is_alive(node));
     assert_same(rt, &tree.get(node).copied(), &Err(stale));
-    assert_same(rt, &tree.parent(node).map(|_| ()), &Err(stale));
-    assert_same(rt, &tree.children(node).map(|_| ()), &Err(stale));
-    assert_same(rt, &tree.subtree(node).map(|_| ()), &Err(error));
+    assert_same(rt, &tree.parent(node).err(), &Some(stale));
+    assert_same(rt, &tree.children(node).err(), &Some(stale));
+    assert_same(rt, &tree.subtree(node).err(), &Some(error));
     assert_same(rt, &tree.depth(node), &Err(stale));
     assert_same(rt, &tree.detach(node), &Err(stale));
 }

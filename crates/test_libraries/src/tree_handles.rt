@@ -1,6 +1,6 @@
 //! Handles of nodes: the ways up from them, what errors print, and maps that have them as keys.
 
-use crate::expected::assert_same;
+use crate::expected::{assert_same, given};
 use crate::fresh::{Scene, play};
 use crate::tree_acts::{are_nodes, made_at, node_at, tree_over};
 use crate::tree_memory::{child_or_again, root_or_again};
@@ -22,7 +22,7 @@ fn is_below<S: Storage<u64>>(
 ) {
     let mut found = Vec::new(alloc);
     for up in tree.ancestors(node).expect(rt, "a live node") {
-        assert!(rt; found.push(up).is_ok());
+        given(rt, found.push(up));
     }
     are_nodes(rt, above, found.as_slice(), numbers);
     assert_same(rt, &tree.depth(node), &Ok(numbers.len()));
@@ -41,26 +41,21 @@ impl Scene<u64> for WaysUp {
         let nodes = [root, first, second, leaf];
         is_below(rt, alloc, &tree, root, &nodes, &[]);
         is_below(rt, alloc, &tree, leaf, &nodes, &[2, 1, 0]);
-        assert!(rt; tree.move_to(second, root).is_ok());
+        given(rt, tree.move_to(second, root));
         is_below(rt, alloc, &tree, leaf, &nodes, &[2, 0]);
-        assert!(rt; tree.detach(second).is_ok());
+        given(rt, tree.detach(second));
         is_below(rt, alloc, &tree, leaf, &nodes, &[2]);
         assert_same(
             rt,
             &root_of(&tree, leaf).map(|node| node.id()),
             &Ok(second.id()),
         );
-        assert!(rt; tree.remove_subtree(second).is_ok());
+        given(rt, tree.remove_subtree(second));
         let stale = Stale {
             made_at: made_at(1),
         };
-        assert_same(rt, &tree.ancestors(leaf).map(|_| ()), &Err(stale));
+        assert_same(rt, &tree.ancestors(leaf).err(), &Some(stale));
     }
-}
-
-#[test]
-fn ways_up_end_at_a_root(rt: HostRuntime) {
-    play::<u64, WaysUp>(&rt, rt.alloc(), &WaysUp);
 }
 
 /// Sees the rows of a node's outline: how deep each is, and which node it is.
@@ -107,7 +102,7 @@ impl Scene<u64> for ReadInOrder {
             9,
             &[(0, 0), (1, 1), (2, 3), (2, 4), (1, 2)],
         );
-        assert!(rt; tree.move_at(fourth, Spot::FirstOf(second)).is_ok());
+        given(rt, tree.move_at(fourth, Spot::FirstOf(second)));
         reads(
             rt,
             &tree,
@@ -115,7 +110,7 @@ impl Scene<u64> for ReadInOrder {
             9,
             &[(0, 0), (1, 1), (2, 3), (1, 2), (2, 4)],
         );
-        assert!(rt; tree.move_at(second, Spot::Before(third)).is_ok());
+        given(rt, tree.move_at(second, Spot::Before(third)));
         reads(
             rt,
             &tree,
@@ -123,15 +118,10 @@ impl Scene<u64> for ReadInOrder {
             9,
             &[(0, 0), (1, 1), (2, 2), (3, 4), (2, 3)],
         );
-        assert!(rt; tree.remove_subtree(second).is_ok());
+        given(rt, tree.remove_subtree(second));
         reads(rt, &tree, &nodes, 9, &[(0, 0), (1, 1), (2, 3)]);
         assert!(rt; tree.outline(fourth, 9).is_err());
     }
-}
-
-#[test]
-fn outlines_are_in_the_order_of_reading(rt: HostRuntime) {
-    play::<u64, ReadInOrder>(&rt, rt.alloc(), &ReadInOrder);
 }
 
 /// Sees what an error prints.
@@ -171,7 +161,7 @@ impl Scene<u64> for Keys {
         let mut keys = HashSet::new(alloc);
         assert_same(rt, &keys.insert(first).ok(), &Some(true));
         assert_same(rt, &keys.insert(copied).ok(), &Some(false));
-        assert!(rt; tree.remove_subtree(first).is_ok());
+        given(rt, tree.remove_subtree(first));
         let next = root_or_again(rt, &mut tree);
         assert!(rt; !keys.contains(&next));
         assert_same(rt, &keys.insert(next).ok(), &Some(true));
@@ -181,6 +171,8 @@ impl Scene<u64> for Keys {
 }
 
 #[test]
-fn a_later_node_of_a_slot_is_another_key(rt: HostRuntime) {
+fn ways_up_outlines_and_keys(rt: HostRuntime) {
+    play::<u64, WaysUp>(&rt, rt.alloc(), &WaysUp);
+    play::<u64, ReadInOrder>(&rt, rt.alloc(), &ReadInOrder);
     play::<u64, Keys>(&rt, rt.alloc(), &Keys);
 }

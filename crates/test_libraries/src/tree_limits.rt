@@ -31,7 +31,7 @@ fn remove<S: Storage<Counted>>(
     tree: &mut SceneTree<Counted, S>,
     node: Node<Counted>,
 ) {
-    assert!(rt; tree.remove_subtree(node).is_ok());
+    given(rt, tree.remove_subtree(node));
 }
 
 /// Sets a node's value, which lets the old one go.
@@ -41,7 +41,7 @@ fn set<S: Storage<Counted>>(
     node: Node<Counted>,
     value: Counted,
 ) {
-    assert!(rt; tree.set(node, value).is_ok());
+    given(rt, tree.set(node, value));
 }
 
 /// A root that is taken with its value: those of the nodes below go at once.
@@ -63,11 +63,6 @@ impl Scene<Counted> for AValueComesBack {
         assert!(rt; tree.take(top).is_err());
         assert_same(rt, &tree.len(), &0);
     }
-}
-
-#[test]
-fn a_value_that_is_taken_is_let_go_once(rt: HostRuntime) {
-    play::<Counted, AValueComesBack>(&rt, rt.alloc(), &AValueComesBack);
 }
 
 /// Values of a root and its children, which a removal lets go.
@@ -92,7 +87,8 @@ impl Scene<Counted> for ValuesGo {
 }
 
 #[test]
-fn a_removal_lets_its_values_go(rt: HostRuntime) {
+fn values_of_nodes_are_let_go_once(rt: HostRuntime) {
+    play::<Counted, AValueComesBack>(&rt, rt.alloc(), &AValueComesBack);
     play::<Counted, ValuesGo>(&rt, rt.alloc(), &ValuesGo);
 }
 
@@ -119,7 +115,7 @@ fn no_cycle_is_made<S: Storage<u64>>(rt: &impl Abort, tree: &mut SceneTree<u64, 
 /// A root whose child shows more than any root.
 fn all_are_met<S: Storage<u64>>(rt: &impl Abort, tree: &mut SceneTree<u64, S>) {
     let top = root(rt, tree, 5);
-    assert!(rt; tree.add_child(top, 9, made_at(5)).is_ok());
+    given(rt, tree.add_child(top, 9, made_at(5)));
     assert_same(rt, &greatest_value(tree), &9);
     assert_same(rt, &greatest_root(tree), &5);
 }
@@ -136,11 +132,6 @@ impl Scene<u64> for CallersAreTold {
     }
 }
 
-#[test]
-fn callers_of_trees_are_told(rt: HostRuntime) {
-    play::<u64, CallersAreTold>(&rt, rt.alloc(), &CallersAreTold);
-}
-
 /// A node that is looked at, set and removed, where no ticket is left.
 struct ANodeGoes;
 
@@ -148,13 +139,14 @@ impl Scene<u64> for ANodeGoes {
     fn play<R: Abort, S: Storage<u64> + Drop>(&self, rt: &R, alloc: Global, store: S) {
         let mut tree = tree_over(rt, alloc, store);
         let node = root(rt, &mut tree, 0);
-        assert!(rt; tree.set(node, 5).is_ok());
+        given(rt, tree.set(node, 5));
         assert_same(rt, &tree.get(node).copied().ok(), &Some(5));
-        assert!(rt; tree.remove_subtree(node).is_ok());
+        given(rt, tree.remove_subtree(node));
     }
 }
 
 #[test]
-fn no_call_of_a_tree_takes_a_ticket(rt: HostRuntime) {
+fn callers_of_trees_are_told_and_take_no_ticket(rt: HostRuntime) {
+    play::<u64, CallersAreTold>(&rt, rt.alloc(), &CallersAreTold);
     play_at_ticket::<u64, ANodeGoes>(&rt, rt.alloc(), u64::MAX, &ANodeGoes);
 }

@@ -137,7 +137,7 @@ impl Scene<u64> for GrowAndCut {
         let first = child_or_again(rt, &mut tree, root, 0);
         for value in 1..MANY {
             let child = child_or_again(rt, &mut tree, root, value);
-            assert!(rt; tree.move_to(child, first).is_ok());
+            given(rt, tree.move_to(child, first));
         }
         let mut children = tree.children(root).expect(rt, "a live node");
         assert_same(rt, &children.next().map(Node::id), &Some(first.id()));
@@ -147,11 +147,6 @@ impl Scene<u64> for GrowAndCut {
         assert_same(rt, &count_of(rt, &tree, root), &0);
         assert_same(rt, &counts_of(&tree), &(1, 1));
     }
-}
-
-#[test]
-fn trees_that_lack_memory_stay(rt: HostRuntime) {
-    play::<u64, GrowAndCut>(&rt, rt.alloc(), &GrowAndCut);
 }
 
 /// Makes children before one of a root's, moves them all below it, each before the others, and takes the
@@ -166,7 +161,7 @@ impl Scene<u64> for GrowBefore {
         for value in 1..MANY {
             let spot = Spot::Before(last);
             let child = child_at_or_again(rt, &mut tree, spot, value);
-            assert!(rt; tree.move_at(child, Spot::FirstOf(last)).is_ok());
+            given(rt, tree.move_at(child, Spot::FirstOf(last)));
         }
         assert_same(rt, &count_of(rt, &tree, root), &1);
         assert_same(rt, &(count_of(rt, &tree, last) as u64), &(MANY - 1));
@@ -177,6 +172,7 @@ impl Scene<u64> for GrowBefore {
 }
 
 #[test]
-fn spots_that_lack_memory_stay(rt: HostRuntime) {
+fn trees_and_spots_that_lack_memory_stay(rt: HostRuntime) {
+    play::<u64, GrowAndCut>(&rt, rt.alloc(), &GrowAndCut);
     play::<u64, GrowBefore>(&rt, rt.alloc(), &GrowBefore);
 }
