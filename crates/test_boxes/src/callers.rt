@@ -81,9 +81,15 @@ fn shared_values<S: Storage<u64>>(store: &mut S) -> Option<(u64, u64)> {
     Some((written, kept))
 }
 
-/// What three rows show, and one that was never given, after the middle one was removed twice.
+/// What three rows of a new table show, and one that was never given, after the middle one was removed
+/// twice.
 fn rows_of_table<S: Storage<u64> + Drop>(alloc: Global, store: S) -> Option<[Option<u64>; 4]> {
     let mut table = Table::new(alloc, store);
+    rows_of(&mut table)
+}
+
+/// The same of a table.
+fn rows_of<S: Storage<u64> + Drop>(table: &mut Table<u64, S>) -> Option<[Option<u64>; 4]> {
     let first = table.insert(3, here()).ok()?;
     let second = table.insert(4, here()).ok()?;
     let removed = table.remove(second);

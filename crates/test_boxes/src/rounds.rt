@@ -6,7 +6,7 @@ use crate::expected::{
 };
 use crate::fresh::{Life, LifeOfTwo, live, live_in_two_stores};
 use crate::growth::{Gauge, Growth, grow};
-use crate::sessions::session_over;
+use crate::sessions::{ask, session_over};
 use crate::sharing::{insert_rc, leak_rc, leak_reference, point};
 use generational_box::{BoxAt, Call, GenerationalBox, GenerationalRef, Storage};
 use std::alloc::Global;
@@ -208,10 +208,9 @@ struct ListInSession;
 impl Life<String> for ListInSession {
     fn live<R: Abort, S: Storage<String> + Drop>(rt: &R, alloc: Global, store: S) {
         let mut session = session_over(rt, alloc, store);
-        let ran = session.run(calls(rt, alloc)).is_ok();
-        let called = session.call(call_at(12, text(rt, alloc))).is_ok();
+        given(rt, session.run(calls(rt, alloc)));
+        ask(rt, &mut session, call_at(12, text(rt, alloc)));
         let _store = session.finish();
-        assert!(rt; ran && called);
     }
 }
 

@@ -9,10 +9,9 @@ use generational_box::{
     AlreadyBorrowedError, AlreadyBorrowedMutError, BorrowError, BorrowMutError, GenerationalBox,
     Location, Refused, Storage, StoreError, ValueDroppedError,
 };
-use std::alloc::{AllocError, Global};
+use std::alloc::Global;
 use std::fmt::{Debug, Display};
 use std::process::Abort;
-use std::test::Fail;
 
 const DROPPED: &str = "Failed to borrow because the value was dropped.created_at: a.rs:3:5";
 
@@ -46,7 +45,7 @@ fn errors_of_values_that_are_gone(rt: HostRuntime) {
 }
 
 #[test]
-fn errors_of_values_that_are_written(rt: HostRuntime) -> Result<(), Fail> {
+fn errors_of_values_that_are_written(rt: HostRuntime) {
     let alloc = rt.alloc();
     let written = AlreadyBorrowedMutError::new(Location::new("w.rs", 4, 6));
     let asked = BorrowError::AlreadyBorrowedMut(written);
@@ -55,22 +54,33 @@ fn errors_of_values_that_are_written(rt: HostRuntime) -> Result<(), Fail> {
     assert_prints(&rt, alloc, &asked, WRITTEN);
     assert_prints(&rt, alloc, &held, WRITTEN);
     assert_same(&rt, &BorrowMutError::from(asked), &held);
-    assert_prints(&rt, alloc, &Refused::Borrow(held.clone()?), WRITTEN);
-    Ok(())
+    let clone = given(&rt, held.clone());
+    assert_prints(&rt, alloc, &Refused::Borrow(clone), WRITTEN);
+}
+
+/// An error of readers that began at these locations.
+fn read_at(rt: &impl Abort, alloc: Global, began: &[Location]) -> AlreadyBorrowedError {
+    AlreadyBorrowedError::new(given(rt, began.to_vec(alloc)))
+}
+
+/// Asserts what the error of two readers prints in the errors that hold it, and in their clones.
+fn assert_held_prints(rt: &impl Abort, alloc: Global, read: AlreadyBorrowedError) {
+    let held = BorrowMutError::AlreadyBorrowed(read);
+    let clone = given(rt, held.clone());
+    assert_prints(rt, alloc, &clone, READ);
+    let refused = given(rt, Refused::Borrow(held).clone());
+    assert_prints(rt, alloc, &refused, READ);
 }
 
 #[test]
-fn errors_of_values_that_are_read(rt: HostRuntime) -> Result<(), Fail> {
+fn errors_of_values_that_are_read(rt: HostRuntime) {
     let alloc = rt.alloc();
-    let nobody = AlreadyBorrowedError::new(Vec::new(alloc));
+    let nobody = read_at(&rt, alloc, &[]);
     assert_prints(&rt, alloc, &nobody, READ_BY_NOBODY);
-    let read = AlreadyBorrowedError::new([made(), made_later()].to_vec(alloc)?);
+    let read = read_at(&rt, alloc, &[made(), made_later()]);
     assert_prints(&rt, alloc, &read, READ);
     assert!(rt; read != nobody);
-    let held = BorrowMutError::AlreadyBorrowed(read.clone()?);
-    assert_prints(&rt, alloc, &held.clone()?, READ);
-    assert_prints(&rt, alloc, &Refused::Borrow(held).clone()?, READ);
-    Ok(())
+    assert_held_prints(&rt, alloc, given(&rt, read.clone()));
 }
 
 #[test]
@@ -183,21 +193,20 @@ Borrow(
 
 // To a developer, values are printed as Rust's derives print them.
 #[test]
-fn texts_for_developers(rt: HostRuntime) -> Result<(), Fail> {
+fn texts_for_developers(rt: HostRuntime) {
     let alloc = rt.alloc();
     assert_shows(&rt, alloc, &made(), LOCATION);
     assert_spreads(&rt, alloc, &made(), LOCATION_SPREAD);
     let gone = BorrowError::Dropped(ValueDroppedError::new(made()));
     assert_spreads(&rt, alloc, &gone, GONE);
-    let read = AlreadyBorrowedError::new([made()].to_vec(alloc)?);
+    let read = read_at(&rt, alloc, &[made()]);
     let standing = Refused::Borrow(BorrowMutError::AlreadyBorrowed(read));
     assert_spreads(&rt, alloc, &standing, STANDING);
     let lacking: Refused<BorrowError> = Refused::Store(StoreError::OutOfMemory);
     assert_shows(&rt, alloc, &lacking, "Store(OutOfMemory)");
     let writer = AlreadyBorrowedMutError::new(made());
-    let text = format!(in alloc; "AlreadyBorrowedMutError {{ borrowed_mut_at: {LOCATION} }}")?;
-    assert_shows(&rt, alloc, &writer, text.as_str());
-    Ok(())
+    let text = format!(in alloc; "AlreadyBorrowedMutError {{ borrowed_mut_at: {LOCATION} }}");
+    assert_shows(&rt, alloc, &writer, given(&rt, text).as_str());
 }
 
 /// Asserts that a value is printed so, whatever the width.
@@ -242,7 +251,7 @@ impl<R: Abort> Over<u32, R> for NamesWide {
 }
 
 /// Asserts so of errors and their parts.
-fn assert_errors_wide(rt: &impl Abort, alloc: Global) -> Result<(), AllocError> {
+fn assert_errors_wide(rt: &impl Abort, alloc: Global) {
     assert_wide(rt, alloc, &made(), "a.rs:3:5");
     assert_wide(rt, alloc, &StoreError::OutOfMemory, "out of memory");
     let gone = ValueDroppedError::new(made());
@@ -251,15 +260,13 @@ fn assert_errors_wide(rt: &impl Abort, alloc: Global) -> Result<(), AllocError> 
     assert_wide(rt, alloc, &refused, DROPPED);
     let written = AlreadyBorrowedMutError::new(Location::new("w.rs", 4, 6));
     assert_wide(rt, alloc, &written, WRITTEN);
-    let read = AlreadyBorrowedError::new([made(), made_later()].to_vec(alloc)?);
+    let read = read_at(rt, alloc, &[made(), made_later()]);
     assert_wide(rt, alloc, &read, READ);
-    Ok(())
 }
 
 // None of these texts is padded or cut, as none is in upstream.
 #[test]
-fn texts_with_a_width(rt: HostRuntime) -> Result<(), Fail> {
-    assert_errors_wide(&rt, rt.alloc())?;
+fn texts_with_a_width(rt: HostRuntime) {
+    assert_errors_wide(&rt, rt.alloc());
     run_over::<u32, _, NamesWide>(&rt, rt.alloc(), 7, Beginning::First);
-    Ok(())
 }
