@@ -48,7 +48,7 @@ impl<T: Value + Drop> Effect<T> {
         noted: Result<T, Fault>,
         answer: Result<T, Fault>,
         told: &mut Vec<Told<T>>,
-    ) -> Result<(), AllocError>
+    ) -> Result<(), StoreError>
         ensures noted { OnOk result (self.new ≡ record { key = self.old.key; told = Some noted }) }
         ensures told { OnOk result (told.new.items
             ≡ told.old.items ++ record { key = self.old.key; answer = answer } ∷ []) }
@@ -58,14 +58,14 @@ impl<T: Value + Drop> Effect<T> {
         let key = self.key;
         match told.push(Told { key, answer }) {
             Ok(()) => {}
-            Err(_) => return Err(AllocError),
+            Err(_) => return Err(StoreError::OutOfMemory),
         }
         self.told = Some(noted);
         Ok(())
     }
 
     // Tells a value, unless it was the last that was told.
-    fn hear_value(&mut self, value: &T, told: &mut Vec<Told<T>>) -> Result<(), AllocError>
+    fn hear_value(&mut self, value: &T, told: &mut Vec<Told<T>>) -> Result<(), StoreError>
         ensures heard { OnOk result ((news : List (Told T)) × (told.new.items ≡ told.old.items ++ news)
             × Hears T.is_same self.old (Ok value.now) self.new news) }
         ensures kept { OnErr result (self.new ≡ self.old) }
@@ -74,13 +74,17 @@ impl<T: Value + Drop> Effect<T> {
         if self.has_heard(value) {
             return Ok(());
         }
-        let noted = Ok(value.copy()?);
-        let answer = Ok(value.copy()?);
-        self.tell(noted, answer, told)
+        let Ok(noted) = value.copy() else {
+            return Err(StoreError::OutOfMemory);
+        };
+        let Ok(answer) = value.copy() else {
+            return Err(StoreError::OutOfMemory);
+        };
+        self.tell(Ok(noted), Ok(answer), told)
     }
 
     // Tells that there is no value, unless that was told.
-    fn hear_fault(&mut self, fault: Fault, told: &mut Vec<Told<T>>) -> Result<(), AllocError>
+    fn hear_fault(&mut self, fault: Fault, told: &mut Vec<Told<T>>) -> Result<(), StoreError>
         ensures heard { OnOk result ((news : List (Told T)) × (told.new.items ≡ told.old.items ++ news)
             × Hears T.is_same self.old (Err fault) self.new news) }
         ensures kept { OnErr result (self.new ≡ self.old) }
@@ -107,17 +111,13 @@ impl<T: Value + Drop> Effect<T> {
         ensures kept { OnErr result (self.new ≡ self.old) }
         ensures untold { OnErr result (told.new.items ≡ told.old.items) }
     {
-        let heard = match graph.refresh(self.key) {
+        match graph.refresh(self.key) {
             Ok(()) => match graph.peek(self.key) {
                 Some(value) => self.hear_value(value, told),
                 None => unreachable!(),
             },
-            Err(Fault::Store(cause)) => return Err(cause),
+            Err(Fault::Store(cause)) => Err(cause),
             Err(fault) => self.hear_fault(fault, told),
-        };
-        match heard {
-            Ok(()) => Ok(()),
-            Err(_) => Err(StoreError::OutOfMemory),
         }
     }
 }

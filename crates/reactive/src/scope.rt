@@ -77,9 +77,13 @@ impl Scope {
         if self.keys.reserve(1).is_err() {
             return Err(StoreError::OutOfMemory);
         }
-        let key = graph.source(value, here)?;
-        self.keys.push_reserved(key);
-        Ok(key)
+        match graph.source(value, here) {
+            Ok(key) => {
+                self.keys.push_reserved(key);
+                Ok(key)
+            }
+            Err(cause) => Err(cause),
+        }
     }
 
     /// A memo of a rule, as `Reactive::memo`, which ends with the scope.
@@ -106,9 +110,13 @@ impl Scope {
         if self.keys.reserve(1).is_err() {
             return Err(StoreError::OutOfMemory);
         }
-        let key = graph.memo(rule, here)?;
-        self.keys.push_reserved(key);
-        Ok(key)
+        match graph.memo(rule, here) {
+            Ok(key) => {
+                self.keys.push_reserved(key);
+                Ok(key)
+            }
+            Err(cause) => Err(cause),
+        }
     }
 
     /// Ends the scope: its nodes end, and no other.
