@@ -16,7 +16,7 @@ use reactive::{Effects, Fault, Key, Node, Reactive, Reads, Rule, Scope, Told};
 use std::alloc::Global;
 
 /// What a memo computes of other nodes.
-#[derive(Clone, Copy, Debug)]
+#[derive(Clone, Copy)]
 pub enum Formula {
     /// Nothing.
     Blank,
