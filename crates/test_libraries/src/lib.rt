@@ -1,5 +1,6 @@
-//! Tests of the libraries above the boxes: signals, tables of entities, of components and of sessions, trees
-//! and documents, over stores of either order of free slots. The expected rows are worked out by hand.
+//! Tests of the libraries above the boxes: signals, tables of entities, of components and of sessions, trees,
+//! documents, and graphs of sources and memos, over stores of either order of free slots. The expected rows
+//! are worked out by hand.
 #![tactic(auto)]
 
 #[cfg(test)]
@@ -24,6 +25,26 @@ mod entity_memory;
 mod expected;
 #[cfg(test)]
 mod fresh;
+#[cfg(test)]
+mod graph_calls;
+#[cfg(test)]
+mod graph_chain;
+#[cfg(test)]
+mod graph_costs;
+#[cfg(test)]
+mod graph_drawn;
+#[cfg(test)]
+mod graph_effects;
+#[cfg(test)]
+mod graph_faults;
+#[cfg(test)]
+mod graph_lines;
+#[cfg(test)]
+mod graph_memory;
+#[cfg(test)]
+mod graph_plain;
+#[cfg(test)]
+mod graph_texts;
 #[cfg(test)]
 mod growth;
 #[cfg(test)]

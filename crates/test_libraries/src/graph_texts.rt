@@ -1,8 +1,8 @@
 //! The texts of faults.
 
-use crate::expected::assert_same;
-use crate::formula::Formula;
-use crate::graph::{Graph, Scene, play_whole};
+use crate::expected::assert_prints;
+use crate::graph_calls::{Graph, Scene, play_whole};
+use example_libraries::memos::Formula;
 use generational_box::StoreError;
 use reactive::Fault;
 use std::alloc::Global;
@@ -22,8 +22,7 @@ impl Scene for Texts {
             (Fault::Store(StoreError::OutOfMemory), "out of memory"),
         ];
         for (fault, text) in texts {
-            let printed = format!(in alloc; "{fault}").expect(rt, "a text");
-            assert_same(rt, &printed.as_str(), &text);
+            assert_prints(rt, alloc, &fault, text);
         }
     }
 }

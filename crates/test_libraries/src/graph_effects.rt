@@ -1,10 +1,10 @@
 //! Effects: what a flush tells.
 
-use crate::graph::play_whole;
-use crate::lines::Answer::{Gone, NoValue, Value};
-use crate::lines::Line::{End, Memo, Set, SetRule, Shows, Source, Tells, Unwatch, Watch};
-use crate::lines::Lines;
-use crate::plain::Plain::{Add, Blank, Odd, Same};
+use crate::graph_calls::play_whole;
+use crate::graph_lines::Answer::{Gone, NoValue, Value};
+use crate::graph_lines::Line::{End, Memo, Set, SetRule, Shows, Source, Tells, Unwatch, Watch};
+use crate::graph_lines::Lines;
+use crate::graph_plain::Plain::{Add, Blank, Odd, Same};
 
 #[test]
 fn a_flush_tells_what_has_changed_once(rt: HostRuntime) {

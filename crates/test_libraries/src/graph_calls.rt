@@ -2,7 +2,7 @@
 //! contracts, so that a test is proved without the library's.
 
 use crate::expected::assert_same;
-use crate::formula::Formula;
+use example_libraries::memos::Formula;
 use generational_box::{LastFirst, Location, OldestFirst, Storage, Store, StoreError};
 use reactive::{Effects, Fault, Key, Node, Reactive, Scope, Told};
 use std::alloc::Global;
@@ -192,5 +192,5 @@ fn play_over<P: Scene, S: Storage<Node<u64, Formula>> + Drop>(
 }
 
 fn here() -> Location {
-    Location::new("graph.rt", 1, 1)
+    Location::new("graph_calls.rt", 1, 1)
 }

@@ -1,6 +1,6 @@
 //! Nodes by numbers: what a memo computes, and what each node of a plain table means.
 
-use crate::formula::Formula;
+use example_libraries::memos::Formula;
 use reactive::Key;
 
 /// What a node is; others are named by their numbers.

@@ -1,8 +1,8 @@
 //! A chain of 100,000 memos: no call is a recursion.
 
 use crate::expected::assert_same;
-use crate::formula::Formula;
-use crate::graph::{Graph, Scene, play_whole};
+use crate::graph_calls::{Graph, Scene, play_whole};
+use example_libraries::memos::Formula;
 use reactive::Fault;
 use std::alloc::Global;
 use std::process::Abort;

@@ -1,12 +1,14 @@
 //! Refused memory. Each test passes whichever allocation is refused, and those after it that ask for
 //! less: what is refused changes nothing, and is tried again.
 
-use crate::drawn::Calls;
-use crate::graph::play;
-use crate::lines::Answer::{Cycle, Gone, Value};
-use crate::lines::Line::{EndScope, Fails, MemoIn, Set, SetRule, Shows, SourceIn, Tells, Watch};
-use crate::lines::Lines;
-use crate::plain::Plain::{Add, Same};
+use crate::graph_calls::play;
+use crate::graph_drawn::Calls;
+use crate::graph_lines::Answer::{Cycle, Gone, Value};
+use crate::graph_lines::Line::{
+    EndScope, Fails, MemoIn, Set, SetRule, Shows, SourceIn, Tells, Watch,
+};
+use crate::graph_lines::Lines;
+use crate::graph_plain::Plain::{Add, Same};
 
 #[test]
 fn what_is_refused_memory_is_as_it_was(rt: HostRuntime) {

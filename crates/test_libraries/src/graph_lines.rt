@@ -1,8 +1,8 @@
 //! Tests as data: lines that say what is done with a graph, and what it answers.
 
-use crate::formula::Formula;
-use crate::graph::{Graph, Scene};
-use crate::plain::Plain;
+use crate::graph_calls::{Graph, Scene};
+use crate::graph_plain::Plain;
+use example_libraries::memos::Formula;
 use reactive::{Effects, Fault, Key, Scope};
 use std::alloc::Global;
 use std::mem;

@@ -1,8 +1,8 @@
 //! Drawn graphs beside a plain recomputation.
 
 use crate::expected::assert_same;
-use crate::graph::{Graph, Scene, play_whole};
-use crate::plain::{Plain, value_at};
+use crate::graph_calls::{Graph, Scene, play_whole};
+use crate::graph_plain::{Plain, value_at};
 use reactive::{Effects, Fault, Key};
 use std::alloc::Global;
 use std::process::Abort;

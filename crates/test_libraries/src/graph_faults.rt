@@ -1,12 +1,12 @@
 //! What is told of nodes that mean nothing, and which refusal comes first.
 
-use crate::graph::play_whole;
-use crate::lines::Answer::{AnyCycle, Cycle, Gone, NoSource, NoValue};
-use crate::lines::Line::{
+use crate::graph_calls::play_whole;
+use crate::graph_lines::Answer::{AnyCycle, Cycle, Gone, NoSource, NoValue};
+use crate::graph_lines::Line::{
     EndScope, Fails, Memo, SetRule, Shows, Source, SourceIn, Unknown, Unruled, Unset,
 };
-use crate::lines::Lines;
-use crate::plain::Plain::{Add, Blank, Same};
+use crate::graph_lines::Lines;
+use crate::graph_plain::Plain::{Add, Blank, Same};
 
 #[test]
 fn what_has_ended_is_told_by_name(rt: HostRuntime) {

@@ -1,11 +1,11 @@
 //! How often rules are run.
 
 use crate::expected::assert_same;
-use crate::formula::Formula;
-use crate::graph::{Graph, Scene, play_whole};
-use crate::lines::Line::{Memo, Set, SetRule, Shows, Source};
-use crate::lines::Lines;
-use crate::plain::Plain::{Add, Odd, Pick, Same};
+use crate::graph_calls::{Graph, Scene, play_whole};
+use crate::graph_lines::Line::{Memo, Set, SetRule, Shows, Source};
+use crate::graph_lines::Lines;
+use crate::graph_plain::Plain::{Add, Odd, Pick, Same};
+use example_libraries::memos::Formula;
 use std::alloc::Global;
 use std::process::Abort;
 
