@@ -1,0 +1,15 @@
+use Rattle.std.proofs.Common.{Err, ap, inl, refl, sym, ◌∙◌}
+use Rattle.std.proofs.lemmas.Option.{none-some}
+use Rattle.scene_tree.specs.declared.node.TreeError.TheVariants as error
+use Rattle.example_libraries.proofs.trees.told_after.Goals as goal
+
+pub returns-in-Ok : goal.returns-in-Ok
+returns-in-Ok g c =
+    let first = c.args.first in
+    let removed = c.in_ok-remove_subtree.ensures in
+    let gone = removed.gone first ((removed.subtree.below first).1 (0, refl)) in
+    let left = (c.add_root.ensures.left first (removed.kept first c.requires)).value in
+    absurd (none-some _ (sym (left ∙ gone) ∙ c.in-Ok.ensures.seen))
+
+pub returns-in-Err : goal.returns-in-Err
+returns-in-Err g c = inl (ap (λ made. Err (error.Stale made)) c.in-Err.ensures.told)
