@@ -25,3 +25,14 @@ returns-clause-others g c b apart ne =
     let set = c.in-Ok.ensures.others b (λ is. ne (sym left.reached ∙ (is ∙ turn.reached))) in
     let read = subst (IsUnchanged _ b) (sym c.in_ok-seen.ensures.ticket) (left_ticket _ b) in
     left_twice (left_twice left set) read
+
+pub returns-in-Err-clause-others : goal.returns-in-Err-clause-others
+returns-in-Err-clause-others g c b apart ne =
+    subst (IsUnchanged _ b) (sym c.in-Err.ensures.refused.0) (c.in_ok-swap_source.ensures.others b apart)
+
+pub returns-in_err-seen-clause-others : goal.returns-in_err-seen-clause-others
+returns-in_err-seen-clause-others g c b apart ne =
+    let turn = c.in_ok-swap_source.ensures in
+    let left = turn.others b apart in
+    let set = c.in-Ok.ensures.others b (λ is. ne (sym left.reached ∙ (is ∙ turn.reached))) in
+    subst (IsUnchanged _ b) (sym c.in_err-seen.ensures.refused.0) (left_twice left set)
