@@ -58,7 +58,7 @@ pub use specs.declared.steps.StepCall.TheVariants.{ManuallyDrop}
 pub use Rattle.store_cells.specs.Entries.{kept_data, named_by}
 pub use Rattle.store_cells.specs.Entry.{cell_of, FoundBorrowed, has_no_borrow, less_read}
 pub use Rattle.store_cells.specs.Entry.{one_read, readers_of}
-pub use Rattle.store_cells.specs.declared.entry.StorageEntryData.{StorageEntryData}
+pub use Rattle.store_cells.specs.Data.{SlotData, data_in}
 pub use Rattle.generational_errors.specs.Texts.{as_borrow_mut}
 pub use declared.error.{BorrowError.BorrowError, BorrowMutError.BorrowMutError, Location.Location}
 pub use declared.error.{Refused.Refused, StoreError.StoreError}

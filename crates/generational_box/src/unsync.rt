@@ -8,6 +8,7 @@ ghost use Rattle.generational_core.specs.Conditions.{IsBounded};
 ghost use Rattle.generational_core.specs.State.{HasTargets};
 ghost use Rattle.generational_core.specs.Sound.{IsSound-prop, IsBounded-prop};
 ghost use Rattle.store_parts.specs.CellNames.{name_of_cell};
+ghost use Rattle.store_cells.specs.Data.{data_in};
 ghost use Rattle.store_cells.specs.Entry.{cell_of};
 ghost use Rattle.store_cells.specs.Entries.{IsUnborrowed, kept_data, named_by};
 ghost use Rattle.store_slots.specs.SlotsState.{Finds, IsMade, with_records};
@@ -398,7 +399,7 @@ impl<T: Drop, P: SlotPool> Storage<T> for Store<T, P> {
             Ok(place) => place,
             Err(cause) => return Err(Refusal { value, cause }),
         };
-        let content = StorageEntryData::Data(Kind::Value, value);
+        let content = StorageEntryData::Data(value);
         let name = match self.slots.make(content, location) {
             Ok(name) => name,
             Err(content) => {
@@ -423,7 +424,7 @@ impl<T: Drop, P: SlotPool> Storage<T> for Store<T, P> {
         if let Err(cause) = self.slots.reserve_two() {
             return Err(Refusal { value, cause });
         }
-        let content = StorageEntryData::Data(Kind::Shared, value);
+        let content = StorageEntryData::Shared(value);
         let shared = make_reserved(&mut self.slots, content, location);
         let content = self.slots.reference_to(shared);
         let reference = make_reserved(&mut self.slots, content, location);
@@ -785,11 +786,11 @@ fn make_reserved<T: Drop, P: SlotPool>(
     created_at: Location,
 ) -> CellName
     requires room { 0 < slots.old.spare }
-    requires unborrowed { IsUnborrowed content }
-    requires target { IfSome (named_by content)
+    requires unborrowed { IsUnborrowed (data_in content) }
+    requires target { IfSome (named_by (data_in content))
         (λ m. is_shared (map.get slots.old.state.cells m) ≡ true) }
     requires linked { HasTargets slots.old.state.cells }
-    ensures { IsMade slots.old slots.new (cell_of (kept_data [] created_at content))
+    ensures { IsMade slots.old slots.new (cell_of (kept_data [] created_at (data_in content)))
         (name_of_cell result) }
 {
     match slots.make(content, created_at) {

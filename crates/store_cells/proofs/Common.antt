@@ -43,6 +43,7 @@ pub use specs.Entry.{value_for, with_content}
 pub use specs.Entry.Kept.{Empty, Live, Refers}
 pub use specs.Latest.{AreNoted, borrows_of, cleared, HasWriter, HasWriterAt, is_noted, is_noted_at}
 pub use specs.Latest.{is_reader, is_writer, IsNoted, may_note, noted_at}
+pub use specs.Data.{SlotData, data_in}
 pub use specs.declared.entry.{EntryDetails.EntryDetails, StorageEntryData.StorageEntryData}
 pub use specs.declared.entry.{Kind.Kind, StorageEntry.StorageEntry}
 pub use specs.declared.latest.{LastBorrow.LastBorrow, Noted.Noted}

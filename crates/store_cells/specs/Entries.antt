@@ -7,8 +7,8 @@ use Rattle.generational_core.specs.declared.borrow.Borrow.{Borrow}
 use Rattle.generational_errors.specs.declared.error.Location.{Location}
 use Rattle.generational_core.specs.Cells.Content.{Here, Lent}
 use Rattle.store_cells.specs.declared.entry.StorageEntry.{StorageEntry}
-use Rattle.store_cells.specs.declared.entry.StorageEntryData.{StorageEntryData}
-use Rattle.store_cells.specs.declared.entry.StorageEntryData.TheVariants as slot
+use Rattle.store_cells.specs.Data.{SlotData, data_in}
+use Rattle.store_cells.specs.Data.{SlotData as slot}
 use Rattle.store_cells.specs.declared.entry.Kind.TheVariants as kind
 use Rattle.store_cells.specs.declared.entry.Kind.{Kind}
 use Rattle.store_cells.specs.declared.entry.EntryDetails.{EntryDetails}
@@ -27,70 +27,70 @@ pub record EntryList (T : Type 0) : Type 0 where
 
 module _ {T : Type 0} where
   -- where the borrows of a slot's cell stand in the table
-  abbrev pub index_of : StorageEntryData T → ℕ
+  abbrev pub index_of : SlotData T → ℕ
   index_of (slot.Read k i v) = i
   index_of (slot.Lent k i) = i
   index_of _ = no_index
 
   -- whose the value is, also one that is lent
-  abbrev pub kind_of : StorageEntryData T → Option Kind
+  abbrev pub kind_of : SlotData T → Option Kind
   kind_of (slot.Data k v) = Some k
   kind_of (slot.Read k i v) = Some k
   kind_of (slot.Lent k i) = Some k
   kind_of _ = None
 
   -- whether it is a value of its own without borrows
-  abbrev pub is_unborrowed_data : StorageEntryData T → Bool
+  abbrev pub is_unborrowed_data : SlotData T → Bool
   is_unborrowed_data (slot.Data kind.Value v) = true
   is_unborrowed_data _ = false
 
   -- the value, unless it's lent
-  abbrev pub data_value : StorageEntryData T → Option T
+  abbrev pub data_value : SlotData T → Option T
   data_value (slot.Data k v) = Some v
   data_value (slot.Read k i v) = Some v
   data_value _ = None
 
   -- the value at which no reader is listed
-  abbrev pub unread_in : StorageEntryData T → Option T
+  abbrev pub unread_in : SlotData T → Option T
   unread_in (slot.Data k v) = Some v
   unread_in _ = None
 
   -- such a value, lent without an index
-  abbrev pub lent_data : StorageEntryData T → StorageEntryData T
+  abbrev pub lent_data : SlotData T → SlotData T
   lent_data (slot.Data k v) = slot.Lent k no_index
   lent_data d = d
 
   -- a lent value that is put back
-  abbrev pub full_data : T → StorageEntryData T → StorageEntryData T
+  abbrev pub full_data : T → SlotData T → SlotData T
   full_data v (slot.Lent k i) = slot.Data k v
   full_data v d = d
 
-  abbrev pub is_lent_data : StorageEntryData T → Bool
+  abbrev pub is_lent_data : SlotData T → Bool
   is_lent_data (slot.Lent k i) = true
   is_lent_data _ = false
 
   -- such a value, with readers at an index
-  abbrev pub read_data : ℕ → StorageEntryData T → StorageEntryData T
+  abbrev pub read_data : ℕ → SlotData T → SlotData T
   read_data x (slot.Data k v) = slot.Read k x v
   read_data x d = d
 
   -- a value without readers, where their index is none
-  abbrev pub unread_data : StorageEntryData T → StorageEntryData T
+  abbrev pub unread_data : SlotData T → SlotData T
   unread_data (slot.Read k i v) = if nat_eq i no_index then slot.Data k v else slot.Read k i v
   unread_data d = d
 
   -- listed readers have an index
-  abbrev pub HasListIndex : StorageEntryData T → Type 0
+  abbrev pub HasListIndex : SlotData T → Type 0
   HasListIndex (slot.Read k i v) = i ≢ no_index
   HasListIndex _ = Unit {0}
 
   -- what a reference names
-  abbrev pub named_by : StorageEntryData T → Option Name
+  abbrev pub named_by : SlotData T → Option Name
   named_by (slot.Reference s g) = Some (record { slot = s; generation = g })
   named_by _ = None
 
   -- what a box of this name reaches where its cell is such
-  abbrev pub lead_of : StorageEntryData T → Name → Option Name
+  abbrev pub lead_of : SlotData T → Name → Option Name
   lead_of (slot.Data kind.Value v) n = Some n
   lead_of (slot.Read kind.Value i v) n = Some n
   lead_of (slot.Lent kind.Value i) n = Some n
@@ -98,7 +98,7 @@ module _ {T : Type 0} where
   lead_of _ n = None
 
   -- a cell without borrows
-  abbrev pub IsUnborrowed : StorageEntryData T → Type 0
+  abbrev pub IsUnborrowed : SlotData T → Type 0
   IsUnborrowed (slot.Data k v) = Unit {0}
   IsUnborrowed (slot.Reference s g) = Unit {0}
   IsUnborrowed _ = ⊥
@@ -109,7 +109,7 @@ module _ {T : Type 0} where
   lent_kept k (w ∷ bs) l = Live k (Lent w) l
 
   -- what a slot has whose cell has these borrows
-  abbrev pub kept_data : List Borrow → Location → StorageEntryData T → Kept T
+  abbrev pub kept_data : List Borrow → Location → SlotData T → Kept T
   kept_data bs l slot.Empty = Empty
   kept_data bs l (slot.Data k v) = Live k (Here v bs) l
   kept_data bs l (slot.Read k i v) = Live k (Here v bs) l
@@ -121,13 +121,13 @@ module _ {T : Type 0} where
   entry_with bs e d =
       record {
         generation = e.generation;
-        kept = kept_data bs d.created_at e.content;
+        kept = kept_data bs d.created_at (data_in e.content);
         references = d.references;
       }
 
   abbrev pub entry_of : LastBorrow → List (List Borrow) → ℕ → StorageEntry T → EntryDetails
       → Entry T
-  entry_of r lists k e d = entry_with (borrows_of r lists k (index_of e.content)) e d
+  entry_of r lists k e d = entry_with (borrows_of r lists k (index_of (data_in e.content))) e d
 
   -- the slots from the k-th on, each with its borrows and its details
   unfoldable pub entries_from : LastBorrow → List (List Borrow) → ℕ → List (StorageEntry T)
@@ -143,14 +143,14 @@ module _ {T : Type 0} where
   -- the index of a slot, if there is one
   abbrev pub index_in : Option (StorageEntry T) → ℕ
   index_in None = no_index
-  index_in (Some e) = index_of e.content
+  index_in (Some e) = index_of (data_in e.content)
 
   abbrev pub HasListIndexIn : Option (StorageEntry T) → Type 0
   HasListIndexIn None = Unit {0}
-  HasListIndexIn (Some e) = HasListIndex e.content
+  HasListIndexIn (Some e) = HasListIndex (data_in e.content)
 
   abbrev pub has_index : StorageEntry T → Bool
-  has_index e = not (nat_eq (index_of e.content) no_index)
+  has_index e = not (nat_eq (index_of (data_in e.content)) no_index)
 
 -- What holds of a store's slots and the table of their borrows.
 pub record AreIndexed {T : Type 0} (t : Table) (es : List (StorageEntry T)) : Type 0 where

@@ -5,8 +5,8 @@ use Rattle.std.specs.List.{list_any}
 use Rattle.generational_core.specs.declared.borrow.Borrow.{Borrow}
 use Rattle.store_parts.specs.Table.{list_at, no_index}
 use Rattle.store_cells.specs.declared.entry.StorageEntry.{StorageEntry}
-use Rattle.store_cells.specs.declared.entry.StorageEntryData.{StorageEntryData}
-use Rattle.store_cells.specs.declared.entry.StorageEntryData.TheVariants as slot
+use Rattle.store_cells.specs.Data.{SlotData, data_in}
+use Rattle.store_cells.specs.Data.{SlotData as slot}
 use Rattle.store_cells.specs.declared.latest.LastBorrow.{LastBorrow}
 use Rattle.store_cells.specs.declared.latest.Noted.{Noted}
 use Rattle.store_cells.specs.declared.latest.Noted.TheVariants as noted
@@ -43,7 +43,7 @@ borrows_of r lists k i = if nat_eq i no_index then noted_at r k else list_at lis
 module _ {T : Type 0} where
   -- whether a borrow of a slot with this content may be noted: a reader's, which is the only one or
   -- listed among the others, or that of a writer that isn't listed
-  abbrev pub may_note : LastBorrow → List (List Borrow) → StorageEntryData T → Bool
+  abbrev pub may_note : LastBorrow → List (List Borrow) → SlotData T → Bool
   may_note r lists (slot.Data c v) = is_reader r.noted
   may_note r lists (slot.Read c i v) =
       is_reader r.noted && list_any (λ b. nat_eq b.ticket r.borrow.ticket) (list_at lists i)
@@ -53,16 +53,16 @@ module _ {T : Type 0} where
   abbrev pub IsNoted : LastBorrow → List (List Borrow) → Option (StorageEntry T) → Type 0
   IsNoted r lists None = ⊥
   IsNoted r lists (Some e) =
-      (e.generation ≡ r.generation) × (may_note r lists e.content ≡ true)
+      (e.generation ≡ r.generation) × (may_note r lists (data_in e.content) ≡ true)
 
   -- where the k-th slot's value is lent without an index, its writer is noted
-  abbrev pub HasWriter : LastBorrow → ℕ → StorageEntryData T → Type 0
+  abbrev pub HasWriter : LastBorrow → ℕ → SlotData T → Type 0
   HasWriter r k (slot.Lent c i) = i ≡ no_index → is_noted_at r k ≡ true
   HasWriter r k _ = Unit {0}
 
   abbrev pub HasWriterAt : LastBorrow → ℕ → Option (StorageEntry T) → Type 0
   HasWriterAt r k None = Unit {0}
-  HasWriterAt r k (Some e) = HasWriter r k e.content
+  HasWriterAt r k (Some e) = HasWriter r k (data_in e.content)
 
 -- What holds of a store's slots and the noted borrow.
 pub record AreNoted {T : Type 0} (r : LastBorrow) (lists : List (List Borrow))

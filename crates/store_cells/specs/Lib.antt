@@ -1,3 +1,4 @@
+pub mod Data
 pub mod Entries
 pub mod Entry
 pub mod Latest

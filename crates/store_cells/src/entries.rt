@@ -23,6 +23,7 @@ ghost use Rattle.generational_errors.specs.declared.error.StoreError.TheVariants
 ghost use Rattle.store_parts.specs.Borrows.{AreBelow};
 ghost use Rattle.store_parts.specs.CellNames.{name_of_cell};
 ghost use Rattle.store_parts.specs.Table.{no_index, list_at, IsClosed, IsUsed};
+ghost use Rattle.store_cells.specs.Data.{data_in};
 ghost use Rattle.store_cells.specs.Entries.{index_of, kept_data, listed_beside};
 ghost use Rattle.store_cells.specs.Entries.{IsListable, IsListed, IsUnborrowed};
 ghost use Rattle.store_cells.specs.Entry.{cell_under, cell_of, change_entry, content_in};
@@ -238,7 +239,7 @@ impl<T> Entries<T> {
             (λ x. BeingWritten x.borrowed_mut_at) result ≡ read_refusal (content_in e.kept)) }
     {
         match &self.entries[slot].content {
-            StorageEntryData::Lent(_, index) => {
+            StorageEntryData::Lent(index, _) => {
                 let writer = writer_at(&self.borrows, &self.last, *index);
                 Some(AlreadyBorrowedMutError::new(writer.location))
             }
@@ -257,7 +258,8 @@ impl<T> Entries<T> {
             return false;
         }
         match &self.entries[slot].content {
-            StorageEntryData::Read(_, _, _) => false,
+            StorageEntryData::Read(_, _) => false,
+            StorageEntryData::SharedRead(_, _) => false,
             StorageEntryData::Lent(_, _) => false,
             _ => true,
         }
@@ -271,10 +273,10 @@ impl<T> Entries<T> {
             (λ e. FoundBorrowed (write_refusal (content_in e.kept)) result) }
     {
         match &self.entries[slot].content {
-            StorageEntryData::Lent(_, index) => {
+            StorageEntryData::Lent(index, _) => {
                 Err(writer_error(writer_at(&self.borrows, &self.last, *index)))
             }
-            StorageEntryData::Read(_, index, _) => {
+            StorageEntryData::Read(index, _) | StorageEntryData::SharedRead(index, _) => {
                 Err(readers_error(&self.borrows, *index, self.alloc))
             }
             _ => {
@@ -298,10 +300,10 @@ impl<T> Entries<T> {
             (λ e. rows.new.items ≡ rows.old.items ++ content_rows id (content_in e.kept))) }
     {
         match &self.entries[slot].content {
-            StorageEntryData::Lent(_, index) => {
+            StorageEntryData::Lent(index, _) => {
                 push_writer(writer_at(&self.borrows, &self.last, *index), id, rows)
             }
-            StorageEntryData::Read(_, index, _) => {
+            StorageEntryData::Read(index, _) | StorageEntryData::SharedRead(index, _) => {
                 self.borrows.borrows_at(*index).push_readers(id, rows)
             }
             _ => {
@@ -327,13 +329,12 @@ impl<T> Entries<T> {
             (λ e. option_copied result ≡ value_of (content_in e.kept)) }
     {
         let content = &self.entries[slot].content;
-        if let StorageEntryData::Data(_, value) = content {
-            return Some(value);
+        match content {
+            StorageEntryData::Data(value) | StorageEntryData::Shared(value) => Some(value),
+            StorageEntryData::Read(_, value) => Some(value),
+            StorageEntryData::SharedRead(_, value) => Some(value),
+            _ => None,
         }
-        if let StorageEntryData::Read(_, _, value) = content {
-            return Some(value);
-        }
-        None
     }
 
     /// The value, where the reader stands.
@@ -346,12 +347,12 @@ impl<T> Entries<T> {
         let content = &self.entries[slot].content;
         if self.last.is_reader_at(slot, ticket) {
             return match content {
-                StorageEntryData::Data(_, value) => Some(value),
+                StorageEntryData::Data(value) | StorageEntryData::Shared(value) => Some(value),
                 _ => self.peek_slow(slot),
             };
         }
         match content {
-            StorageEntryData::Read(_, index, value) => {
+            StorageEntryData::Read(index, value) | StorageEntryData::SharedRead(index, value) => {
                 if self.borrows.contains(*index, ticket) {
                     return Some(value);
                 }
@@ -537,8 +538,13 @@ impl<T: Drop> Entries<T> {
         list_noted(&mut self.entries, &mut self.borrows, &mut self.last);
         let content = &mut self.entries[slot].content;
         match content {
-            StorageEntryData::Read(_, index, _) => {
+            StorageEntryData::Read(index, _) => {
                 let known = self.borrows.release(index, ticket);
+                content.unlist();
+                known
+            }
+            StorageEntryData::SharedRead(shared_index, _) => {
+                let known = self.borrows.release(shared_index, ticket);
                 content.unlist();
                 known
             }
@@ -598,7 +604,7 @@ impl<T: Drop> Entries<T> {
         list_noted(&mut self.entries, &mut self.borrows, &mut self.last);
         let content = &mut self.entries[slot].content;
         match content {
-            StorageEntryData::Lent(_, index) => {
+            StorageEntryData::Lent(index, _) => {
                 let index = *index;
                 if self.borrows.first(index).ticket != ticket {
                     return Err(value);
@@ -624,7 +630,8 @@ impl<T: Drop> Entries<T> {
         ensures rooms { self.new.rooms ≡ self.old.rooms }
     {
         match &mut self.entries[slot].content {
-            StorageEntryData::Data(_, kept) => mem::replace(kept, value),
+            StorageEntryData::Data(kept) => mem::replace(kept, value),
+            StorageEntryData::Shared(kept) => mem::replace(kept, value),
             _ => unreachable!(),
         }
     }
@@ -645,7 +652,8 @@ impl<T: Drop> Entries<T> {
         ensures rooms { self.new.rooms ≡ self.old.rooms }
     {
         match &mut self.entries[slot].content {
-            StorageEntryData::Data(_, kept) => f(kept),
+            StorageEntryData::Data(kept) => f(kept),
+            StorageEntryData::Shared(kept) => f(kept),
             _ => unreachable!(),
         }
     }
@@ -679,11 +687,11 @@ impl<T: Drop> Entries<T> {
         requires below { IfSome (slice_get self.old.slots slot)
             (λ e. e.generation < last_generation) }
         requires empty { IfSome (slice_get self.old.slots slot) (λ e. e.kept ≡ Empty) }
-        requires unborrowed { IsUnborrowed content }
+        requires unborrowed { IsUnborrowed (data_in content) }
         ensures generation { IfSome (slice_get self.old.slots slot)
             (λ e. result ≡ e.generation + 1) }
         ensures filled { self.new.slots ≡ slice_set self.old.slots slot (record
-            { generation = result; kept = kept_data [] created_at content; references = 0 }) }
+            { generation = result; kept = kept_data [] created_at (data_in content); references = 0 }) }
         ensures rooms { self.new.rooms ≡ self.old.rooms }
     {
         let generation = self.entries[slot].refill(content);
@@ -698,9 +706,9 @@ impl<T: Drop> Entries<T> {
     #[inline(always)]
     pub fn push(&mut self, generation: u64, content: StorageEntryData<T>, created_at: Location)
         requires room { length self.old.slots < self.old.rooms }
-        requires unborrowed { IsUnborrowed content }
+        requires unborrowed { IsUnborrowed (data_in content) }
         ensures pushed { self.new.slots ≡ self.old.slots ++ (record
-            { generation = generation; kept = kept_data [] created_at content; references = 0 })
+            { generation = generation; kept = kept_data [] created_at (data_in content); references = 0 })
             ∷ [] }
         ensures rooms { self.new.rooms ≡ self.old.rooms }
         ensures few { length self.old.slots < no_index }
@@ -794,8 +802,9 @@ fn list_last<T: Drop>(
 {
     let content = &mut entries[last.slot].content;
     match content {
-        StorageEntryData::Data(_, _) => content.list(borrows.open(last.borrow)),
-        StorageEntryData::Lent(_, index) => *index = borrows.open(last.borrow),
+        StorageEntryData::Data(_) => content.list(borrows.open(last.borrow)),
+        StorageEntryData::Shared(_) => content.list(borrows.open(last.borrow)),
+        StorageEntryData::Lent(index, _) => *index = borrows.open(last.borrow),
         _ => {}
     }
 }
@@ -808,14 +817,14 @@ fn list_beside<T>(
     borrows: &mut BorrowTable,
     reader: Borrow,
 ) -> Result<(), AllocError>
-    requires within { index_of entry.now.content ≢ no_index
-        → index_of entry.now.content < length borrows.old.lists }
-    requires ascends { index_of entry.now.content ≢ no_index → AreBelow reader.ticket
-        (list_at borrows.old.lists (index_of entry.now.content)) }
+    requires within { index_of (data_in entry.now.content) ≢ no_index
+        → index_of (data_in entry.now.content) < length borrows.old.lists }
+    requires ascends { index_of (data_in entry.now.content) ≢ no_index → AreBelow reader.ticket
+        (list_at borrows.old.lists (index_of (data_in entry.now.content))) }
     ensures ok { OnOk result (borrows.new
-        ≡ listed_beside reader (index_of entry.now.content) borrows.old) }
+        ≡ listed_beside reader (index_of (data_in entry.now.content)) borrows.old) }
     ensures err { OnErr result (borrows.new ≡ borrows.old) }
-    ensures beside { OnErr result (index_of entry.now.content ≢ no_index) }
+    ensures beside { OnErr result (index_of (data_in entry.now.content) ≢ no_index) }
 {
     let index = entry.index();
     if index == NO_INDEX {

@@ -5,6 +5,7 @@ ghost use Rattle.std.specs.Prelude.{option_map};
 ghost use Rattle.std.specs.Prelude.{if◌then◌else◌};
 ghost use Rattle.generational_core.specs.Slots.{last_generation};
 ghost use Rattle.std.specs.Prelude.{false, true};
+ghost use Rattle.store_cells.specs.Data.{data_in};
 ghost use Rattle.store_cells.specs.Entries.{full_data, is_lent_data, is_unborrowed_data};
 ghost use Rattle.store_cells.specs.Entries.{lent_data};
 ghost use Rattle.store_cells.specs.Entries.{read_data, unread_data, unread_in};
@@ -39,16 +40,22 @@ pub struct EntryDetails {
     pub references: usize,
 }
 
-/// A live cell: a value, a value with the index of its readers in the table of borrows, the index
-/// of its writer while the value is lent, or a reference, by its target's slot and generation. Or
-/// nothing.
+/// A live cell: a value of a box's own, or a shared one; each of them with the index of its readers
+/// in the table of borrows; the index of its writer, while the value is lent, and whose it is; or a
+/// reference, by its target's slot and generation. Or nothing.
+///
+/// What a box's own value is asked for most has one variant, so that one comparison finds it; the
+/// values without listed readers come first, and those that can be read next, so that one more finds
+/// each of these.
 #[derive(Drop)]
 pub enum StorageEntryData<T> {
-    Empty,
-    Data(Kind, T),
-    Lent(Kind, u32),
+    Data(T),
+    Shared(T),
+    Read(u32, T),
+    SharedRead(u32, T),
+    Lent(u32, Kind),
     Reference(u32, u64),
-    Read(Kind, u32, T),
+    Empty,
 }
 
 impl<T> StorageEntry<T> {
@@ -57,13 +64,13 @@ impl<T> StorageEntry<T> {
     #[inline(always)]
     pub fn reach(&self, name: CellName) -> Option<CellName>
         ensures { option_map name_of_cell result ≡ if nat_eq self.now.generation name.generation
-            then lead_of self.now.content (name_of_cell name) else None }
+            then lead_of (data_in self.now.content) (name_of_cell name) else None }
     {
         if self.generation != name.generation {
             return None;
         }
         // One question after the other, since a match over all kinds goes through a table of jumps.
-        if let StorageEntryData::Data(Kind::Value, _) = &self.content {
+        if let StorageEntryData::Data(_) = &self.content {
             return Some(name);
         }
         if let StorageEntryData::Reference(slot, generation) = &self.content {
@@ -72,10 +79,10 @@ impl<T> StorageEntry<T> {
                 generation: *generation,
             });
         }
-        if let StorageEntryData::Read(Kind::Value, _, _) = &self.content {
+        if let StorageEntryData::Read(_, _) = &self.content {
             return Some(name);
         }
-        if let StorageEntryData::Lent(Kind::Value, _) = &self.content {
+        if let StorageEntryData::Lent(_, Kind::Value) = &self.content {
             return Some(name);
         }
         None
@@ -85,15 +92,15 @@ impl<T> StorageEntry<T> {
     #[inline(always)]
     pub fn kind(&self, generation: u64) -> Option<Kind>
         ensures { result ≡ if nat_eq self.now.generation generation
-            then kind_of self.now.content else None }
+            then kind_of (data_in self.now.content) else None }
     {
         if self.generation != generation {
             return None;
         }
         match &self.content {
-            StorageEntryData::Data(kind, _)
-            | StorageEntryData::Read(kind, _, _)
-            | StorageEntryData::Lent(kind, _) => Some(*kind),
+            StorageEntryData::Data(_) | StorageEntryData::Read(_, _) => Some(Kind::Value),
+            StorageEntryData::Shared(_) | StorageEntryData::SharedRead(_, _) => Some(Kind::Shared),
+            StorageEntryData::Lent(_, kind) => Some(*kind),
             _ => None,
         }
     }
@@ -103,19 +110,19 @@ impl<T> StorageEntry<T> {
     #[inline(always)]
     pub fn has_unborrowed_value(&self, generation: u64) -> bool
         ensures { result ≡ if nat_eq self.now.generation generation
-            then is_unborrowed_data self.now.content else false }
+            then is_unborrowed_data (data_in self.now.content) else false }
     {
         if self.generation != generation {
             return false;
         }
-        matches!(&self.content, StorageEntryData::Data(Kind::Value, _))
+        matches!(&self.content, StorageEntryData::Data(_))
     }
 
     /// The target of the slot's reference, if the slot's cell has this generation and is one.
     #[inline(always)]
     pub fn target(&self, generation: u64) -> Option<CellName>
         ensures { option_map name_of_cell result ≡ if nat_eq self.now.generation generation
-            then named_by self.now.content else None }
+            then named_by (data_in self.now.content) else None }
     {
         if self.generation != generation {
             return None;
@@ -126,10 +133,12 @@ impl<T> StorageEntry<T> {
     /// Where the borrows of the slot's cell stand in the table.
     #[inline(always)]
     pub fn index(&self) -> u32
-        ensures { result ≡ index_of self.now.content }
+        ensures { result ≡ index_of (data_in self.now.content) }
     {
         match &self.content {
-            StorageEntryData::Read(_, index, _) | StorageEntryData::Lent(_, index) => *index,
+            StorageEntryData::Read(index, _)
+            | StorageEntryData::SharedRead(index, _)
+            | StorageEntryData::Lent(index, _) => *index,
             _ => NO_INDEX,
         }
     }
@@ -154,7 +163,7 @@ impl<T> StorageEntryData<T> {
     /// What the cell names, if it is a reference.
     #[inline(always)]
     pub fn target(&self) -> Option<CellName>
-        ensures { option_map name_of_cell result ≡ named_by self.now }
+        ensures { option_map name_of_cell result ≡ named_by (data_in self.now) }
     {
         match self {
             StorageEntryData::Reference(slot, generation) => Some(CellName {
@@ -168,9 +177,12 @@ impl<T> StorageEntryData<T> {
     /// Whether it is a value at which no reader is listed.
     #[inline(always)]
     pub fn is_unread(&self) -> bool
-        ensures { result ≡ is_some (unread_in self.now) }
+        ensures { result ≡ is_some (unread_in (data_in self.now)) }
     {
-        matches!(self, StorageEntryData::Data(_, _))
+        matches!(
+            self,
+            StorageEntryData::Data(_) | StorageEntryData::Shared(_)
+        )
     }
 
     /// Lends the value, which is there and at which no reader is listed. Its writer isn't listed.
@@ -178,16 +190,17 @@ impl<T> StorageEntryData<T> {
     pub fn lend(&mut self) -> T
     where
         T: Drop,
-        requires { IsSome (unread_in self.old) }
-        ensures value { unread_in self.old ≡ Some result }
-        ensures lent { self.new ≡ lent_data self.old }
+        requires { IsSome (unread_in (data_in self.old)) }
+        ensures value { unread_in (data_in self.old) ≡ Some result }
+        ensures lent { data_in self.new ≡ lent_data (data_in self.old) }
     {
         let kind = match self {
-            StorageEntryData::Data(kind, _) => *kind,
-            _ => Kind::Value,
+            StorageEntryData::Data(_) => Kind::Value,
+            StorageEntryData::Shared(_) => Kind::Shared,
+            _ => unreachable!(),
         };
-        match mem::replace(self, StorageEntryData::Lent(kind, NO_INDEX)) {
-            StorageEntryData::Data(_, value) => value,
+        match mem::replace(self, StorageEntryData::Lent(NO_INDEX, kind)) {
+            StorageEntryData::Data(value) | StorageEntryData::Shared(value) => value,
             _ => unreachable!(),
         }
     }
@@ -197,11 +210,12 @@ impl<T> StorageEntryData<T> {
     pub fn put_back(&mut self, value: T)
     where
         T: Drop,
-        requires { is_lent_data self.old ≡ true }
-        ensures { self.new ≡ full_data value self.old }
+        requires { is_lent_data (data_in self.old) ≡ true }
+        ensures { data_in self.new ≡ full_data value (data_in self.old) }
     {
         *self = match self {
-            StorageEntryData::Lent(kind, _) => StorageEntryData::Data(*kind, value),
+            StorageEntryData::Lent(_, Kind::Value) => StorageEntryData::Data(value),
+            StorageEntryData::Lent(_, Kind::Shared) => StorageEntryData::Shared(value),
             _ => unreachable!(),
         };
     }
@@ -210,10 +224,11 @@ impl<T> StorageEntryData<T> {
     pub fn list(&mut self, index: u32)
     where
         T: Drop,
-        ensures { self.new ≡ read_data index self.old }
+        ensures { data_in self.new ≡ read_data index (data_in self.old) }
     {
         *self = match mem::replace(self, StorageEntryData::Empty) {
-            StorageEntryData::Data(kind, value) => StorageEntryData::Read(kind, index, value),
+            StorageEntryData::Data(value) => StorageEntryData::Read(index, value),
+            StorageEntryData::Shared(value) => StorageEntryData::SharedRead(index, value),
             other => other,
         };
     }
@@ -222,13 +237,17 @@ impl<T> StorageEntryData<T> {
     pub fn unlist(&mut self)
     where
         T: Drop,
-        ensures { self.new ≡ unread_data self.old }
+        ensures { data_in self.new ≡ unread_data (data_in self.old) }
     {
-        if !matches!(self, StorageEntryData::Read(_, NO_INDEX, _)) {
+        if !matches!(
+            self,
+            StorageEntryData::Read(NO_INDEX, _) | StorageEntryData::SharedRead(NO_INDEX, _)
+        ) {
             return;
         }
         *self = match mem::replace(self, StorageEntryData::Empty) {
-            StorageEntryData::Read(kind, _, value) => StorageEntryData::Data(kind, value),
+            StorageEntryData::Read(_, value) => StorageEntryData::Data(value),
+            StorageEntryData::SharedRead(_, value) => StorageEntryData::Shared(value),
             other => other,
         };
     }
@@ -237,11 +256,14 @@ impl<T> StorageEntryData<T> {
     pub fn into_value(self) -> T
     where
         T: Drop,
-        requires { IsSome (data_value self) }
-        ensures { data_value self ≡ Some result }
+        requires { IsSome (data_value (data_in self)) }
+        ensures { data_value (data_in self) ≡ Some result }
     {
         match self {
-            StorageEntryData::Data(_, value) | StorageEntryData::Read(_, _, value) => value,
+            StorageEntryData::Data(value)
+            | StorageEntryData::Shared(value)
+            | StorageEntryData::Read(_, value)
+            | StorageEntryData::SharedRead(_, value) => value,
             _ => unreachable!(),
         }
     }

@@ -61,7 +61,7 @@ pub use Entry.{FoundBorrowed, has_no_borrow, is_live, is_unborrowed_value, Kept,
 pub use Entry.{one_read, referring, target_in, with_content}
 pub use Entry.Kept.{Empty, Live, Refers}
 pub use Rattle.store_cells.specs.declared.entry.Kind.{Kind}
-pub use Rattle.store_cells.specs.declared.entry.StorageEntryData.{StorageEntryData}
+pub use Rattle.store_cells.specs.Data.{SlotData, data_in}
 pub use Rattle.generational_errors.specs.declared.error.{Location.Location, Refused.Refused}
 pub use Rattle.generational_errors.specs.declared.error.BorrowMutError.{BorrowMutError}
 pub use Rattle.generational_errors.specs.declared.error.StoreError.TheVariants.{OutOfMemory}

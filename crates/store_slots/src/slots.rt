@@ -30,6 +30,7 @@ ghost use Rattle.generational_core.specs.State.{content_at, is_named};
 ghost use Rattle.generational_core.specs.StepCalls.{is_hindered, may_set, tells_of_borrow};
 ghost use Rattle.store_cells.specs.declared.entry.StorageEntryData.TheVariants as content;
 ghost use Rattle.store_parts.specs.Borrows.{AreBelow};
+ghost use Rattle.store_cells.specs.Data.{data_in};
 ghost use Rattle.store_cells.specs.Entries.{IsUnborrowed, kept_data, named_by};
 ghost use Rattle.store_cells.specs.Entry.{FoundBorrowed, cell_of, has_no_borrow};
 ghost use Rattle.store_cells.specs.Entry.{is_unborrowed_value};
@@ -586,12 +587,12 @@ impl<T: Drop, P: SlotPool> Slots<T, P> {
         content: StorageEntryData<T>,
         created_at: Location,
     ) -> Result<CellName, StorageEntryData<T>>
-        requires unborrowed { IsUnborrowed content }
-        requires target { IfSome (named_by content)
+        requires unborrowed { IsUnborrowed (data_in content) }
+        requires target { IfSome (named_by (data_in content))
             (λ m. is_shared (map.get self.old.state.cells m) ≡ true) }
         requires linked { HasTargets self.old.state.cells }
         ensures ok { IfOk result (λ n. IsMade self.old self.new
-            (cell_of (kept_data [] created_at content)) (name_of_cell n)) }
+            (cell_of (kept_data [] created_at (data_in content))) (name_of_cell n)) }
         ensures err { OnErr result (self.new.state ≡ self.old.state) }
         ensures needed { OnErr result ((free self.old.state ≡ 0) × (self.old.spare ≡ 0)) }
         ensures back { IfErr result (λ back. back ≡ content) }
@@ -613,11 +614,11 @@ impl<T: Drop, P: SlotPool> Slots<T, P> {
     fn extend(&mut self, content: StorageEntryData<T>, created_at: Location) -> CellName
         requires none { free self.old.state ≡ 0 }
         requires room { 0 < self.old.spare }
-        requires unborrowed { IsUnborrowed content }
-        requires target { IfSome (named_by content)
+        requires unborrowed { IsUnborrowed (data_in content) }
+        requires target { IfSome (named_by (data_in content))
             (λ m. is_shared (map.get self.old.state.cells m) ≡ true) }
         requires linked { HasTargets self.old.state.cells }
-        ensures { IsMade self.old self.new (cell_of (kept_data [] created_at content))
+        ensures { IsMade self.old self.new (cell_of (kept_data [] created_at (data_in content)))
             (name_of_cell result) }
     {
         let name = CellName {

@@ -11,14 +11,14 @@ use Common.{names_in, names_under, nat_tests, needs_memory, NewNames, no_names, 
 use Common.{NumbersExhausted, Option, option_or, or_parts, OutOfMemory, OwnerName, Owners}
 use Common.{Ownership, permits, reach, reached, read_refusal, Ref, refer, Refer, refl, refusal_at}
 use Common.{refusal_to_read, refusal_to_refer_at, Shared, shared_reached, SlotsState, Some, State}
-use Common.{StorageEntryData, StoreError, subst, sym, named_by, true, UnknownOwner}
+use Common.{SlotData, StoreError, subst, sym, named_by, true, UnknownOwner}
 use Common.{unless, Value, with_records, ℕ, [], ⊎_elim, ◌<◌, ◌∙◌, ◌∷◌, ◌≡◌, ◌≢◌, ◌⊎◌}
 use Rattle.generational_box.proofs.calls.Calls.{reach_here, reach_own, read_own}
 use Rattle.generational_box.proofs.records.Counts.{counted_listed}
 use Rattle.generational_core.specs.Machine.Answer.{Refused}
 use Rattle.std.specs.FinMap as map
 use Rattle.std.specs.FinSet as set
-use Rattle.store_cells.specs.declared.entry.StorageEntryData.TheVariants as slot
+use Rattle.store_cells.specs.Data.{SlotData as slot}
 
 module _ {T : Type 0} where
   -- no owner's list has a name that was never given
@@ -166,21 +166,21 @@ module _ {T : Type 0} where
         ))
 
     -- a reference to a shared value stands then, and tells where that was made
-    pub reference_stands : {l : Location} {r : SlotsState T} (m n : Name) {d : StorageEntryData T}
+    pub reference_stands : {l : Location} {r : SlotsState T} (m n : Name) {d : SlotData T}
         → d ≡ slot.Reference m.slot m.generation → IsMade s r (cell_of (kept_data [] l d)) n
         → map.get r.state.cells n ≡ Some (Ref m l)
     reference_stands {l} m n content made =
         let added = rw content at made in
         rw added.added (get-insert_here by_name s.state.cells n (Ref m l))
 
-    pub reference_place : {l : Location} {r : SlotsState T} (m n : Name) {d : StorageEntryData T}
+    pub reference_place : {l : Location} {r : SlotsState T} (m n : Name) {d : SlotData T}
         → d ≡ slot.Reference m.slot m.generation → IsMade s r (cell_of (kept_data [] l d)) n
         → (k : Location) → location_of (map.get r.state.cells n) ≡ Some k → k ≡ l
     reference_place m n content made k is =
         let here = rw (reference_stands m n content made) at is in cc
 
     pub reference_made : (inner : GenerationalPointer) {l : Location} {r : SlotsState T}
-        {after : Owners} (m n : Name) {b : GenerationalPointer} {d : StorageEntryData T}
+        {after : Owners} (m n : Name) {b : GenerationalPointer} {d : SlotData T}
         → ReachesShared S inner m
         → location_of (map.get V.cells m) ≡ Some l → d ≡ slot.Reference m.slot m.generation
         → IsMade s r (cell_of (kept_data [] l d)) n
@@ -219,7 +219,7 @@ module _ {T : Type 0} where
       pair_some = ap is_some stands
 
       -- and a reference to it names a shared value
-      pub pair_target : (d : StorageEntryData T) → d ≡ slot.Reference m.slot m.generation
+      pub pair_target : (d : SlotData T) → d ≡ slot.Reference m.slot m.generation
           → IfSome (named_by d) (λ k. is_shared (map.get r.state.cells k) ≡ true)
       pair_target d is = rw (is, stands)
 
@@ -237,7 +237,7 @@ module _ {T : Type 0} where
           others x apart = rw added (get-insert_apart by_name s.state.cells m cell x apart)
 
       -- the reference is listed
-      module _ {t : SlotsState T} {d : StorageEntryData T} {n : Name} {after : Owners}
+      module _ {t : SlotsState T} {d : SlotData T} {n : Name} {after : Owners}
           (refers_to : d ≡ slot.Reference m.slot m.generation)
           (second : IsMade r t (cell_of (kept_data [] l d)) n)
           (placed : after ≡ add_to_list_in owners o n) where

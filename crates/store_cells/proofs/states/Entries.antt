@@ -1,10 +1,11 @@
 -- The slots of a store with the table of their borrows and the noted one, as methods find them.
+use Common.{data_in, SlotData, StorageEntryData}
 use Rattle.store_cells.proofs.Common
 use Common.{AreIndexed, AreNoted, AreRoomy, Borrow, BorrowMutError, Empty, Entry, EntryDetails}
 use Common.{EntryList, Err, FoundBorrowed, FoundReaders, GenerationalBoxId, HasWriter}
 use Common.{HasWriterAt, IfSome, IsAlone, IsListable, IsListed, IsNoted, IsReadable, IsUnborrowed}
 use Common.{IsUsed, IsWritten, Kept, Kind, LastBorrow, Lent, List, Live, Location, Name, None}
-use Common.{Option, Refers, Refused, Releases, Some, StorageEntry, StorageEntryData, Table, []}
+use Common.{Option, Refers, Refused, Releases, Some, StorageEntry, Table, []}
 use Common.{and_parts, ap, arith, borrows_of, cases_Bool, cases_eq, cell_in, cell_of}
 use Common.{change_entry, cleared, cond, content_in, content_of, content_rows, entries_from}
 use Common.{entries_of, entry_of, entry_with, eq-eqb, eqb-true, false, false_from_ne_true}
@@ -19,7 +20,7 @@ use Common.{unread_in, value_for, value_of, without_reader_in, write_refusal, ze
 use Common.{◌&&◌, ◌++◌, ◌+◌, ◌<◌, ◌∙◌, ◌∷◌, ◌≡◌, ◌≢◌, ◌≤◌}
 use Rattle.store_cells.proofs.lists.TableChanges.{none_some}
 use Rattle.store_cells.proofs.states.Indexes.{indexed}
-use Rattle.store_cells.specs.declared.entry.StorageEntryData.TheVariants as slot
+use Rattle.store_cells.specs.Data.{SlotData as slot}
 
 module _ {T : Type 0} where
   -- ---- the slots as contracts see them
@@ -122,7 +123,7 @@ module _ {T : Type 0} where
 
 -- ---- what contracts see of a slot's content
 
-module _ {T : Type 0} (d : StorageEntryData T) where
+module _ {T : Type 0} (d : SlotData T) where
   -- what a slot's content isn't: a value at which no reader is listed, one at which some are, and
   -- one that is lent
   abbrev pub NotData : Type 0
@@ -182,26 +183,26 @@ module _ {T : Type 0} (d : StorageEntryData T) where
       not_free = grind (arith, some)
 
 module _ {T : Type 0} (e : StorageEntry T) (d : EntryDetails) (bs : List Borrow)
-    (lent : (kd : Kind) (x : ℕ) → e.content ≡ slot.Lent kd x → bs ≢ []) where
+    (lent : (kd : Kind) (x : ℕ) → data_in e.content ≡ slot.Lent kd x → bs ≢ []) where
   -- whose value it is, what a box of a name reaches, and what a reference names
-  pub kind_seen : (g : ℕ) → cond (nat_eq e.generation g) (kind_of e.content) None
+  pub kind_seen : (g : ℕ) → cond (nat_eq e.generation g) (kind_of (data_in e.content)) None
       ≡ kind_in (cell_in (Some (entry_with bs e d)) g)
   kind_seen g = grind (arith, nat_tests, lent)
 
-  pub lead_seen : (n : Name) → cond (nat_eq e.generation n.generation) (lead_of e.content n) None
+  pub lead_seen : (n : Name) → cond (nat_eq e.generation n.generation) (lead_of (data_in e.content) n) None
       ≡ leads_to (cell_in (Some (entry_with bs e d)) n.generation) n
   lead_seen n = grind (arith, nat_tests, lent)
 
-  pub target_seen : (g : ℕ) → cond (nat_eq e.generation g) (named_by e.content) None
+  pub target_seen : (g : ℕ) → cond (nat_eq e.generation g) (named_by (data_in e.content)) None
       ≡ target_in (cell_in (Some (entry_with bs e d)) g)
   target_seen g = grind (arith, nat_tests, lent)
 
   -- a value at its generation
-  pub value_seen : is_some (kind_of e.content) ≡ true
+  pub value_seen : is_some (kind_of (data_in e.content)) ≡ true
       → is_some (content_of (cell_in (Some (entry_with bs e d)) e.generation)) ≡ true
   value_seen value = grind (arith, nat_tests, lent)
 
-  pub empty_data : (entry_with bs e d).kept ≡ Empty → e.content ≡ slot.Empty
+  pub empty_data : (entry_with bs e d).kept ≡ Empty → data_in e.content ≡ slot.Empty
   empty_data h = grind (arith, lent)
 
 module _ {T : Type 0} (e : StorageEntry T) (d : EntryDetails) (bs : List Borrow) where
@@ -210,9 +211,9 @@ module _ {T : Type 0} (e : StorageEntry T) (d : EntryDetails) (bs : List Borrow)
       → is_unborrowed_value (cell_in (Some (entry_with bs e d)) g) ≡ false
   unfree some g = grind (arith, nat_tests, some)
 
-  free_test : ((kd : Kind) (v : T) → e.content ≡ slot.Data kd v → bs ≡ [])
-      → ((kd : Kind) (x : ℕ) (v : T) → e.content ≡ slot.Read kd x v → bs ≢ []) → (g : ℕ)
-      → cond (nat_eq e.generation g) (is_unborrowed_data e.content) false
+  free_test : ((kd : Kind) (v : T) → data_in e.content ≡ slot.Data kd v → bs ≡ [])
+      → ((kd : Kind) (x : ℕ) (v : T) → data_in e.content ≡ slot.Read kd x v → bs ≢ []) → (g : ℕ)
+      → cond (nat_eq e.generation g) (is_unborrowed_data (data_in e.content)) false
       ≡ is_unborrowed_value (cell_in (Some (entry_with bs e d)) g)
   free_test free read g = grind (arith, nat_tests, free, read)
 
@@ -223,13 +224,13 @@ lent_kept_first kd [] l w first = absurd cc
 lent_kept_first kd (b ∷ bs) l w first = let same : b ≡ w = cc in rw same
 
 -- readers stand in the way
-pub found_readers : {T : Type 0} (d : StorageEntryData T) (bs : List Borrow) (l : Location)
+pub found_readers : {T : Type 0} (d : SlotData T) (bs : List Borrow) (l : Location)
     (r : Refused BorrowMutError) → bs ≢ [] → is_lent_data d ≡ false → is_some (kind_of d) ≡ true
     → FoundReaders bs r → FoundBorrowed (write_refusal (content_in (kept_data bs l d))) (Err r)
 found_readers d bs l r some here value found = grind arith
 
 -- a value at which no reader is listed
-pub unread_is : {T : Type 0} (d : StorageEntryData T) → is_some (unread_in d) ≡ true
+pub unread_is : {T : Type 0} (d : SlotData T) → is_some (unread_in d) ≡ true
     → (kd : Kind) × (v : T) × (d ≡ slot.Data kd v)
 unread_is d some = grind arith
 
@@ -381,7 +382,7 @@ near_own r i at k other = grind (arith, nat_tests)
 pub noted_over : {T : Type 0} {r : LastBorrow} {before after : List (List Borrow)}
     {es es' : List (StorageEntry T)} {i : ℕ} {e : StorageEntry T} → IsWritten es es' i e
     → is_noted_at r i ≡ false → AreNoted r before es → SameLists before after es i
-    → HasWriter r i e.content → AreNoted r after es'
+    → HasWriter r i (data_in e.content) → AreNoted r after es'
 noted_over {T} {r} {before} {after} {es} {es'} {i} {e} w away was same written =
     record {
       noted = λ is. let other = apart is in rw (w.at r.slot, ne_eqb r.slot i other)
@@ -393,7 +394,7 @@ noted_over {T} {r} {before} {after} {es} {es'} {i} {e} w away was same written =
     apart : is_noted r.noted ≡ true → r.slot ≢ i
     apart is at = grind (arith, nat_tests)
 
-    still_may : (d : StorageEntryData T)
+    still_may : (d : SlotData T)
         → list_at after (index_of d) ≡ list_at before (index_of d)
         → may_note r before d ≡ true → may_note r after d ≡ true
     still_may (slot.Read c x v) same has = rw same has
@@ -403,7 +404,7 @@ noted_over {T} {r} {before} {after} {es} {es'} {i} {e} w away was same written =
         → list_at after (index_in o) ≡ list_at before (index_in o) → IsNoted r before o
         → IsNoted r after o
     still_noted None same has = has
-    still_noted (Some e) same has = (has.0, still_may e.content same has.1)
+    still_noted (Some e) same has = (has.0, still_may (data_in e.content) same has.1)
 
 -- no borrow is noted beyond the last slot
 pub away_end : {T : Type 0} {r : LastBorrow} {lists : List (List Borrow)}
@@ -414,12 +415,12 @@ away_end {T} {r} {lists} {es} n = false_from_ne_true _ (λ on.
     omega (arith, slice_get_within es r.slot e.0 e.1, at))
 
 -- a cell whose borrows have an index, or that has none, needs no noted writer
-pub written_index : {T : Type 0} (r : LastBorrow) (k : ℕ) (d : StorageEntryData T)
+pub written_index : {T : Type 0} (r : LastBorrow) (k : ℕ) (d : SlotData T)
     → index_of d ≢ no_index → HasWriter r k d
 written_index r k (slot.Lent c x) some = λ none. absurd (some none)
 written_index r k d some = tt
 
-pub unborrowed_written : {T : Type 0} (r : LastBorrow) (k : ℕ) (d : StorageEntryData T)
+pub unborrowed_written : {T : Type 0} (r : LastBorrow) (k : ℕ) (d : SlotData T)
     → IsUnborrowed d → HasWriter r k d
 unborrowed_written r k (slot.Lent c x) free = absurd free
 unborrowed_written r k d free = tt
@@ -428,25 +429,25 @@ module _ {T : Type 0} {r : LastBorrow} {t : Table} {es : List (StorageEntry T)} 
     {e : StorageEntry T} (a : IsSlot r t es i e) where
   -- ---- the slot's borrows
 
-  pub used_here : index_of e.content ≢ no_index → IsUsed t (index_of e.content)
+  pub used_here : index_of (data_in e.content) ≢ no_index → IsUsed t (index_of (data_in e.content))
   used_here = rw a.there at (a.base.indexed.used i)
 
   -- a value with listed readers has an index, and one reader at least
-  module _ {kd : Kind} {x : ℕ} {v : T} (is : e.content ≡ slot.Read kd x v) where
+  module _ {kd : Kind} {x : ℕ} {v : T} (is : data_in e.content ≡ slot.Read kd x v) where
     pub has_place : x ≢ no_index
     has_place = rw (a.there, is) at (a.base.indexed.listed i)
 
     pub used_at : IsUsed t x
     used_at = (rw (a.there, is) at (a.base.indexed.used i)) has_place
 
-    pub read_borrows : borrows_of r t.lists i (index_of e.content) ≡ list_at t.lists x
+    pub read_borrows : borrows_of r t.lists i (index_of (data_in e.content)) ≡ list_at t.lists x
     read_borrows = rw (is, ne_eqb x no_index has_place) refl
 
-    pub read_some : borrows_of r t.lists i (index_of e.content) ≢ []
+    pub read_some : borrows_of r t.lists i (index_of (data_in e.content)) ≢ []
     read_some none = used_at.some (sym read_borrows ∙ none)
 
   -- the index of a lent value, if it has one, and its writer
-  module _ {kd : Kind} {x : ℕ} (is : e.content ≡ slot.Lent kd x) where
+  module _ {kd : Kind} {x : ℕ} (is : data_in e.content ≡ slot.Lent kd x) where
     pub lent_used : x ≢ no_index → IsUsed t x
     lent_used some = (rw (a.there, is) at (a.base.indexed.used i)) some
 
@@ -454,125 +455,125 @@ module _ {T : Type 0} {r : LastBorrow} {t : Table} {es : List (StorageEntry T)} 
     lent_noted none = (rw (a.there, is) at (a.base.noted.written i)) none
 
     pub lent_borrows : x ≢ no_index
-        → borrows_of r t.lists i (index_of e.content) ≡ list_at t.lists x
+        → borrows_of r t.lists i (index_of (data_in e.content)) ≡ list_at t.lists x
     lent_borrows some = rw (is, ne_eqb x no_index some) refl
 
     pub lent_apart : x ≡ no_index
-        → borrows_of r t.lists i (index_of e.content) ≡ r.borrow ∷ []
+        → borrows_of r t.lists i (index_of (data_in e.content)) ≡ r.borrow ∷ []
     lent_apart none = rw (is, eq-eqb x no_index none, lent_noted none) refl
 
-    pub lent_some : borrows_of r t.lists i (index_of e.content) ≢ []
+    pub lent_some : borrows_of r t.lists i (index_of (data_in e.content)) ≢ []
     lent_some empty = ⊎_elim (λ none. none_some _ _ (sym (lent_apart none) ∙ empty))
         (λ some. (lent_used some).some (sym (lent_borrows some) ∙ empty)) (cases_eq x no_index)
 
     pub lent_first : (w : Borrow) → (x ≡ no_index → w ≡ r.borrow)
         → (x ≢ no_index → slice_get (list_at t.lists x) 0 ≡ Some w)
-        → slice_get (borrows_of r t.lists i (index_of e.content)) 0 ≡ Some w
+        → slice_get (borrows_of r t.lists i (index_of (data_in e.content))) 0 ≡ Some w
     lent_first w apart listed = ⊎_elim (λ none. rw (lent_apart none, apart none))
         (λ some. rw (lent_borrows some) (listed some)) (cases_eq x no_index)
 
     pub lent_seen : (w : Borrow) → (x ≡ no_index → w ≡ r.borrow)
         → (x ≢ no_index → slice_get (list_at t.lists x) 0 ≡ Some w) → (l : Location)
-        → kept_data (borrows_of r t.lists i (index_of e.content)) l e.content
+        → kept_data (borrows_of r t.lists i (index_of (data_in e.content))) l (data_in e.content)
         ≡ Live kd (Lent w) l
     lent_seen w apart listed l =
-        ap (kept_data (borrows_of r t.lists i (index_of e.content)) l) is
+        ap (kept_data (borrows_of r t.lists i (index_of (data_in e.content))) l) is
         ∙ lent_kept_first kd _ l w (lent_first w apart listed)
 
-  pub lent : (kd : Kind) (x : ℕ) → e.content ≡ slot.Lent kd x
-      → borrows_of r t.lists i (index_of e.content) ≢ []
+  pub lent : (kd : Kind) (x : ℕ) → data_in e.content ≡ slot.Lent kd x
+      → borrows_of r t.lists i (index_of (data_in e.content)) ≢ []
   lent kd x is = lent_some is
 
-  pub unborrowed : index_of e.content ≡ no_index → is_noted_at r i ≡ false
-      → borrows_of r t.lists i (index_of e.content) ≡ []
+  pub unborrowed : index_of (data_in e.content) ≡ no_index → is_noted_at r i ≡ false
+      → borrows_of r t.lists i (index_of (data_in e.content)) ≡ []
   unborrowed none away = rw (none, away) refl
 
   -- borrows with an index stand there
-  pub indexed_some : index_of e.content ≢ no_index
-      → borrows_of r t.lists i (index_of e.content) ≢ []
+  pub indexed_some : index_of (data_in e.content) ≢ no_index
+      → borrows_of r t.lists i (index_of (data_in e.content)) ≢ []
   indexed_some some empty =
       (used_here some).some (sym indexed_list ∙ empty)
     where
-      indexed_list : borrows_of r t.lists i (index_of e.content)
-          ≡ list_at t.lists (index_of e.content)
-      indexed_list = rw (ne_eqb (index_of e.content) no_index some) refl
+      indexed_list : borrows_of r t.lists i (index_of (data_in e.content))
+          ≡ list_at t.lists (index_of (data_in e.content))
+      indexed_list = rw (ne_eqb (index_of (data_in e.content)) no_index some) refl
 
-  pub indexed_value : index_of e.content ≢ no_index → is_some (kind_of e.content) ≡ true
+  pub indexed_value : index_of (data_in e.content) ≢ no_index → is_some (kind_of (data_in e.content)) ≡ true
   indexed_value some = grind (arith, some)
 
   -- what holds where it is noted
   pub noted_here : is_noted_at r i ≡ true
-      → (e.generation ≡ r.generation) × (may_note r t.lists e.content ≡ true)
+      → (e.generation ≡ r.generation) × (may_note r t.lists (data_in e.content) ≡ true)
   noted_here on =
       let some : is_noted r.noted ≡ true = grind arith in
       rw (noted_slot r i on, a.there) at (a.base.noted.noted some)
 
   -- a value without listed readers that isn't lent has no index, nor has a cell that is no value
-  pub free_index : NotRead e.content → NotLent e.content → index_of e.content ≡ no_index
+  pub free_index : NotRead (data_in e.content) → NotLent (data_in e.content) → index_of (data_in e.content) ≡ no_index
   free_index none gone = grind (arith, none, gone)
 
   -- where a borrow is noted there stand borrows
-  pub noted_some : is_noted_at r i ≡ true → borrows_of r t.lists i (index_of e.content) ≢ []
+  pub noted_some : is_noted_at r i ≡ true → borrows_of r t.lists i (index_of (data_in e.content)) ≢ []
   noted_some on = ⊎_elim
-      (λ none. rw (eq-eqb (index_of e.content) no_index none, on) (none_some r.borrow []))
+      (λ none. rw (eq-eqb (index_of (data_in e.content)) no_index none, on) (none_some r.borrow []))
       indexed_some
-      (cases_eq (index_of e.content) no_index)
+      (cases_eq (index_of (data_in e.content)) no_index)
 
   -- it is a value's
-  pub noted_value : is_noted_at r i ≡ true → is_some (kind_of e.content) ≡ true
+  pub noted_value : is_noted_at r i ≡ true → is_some (kind_of (data_in e.content)) ≡ true
   noted_value on = let may = (noted_here on).1 in grind arith
 
   -- and where no value is, none is noted
-  pub valueless : kind_of e.content ≡ None → is_noted_at r i ≡ false
+  pub valueless : kind_of (data_in e.content) ≡ None → is_noted_at r i ≡ false
   valueless none =
       false_from_ne_true _ (λ on. false≢true (sym (ap is_some none) ∙ noted_value on))
 
   -- a noted reader beside others is listed
-  pub noted_listed : is_noted_at r i ≡ true → NotData e.content → NotLent e.content
-      → index_of e.content ≢ no_index
+  pub noted_listed : is_noted_at r i ≡ true → NotData (data_in e.content) → NotLent (data_in e.content)
+      → index_of (data_in e.content) ≢ no_index
   noted_listed on none gone =
       let value = noted_value on in
-      let place : (kd : Kind) (x : ℕ) (v : T) → e.content ≡ slot.Read kd x v → x ≢ no_index =
+      let place : (kd : Kind) (x : ℕ) (v : T) → data_in e.content ≡ slot.Read kd x v → x ≢ no_index =
       λ kd x v is. has_place is in
       λ at. grind (arith, none, gone, place)
 
   -- a noted writer's value is lent
   pub noted_lent : is_noted_at r i ≡ true → is_writer r.noted ≡ true
-      → (kd : Kind) × (x : ℕ) × (e.content ≡ slot.Lent kd x)
+      → (kd : Kind) × (x : ℕ) × (data_in e.content ≡ slot.Lent kd x)
   noted_lent on writes = let may = (noted_here on).1 in grind arith
 
   -- where no borrow is noted, a writer is listed
-  pub lent_listed : {kd : Kind} {x : ℕ} → e.content ≡ slot.Lent kd x → is_noted r.noted ≡ false
+  pub lent_listed : {kd : Kind} {x : ℕ} → data_in e.content ≡ slot.Lent kd x → is_noted r.noted ≡ false
       → x ≢ no_index
   lent_listed is nobody none =
       true≢false (sym (and_parts _ _ (lent_noted is none)).0 ∙ nobody)
 
   -- a value without listed readers that isn't lent, where it is
-  pub noted_data : is_noted_at r i ≡ true → NotRead e.content → NotLent e.content
-      → (kd : Kind) × (v : T) × (e.content ≡ slot.Data kd v)
+  pub noted_data : is_noted_at r i ≡ true → NotRead (data_in e.content) → NotLent (data_in e.content)
+      → (kd : Kind) × (v : T) × (data_in e.content ≡ slot.Data kd v)
   noted_data on none gone = let value = noted_value on in grind (arith, none, gone)
 
-  pub noted_one : {kd : Kind} {v : T} → e.content ≡ slot.Data kd v → is_noted_at r i ≡ true
-      → borrows_of r t.lists i (index_of e.content) ≡ r.borrow ∷ []
+  pub noted_one : {kd : Kind} {v : T} → data_in e.content ≡ slot.Data kd v → is_noted_at r i ≡ true
+      → borrows_of r t.lists i (index_of (data_in e.content)) ≡ r.borrow ∷ []
   noted_one is on = rw (is, on) refl
 
-  pub data_free : is_noted_at r i ≡ false → (kd : Kind) (v : T) → e.content ≡ slot.Data kd v
-      → borrows_of r t.lists i (index_of e.content) ≡ []
+  pub data_free : is_noted_at r i ≡ false → (kd : Kind) (v : T) → data_in e.content ≡ slot.Data kd v
+      → borrows_of r t.lists i (index_of (data_in e.content)) ≡ []
   data_free away kd v is = rw (is, away) refl
 
   -- whether it is a value of its own without borrows, where none is noted there
   pub value_test : is_noted_at r i ≡ false → (d : EntryDetails) (g : ℕ)
-      → cond (nat_eq e.generation g) (is_unborrowed_data e.content) false
+      → cond (nat_eq e.generation g) (is_unborrowed_data (data_in e.content)) false
       ≡ is_unborrowed_value (cell_in (Some (entry_of r t.lists i e d)) g)
   value_test away d g =
-      free_test e d (borrows_of r t.lists i (index_of e.content)) (data_free away)
+      free_test e d (borrows_of r t.lists i (index_of (data_in e.content))) (data_free away)
       (λ kd x v is. read_some is) g
 
   -- other tickets don't, where no readers are listed
   pub noted_else : (n : ℕ) → (is_reader r.noted && nat_eq r.slot i && nat_eq r.borrow.ticket n)
-      ≡ false → NotRead e.content → (l : Location)
+      ≡ false → NotRead (data_in e.content) → (l : Location)
       → value_for n
-      (content_in (kept_data (borrows_of r t.lists i (index_of e.content)) l e.content)) ≡ None
+      (content_in (kept_data (borrows_of r t.lists i (index_of (data_in e.content))) l (data_in e.content))) ≡ None
   noted_else n off none l =
       grind (arith, none, away)
     where
@@ -580,8 +581,8 @@ module _ {T : Type 0} {r : LastBorrow} {t : Table} {es : List (StorageEntry T)} 
           → nat_eq r.borrow.ticket n ≡ false
       elsewhere on reads = grind (arith, off)
 
-      away : (kd : Kind) (v : T) → e.content ≡ slot.Data kd v
-          → list_any (λ b. nat_eq b.ticket n) (borrows_of r t.lists i (index_of e.content)) ≡ false
+      away : (kd : Kind) (v : T) → data_in e.content ≡ slot.Data kd v
+          → list_any (λ b. nat_eq b.ticket n) (borrows_of r t.lists i (index_of (data_in e.content))) ≡ false
       away kd v is = elim (cases_Bool (is_noted_at r i)) [
         | inl on ↦
             let reads : is_reader r.noted ≡ true = rw is at (noted_here on).1 in
@@ -592,14 +593,14 @@ module _ {T : Type 0} {r : LastBorrow} {t : Table} {es : List (StorageEntry T)} 
   -- the noted reader's own ticket opens the value
   pub noted_opens : (n : ℕ) → is_noted_at r i ≡ true → r.borrow.ticket ≡ n
       → (l : Location)
-      → value_of (content_in (kept_data (borrows_of r t.lists i (index_of e.content)) l e.content))
+      → value_of (content_in (kept_data (borrows_of r t.lists i (index_of (data_in e.content))) l (data_in e.content)))
       ≡ value_for n
-      (content_in (kept_data (borrows_of r t.lists i (index_of e.content)) l e.content))
+      (content_in (kept_data (borrows_of r t.lists i (index_of (data_in e.content))) l (data_in e.content)))
   noted_opens n on same l =
-      opens e.content (borrows_of r t.lists i (index_of e.content)) (noted_here on).1
+      opens (data_in e.content) (borrows_of r t.lists i (index_of (data_in e.content))) (noted_here on).1
       (λ kd v is. noted_one is on) (λ kd x v is. read_borrows is)
     where
-      opens : (d : StorageEntryData T) (bs : List Borrow) → may_note r t.lists d ≡ true
+      opens : (d : SlotData T) (bs : List Borrow) → may_note r t.lists d ≡ true
           → ((kd : Kind) (v : T) → d ≡ slot.Data kd v → bs ≡ r.borrow ∷ [])
           → ((kd : Kind) (x : ℕ) (v : T) → d ≡ slot.Read kd x v → bs ≡ list_at t.lists x)
           → value_of (content_in (kept_data bs l d)) ≡ value_for n (content_in (kept_data bs l d))
@@ -619,7 +620,7 @@ module _ {T : Type 0} {r : LastBorrow} {t : Table} {es : List (StorageEntry T)} 
 
   pub near_noted : (r' : LastBorrow) (lists : List (List Borrow)) (e' : StorageEntry T)
       → IsNear r i → IsNear r' i
-      → (is_noted r'.noted ≡ true → IsNoted r' lists (Some e')) → HasWriter r' i e'.content
+      → (is_noted r'.noted ≡ true → IsNoted r' lists (Some e')) → HasWriter r' i (data_in e'.content)
       → AreNoted r' lists (slice_set es i e')
   near_noted r' lists e' near near' fits written =
       record {
@@ -635,7 +636,7 @@ module _ {T : Type 0} {r : LastBorrow} {t : Table} {es : List (StorageEntry T)} 
       near_else : is_noted r'.noted ≡ true → is_noted_at r' r'.slot ≡ false → ⊥
       near_else is none = grind (arith, nat_tests)
 
-      unlent_in : (k : ℕ) (d : StorageEntryData T) → is_noted_at r k ≡ false → HasWriter r k d
+      unlent_in : (k : ℕ) (d : SlotData T) → is_noted_at r k ≡ false → HasWriter r k d
           → HasWriter r' k d
       unlent_in k (slot.Lent c x) away has = λ none. absurd (true≢false (sym (has none) ∙ away))
       unlent_in k d away has = tt
@@ -643,14 +644,14 @@ module _ {T : Type 0} {r : LastBorrow} {t : Table} {es : List (StorageEntry T)} 
       lent_away : (k : ℕ) (o : Option (StorageEntry T)) → is_noted_at r k ≡ false
           → HasWriterAt r k o → HasWriterAt r' k o
       lent_away k None away has = tt
-      lent_away k (Some e) away has = unlent_in k e.content away has
+      lent_away k (Some e) away has = unlent_in k (data_in e.content) away has
 
       unlent : (k : ℕ) → k ≢ i → HasWriterAt r' k (slice_get es k)
       unlent k other = lent_away k (slice_get es k) (near k other) (a.base.noted.written k)
 
   -- the slot's borrow isn't noted any more
   pub forgotten : (lists : List (List Borrow)) (e' : StorageEntry T) → SameLists t.lists lists es i
-      → ((r : LastBorrow) → HasWriter r i e'.content)
+      → ((r : LastBorrow) → HasWriter r i (data_in e'.content))
       → AreNoted (cond (is_noted_at r i) (cleared r) r) lists (slice_set es i e')
   forgotten lists e' same written = elim (cases_Bool (is_noted_at r i)) [
     | inl on ↦ rw on (near_noted (cleared r) lists e' (near_own r i (noted_slot r i on))
@@ -668,13 +669,13 @@ module _ {T : Type 0} {r : LastBorrow} {t : Table} {es : List (StorageEntry T)} 
   ]
 
   pub own_noted : (r' : LastBorrow) (lists : List (List Borrow)) → IsNear r i → IsNear r' i
-      → (is_noted r'.noted ≡ true → IsNoted r' lists (Some e)) → HasWriter r' i e.content
+      → (is_noted r'.noted ≡ true → IsNoted r' lists (Some e)) → HasWriter r' i (data_in e.content)
       → AreNoted r' lists es
   own_noted r' lists near near' fits written =
       rw (set-own es i e a.there) at (near_noted r' lists e near near' fits written)
 
   pub away_noted : (lists : List (List Borrow)) (e' : StorageEntry T) → is_noted_at r i ≡ false
-      → SameLists t.lists lists es i → HasWriter r i e'.content
+      → SameLists t.lists lists es i → HasWriter r i (data_in e'.content)
       → AreNoted r lists (slice_set es i e')
   away_noted lists e' away same written =
       noted_over (set_written es i e' e a.there) away a.base.noted same written
@@ -701,7 +702,7 @@ module _ {T : Type 0} {r : LastBorrow} {t : Table} {es : List (StorageEntry T)}
   says P h = rw slot_seen (h location.0)
 
   -- also where the borrows or the details are known
-  pub says_with : {bs : List Borrow} → borrows_of r t.lists i (index_of e.content) ≡ bs
+  pub says_with : {bs : List Borrow} → borrows_of r t.lists i (index_of (data_in e.content)) ≡ bs
       → (P : Entry T → Type 0) → ((d : EntryDetails) → P (entry_with bs e d))
       → IfSome (slice_get now.slots i) P
   says_with is P h = says P (λ d. subst (λ bs. P (entry_with bs e d)) (sym is) (h d))
@@ -739,8 +740,8 @@ module _ {T : Type 0} {r : LastBorrow} {t : Table} {es : List (StorageEntry T)}
   -- a slot whose cell alone is written, or whose borrows alone change
   pub changed : (r' : LastBorrow) (lists : List (List Borrow)) (e' : StorageEntry T)
       (f : Entry T → Entry T) {bs bs' : List Borrow} → SameBorrows r r' t.lists lists es i
-      → borrows_of r t.lists i (index_of e.content) ≡ bs
-      → borrows_of r' lists i (index_of e'.content) ≡ bs'
+      → borrows_of r t.lists i (index_of (data_in e.content)) ≡ bs
+      → borrows_of r' lists i (index_of (data_in e'.content)) ≡ bs'
       → ((d : EntryDetails) → entry_with bs' e' d ≡ f (entry_with bs e d))
       → entries_of r' lists (slice_set es i e') ds ≡ change_entry now.slots i f
   changed r' lists e' f same was is becomes =
@@ -752,8 +753,8 @@ module _ {T : Type 0} {r : LastBorrow} {t : Table} {es : List (StorageEntry T)}
   -- a slot that stays as it is, while its borrows change
   pub reborrowed : (r' : LastBorrow) (lists : List (List Borrow)) (f : Entry T → Entry T)
       {bs bs' : List Borrow} → SameBorrows r r' t.lists lists es i
-      → borrows_of r t.lists i (index_of e.content) ≡ bs
-      → borrows_of r' lists i (index_of e.content) ≡ bs'
+      → borrows_of r t.lists i (index_of (data_in e.content)) ≡ bs
+      → borrows_of r' lists i (index_of (data_in e.content)) ≡ bs'
       → ((d : EntryDetails) → entry_with bs' e d ≡ f (entry_with bs e d))
       → entries_of r' lists es ds ≡ change_entry now.slots i f
   reborrowed r' lists f same was is becomes =
@@ -762,8 +763,8 @@ module _ {T : Type 0} {r : LastBorrow} {t : Table} {es : List (StorageEntry T)}
   -- contracts see no change
   pub unchanged : (r' : LastBorrow) (lists : List (List Borrow)) (e' : StorageEntry T)
       {bs bs' : List Borrow} → SameBorrows r r' t.lists lists es i
-      → borrows_of r t.lists i (index_of e.content) ≡ bs
-      → borrows_of r' lists i (index_of e'.content) ≡ bs'
+      → borrows_of r t.lists i (index_of (data_in e.content)) ≡ bs
+      → borrows_of r' lists i (index_of (data_in e'.content)) ≡ bs'
       → ((d : EntryDetails) → entry_with bs' e' d ≡ entry_with bs e d)
       → entries_of r' lists (slice_set es i e') ds ≡ now.slots
   unchanged r' lists e' same was is becomes =
@@ -792,21 +793,21 @@ module _ {T : Type 0} {r : LastBorrow} {t : Table} {es : List (StorageEntry T)}
 
   -- a cell without borrows is a value without listed readers, and no borrow is noted there
   pub alone : IfSome (slice_get now.slots i) (λ e. has_no_borrow (content_in e.kept) ≡ true)
-      → (kd : Kind) × (v : T) × (e.content ≡ slot.Data kd v)
+      → (kd : Kind) × (v : T) × (data_in e.content ≡ slot.Data kd v)
   alone h =
       let free = hears (λ e. has_no_borrow (content_in e.kept) ≡ true) h in
-      let read : (kd : Kind) (x : ℕ) (v : T) → e.content ≡ slot.Read kd x v
-      → borrows_of r t.lists i (index_of e.content) ≢ [] = λ kd x v is. read_some a.at is in
+      let read : (kd : Kind) (x : ℕ) (v : T) → data_in e.content ≡ slot.Read kd x v
+      → borrows_of r t.lists i (index_of (data_in e.content)) ≢ [] = λ kd x v is. read_some a.at is in
       grind (arith, read)
 
   pub alone_away : IfSome (slice_get now.slots i) (λ e. has_no_borrow (content_in e.kept) ≡ true)
       → is_noted_at r i ≡ false
   alone_away h = false_from_ne_true _ (λ on.
       let own = alone h in
-      let some : borrows_of r t.lists i (index_of e.content) ≢ [] =
+      let some : borrows_of r t.lists i (index_of (data_in e.content)) ≢ [] =
       rw (own.2, on) (none_some r.borrow []) in
       cc (
-        not_free e.content _ location.0.created_at some,
+        not_free (data_in e.content) _ location.0.created_at some,
         hears (λ e. has_no_borrow (content_in e.kept) ≡ true) h,
       ))
 
@@ -815,29 +816,29 @@ module _ {T : Type 0} {r : LastBorrow} {t : Table} {es : List (StorageEntry T)}
       → is_noted_at r i ≡ false
   open_away h = false_from_ne_true _ (λ on.
       let own = hears (λ e. write_refusal (content_in e.kept) ≡ None) h in
-      let no = refused e.content _ location.0.created_at (noted_some a.at on) (noted_value a.at on)
+      let no = refused (data_in e.content) _ location.0.created_at (noted_some a.at on) (noted_value a.at on)
       in cc (own, no))
 
   pub open_index : IfSome (slice_get now.slots i) (λ e. write_refusal (content_in e.kept) ≡ None)
-      → index_of e.content ≡ no_index
+      → index_of (data_in e.content) ≡ no_index
   open_index h = ⊎_elim (λ none. none)
       (λ some. absurd (
       let own = hears (λ e. write_refusal (content_in e.kept) ≡ None) h in
-      let no = refused e.content _ location.0.created_at (indexed_some a.at some)
+      let no = refused (data_in e.content) _ location.0.created_at (indexed_some a.at some)
       (indexed_value a.at some) in cc (own, no)
-      )) (cases_eq (index_of e.content) no_index)
+      )) (cases_eq (index_of (data_in e.content)) no_index)
 
   -- a reference has no borrows
   pub refers_none : IfSome (slice_get now.slots i)
       (λ e. is_some (target_in (cell_of e.kept)) ≡ true)
-      → index_of e.content ≡ no_index
+      → index_of (data_in e.content) ≡ no_index
   refers_none h =
       let own = hears (λ e. is_some (target_in (cell_of e.kept)) ≡ true) h in grind arith
 
   pub referred : (target g : ℕ) (l : Location) (bs : List Borrow)
       → IfSome (slice_get now.slots i) (λ e. is_some (target_in (cell_of e.kept)) ≡ true)
       → Refers (record { slot = target; generation = g }) l
-      ≡ referring (record { slot = target; generation = g }) (kept_data bs l e.content)
+      ≡ referring (record { slot = target; generation = g }) (kept_data bs l (data_in e.content))
   referred target g l bs h =
       let own = hears (λ e. is_some (target_in (cell_of e.kept)) ≡ true) h in grind arith
 
@@ -848,7 +849,7 @@ module _ {T : Type 0} {r : LastBorrow} {t : Table} {es : List (StorageEntry T)}
       valueless a.at (grind arith)
 
   pub empty_slot : IfSome (slice_get now.slots i) (λ seen. seen.kept ≡ Empty)
-      → e.content ≡ slot.Empty
+      → data_in e.content ≡ slot.Empty
   empty_slot h =
       empty_data e location.0 _ (lent a.at) (hears (λ seen. seen.kept ≡ Empty) h)
 
@@ -868,7 +869,7 @@ module _ {T : Type 0} {r : LastBorrow} {t : Table} {es : List (StorageEntry T)}
   -- ---- a cell without borrows
 
   pub fresh_entry : (i : ℕ) → is_noted_at r i ≡ false → (g : ℕ) (d : StorageEntryData T)
-      (l : EntryDetails) → index_of d ≡ no_index
+      (l : EntryDetails) → index_of (data_in d) ≡ no_index
       → entry_of r t.lists i (record { generation = g; content = d }) l
       ≡ entry_with [] (record { generation = g; content = d }) l
   fresh_entry i away g d l none = rw (none, away) refl
@@ -901,7 +902,7 @@ noted_is {T} {r} {t} {es} base some {e} is =
 -- the noted writer has no index
 pub noted_index : {T : Type 0} {r : LastBorrow} {t : Table} {es : List (StorageEntry T)} {i : ℕ}
     {e : StorageEntry T} → IsSlot r t es i e → is_noted_at r i ≡ true → {kd : Kind} {x : ℕ}
-    → e.content ≡ slot.Lent kd x → x ≡ no_index
+    → data_in e.content ≡ slot.Lent kd x → x ≡ no_index
 noted_index {r = r} a on {x = x} is =
     eqb-true x no_index (and_parts (is_writer r.noted) (nat_eq x no_index)
     (rw is at (noted_here a on).1)).1

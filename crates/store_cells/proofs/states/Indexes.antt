@@ -1,8 +1,9 @@
 -- At which indexes of the table the borrows of a store's slots stand, and what is left of that
 -- where a slot is written.
+use Common.{data_in, SlotData}
 use Rattle.store_cells.proofs.Common
 use Common.{AreIndexed, AreNoted, Borrow, HasListIndex, HasListIndexIn, IsUnborrowed, IsUsed}
-use Common.{IsWritten, LastBorrow, List, Option, Some, StorageEntry, StorageEntryData, Table, []}
+use Common.{IsWritten, LastBorrow, List, Option, Some, StorageEntry, Table, []}
 use Common.{ap, arith, cases_eq, eq-eqb, false, has_index, how_many, index_in, index_of, is_noted}
 use Common.{length, nat_cmp, nat_tests, ne_eqb, no_index, passes, refl, slice_get, sym}
 use Common.{true≢false, ℕ, ⊎_elim, ◌+◌, ◌∙◌, ◌≡◌, ◌≢◌, ◌≤◌}
@@ -18,12 +19,12 @@ module _ {T : Type 0} where
     over P here others k = rw (w.at k) (⊎_elim (λ (e : k ≡ i). rw (e, eq-eqb i i refl) here)
         (λ other. rw (ne_eqb k i other) (others k other)) (cases_eq k i))
 
-    pub indexed : {t t' : Table} → AreIndexed t es → HasListIndex e.content
+    pub indexed : {t t' : Table} → AreIndexed t es → HasListIndex (data_in e.content)
         → ((k : ℕ) → k ≢ i → index_in (slice_get es k) ≢ no_index
         → IsUsed t' (index_in (slice_get es k)))
-        → (index_of e.content ≢ no_index → IsUsed t' (index_of e.content))
-        → (index_of e.content ≢ no_index → (k : ℕ) → k ≢ i
-        → index_in (slice_get es k) ≢ index_of e.content)
+        → (index_of (data_in e.content) ≢ no_index → IsUsed t' (index_of (data_in e.content)))
+        → (index_of (data_in e.content) ≢ no_index → (k : ℕ) → k ≢ i
+        → index_in (slice_get es k) ≢ index_of (data_in e.content))
         → set.len t'.free + how_many has_index es' ≡ length t'.lists → length t'.lists ≤ length es'
         → AreIndexed t' es'
     indexed {t} {t'} s fits others here alone counted few =
@@ -37,9 +38,9 @@ module _ {T : Type 0} where
           few = few;
         }
       where
-        written : (k : ℕ) → index_of e.content ≢ no_index
-            → index_of e.content ≡ index_in (slice_get es' k) → i ≡ k
-        written k some = over (λ k o. index_of e.content ≡ index_in o → i ≡ k) (λ same. refl)
+        written : (k : ℕ) → index_of (data_in e.content) ≢ no_index
+            → index_of (data_in e.content) ≡ index_in (slice_get es' k) → i ≡ k
+        written k some = over (λ k o. index_of (data_in e.content) ≡ index_in o → i ≡ k) (λ same. refl)
             (λ k other same. absurd (alone some k other (sym same))) k
 
         rest : (k j : ℕ) → j ≢ i → index_in (slice_get es j) ≢ no_index
@@ -50,16 +51,16 @@ module _ {T : Type 0} where
             (λ k at same. s.apart j k some same) k
 
 -- a slot with an index has listed readers, if it has readers
-pub has_listed : {T : Type 0} (d : StorageEntryData T) → index_of d ≢ no_index → HasListIndex d
+pub has_listed : {T : Type 0} (d : SlotData T) → index_of d ≢ no_index → HasListIndex d
 has_listed d some = grind arith
 
 -- ---- slots without borrows
 
 module _ {T : Type 0} where
-  pub unborrowed_none : (d : StorageEntryData T) → IsUnborrowed d → index_of d ≡ no_index
+  pub unborrowed_none : (d : SlotData T) → IsUnborrowed d → index_of d ≡ no_index
   unborrowed_none d free = grind arith
 
-  pub unborrowed_listed : (d : StorageEntryData T) → IsUnborrowed d → HasListIndex d
+  pub unborrowed_listed : (d : SlotData T) → IsUnborrowed d → HasListIndex d
   unborrowed_listed d free = grind arith
 
 pub indexed_none : {T : Type 0} {t : Table} {es : List (StorageEntry T)} → es ≡ []
@@ -79,8 +80,8 @@ module _ {T : Type 0} where
 
   -- a slot without borrows that is written where none stood
   pub indexed_free : {t : Table} {es es' : List (StorageEntry T)} {i : ℕ} {e : StorageEntry T}
-      → IsWritten es es' i e → AreIndexed t es → HasListIndex e.content → length es ≤ length es'
-      → index_in (slice_get es i) ≡ no_index → index_of e.content ≡ no_index
+      → IsWritten es es' i e → AreIndexed t es → HasListIndex (data_in e.content) → length es ≤ length es'
+      → index_in (slice_get es i) ≡ no_index → index_of (data_in e.content) ≡ no_index
       → AreIndexed t es'
   indexed_free {t} {es} {es'} {i} {e} w s fits longer before none =
       indexed w s fits (λ k other. s.used k) (λ some. absurd (some none))

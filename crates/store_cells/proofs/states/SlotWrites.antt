@@ -1,8 +1,9 @@
 -- A slot that changes with the table of borrows, and what is left of the other slots.
+use Common.{data_in, SlotData}
 use Rattle.store_cells.proofs.Common
 use Common.{AreBelow, AreIndexed, AreNoted, Borrow, EntryDetails, EntryList, HasListIndex}
 use Common.{HasWriter, Here, IfSome, IsAlone, IsClosed, IsListed, IsReadable, IsUsed, Kind}
-use Common.{LastBorrow, List, Live, Location, Releases, StorageEntry, StorageEntryData, Table, []}
+use Common.{LastBorrow, List, Live, Location, Releases, StorageEntry, Table, []}
 use Common.{ap, arith, bit, borrows_of, cases_eq, change_entry, cleared, common_steps, content_in}
 use Common.{entries_of, entry_with, eq-eqb, false, fewer_within, get_or-set_same, has_index}
 use Common.{how_many, index_in, index_of, inl, inr, is_noted, is_noted_at, is_some, kept_data}
@@ -24,7 +25,7 @@ use Rattle.store_cells.proofs.states.Entries.{slot_seen, unborrowed, unchanged, 
 use Rattle.store_cells.proofs.states.Entries.{used_here, written_index}
 use Rattle.std.specs.FinSet as set
 use Rattle.store_cells.specs.declared.latest.Noted.TheVariants as noted
-use Rattle.store_cells.specs.declared.entry.StorageEntryData.TheVariants as slot
+use Rattle.store_cells.specs.Data.{SlotData as slot}
 
 module _ {T : Type 0} {r : LastBorrow} {t : Table} {es : List (StorageEntry T)} {i : ℕ}
     {e : StorageEntry T} (a : IsSlot r t es i e) where
@@ -34,8 +35,8 @@ module _ {T : Type 0} {r : LastBorrow} {t : Table} {es : List (StorageEntry T)} 
     pub same_lists : SameLists t.lists t'.lists es i
     same_lists k other = c.lists (index_in (slice_get es k)) (alone k other)
 
-    pub step_indexed : (e' : StorageEntry T) → HasListIndex e'.content
-        → (index_of e'.content ≢ no_index → (index_of e'.content ≡ x) × IsUsed t' x)
+    pub step_indexed : (e' : StorageEntry T) → HasListIndex (data_in e'.content)
+        → (index_of (data_in e'.content) ≢ no_index → (index_of (data_in e'.content) ≡ x) × IsUsed t' x)
         → set.len t'.free + bit (has_index e') + length t.lists
         ≡ set.len t.free + bit (has_index e) + length t'.lists
         → length t'.lists ≤ length es → AreIndexed t' (slice_set es i e')
@@ -56,13 +57,13 @@ module _ {T : Type 0} {r : LastBorrow} {t : Table} {es : List (StorageEntry T)} 
   vacant_alone x unused some k other same =
       unused (rw same at (a.base.indexed.used k (λ z. some (sym same ∙ z))))
 
-  pub used_alone : (x : ℕ) → index_of e.content ≡ x → x ≢ no_index
+  pub used_alone : (x : ℕ) → index_of (data_in e.content) ≡ x → x ≢ no_index
       → (k : ℕ) → k ≢ i → index_in (slice_get es k) ≢ x
   used_alone x is some k other same =
       let own : index_in (slice_get es i) ≡ x = rw a.there is in
       other (a.base.indexed.apart k i (λ z. some (sym same ∙ z)) (same ∙ sym own))
 
-  module _ (none : index_of e.content ≡ no_index) where
+  module _ (none : index_of (data_in e.content) ≡ no_index) where
     has_none : has_index e ≡ false
     has_none = rw none refl
 
@@ -90,7 +91,7 @@ module _ {T : Type 0} {r : LastBorrow} {t : Table} {es : List (StorageEntry T)} 
       pub open_lists : SameLists t.lists t'.lists es i
       open_lists = same_lists (opened o) open_below open_alone
 
-      pub open_indexed : (e' : StorageEntry T) → index_of e'.content ≡ x
+      pub open_indexed : (e' : StorageEntry T) → index_of (data_in e'.content) ≡ x
           → AreIndexed t' (slice_set es i e')
       open_indexed e' at =
           let below = open_below in
@@ -99,12 +100,12 @@ module _ {T : Type 0} {r : LastBorrow} {t : Table} {es : List (StorageEntry T)} 
           let counts = opened_count o in let few = a.base.indexed.few in
           let counted = a.base.indexed.counted in let less = fewer in
           step_indexed (opened o) open_below open_alone e'
-          (has_listed e'.content (λ z. omega (arith, sym at ∙ z, below)))
+          (has_listed (data_in e'.content) (λ z. omega (arith, sym at ∙ z, below)))
           (λ some. (at, opened_used o))
           (rw (has, has_none) (omega arith))
           (opened_few o (length es) few (λ z. omega arith))
 
-  module _ (x : ℕ) (is : index_of e.content ≡ x) (some : x ≢ no_index) where
+  module _ (x : ℕ) (is : index_of (data_in e.content) ≡ x) (some : x ≢ no_index) where
     pub used_x : IsUsed t x
     used_x = rw is at (used_here a (λ z. some (sym is ∙ z)))
 
@@ -121,7 +122,7 @@ module _ {T : Type 0} {r : LastBorrow} {t : Table} {es : List (StorageEntry T)} 
       list_lists =
           same_lists (list_changed t t' x left now') used_below (used_alone x is some)
 
-      pub list_indexed : (e' : StorageEntry T) → index_of e'.content ≡ x
+      pub list_indexed : (e' : StorageEntry T) → index_of (data_in e'.content) ≡ x
           → AreIndexed t' (slice_set es i e')
       list_indexed e' at =
           let has : has_index e' ≡ true = rw (at, ne_eqb x no_index some) refl in
@@ -129,7 +130,7 @@ module _ {T : Type 0} {r : LastBorrow} {t : Table} {es : List (StorageEntry T)} 
           let free : set.len t'.free ≡ set.len t.free = rw now' refl in
           let few = a.base.indexed.few in
           step_indexed (list_changed t t' x left now') used_below (used_alone x is some) e'
-          (has_listed e'.content (λ z. some (sym at ∙ z)))
+          (has_listed (data_in e'.content) (λ z. some (sym at ∙ z)))
           (λ z. (at, list_used)) (rw (has, has_some) (omega arith)) (omega arith)
         where
           list_used : IsUsed t' x
@@ -144,8 +145,8 @@ module _ {T : Type 0} {r : LastBorrow} {t : Table} {es : List (StorageEntry T)} 
       pub close_lists : SameLists t.lists t'.lists es i
       close_lists = same_lists (closed c) used_below (used_alone x is some)
 
-      pub close_indexed : (e' : StorageEntry T) → HasListIndex e'.content
-          → index_of e'.content ≡ no_index → AreIndexed t' (slice_set es i e')
+      pub close_indexed : (e' : StorageEntry T) → HasListIndex (data_in e'.content)
+          → index_of (data_in e'.content) ≡ no_index → AreIndexed t' (slice_set es i e')
       close_indexed e' fits none =
           let has : has_index e' ≡ false = rw none refl in
           let free = closed_count c used_x.used in let long = c.same in
@@ -154,14 +155,14 @@ module _ {T : Type 0} {r : LastBorrow} {t : Table} {es : List (StorageEntry T)} 
           (λ z. absurd (z none)) (rw (has, has_some) (omega arith)) (omega arith)
 
   -- a cell without borrows is written where none stood
-  pub free_indexed : index_of e.content ≡ no_index → (e' : StorageEntry T) → HasListIndex e'.content
-      → index_of e'.content ≡ no_index → AreIndexed t (slice_set es i e')
+  pub free_indexed : index_of (data_in e.content) ≡ no_index → (e' : StorageEntry T) → HasListIndex (data_in e'.content)
+      → index_of (data_in e'.content) ≡ no_index → AreIndexed t (slice_set es i e')
   free_indexed before e' fits none =
       indexed_free (set_written es i e' e a.there) a.base.indexed fits
       (let same = length-set es i e' in omega arith) (rw a.there before) none
 
   -- the slot's index is given back, if it has one
-  module _ {t' : Table} {x : ℕ} (is : index_of e.content ≡ x) (none : x ≡ no_index → t' ≡ t)
+  module _ {t' : Table} {x : ℕ} (is : index_of (data_in e.content) ≡ x) (none : x ≡ no_index → t' ≡ t)
       (some : x ≢ no_index → IsClosed t t' x) where
     given_back : (P : Table → Type 0) → (x ≡ no_index → P t)
         → (x ≢ no_index → IsClosed t t' x → P t') → P t'
@@ -172,8 +173,8 @@ module _ {T : Type 0} {r : LastBorrow} {t : Table} {es : List (StorageEntry T)} 
     given_lists = given_back (λ u. SameLists t.lists u.lists es i) (λ z k other. refl)
         (λ z c. close_lists x is z c)
 
-    pub given_indexed : (e' : StorageEntry T) → HasListIndex e'.content
-        → index_of e'.content ≡ no_index → AreIndexed t' (slice_set es i e')
+    pub given_indexed : (e' : StorageEntry T) → HasListIndex (data_in e'.content)
+        → index_of (data_in e'.content) ≡ no_index → AreIndexed t' (slice_set es i e')
     given_indexed e' fits free =
         given_back (λ u. AreIndexed u (slice_set es i e'))
         (λ z. free_indexed (is ∙ z) e' fits free) (λ z c. close_indexed x is z c e' fits free)
@@ -182,8 +183,8 @@ module _ {T : Type 0} {r : LastBorrow} {t : Table} {es : List (StorageEntry T)} 
     given_rooms = given_back (λ u. u.rooms ≡ t.rooms) (λ z. refl) (λ z c. c.rooms)
 
   -- a reader is taken away from a value
-  module _ {kd : Kind} {x : ℕ} {v : T} (is : e.content ≡ slot.Read kd x v) where
-    own : index_of e.content ≡ x
+  module _ {kd : Kind} {x : ℕ} {v : T} (is : data_in e.content ≡ slot.Read kd x v) where
+    own : index_of (data_in e.content) ≡ x
     own = rw is refl
 
     some : x ≢ no_index
@@ -195,13 +196,15 @@ module _ {T : Type 0} {r : LastBorrow} {t : Table} {es : List (StorageEntry T)} 
     release_lists t' y (b ∷ bs) r = list_lists x own some (b ∷ bs) (λ z. none_some b bs z) r.1
 
     pub release_indexed : (t' : Table) (y : ℕ) (left : List Borrow) → Releases t t' x y left
-        → (g : ℕ) → AreIndexed t' (slice_set es i
-        (record { generation = g; content = unread_data (slot.Read kd y v) }))
-    release_indexed t' y [] r g =
-        rw (eq-eqb y no_index r.0) (close_indexed x own some r.1 _ tt refl)
-    release_indexed t' y (b ∷ bs) r g =
-        rw (ne_eqb y no_index (λ z. some (sym r.0 ∙ z)))
-        (list_indexed x own some (b ∷ bs) (λ z. none_some b bs z) r.1 _ r.0)
+        → (e' : StorageEntry T) → data_in e'.content ≡ unread_data (slot.Read kd y v)
+        → AreIndexed t' (slice_set es i e')
+    release_indexed t' y [] r e' is =
+        let none : data_in e'.content ≡ slot.Data kd v = is ∙ rw (eq-eqb y no_index r.0) refl in
+        close_indexed x own some r.1 e' (rw none tt) (rw none refl)
+    release_indexed t' y (b ∷ bs) r e' is =
+        let still : data_in e'.content ≡ slot.Read kd y v =
+        is ∙ rw (ne_eqb y no_index (λ z. some (sym r.0 ∙ z))) refl in
+        list_indexed x own some (b ∷ bs) (λ z. none_some b bs z) r.1 e' (rw still r.0)
 
     -- what is left of the cell, and of its borrows
     pub release_borrows : (r' : LastBorrow) → is_noted_at r' i ≡ false → (t' : Table) (y : ℕ)
@@ -243,9 +246,9 @@ module _ {T : Type 0} {r : LastBorrow} {t : Table} {es : List (StorageEntry T)} 
       record { store = record { base = a.base; slots = refl; made = made }; at = a }
 
   -- it gets an index
-  pub listed_opened : (t' : Table) {y : ℕ} → index_of e.content ≡ no_index
+  pub listed_opened : (t' : Table) {y : ℕ} → index_of (data_in e.content) ≡ no_index
       → Opens t t' y (r.borrow ∷ []) → t'.rooms ≡ t.rooms → (e' : StorageEntry T)
-      → index_of e'.content ≡ y
+      → index_of (data_in e'.content) ≡ y
       → ((d : EntryDetails) → entry_with (r.borrow ∷ []) e' d ≡ entry_with (r.borrow ∷ []) e d)
       → IsListed r (cleared r) t t' es (slice_set es i e')
   listed_opened t' {y} none o rooms e' at same =
@@ -258,25 +261,25 @@ module _ {T : Type 0} {r : LastBorrow} {t : Table} {es : List (StorageEntry T)} 
             (rw (at, ne_eqb y no_index some) (opened_list o)) same;
         indexed = open_indexed a none o e' at;
         noted = near_noted a (cleared r) t'.lists e' own_near none_near (λ z. absurd cc)
-            (written_index (cleared r) i e'.content (λ z. some (sym at ∙ z)));
+            (written_index (cleared r) i (data_in e'.content) (λ z. some (sym at ∙ z)));
         rooms = rooms;
         same = length-set es i e';
       }
 
   -- it has one
-  pub listed_there : index_of e.content ≢ no_index
+  pub listed_there : index_of (data_in e.content) ≢ no_index
       → IsListed r (cleared r) t t es (slice_set es i e)
   listed_there some =
-      let place = ne_eqb (index_of e.content) no_index some in
+      let place = ne_eqb (index_of (data_in e.content)) no_index some in
       record {
         slots = λ ds made. unchanged (seen ds made) (cleared r) t.lists e
-            {bs = list_at t.lists (index_of e.content)}
-            {bs' = list_at t.lists (index_of e.content)}
+            {bs = list_at t.lists (index_of (data_in e.content))}
+            {bs' = list_at t.lists (index_of (data_in e.content))}
             (same_near a (cleared r) t.lists own_near none_near (λ k other. refl))
             (rw place refl) (rw place refl) (λ d. refl);
         indexed = rw (set-own es i e a.there) a.base.indexed;
         noted = near_noted a (cleared r) t.lists e own_near none_near (λ z. absurd cc)
-            (written_index (cleared r) i e.content some);
+            (written_index (cleared r) i (data_in e.content) some);
         rooms = refl;
         same = length-set es i e;
       }
@@ -284,7 +287,7 @@ module _ {T : Type 0} {r : LastBorrow} {t : Table} {es : List (StorageEntry T)} 
 -- ---- a reader begins at a value that isn't lent
 
 -- where a cell is readable
-readable_cases : {T : Type 0} (d : StorageEntryData T) (bs : List Borrow) (l : Location)
+readable_cases : {T : Type 0} (d : SlotData T) (bs : List Borrow) (l : Location)
     → is_some (value_of (content_in (kept_data bs l d))) ≡ true
     → ((kd : Kind) × (v : T) × (d ≡ slot.Data kd v))
     ⊎ ((kd : Kind) × (x : ℕ) × (v : T) × (d ≡ slot.Read kd x v))
@@ -306,26 +309,26 @@ pub record Begins {T : Type 0} (r : LastBorrow) (t t' : Table) (es : List (Stora
 module _ {T : Type 0} {r : LastBorrow} {t : Table} {es : List (StorageEntry T)}
     {ds : List EntryDetails} {now : EntryList T} {i : ℕ} {e : StorageEntry T}
     (a : IsAt r t es ds now i e) (g : ℕ) (there : IsReadable g (slice_get now.slots i)) where
-  readable_here : ((kd : Kind) × (v : T) × (e.content ≡ slot.Data kd v))
-      ⊎ ((kd : Kind) × (x : ℕ) × (v : T) × (e.content ≡ slot.Read kd x v))
-  readable_here = readable_cases e.content _ (location a).0.created_at
+  readable_here : ((kd : Kind) × (v : T) × (data_in e.content ≡ slot.Data kd v))
+      ⊎ ((kd : Kind) × (x : ℕ) × (v : T) × (data_in e.content ≡ slot.Read kd x v))
+  readable_here = readable_cases (data_in e.content) _ (location a).0.created_at
       (rw (slot_seen a) at there).1
 
   -- its ticket is beyond those of the listed readers
   pub listed_below : (n : ℕ) → IfSome (slice_get now.slots i)
       (λ e. AreBelow n (readers_of (content_in e.kept)))
-      → index_of e.content ≢ no_index → AreBelow n (list_at t.lists (index_of e.content))
+      → index_of (data_in e.content) ≢ no_index → AreBelow n (list_at t.lists (index_of (data_in e.content)))
   listed_below n h some = elim readable_here [
     | inl own ↦ absurd (some (rw own.2 refl))
     | inr own ↦ subst (AreBelow n) (
-        ap (λ d. readers_of (content_in (kept_data (borrows_of r t.lists i (index_of e.content))
+        ap (λ d. readers_of (content_in (kept_data (borrows_of r t.lists i (index_of (data_in e.content)))
         (location a).0.created_at d))) own.3
         ∙ read_borrows a.at own.3 ∙ ap (λ d. list_at t.lists (index_of d)) (sym own.3))
         (hears a (λ e. AreBelow n (readers_of (content_in e.kept))) h)
   ]
 
   pub begun : is_noted r.noted ≡ false → (b : Borrow) (t' : Table)
-      → t' ≡ listed_beside b (index_of e.content) t
+      → t' ≡ listed_beside b (index_of (data_in e.content)) t
       → Begins (record { noted = noted.Reader; slot = i; generation = g; borrow = b })
       t t' es ds now i b
   begun nobody b t' is = elim readable_here [
@@ -345,10 +348,10 @@ module _ {T : Type 0} {r : LastBorrow} {t : Table} {es : List (StorageEntry T)}
       away : is_noted_at r i ≡ false
       away = rw nobody refl
 
-      alone_begun : (kd : Kind) (v : T) → e.content ≡ slot.Data kd v
+      alone_begun : (kd : Kind) (v : T) → data_in e.content ≡ slot.Data kd v
           → Begins note t t' es ds now i b
       alone_begun kd v own =
-          let none : index_of e.content ≡ no_index = rw own refl in
+          let none : index_of (data_in e.content) ≡ no_index = rw own refl in
           let same : t' ≡ t = is ∙ rw none refl in
           rw same (record {
             indexed = a.at.base.indexed;
@@ -360,11 +363,11 @@ module _ {T : Type 0} {r : LastBorrow} {t : Table} {es : List (StorageEntry T)}
             rooms = refl;
           })
 
-      beside_begun : (kd : Kind) (x : ℕ) (v : T) → e.content ≡ slot.Read kd x v
+      beside_begun : (kd : Kind) (x : ℕ) (v : T) → data_in e.content ≡ slot.Read kd x v
           → Begins note t t' es ds now i b
       beside_begun kd x v own =
           let place = has_place a.at own in
-          let index : index_of e.content ≡ x = rw own refl in
+          let index : index_of (data_in e.content) ≡ x = rw own refl in
           let all = list_at t.lists x ++ b ∷ [] in
           let same : t' ≡ record t { lists = slice_set t.lists x all } =
           is ∙ rw (own, ne_eqb x no_index place) refl in
@@ -388,5 +391,5 @@ module _ {T : Type 0} {r : LastBorrow} {t : Table} {es : List (StorageEntry T)}
       → Begins (record { noted = noted.Reader; slot = i; generation = g; borrow = b })
       t t es ds now i b
   begun_alone nobody b free =
-      let none : index_of e.content ≡ no_index = rw (alone a (alone_free a g free)).2 refl in
+      let none : index_of (data_in e.content) ≡ no_index = rw (alone a (alone_free a g free)).2 refl in
       begun nobody b t (rw none refl)

@@ -7,7 +7,7 @@ use Common.{is_named, is_shared, is_some, IsReferred, IsSlotTable, IsUnborrowed,
 use Common.{kept_data, length, length-set, List, Location, lt-ltb, many_some, many_within, Name}
 use Common.{name_apart, name_here, name_of_cell, named_gives, nat_lt, ne_eqb, None, Ok, OnErr}
 use Common.{Option, option_map, passes, Ref, refers, refers_to, refl, Result, set_written}
-use Common.{shared_target, slice_get, SlotTable, Some, state_of, StorageEntryData, suc, sym}
+use Common.{shared_target, slice_get, SlotTable, Some, state_of, SlotData, suc, sym}
 use Common.{target_in, named_by, true, zero, ℕ, [], ◌+◌, ◌-◌, ◌<◌, ◌∙◌, ◌≡◌, ◌≢◌}
 use Rattle.store_slots.proofs.states.{States.get_cells, States.not_named}
 use Rattle.store_slots.proofs.states.Changes.{emptied, ended, found, found_within, IsFound}
@@ -16,7 +16,7 @@ use Rattle.store_slots.proofs.states.References.{count_of, has_shared, named_cou
 use Rattle.store_slots.proofs.states.References.{reference_to}
 use Rattle.std.specs.FinMap as map
 use Rattle.store_cells.specs.declared.entry.Kind.TheVariants as kind
-use Rattle.store_cells.specs.declared.entry.StorageEntryData.TheVariants as slot
+use Rattle.store_cells.specs.Data.{SlotData as slot}
 
 -- whether a target, if there is one, is this cell
 abbrev pub is_target : Option Name → Name → Bool
@@ -155,19 +155,19 @@ module _ {T : Type 0} where
       at (Some e) dead = rw (dead_none e.kept dead) (cond_same _ None)
 
   -- a content without borrows is a cell, which names what the content does
-  pub unborrowed_cell : (d : StorageEntryData T) (l : Location) → IsUnborrowed d
+  pub unborrowed_cell : (d : SlotData T) (l : Location) → IsUnborrowed d
       → (c : Cell T) × (cell_of (kept_data [] l d) ≡ Some c)
   unborrowed_cell (slot.Data kind.Value v) l free = (_, refl)
   unborrowed_cell (slot.Data kind.Shared v) l free = (_, refl)
   unborrowed_cell (slot.Reference m g) l free = (_, refl)
   unborrowed_cell _ l free = absurd free
 
-  data_refers : (d : StorageEntryData T) (l : Location) (q : Name)
+  data_refers : (d : SlotData T) (l : Location) (q : Name)
       → refers_to q (cell_of (kept_data [] l d)) ≡ is_target (named_by d) q
   data_refers d l q = grind arith
 
   -- where it's written in a slot that had no cell, its target, if it has one, doesn't count it yet
-  pub uncounted_made : {slots after : List (Entry T)} {i g : ℕ} (d : StorageEntryData T)
+  pub uncounted_made : {slots after : List (Entry T)} {i g : ℕ} (d : SlotData T)
       (l : Location)
       → IsWritten slots after i (record { generation = g; kept = kept_data [] l d; references = 0 })
       → passes (λ e. is_live e.kept) (slice_get slots i) ≡ false → AreReferred (λ m. 0) slots

@@ -7,7 +7,7 @@ use Common.{IsSlotTable, IsUnborrowed, IsWritten, Kept, kept_data, last_generati
 use Common.{length-append, length-set, List, Location, max, nat_cmp, nat_cmp_total, nat_eq, nat_lt}
 use Common.{nat_tests, None, not, not_left, Option, passes, push_written, put_back, refl}
 use Common.{Retirements, set_written, slice_get, slice_get_past, slice_get_within, slice_set}
-use Common.{SlotTable, Some, State, state_of, StorageEntryData, sym, named_by, true, ℕ, [], ◌&&◌}
+use Common.{SlotTable, Some, State, state_of, SlotData, sym, named_by, true, ℕ, [], ◌&&◌}
 use Common.{◌++◌, ◌+◌, ◌<◌, ◌||◌, ◌∙◌, ◌∷◌, ◌≡◌, ◌≤◌}
 use Rattle.store_slots.proofs.states.Changes.{cells_put, given_put, slotted}
 use Rattle.store_slots.proofs.states.Counting.{IsUncounted, unborrowed_cell, uncounted_made}
@@ -213,7 +213,7 @@ module _ {T : Type 0} {p : SlotTable T} (s : IsSlotTable p) where
   -- ---- a content more, without borrows, of which the target is shared
 
   module _ {S : State T} {peak : ℕ} (view : state_of p.start peak p.slots ≡ S)
-      (r : AreReferred (λ m. 0) p.slots) (linked : HasTargets S.cells) (d : StorageEntryData T)
+      (r : AreReferred (λ m. 0) p.slots) (linked : HasTargets S.cells) (d : SlotData T)
       (l : Location) (free : IsUnborrowed d)
       (target : IfSome (named_by d) (λ m. is_shared (map.get S.cells m) ≡ true)) where
     uncounted : {after : List (Entry T)} {i g : ℕ} → IsWritten p.slots after i

@@ -1,4 +1,4 @@
-use Rattle.generational_box.proofs.{MakeShared, meets_kept, option_copied, pair_counted, pair_some}
+use Rattle.generational_box.proofs.{data_in, ap, MakeShared, meets_kept, option_copied, pair_counted, pair_some}
 use Rattle.generational_box.proofs.{pair_target, pair_targets, refl, reserved_room, shared_full}
 use Rattle.generational_box.proofs.{shared_made, shared_refused, state_is}
 use Rattle.generational_box.proofs.unsync.StoreStorage.new_rc.Goals as goal
@@ -23,7 +23,7 @@ reference_to-content-requires g c =
 pub make_reserved-reference-requires-clause-target : goal.make_reserved-reference-requires-clause-target
 make_reserved-reference-requires-clause-target g c =
     pair_target c.self.inside.slots (state_is c.self.view_is) (option_copied c.args.owner)
-    c.reserve_two.ensures.state c.make_reserved-shared.ensures _ c.reference_to-content.ensures
+    c.reserve_two.ensures.state c.make_reserved-shared.ensures _ (ap data_in c.reference_to-content.ensures)
 
 pub make_reserved-reference-requires-clause-linked : goal.make_reserved-reference-requires-clause-linked
 make_reserved-reference-requires-clause-linked g c =
@@ -38,7 +38,7 @@ pub invariant_of-self-2 : goal.invariant_of-self-2
 invariant_of-self-2 g c =
     let o = option_copied c.args.owner in
     pair_counted c.self.inside.slots (state_is c.self.view_is) o c.reserve_two.ensures.state
-    c.make_reserved-shared.ensures c.reference_to-content.ensures c.make_reserved-reference.ensures
+    c.make_reserved-shared.ensures (ap data_in c.reference_to-content.ensures) c.make_reserved-reference.ensures
     (rw (← c.reserve.ensures.same) (c.list.ensures o c.in-Ok.ensures.ok))
     c.self.invariant c.args.self.now.sound
 
@@ -46,7 +46,7 @@ pub returns-clause-step : goal.returns-clause-step
 returns-clause-step g c =
     let o = option_copied c.args.owner in
     shared_made c.self.inside.slots (state_is c.self.view_is) o c.reserve_two.ensures.state
-    c.make_reserved-shared.ensures c.reference_to-content.ensures c.make_reserved-reference.ensures
+    c.make_reserved-shared.ensures (ap data_in c.reference_to-content.ensures) c.make_reserved-reference.ensures
     (rw (← c.reserve.ensures.same) (c.list.ensures o c.in-Ok.ensures.ok))
     c.pointer_in.result c.in-Ok.ensures.known c.pointer_in.ensures
 
@@ -56,6 +56,6 @@ invariant_of-self-inside-2 g c =
     meets_kept _ _ (MakeShared o c.args.value c.args.location) _ c.args.self.now.sound
     c.args.self.now.bounded
     (shared_made c.self.inside.slots (state_is c.self.view_is) o c.reserve_two.ensures.state
-    c.make_reserved-shared.ensures c.reference_to-content.ensures c.make_reserved-reference.ensures
+    c.make_reserved-shared.ensures (ap data_in c.reference_to-content.ensures) c.make_reserved-reference.ensures
     (rw (← c.reserve.ensures.same) (c.list.ensures o c.in-Ok.ensures.ok))
     _ c.in-Ok.ensures.known refl)

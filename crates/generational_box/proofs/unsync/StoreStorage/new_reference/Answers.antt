@@ -1,4 +1,4 @@
-use Rattle.generational_box.proofs.{are_linked, is_own, is_strange, made_counted, meets_kept}
+use Rattle.generational_box.proofs.{data_in, are_linked, is_own, is_strange, made_counted, meets_kept}
 use Rattle.generational_box.proofs.{name_of_cell}
 use Rattle.generational_box.proofs.{option_copied, reach_strange, reaches_shared, Refer, refer_gone}
 use Rattle.generational_box.proofs.{refer_hindered, refer_strange, reference_full, reference_made}
@@ -65,7 +65,7 @@ invariant_of-self-2 g c =
 
 pub created_at-requires : goal.created_at-requires
 created_at-requires g c = ap is_some (reference_stands c.self.inside.slots
-    (state_is c.self.view_is) (option_copied c.args.owner) _ _ c.reference_to-content.ensures
+    (state_is c.self.view_is) (option_copied c.args.owner) _ _ (ap data_in c.reference_to-content.ensures)
     c.in-Ok-make.ensures.ok)
 
 pub returns : goal.returns
@@ -76,11 +76,11 @@ returns g c =
     reference_made c.self.inside.slots (state_is c.self.view_is) o c.args.inner _ _
     (reaches_shared c.self.inside.slots.state (state_is c.self.view_is) c.args.inner
     own.name own.store c.in-Ok.ensures.ok)
-    c.created_at-created_at.ensures c.reference_to-content.ensures c.in-Ok-make.ensures.ok (
+    c.created_at-created_at.ensures (ap data_in c.reference_to-content.ensures) c.in-Ok-make.ensures.ok (
       c.in-Ok-reserve.ensures.known,
       rw (← c.reserve.ensures.same) (c.list.ensures o c.in-Ok-reserve.ensures.ok),
     ) (rw (reference_place c.self.inside.slots (state_is c.self.view_is) o _ _
-    c.reference_to-content.ensures c.in-Ok-make.ensures.ok _ c.created_at.ensures)
+    (ap data_in c.reference_to-content.ensures) c.in-Ok-make.ensures.ok _ c.created_at.ensures)
     at c.pointer_in.ensures)
 
 pub invariant_of-self-inside-2 : goal.invariant_of-self-inside-2
@@ -92,7 +92,7 @@ invariant_of-self-inside-2 g c =
     (reference_made c.self.inside.slots (state_is c.self.view_is) o c.args.inner _ _
     (reaches_shared c.self.inside.slots.state (state_is c.self.view_is) c.args.inner
     own.name own.store c.in-Ok.ensures.ok)
-    c.created_at-created_at.ensures c.reference_to-content.ensures c.in-Ok-make.ensures.ok (
+    c.created_at-created_at.ensures (ap data_in c.reference_to-content.ensures) c.in-Ok-make.ensures.ok (
       c.in-Ok-reserve.ensures.known,
       rw (← c.reserve.ensures.same) (c.list.ensures o c.in-Ok-reserve.ensures.ok),
     ) refl)

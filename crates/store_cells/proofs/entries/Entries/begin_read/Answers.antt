@@ -1,4 +1,5 @@
 -- A reader that begins is noted, and listed first beside others.
+use Rattle.store_cells.proofs.{data_in}
 use Rattle.store_cells.proofs.{arith, begun, begun_alone, details_at, err_then}
 use Rattle.store_cells.proofs.{indexed_some, indexed_value, kept, listed, listed_below}
 use Rattle.store_cells.proofs.{many, read_slot, readable_within, says, still_listed}
@@ -39,7 +40,7 @@ returns-in_err-list_beside-clause-beside g c =
     c.requires.there in
     let a = read_slot s within c.index.ensures in
     let some = c.in_err-list_beside.ensures.beside in
-    err_then c.from_residual.result (says a _ (λ d. stopped c.index.result.now.content _
+    err_then c.from_residual.result (says a _ (λ d. stopped (data_in c.index.result.now.content) _
     d.created_at (indexed_some a.at some) (indexed_value a.at some)))
 
 pub invariant_of-self-2 : goal.invariant_of-self-2

@@ -1,4 +1,5 @@
 -- A slot more, with a cell without borrows.
+use Rattle.store_cells.proofs.{data_in}
 use Rattle.store_cells.proofs.{[], ap, arith, away_end, fresh_entry, indexed_free, kept}
 use Rattle.store_cells.proofs.{length, length-append, noted_over, push_written, refl}
 use Rattle.store_cells.proofs.{room_for_one, slice_get_past, slots_pushed}
@@ -16,13 +17,13 @@ invariant_of-self g c =
     ∙ length-append c.self.inside.details.items _ in
     let left = room_for_one _ c.self.view_is v c.requires.room in (
       rw c.push_reserved.ensures.items (indexed_free (push_written es _) v.0
-          (unborrowed_listed c.args.content free)
+          (unborrowed_listed (data_in c.args.content) free)
           (rw (length-append es _) (omega arith))
           (rw (slice_get_past es (length es) (omega arith)) refl)
-          (unborrowed_none c.args.content free)),
+          (unborrowed_none (data_in c.args.content) free)),
       rw c.push_reserved.ensures.items (noted_over (push_written es _) (away_end v.1) v.1
           (λ k other. refl)
-          (unborrowed_written c.self.inside.last (length es) c.args.content free)),
+          (unborrowed_written c.self.inside.last (length es) (data_in c.args.content) free)),
       omega (arith, v.2),
       record {
         filled = omega arith;
@@ -39,4 +40,4 @@ returns-clause-pushed g c =
     rw (c.push_reserved.ensures.items, c.push_reserved-2.ensures.items)
     (slots_pushed s _ _ ∙ ap (λ e. c.args.self.now.slots ++ e ∷ [])
     (fresh_entry s _ (away_end c.self.invariant.1) c.args.generation c.args.content _
-    (unborrowed_none c.args.content c.requires.unborrowed)))
+    (unborrowed_none (data_in c.args.content) c.requires.unborrowed)))

@@ -1,4 +1,5 @@
 -- A cell without borrows in a slot that has none, under the next generation.
+use Rattle.store_cells.proofs.{data_in}
 use Rattle.store_cells.proofs.{ap, away_noted, empty_slot, found, free_indexed}
 use Rattle.store_cells.proofs.{fresh_entry, hears, kept, last_generation, length-set}
 use Rattle.store_cells.proofs.{refl, says, slice_set, slots_set, still}
@@ -18,11 +19,11 @@ invariant_of-self g c =
     let empty = empty_slot a c.requires.empty in
     let v = still a c.self.invariant c.refill-generation.new.self
     (free_indexed a.at (rw empty) c.refill-generation.new.self
-    (rw c.refill-generation.ensures.filled (unborrowed_listed c.args.content free))
-    (rw c.refill-generation.ensures.filled (unborrowed_none c.args.content free)))
+    (rw c.refill-generation.ensures.filled (unborrowed_listed (data_in c.args.content) free))
+    (rw c.refill-generation.ensures.filled (unborrowed_none (data_in c.args.content) free)))
     (away_noted a.at c.self.inside.borrows.lists c.refill-generation.new.self (valueless a.at (rw empty))
     (λ k other. refl) (rw c.refill-generation.ensures.filled (unborrowed_written c.self.inside.last c.args.slot
-    c.args.content free)))
+    (data_in c.args.content) free)))
     refl in
     (v.0, v.1, length-set c.self.inside.details.items c.args.slot _ ∙ v.2, v.3)
 
@@ -40,4 +41,4 @@ returns-clause-filled g c =
     (slots_set s c.args.slot _ _ c.requires.within
     ∙ ap (slice_set c.args.self.now.slots c.args.slot)
     (fresh_entry s c.args.slot (valueless a.at (rw empty)) c.refill-generation.result c.args.content _
-    (unborrowed_none c.args.content c.requires.unborrowed)))
+    (unborrowed_none (data_in c.args.content) c.requires.unborrowed)))

@@ -1,4 +1,5 @@
 -- A listed reader ends.
+use Rattle.store_cells.proofs.{borrows_of, data_in, index_of, no_read}
 use Rattle.store_cells.proofs.{EntryList, ap, changed, data_free, entry_kept, false}
 use Rattle.store_cells.proofs.{is_noted_at, kept, listed, near_none, near_noted}
 use Rattle.store_cells.proofs.{no_reader, read_borrows, read_slot, reader_left, refl}
@@ -14,7 +15,7 @@ list_noted-requires g c = (kept c.self.view_is c.self.invariant).base
 pub release-known-requires : goal.release-known-requires
 release-known-requires g c =
     let s = listed (kept c.self.view_is c.self.invariant) c.list_noted.ensures.listed in
-    used_at (read_slot s c.requires c.index_mut.ensures.value).at c.in-Read.is
+    used_at (read_slot s c.requires c.index_mut.ensures.value).at (ap data_in c.in-Read.is)
 
 pub invariant_of-self : goal.invariant_of-self
 invariant_of-self g c =
@@ -25,18 +26,18 @@ invariant_of-self g c =
     let r = c.list_noted.new.last in
     let near = near_none r c.args.slot c.list_noted.ensures.nobody in
     let left = c.release-known.ensures.after in
-    still a v _ (rw c.unlist.ensures (release_indexed a.at c.in-Read.is _ _ _ left _))
+    still a v _ (release_indexed a.at (ap data_in c.in-Read.is) _ _ _ left _ c.unlist.ensures)
     (near_noted a.at r _ _ near near
     (λ z. absurd (true≢false (sym z ∙ c.list_noted.ensures.nobody)))
-    (rw c.unlist.ensures (release_written a.at c.in-Read.is r _)))
+    (rw c.unlist.ensures (release_written a.at (ap data_in c.in-Read.is) r _)))
     (release_rooms _ _ _ _ _ left)
 
 pub returns-in-Read-clause-known : goal.returns-in-Read-clause-known
 returns-in-Read-clause-known g c =
     let s = listed (kept c.self.view_is c.self.invariant) c.list_noted.ensures.listed in
     let a = read_slot s c.requires c.index_mut.ensures.value in
-    says_with a (read_borrows a.at c.in-Read.is) _
-    (λ d. rw c.in-Read.is c.release-known.ensures.known)
+    says_with a (read_borrows a.at (ap data_in c.in-Read.is)) _
+    (λ d. rw (ap data_in c.in-Read.is) c.release-known.ensures.known)
 
 pub returns-in-Read-clause-after : goal.returns-in-Read-clause-after
 returns-in-Read-clause-after g c =
@@ -46,10 +47,52 @@ returns-in-Read-clause-after g c =
     let near = near_none r c.args.slot c.list_noted.ensures.nobody in
     let away : is_noted_at r c.args.slot ≡ false = rw c.list_noted.ensures.nobody refl in
     let left = c.release-known.ensures.after in
-    rw c.unlist.ensures (changed a r _ _ _
-    (same_near a.at r _ near near (release_lists a.at c.in-Read.is _ _ _ left))
-    (read_borrows a.at c.in-Read.is) (release_borrows a.at c.in-Read.is r away _ _ _ left)
-    (λ d. rw (c.in-Read.is, release_kept a.at c.in-Read.is _ _ d.created_at)))
+    changed a r _ _ _ (same_near a.at r _ near near (release_lists a.at (ap data_in c.in-Read.is) _ _ _ left))
+    (read_borrows a.at (ap data_in c.in-Read.is))
+    (ap (λ d. borrows_of r c.release-known.new.self.lists c.args.slot (index_of d)) c.unlist.ensures
+    ∙ release_borrows a.at (ap data_in c.in-Read.is) r away _ _ _ left)
+    (λ d. rw (c.unlist.ensures, c.in-Read.is, release_kept a.at (ap data_in c.in-Read.is) _ _ d.created_at))
+
+pub release-known-requires-in-SharedRead : goal.release-known-requires-in-SharedRead
+release-known-requires-in-SharedRead g c =
+    let s = listed (kept c.self.view_is c.self.invariant) c.list_noted.ensures.listed in
+    used_at (read_slot s c.requires c.index_mut.ensures.value).at (ap data_in c.in-SharedRead.is)
+
+pub invariant_of-self-in-SharedRead : goal.invariant_of-self-in-SharedRead
+invariant_of-self-in-SharedRead g c =
+    let s = listed (kept c.self.view_is c.self.invariant) c.list_noted.ensures.listed in
+    let v = still_listed c.self.invariant c.list_noted.ensures.listed
+    c.list_noted.ensures.capacity in
+    let a = read_slot s c.requires c.index_mut.ensures.value in
+    let r = c.list_noted.new.last in
+    let near = near_none r c.args.slot c.list_noted.ensures.nobody in
+    let left = c.release-known-in-SharedRead.ensures.after in
+    still a v _ (release_indexed a.at (ap data_in c.in-SharedRead.is) _ _ _ left _ c.unlist-in-SharedRead.ensures)
+    (near_noted a.at r _ _ near near
+    (λ z. absurd (true≢false (sym z ∙ c.list_noted.ensures.nobody)))
+    (rw c.unlist-in-SharedRead.ensures (release_written a.at (ap data_in c.in-SharedRead.is) r _)))
+    (release_rooms _ _ _ _ _ left)
+
+pub returns-in-SharedRead-clause-known : goal.returns-in-SharedRead-clause-known
+returns-in-SharedRead-clause-known g c =
+    let s = listed (kept c.self.view_is c.self.invariant) c.list_noted.ensures.listed in
+    let a = read_slot s c.requires c.index_mut.ensures.value in
+    says_with a (read_borrows a.at (ap data_in c.in-SharedRead.is)) _
+    (λ d. rw (ap data_in c.in-SharedRead.is) c.release-known-in-SharedRead.ensures.known)
+
+pub returns-in-SharedRead-clause-after : goal.returns-in-SharedRead-clause-after
+returns-in-SharedRead-clause-after g c =
+    let s = listed (kept c.self.view_is c.self.invariant) c.list_noted.ensures.listed in
+    let a = read_slot s c.requires c.index_mut.ensures.value in
+    let r = c.list_noted.new.last in
+    let near = near_none r c.args.slot c.list_noted.ensures.nobody in
+    let away : is_noted_at r c.args.slot ≡ false = rw c.list_noted.ensures.nobody refl in
+    let left = c.release-known-in-SharedRead.ensures.after in
+    changed a r _ _ _ (same_near a.at r _ near near (release_lists a.at (ap data_in c.in-SharedRead.is) _ _ _ left))
+    (read_borrows a.at (ap data_in c.in-SharedRead.is))
+    (ap (λ d. borrows_of r c.release-known-in-SharedRead.new.self.lists c.args.slot (index_of d)) c.unlist-in-SharedRead.ensures
+    ∙ release_borrows a.at (ap data_in c.in-SharedRead.is) r away _ _ _ left)
+    (λ d. rw (c.unlist-in-SharedRead.ensures, c.in-SharedRead.is, release_kept a.at (ap data_in c.in-SharedRead.is) _ _ d.created_at))
 
 pub invariant_of-self-in_default : goal.invariant_of-self-in_default
 invariant_of-self-in_default g c =
@@ -67,10 +110,10 @@ returns-in_default g c =
     let near = near_none r c.args.slot c.list_noted.ensures.nobody in
     let away : is_noted_at r c.args.slot ≡ false = rw c.list_noted.ensures.nobody refl in
     record {
-      known = says a _ (λ d. sym (no_reader e.content _ d.created_at c.args.ticket
-          c.in_default.not-Read (data_free a.at away)));
+      known = says a _ (λ d. sym (no_reader (data_in e.content) _ d.created_at c.args.ticket
+          (no_read c.in_default.not-Read c.in_default.not-SharedRead) (data_free a.at away)));
       after = changed a r _ e _ (same_near a.at r _ near near (λ k other. refl)) refl refl
-          (λ d. ap (entry_kept e.generation d.references) (reader_left e.content _ d.created_at
-          c.args.ticket c.in_default.not-Read (data_free a.at away)));
+          (λ d. ap (entry_kept e.generation d.references) (reader_left (data_in e.content) _ d.created_at
+          c.args.ticket (no_read c.in_default.not-Read c.in_default.not-SharedRead) (data_free a.at away)));
       rooms = ap (λ (x : EntryList _). x.rooms) c.self.view_is;
     }

@@ -1,4 +1,5 @@
 -- A listed writer ends.
+use Rattle.store_cells.proofs.{lent_form, no_lent, data_in}
 use Rattle.store_cells.proofs.{EntryList, [], ap, changed, close_indexed, close_lists}
 use Rattle.store_cells.proofs.{eq-eqb, eqb-true, false, is_noted_at, kept, lent_listed}
 use Rattle.store_cells.proofs.{lent_seen, lent_used, listed, near_none, near_noted}
@@ -13,22 +14,22 @@ pub first-requires : goal.first-requires
 first-requires g c =
     let s = listed (kept c.self.view_is c.self.invariant) c.list_noted.ensures.listed in
     let a = read_slot s c.requires c.index_mut.ensures.value in
-    let some = lent_listed a.at c.in-Lent.is c.list_noted.ensures.nobody in
-    (lent_used a.at c.in-Lent.is some).within
+    let some = lent_listed a.at (lent_form c.in-Lent.is) c.list_noted.ensures.nobody in
+    (lent_used a.at (lent_form c.in-Lent.is) some).within
 
 pub close-requires-clause-used : goal.close-requires-clause-used
 close-requires-clause-used g c =
     let s = listed (kept c.self.view_is c.self.invariant) c.list_noted.ensures.listed in
     let a = read_slot s c.requires c.index_mut.ensures.value in
-    let some = lent_listed a.at c.in-Lent.is c.list_noted.ensures.nobody in
-    (lent_used a.at c.in-Lent.is some).used
+    let some = lent_listed a.at (lent_form c.in-Lent.is) c.list_noted.ensures.nobody in
+    (lent_used a.at (lent_form c.in-Lent.is) some).used
 
 pub returns-then-first-ticket-clause-known : goal.returns-then-first-ticket-clause-known
 returns-then-first-ticket-clause-known g c =
     let s = listed (kept c.self.view_is c.self.invariant) c.list_noted.ensures.listed in
     let a = read_slot s c.requires c.index_mut.ensures.value in
-    let some = lent_listed a.at c.in-Lent.is c.list_noted.ensures.nobody in
-    says a _ (λ d. rw (lent_seen a.at c.in-Lent.is c.first.result (λ z. absurd (some z))
+    let some = lent_listed a.at (lent_form c.in-Lent.is) c.list_noted.ensures.nobody in
+    says a _ (λ d. rw (lent_seen a.at (lent_form c.in-Lent.is) c.first.result (λ z. absurd (some z))
     (λ z. c.first.ensures) d.created_at)
     (λ f. absurd cc, λ h. absurd (c.if-first-ticket.true (eqb-true _ _ h))))
 
@@ -38,10 +39,10 @@ invariant_of-self-in-Lent g c =
     let v = still_listed c.self.invariant c.list_noted.ensures.listed
     c.list_noted.ensures.capacity in
     let a = read_slot s c.requires c.index_mut.ensures.value in
-    let some = lent_listed a.at c.in-Lent.is c.list_noted.ensures.nobody in
+    let some = lent_listed a.at (lent_form c.in-Lent.is) c.list_noted.ensures.nobody in
     let r = c.list_noted.new.last in
     let near = near_none r c.args.slot c.list_noted.ensures.nobody in
-    still a v _ (close_indexed a.at c.in-Lent.index (rw c.in-Lent.is refl) some c.close.ensures _
+    still a v _ (close_indexed a.at c.in-Lent.index (rw (lent_form c.in-Lent.is) refl) some c.close.ensures _
     (rw c.put_back.ensures tt) (rw c.put_back.ensures))
     (near_noted a.at r _ _ near near
     (λ z. absurd (true≢false (sym z ∙ c.list_noted.ensures.nobody)))
@@ -51,8 +52,8 @@ pub returns-else-first-ticket-clause-known : goal.returns-else-first-ticket-clau
 returns-else-first-ticket-clause-known g c =
     let s = listed (kept c.self.view_is c.self.invariant) c.list_noted.ensures.listed in
     let a = read_slot s c.requires c.index_mut.ensures.value in
-    let some = lent_listed a.at c.in-Lent.is c.list_noted.ensures.nobody in
-    says a _ (λ d. rw (lent_seen a.at c.in-Lent.is c.first.result (λ z. absurd (some z))
+    let some = lent_listed a.at (lent_form c.in-Lent.is) c.list_noted.ensures.nobody in
+    says a _ (λ d. rw (lent_seen a.at (lent_form c.in-Lent.is) c.first.result (λ z. absurd (some z))
     (λ z. c.first.ensures) d.created_at)
     (λ t. eq-eqb _ _ c.if-first-ticket.false, λ h. refl))
 
@@ -60,12 +61,12 @@ pub returns-else-first-ticket-clause-ok : goal.returns-else-first-ticket-clause-
 returns-else-first-ticket-clause-ok g c =
     let s = listed (kept c.self.view_is c.self.invariant) c.list_noted.ensures.listed in
     let a = read_slot s c.requires c.index_mut.ensures.value in
-    let some = lent_listed a.at c.in-Lent.is c.list_noted.ensures.nobody in
+    let some = lent_listed a.at (lent_form c.in-Lent.is) c.list_noted.ensures.nobody in
     let r = c.list_noted.new.last in
     let near = near_none r c.args.slot c.list_noted.ensures.nobody in
     let away : is_noted_at r c.args.slot ≡ false = rw c.list_noted.ensures.nobody refl in
-    let lists = close_lists a.at c.in-Lent.index (rw c.in-Lent.is refl) some c.close.ensures in
-    let was = lent_seen a.at c.in-Lent.is c.first.result (λ z. absurd (some z))
+    let lists = close_lists a.at c.in-Lent.index (rw (lent_form c.in-Lent.is) refl) some c.close.ensures in
+    let was = lent_seen a.at (lent_form c.in-Lent.is) c.first.result (λ z. absurd (some z))
     (λ z. c.first.ensures) in
     changed a r _ _ _ {bs' = []} (same_near a.at r _ near near lists) refl
     (rw (c.put_back.ensures, away) refl)
@@ -78,8 +79,8 @@ returns-in_default g c =
     record {
       known = says a _ (λ d. (
         λ f. absurd cc,
-        λ h. sym (no_writer c.index_mut.result.now.content _ d.created_at c.args.ticket
-            c.in_default.not-Lent) ∙ h,
+        λ h. sym (no_writer (data_in c.index_mut.result.now.content) _ d.created_at c.args.ticket
+            (no_lent c.in_default.not-Lent)) ∙ h,
       ));
       ok = tt;
       err = (

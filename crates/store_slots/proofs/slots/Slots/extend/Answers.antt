@@ -1,5 +1,5 @@
 -- A cell in a new slot.
-use Rattle.store_slots.proofs.{ap, arith, counted_more, free_seen, kept_data, length}
+use Rattle.store_slots.proofs.{ap, arith, counted_more, free_seen, data_in, kept_data, length}
 use Rattle.store_slots.proofs.{length-append, may_rise, more_length, more_slotted}
 use Rattle.store_slots.proofs.{more_state, new_pushed, one_made, slotted_pushed, state_is}
 use Rattle.store_slots.proofs.{state_pushed, named_by, unborrowed_cell, uncounted_pushed}
@@ -19,7 +19,7 @@ pub refer-requires : goal.refer-requires
 refer-requires g c =
     let inv = c.self.invariant in
     let view = state_is c.self.view_is in
-    let made = uncounted_pushed inv.0 view inv.2 c.requires.linked c.args.content c.args.created_at
+    let made = uncounted_pushed inv.0 view inv.2 c.requires.linked (data_in c.args.content) c.args.created_at
     c.requires.unborrowed c.requires.target
     (set.empty_of_len _ (free_seen inv.0 view ∙ c.requires.none)) in
     let rise = may_rise c.target-target.result (rw c.target-target.ensures made) in
@@ -31,7 +31,7 @@ invariant_of-self g c =
     let view = state_is c.self.view_is in
     let empty = free_seen inv.0 view in
     let none = set.empty_of_len _ (empty ∙ c.requires.none) in
-    let d = c.args.content in
+    let d = data_in c.args.content in
     let l = c.args.created_at in
     let slots = c.self.inside.entries.slots in
     let cell = unborrowed_cell d l c.requires.unborrowed in
@@ -54,7 +54,7 @@ returns g c =
     let inv = c.self.invariant in
     let view = state_is c.self.view_is in
     let none = set.empty_of_len _ (free_seen inv.0 view ∙ c.requires.none) in
-    let d = c.args.content in
+    let d = data_in c.args.content in
     let l = c.args.created_at in
     let slots = c.self.inside.entries.slots in
     let cell = unborrowed_cell d l c.requires.unborrowed in

@@ -1,6 +1,6 @@
 -- A cell in a slot that is free, or in a new one.
 use Rattle.store_slots.proofs
-use proofs.{ap, arith, counted_more, err_holds, free, free_are, free_seen, kept_data, length}
+use proofs.{ap, arith, counted_more, err_holds, free, free_are, free_seen, data_in, kept_data, length}
 use proofs.{length-set, may_rise, more_length, more_slotted, more_state, nat_cmp, new_reused}
 use proofs.{slotted_reused, state_is, state_reused, sym, taken_less, taken_within}
 use proofs.{named_by, unborrowed_cell, uncounted_reused, [], ◌∙◌}
@@ -35,7 +35,7 @@ pub refer-requires : goal.refer-requires
 refer-requires g c =
     let inv = c.self.invariant in
     let made = uncounted_reused inv.0 (state_is c.self.view_is) inv.2 c.requires.linked
-    c.args.content c.args.created_at c.requires.unborrowed c.requires.target _
+    (data_in c.args.content) c.args.created_at c.requires.unborrowed c.requires.target _
     c.in-Some.ensures.member _ c.refill-generation.ensures.generation in
     let rise = may_rise c.target-target.result (rw c.target-target.ensures made) in
     rw c.refill-generation.ensures.filled (record { within = rise.0; few = rise.1 })
@@ -43,7 +43,7 @@ refer-requires g c =
 pub invariant_of-self-2 : goal.invariant_of-self-2
 invariant_of-self-2 g c =
     let inv = c.self.invariant in
-    let d = c.args.content in
+    let d = data_in c.args.content in
     let l = c.args.created_at in
     let cell = unborrowed_cell d l c.requires.unborrowed in
     let m = c.in-Some.ensures.member in
@@ -70,7 +70,7 @@ pub returns-clause-ok : goal.returns-clause-ok
 returns-clause-ok g c =
     let inv = c.self.invariant in
     let view = state_is c.self.view_is in
-    let d = c.args.content in
+    let d = data_in c.args.content in
     let l = c.args.created_at in
     let slots = c.self.inside.entries.slots in
     let cell = unborrowed_cell d l c.requires.unborrowed in
