@@ -131,11 +131,11 @@ impl<T, S: Storage<T>> EntityTable<T, S> {
                 spawned_at: entity.spawned_at(),
             });
         }
-        let row = self.places[entity.raw.raw_ptr()];
         match entity.raw.manually_drop(&mut self.store) {
             Ok(()) => {}
             Err(_) => unreachable!(),
         }
+        let row = self.places[entity.raw.raw_ptr()];
         remove_row(&mut self.rows, &mut self.places, row);
         Ok(())
     }

@@ -222,11 +222,13 @@ impl<T> Entries<T> {
     pub fn has_unborrowed_value(&self, name: CellName) -> bool
         ensures { result ≡ is_unborrowed_value (cell_under self.now.slots (name_of_cell name)) }
     {
-        if self.last.is_at(name.slot) {
-            return false;
-        }
         match self.entries.get(name.slot) {
-            Some(entry) => entry.has_unborrowed_value(name.generation),
+            Some(entry) => {
+                if !entry.has_unborrowed_value(name.generation) {
+                    return false;
+                }
+                !self.last.is_at(name.slot)
+            }
             None => false,
         }
     }
