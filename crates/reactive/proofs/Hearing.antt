@@ -9,7 +9,7 @@ use Rattle.reactive.specs.declared.key.Key.{Key}
 use Rattle.reactive.specs.Hearing.{AllHear, Hears, Says}
 use Rattle.reactive.specs.Meaning.{Graph}
 
-append_none : {A : Type 0} (xs : List A) → xs ≡ xs ++ []
+pub append_none : {A : Type 0} (xs : List A) → xs ≡ xs ++ []
 append_none [] = refl
 append_none (x ∷ xs) = ap (λ ys. x ∷ ys) (append_none xs)
 

@@ -1,8 +1,8 @@
-use Rattle.std.proofs.Common.{ap, ◌∙◌, ◌++◌, append_assoc, arith, get_or, rules, subst}
+use Rattle.std.proofs.Common.{ap, [], ◌∙◌, ◌++◌, append_assoc, arith, get_or, refl, rules, subst}
 use Rattle.std.proofs.lemmas.Option.{slice_get-get_or}
 use Rattle.reactive.specs.Graphs.{plans_in}
 use Rattle.reactive.specs.Hearing.{Says}
-use Rattle.reactive.proofs.Hearing.{all_heard, all_kept, all_stay, hear_next}
+use Rattle.reactive.proofs.Hearing.{all_heard, all_kept, all_stay, append_none, hear_next}
 use Rattle.reactive.proofs.effects.Effects.flush.Goals as goal
 
 pub returns-in_err-hear-clause-told : goal.returns-in_err-hear-clause-told
@@ -26,6 +26,9 @@ returns-in_err-hear-clause-plans g c = c.hear.ensures.plans ∙ c.loop-effect.in
 
 pub returns-in_err-hear-clause-kinds : goal.returns-in_err-hear-clause-kinds
 returns-in_err-hear-clause-kinds g c = c.hear.ensures.kinds ∙ c.loop-effect.invariant.2
+
+pub loop-effect-init : goal.loop-effect-init
+loop-effect-init g c = (refl, ([], append_none c.args.told.now.items, (search rules, refl)), refl)
 
 pub loop-effect-preserved : goal.loop-effect-preserved
 loop-effect-preserved g c =
