@@ -1,9 +1,24 @@
-use Rattle.std.proofs.Common.{subst, Ok}
+use Rattle.std.proofs.Common.{refl, rules, subst, Ok}
 use Rattle.reactive.specs.declared.key.Key.{Key}
 use Rattle.reactive.specs.Meaning.{Graph}
 use Rattle.reactive.specs.Refreshing.{IsOnTheWay, Went}
 use Rattle.reactive.specs.Tables.{nodes_in}
+use Rattle.reactive.proofs.Chains.{begins}
 use Rattle.reactive.proofs.nodes.Nodes.refresh.Goals as goal
+
+pub loop-step-init : goal.loop-step-init
+loop-step-init g c = (
+  c.requires.simple,
+  refl,
+  λ G s. record {
+    sound = s;
+    chain = search rules;
+    others = search rules;
+    last = begins g.R.Rule.plan G _ _ s c.args.key;
+  },
+  refl,
+  λ known. (search rules, refl, refl, refl),
+)
 
 pub returns-in-Ok-None-clause-refreshed : goal.returns-in-Ok-None-clause-refreshed
 returns-in-Ok-None-clause-refreshed g c = λ G s.
