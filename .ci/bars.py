@@ -42,7 +42,8 @@ def picture(workloads):
              "  <title>Instructions a call</title>",
              "  <desc>Bars of the first table of this page, for values u64 and N = 1000.</desc>",
              f'  <rect x="0" y="0" width="{WIDTH}" height="{height}" fill="#ffffff"/>',
-             f'  <text x="{LEFT}" y="22">Instructions a call (u64, N = 1000, with the workload\'s own)</text>', *legend()]
+             f'  <text x="{LEFT}" y="22">Instructions a call (u64, N = 1000, with the workload\'s own instructions)</text>',
+             *legend()]
     y = TOP
     for name, counts in workloads:
         lines.append(f'  <text x="{LEFT - 10}" y="{y + 2 * BAR + 4}" text-anchor="end" font-size="13">{name}</text>')
