@@ -281,7 +281,12 @@ def page_of(sources, crate):
     for name, where, module in found:
         if module is None or is_module(sources, where, module, name):
             text += module_lines(sources, name, where)
-    return "\n".join(text) + "\n"
+    return linked("\n".join(text) + "\n")
+
+
+def linked(text):
+    """A page's text in which rustdoc's links to items of the crate lead to the items' headings."""
+    return re.sub(r"\]\(crate::([\w:]+)\)", lambda it: f"](#{it[1].replace(':', '').lower()})", text)
 
 
 def is_module(sources, crate, module, name):

@@ -9,16 +9,17 @@ in one file of the crates of callers or of tests, and each proof in one of calle
 blank lines part, line for line and in order.
 Each public function of a block must be called in a crate that the gate runs. An example in
 the comment of a public item must stand in one of those files too, whatever its indent. Each link to a
-file or a heading must lead there, a line of `crates.txt` on a page must be that of the file, and what a
-page says that its program prints must be what the guide's programs print. What is wrong is printed, and
-the exit status is 1 then.
+file or a heading must lead there, on the pages of docs/api too, a line of `crates.txt` on a page must
+be that of the file, and what a page says that its program prints must be what the guide's programs
+print. What is wrong is printed, and the exit status is 1 then.
 """
 import pathlib
 import re
 import sys
 
 ROOT = pathlib.Path(__file__).resolve().parent.parent
-# Those of docs/api are written from the sources (`.ci/api.py`).
+# Those of docs/api are written from the sources (`.ci/api.py`), and only their links are looked at.
+WRITTEN = sorted((ROOT / "docs/api").glob("*.md"))
 PAGES = [ROOT / "README.md", ROOT / ".ci/planted.md"]
 PAGES += [it for it in sorted((ROOT / "docs").rglob("*.md")) if it.parent.name != "api"]
 # Each page of the guide, but for the questions, and each of a library begins with a program.
@@ -147,6 +148,11 @@ def link_faults(page, text):
     return faults
 
 
+def written_faults():
+    """The links of the pages of docs/api that lead nowhere."""
+    return [f"{page}: {fault}" for page in WRITTEN for fault in link_faults(page, "\n".join(lines_of(page)))]
+
+
 def crate_faults(text):
     """The lines of `crates.txt` in a text that aren't those of the file."""
     lines = lines_of(ROOT / "crates.txt")
@@ -223,7 +229,7 @@ def main(words):
                         print(f"{page}: a changed copy isn't refused: {block[0]}", file=sys.stderr)
                         status = 1
     faults, count = example_faults(sources)
-    for fault in faults or ["the calls have no examples"] * (count == 0):
+    for fault in written_faults() + (faults or ["the calls have no examples"] * (count == 0)):
         print(fault, file=sys.stderr)
         status = 1
     if words == ["--try"] and not example_faults({path: [] for path in sources})[0]:
