@@ -31,7 +31,7 @@ fn play<R: Print, A: Storage<u64>, C: Storage<u64>>(
     Ok(())
 }
 
-// Spawns a cat with a score, which gets stronger, and a dog. The answer is the dog.
+// Spawns a cat with a score, and a dog, and trains them. The answer is the dog.
 fn begin<A: Storage<u64>, C: Storage<u64>>(
     actors: &mut EntityTable<u64, A>,
     scores: &mut ComponentTable<u64, u64, C>,
@@ -40,11 +40,29 @@ fn begin<A: Storage<u64>, C: Storage<u64>>(
     let cat = actors.spawn(9, here)?;
     let dog = actors.spawn(7, here)?;
     scores.attach(actors, cat, 100, here)?;
-    actors.update(
-        cat,
-        |strength: &mut u64| *strength = strength.wrapping_add(1),
-    )?;
+    train(actors, scores)?;
     Ok(dog)
+}
+
+// Adds to the strength of each actor that has a score. A change needs the whole table, so the loop
+// counts rows: an iterator would keep the table borrowed.
+fn train<A: Storage<u64>, C: Storage<u64>>(
+    actors: &mut EntityTable<u64, A>,
+    scores: &ComponentTable<u64, u64, C>,
+) -> Result<()> {
+    for row in 0..actors.len() {
+        let Some(actor) = actors.entities().get(row).copied() else {
+            break;
+        };
+        let Some(score) = scores.get(actor).copied() else {
+            continue;
+        };
+        actors.update(
+            actor,
+            |strength: &mut u64| *strength = strength.wrapping_add(score / 100),
+        )?;
+    }
+    Ok(())
 }
 
 fn show<R: Print, A: Storage<u64>, C: Storage<u64>>(

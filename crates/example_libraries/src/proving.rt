@@ -1,6 +1,6 @@
 //! Proving your own code: what is taken out of a stock, and that every other item stays.
 
-ghost use Rattle.std.specs.Prelude.{◌≡◌, ◌↔◌, ℕ, None, Some, IfOk, IsErr, IsTrue, OnErr};
+ghost use Rattle.std.specs.Prelude.{◌≡◌, ◌↔◌, ℕ, All, None, Some, IfOk, IsErr, IsTrue, OnErr};
 ghost use Rattle.entity_table.specs.declared.entity.Entity.{Entity};
 ghost use Rattle.entity_table.specs.Entities.{IsOther};
 ghost use Rattle.entity_table.specs.Tables.{element_in};
@@ -15,8 +15,9 @@ pub fn main(rt: HostRuntime) -> anyhow::Result<()> {
 
 // Puts two items into a stock, takes one out, and tries to take out the other.
 fn sell<R: Print, S: Storage<u64>>(rt: &R, stock: &mut EntityTable<u64, S>) -> anyhow::Result<()> {
-    let tea = stock.spawn(3, Location::new("proving.rt", 18, 21))?;
+    let tea = stock.spawn(0, Location::new("proving.rt", 18, 21))?;
     let salt = stock.spawn(5, Location::new("proving.rt", 19, 22))?;
+    set_all(stock, &[tea], 3);
     let taken = remove(stock, tea)?;
     println!(rt; "{taken} taken out, {} left", stock.get(salt)?)?;
     let is_removed = remove_unless(stock, salt, salt);
@@ -66,4 +67,14 @@ pub fn remove_copies<S: Storage<u64>>(
     equal_entities_show_the_same::<u64>();
     let _ = stock.despawn(item);
     copy == item
+}
+
+/// Sets the count of each item of a list. An item that isn't in the list keeps its own.
+pub fn set_all<S: Storage<u64>>(stock: &mut EntityTable<u64, S>, items: &[Entity<u64>], count: u64)
+    ensures others { (other : Entity ℕ) → All (λ item. IsOther item other) items.now →
+        element_in stock.new other ≡ element_in stock.old other }
+{
+    for item in items {
+        let _ = stock.set(*item, count);
+    }
 }
