@@ -542,11 +542,17 @@ impl<T: Drop> Entries<T> {
         match content {
             StorageEntryData::Read(index, _) => {
                 let known = self.borrows.release(index, ticket);
+                if *index != NO_INDEX {
+                    return known;
+                }
                 content.unlist();
                 known
             }
             StorageEntryData::SharedRead(shared_index, _) => {
                 let known = self.borrows.release(shared_index, ticket);
+                if *shared_index != NO_INDEX {
+                    return known;
+                }
                 content.unlist();
                 known
             }

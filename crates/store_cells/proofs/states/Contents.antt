@@ -1,5 +1,6 @@
 -- What a slot's content says, by its form.
 use Rattle.store_cells.proofs.Common
+use Common.{ne_eqb, no_index, refl, unread_data, ◌≢◌}
 use Common.{data_in, Kind, StorageEntryData, ap, arith, inl, inr, ℕ, ◌≡◌, ◌⊎◌}
 use Rattle.store_cells.proofs.states.Entries.{NotData, NotLent, NotRead}
 use Rattle.store_cells.specs.Data.{SlotData as slot}
@@ -44,3 +45,8 @@ module _ {T : Type 0} {d : StorageEntryData T} where
 
   pub no_lent : ((x : ℕ) (kd : Kind) → d ≡ content.Lent x kd → ⊥) → NotLent (data_in d)
   no_lent lent = grind (arith, lent)
+
+-- readers that have an index stay listed
+pub still_read : {T : Type 0} (kd : Kind) (x : ℕ) (v : T) → x ≢ no_index
+    → slot.Read kd x v ≡ unread_data (slot.Read kd x v)
+still_read kd x v some = rw (ne_eqb x no_index some) refl
