@@ -110,7 +110,14 @@ impl SceneOfTwo<u64, u64> for AGoneHandleGivesNothing {
         assert!(rt; told == Err(AttachError::Stale(stale)));
         has(rt, &components, second, Some(11));
         assert!(rt; first != second);
-        assert!(rt; components.iter().all(|(entity, _)| entity == second));
+        goes_over(rt, &components, &[(second, 11)]);
+    }
+}
+
+/// Sees that an entity is the only one.
+fn is_only<S: Storage<u64>>(rt: &impl Abort, table: &EntityTable<u64, S>, wanted: Entity<u64>) {
+    for (entity, _) in table.iter() {
+        assert_same(rt, &entity, &wanted);
     }
 }
 
@@ -129,7 +136,7 @@ impl Scene<u64> for LiveOnesAreGoneOver {
         assert_same(rt, &greatest(&table), &9);
         given(rt, table.despawn(second));
         assert_same(rt, &greatest(&table), &7);
-        assert!(rt; table.iter().all(|(entity, _)| entity == first));
+        is_only(rt, &table, first);
         assert_same(rt, &taken_out(&mut table, second), &None);
         assert_same(rt, &taken_out(&mut table, first), &Some(7));
         assert_same(rt, &table.len(), &0);

@@ -1,27 +1,19 @@
-//! Graphs over stores of either order of free slots, and what tests call of them. These calls have no
-//! contracts, so that a test is proved without the library's.
+//! What tests call of a graph. These calls have no contracts, so that a test is proved without the
+//! library's.
 
-use crate::expected::assert_same;
 use example_libraries::memos::Formula;
-use generational_box::{LastFirst, Location, OldestFirst, Storage, Store, StoreError};
+use generational_box::{Location, Storage, StoreError};
 use reactive::{Effects, Fault, Key, Node, Reactive, Scope, Told};
-use std::alloc::Global;
-use std::process::Abort;
 
-/// How often a call is tried that lacks memory.
-const TRIES: u64 = 1000;
-
-const SHORT: Fault = Fault::Store(StoreError::OutOfMemory);
-
-/// The calls of a graph. One that lacks memory is made again, and counted.
+/// The calls of a graph.
 pub(crate) trait Graph {
-    fn source(&mut self, value: u64) -> Option<Key>;
+    fn source(&mut self, value: u64) -> Result<Key, StoreError>;
 
-    fn memo(&mut self, rule: Formula) -> Option<Key>;
+    fn memo(&mut self, rule: Formula) -> Result<Key, StoreError>;
 
-    fn source_in(&mut self, scope: &mut Scope, value: u64) -> Option<Key>;
+    fn source_in(&mut self, scope: &mut Scope, value: u64) -> Result<Key, StoreError>;
 
-    fn memo_in(&mut self, scope: &mut Scope, rule: Formula) -> Option<Key>;
+    fn memo_in(&mut self, scope: &mut Scope, rule: Formula) -> Result<Key, StoreError>;
 
     fn set(&mut self, key: Key, value: u64) -> Result<(), Fault>;
 
@@ -49,68 +41,41 @@ pub(crate) trait Graph {
     fn runs(&self) -> u64;
 }
 
-/// A graph, and how often a call lacked memory.
+/// A graph whose calls are tested.
 #[derive(Drop)]
-struct Tried<G> {
-    graph: G,
-    refused: u64,
-}
+pub(crate) struct Tested<G>(pub(crate) G);
 
-impl<S: Storage<Node<u64, Formula>>> Graph for Tried<Reactive<u64, Formula, S>> {
-    fn source(&mut self, value: u64) -> Option<Key> {
-        for _ in 0..TRIES {
-            if let Ok(answer) = self.graph.source(value, here()) {
-                return Some(answer);
-            }
-            self.refused = self.refused.saturating_add(1);
-        }
-        None
+impl<S: Storage<Node<u64, Formula>>> Graph for Tested<Reactive<u64, Formula, S>> {
+    fn source(&mut self, value: u64) -> Result<Key, StoreError> {
+        self.0.source(value, here())
     }
 
-    fn memo(&mut self, rule: Formula) -> Option<Key> {
-        for _ in 0..TRIES {
-            if let Ok(answer) = self.graph.memo(rule, here()) {
-                return Some(answer);
-            }
-            self.refused = self.refused.saturating_add(1);
-        }
-        None
+    fn memo(&mut self, rule: Formula) -> Result<Key, StoreError> {
+        self.0.memo(rule, here())
     }
 
-    fn source_in(&mut self, scope: &mut Scope, value: u64) -> Option<Key> {
-        for _ in 0..TRIES {
-            if let Ok(answer) = scope.source(&mut self.graph, value, here()) {
-                return Some(answer);
-            }
-            self.refused = self.refused.saturating_add(1);
-        }
-        None
+    fn source_in(&mut self, scope: &mut Scope, value: u64) -> Result<Key, StoreError> {
+        scope.source(&mut self.0, value, here())
     }
 
-    fn memo_in(&mut self, scope: &mut Scope, rule: Formula) -> Option<Key> {
-        for _ in 0..TRIES {
-            if let Ok(answer) = scope.memo(&mut self.graph, rule, here()) {
-                return Some(answer);
-            }
-            self.refused = self.refused.saturating_add(1);
-        }
-        None
+    fn memo_in(&mut self, scope: &mut Scope, rule: Formula) -> Result<Key, StoreError> {
+        scope.memo(&mut self.0, rule, here())
     }
 
     fn set(&mut self, key: Key, value: u64) -> Result<(), Fault> {
-        self.graph.set(key, value)
+        self.0.set(key, value)
     }
 
     fn set_rule(&mut self, key: Key, rule: Formula) -> Result<(), Fault> {
-        self.graph.set_rule(key, rule)
+        self.0.set_rule(key, rule)
     }
 
     fn end(&mut self, key: Key) -> Result<(), Fault> {
-        self.graph.end_all(&[key])
+        self.0.end_all(&[key])
     }
 
     fn end_scope(&mut self, scope: Scope) -> Result<(), Fault> {
-        match scope.end(&mut self.graph) {
+        match scope.end(&mut self.0) {
             Ok(()) => Ok(()),
             Err((scope, fault)) => {
                 scope.leak();
@@ -120,19 +85,12 @@ impl<S: Storage<Node<u64, Formula>>> Graph for Tried<Reactive<u64, Formula, S>> 
     }
 
     fn get(&mut self, key: Key) -> Result<u64, Fault> {
-        for _ in 0..TRIES {
-            let answer = self.graph.get(key);
-            if answer != Err(SHORT) {
-                return answer;
-            }
-            self.refused = self.refused.saturating_add(1);
-        }
-        Err(SHORT)
+        self.0.get(key)
     }
 
     fn seen(&mut self, key: Key) -> Result<u64, Fault> {
-        self.graph.refresh(key)?;
-        Ok(self.graph.peek(key).copied().unwrap_or(0))
+        self.0.refresh(key)?;
+        Ok(self.0.peek(key).copied().unwrap_or(0))
     }
 
     fn flush(
@@ -140,55 +98,16 @@ impl<S: Storage<Node<u64, Formula>>> Graph for Tried<Reactive<u64, Formula, S>> 
         effects: &mut Effects<u64>,
         told: &mut Vec<Told<u64>>,
     ) -> Result<(), StoreError> {
-        for _ in 0..TRIES {
-            let answer = effects.flush(&mut self.graph, told);
-            if answer != Err(StoreError::OutOfMemory) {
-                return answer;
-            }
-            self.refused = self.refused.saturating_add(1);
-        }
-        Err(StoreError::OutOfMemory)
+        effects.flush(&mut self.0, told)
     }
 
     fn is_known(&self, key: Key) -> bool {
-        self.graph.peek(key).is_some()
+        self.0.peek(key).is_some()
     }
 
     fn runs(&self) -> u64 {
-        self.graph.runs()
+        self.0.runs()
     }
-}
-
-/// What is done with a new graph.
-pub(crate) trait Scene {
-    fn play<R: Abort, G: Graph>(&self, rt: &R, alloc: Global, graph: &mut G);
-}
-
-/// Plays a scene where no call lacks memory.
-pub(crate) fn play_whole<P: Scene>(rt: &impl Abort, alloc: Global, scene: &P) {
-    assert_same(rt, &play(rt, alloc, scene), &0);
-}
-
-/// Plays a scene over a new graph, once with each order of free slots. Returns how often a call
-/// lacked memory.
-pub(crate) fn play<P: Scene>(rt: &impl Abort, alloc: Global, scene: &P) -> u64 {
-    let last: Store<Node<u64, Formula>, LastFirst> = Store::new(alloc, 1);
-    let oldest: Store<Node<u64, Formula>, OldestFirst> = Store::new(alloc, 2);
-    let refused = play_over(rt, alloc, last, scene);
-    refused.saturating_add(play_over(rt, alloc, oldest, scene))
-}
-
-fn play_over<P: Scene, S: Storage<Node<u64, Formula>> + Drop>(
-    rt: &impl Abort,
-    alloc: Global,
-    store: S,
-    scene: &P,
-) -> u64 {
-    assert!(rt; store.is_fresh());
-    let graph = Reactive::new(alloc, store);
-    let mut tried = Tried { graph, refused: 0 };
-    scene.play(rt, alloc, &mut tried);
-    tried.refused
 }
 
 fn here() -> Location {

@@ -1,13 +1,9 @@
 //! How often rules are run.
 
-use crate::expected::assert_same;
-use crate::graph_calls::{Graph, Scene, play_whole};
-use crate::graph_lines::Line::{Memo, Set, SetRule, Shows, Source};
-use crate::graph_lines::Lines;
-use crate::graph_plain::Plain::{Add, Odd, Pick, Same};
-use example_libraries::memos::Formula;
-use std::alloc::Global;
-use std::process::Abort;
+use crate::graph_lines::Answer::{AnyCycle, AnyFault};
+use crate::graph_lines::Line::{Answers, Chain, Ladder, Memo, Set, SetRule, Shows, Source};
+use crate::graph_lines::{Lines, take_whole};
+use crate::graph_plain::Plain::{Add, Blank, Odd, Pick, Same};
 
 #[test]
 fn what_is_fresh_runs_no_rule(rt: HostRuntime) {
@@ -24,7 +20,7 @@ fn what_is_fresh_runs_no_rule(rt: HostRuntime) {
         Set(0, 1),
         Shows(2, 2, 0),
     ]);
-    play_whole(&rt, rt.alloc(), &lines);
+    take_whole(&rt, rt.alloc(), &lines);
 }
 
 #[test]
@@ -43,7 +39,7 @@ fn a_diamond_runs_its_foot_once(rt: HostRuntime) {
         Set(0, 7),
         Shows(3, 21, 3),
     ]);
-    play_whole(&rt, rt.alloc(), &lines);
+    take_whole(&rt, rt.alloc(), &lines);
 }
 
 #[test]
@@ -59,7 +55,7 @@ fn what_reads_a_value_that_stays_is_not_run(rt: HostRuntime) {
         Set(0, 6),
         Shows(3, 100, 2),
     ]);
-    play_whole(&rt, rt.alloc(), &lines);
+    take_whole(&rt, rt.alloc(), &lines);
 }
 
 #[test]
@@ -77,37 +73,41 @@ fn what_was_not_read_runs_nothing(rt: HostRuntime) {
         Set(1, 11),
         Shows(3, 21, 0),
     ]);
-    play_whole(&rt, rt.alloc(), &lines);
-}
-
-struct Ladder;
-
-/// How many rungs the ladder has: each reads both nodes of the one below it.
-const RUNGS: u64 = 40;
-
-impl Scene for Ladder {
-    fn play<R: Abort, G: Graph>(&self, rt: &R, _alloc: Global, graph: &mut G) {
-        let foot = graph.source(1).expect(rt, "a source");
-        let (mut left, mut right) = (foot, foot);
-        for _ in 0..RUNGS {
-            let sum = graph.memo(Formula::Add(left, right)).expect(rt, "a memo");
-            right = graph.memo(Formula::Add(right, left)).expect(rt, "a memo");
-            left = sum;
-        }
-        assert_same(rt, &graph.get(left), &Ok(1 << RUNGS));
-        assert_same(rt, &graph.runs(), &(2 * RUNGS - 1));
-        assert_same(rt, &graph.set(foot, 2), &Ok(()));
-        assert_same(rt, &graph.get(left), &Ok(2 << RUNGS));
-        assert_same(rt, &graph.runs(), &(4 * RUNGS - 2));
-        // a rule that is put is run, and what reads it means nothing
-        for rule in [Formula::Odd(foot), Formula::Blank] {
-            assert_same(rt, &graph.set_rule(foot, rule), &Ok(()));
-            assert!(rt; graph.get(left).is_err());
-        }
-    }
+    take_whole(&rt, rt.alloc(), &lines);
 }
 
 #[test]
 fn many_paths_run_each_rule_once(rt: HostRuntime) {
-    play_whole(&rt, rt.alloc(), &Ladder);
+    // each rung of a ladder reads both nodes of the one below it; node 79 is the last one's first
+    let lines = Lines(&[
+        Source(1),
+        Ladder(0, 40),
+        Shows(79, 1 << 40, 79),
+        Set(0, 2),
+        Shows(79, 2 << 40, 79),
+        // a rule that is put is run, and what reads it means nothing
+        SetRule(0, Odd(0)),
+        Answers(79, AnyFault),
+        SetRule(0, Blank),
+        Answers(79, AnyFault),
+    ]);
+    take_whole(&rt, rt.alloc(), &lines);
+}
+
+#[test]
+fn a_long_chain_is_no_recursion(rt: HostRuntime) {
+    let lines = Lines(&[
+        Source(1),
+        Source(0),
+        Chain(0, 1, 100_000),
+        Shows(100_001, 1, 100_000),
+        Set(0, 2),
+        Shows(100_001, 2, 100_000),
+        // closed to a ring, it means nothing
+        SetRule(0, Same(100_001)),
+        Answers(100_001, AnyCycle),
+        SetRule(0, Same(1)),
+        Shows(100_001, 0, 100_001),
+    ]);
+    take_whole(&rt, rt.alloc(), &lines);
 }

@@ -1,14 +1,16 @@
 //! Drawn graphs beside a plain recomputation.
 
-use crate::expected::assert_same;
-use crate::graph_calls::{Graph, Scene, play_whole};
-use crate::graph_plain::{Plain, value_at};
-use reactive::{Effects, Fault, Key};
-use std::alloc::Global;
+use crate::graph_calls::Graph;
+use crate::graph_lines::Answer::{AnyFault, Gone, NoSource, Value};
+use crate::graph_lines::{Course, Line, Table, take_whole};
+use crate::graph_plain::{Plain, node_at, value_at};
 use std::process::Abort;
 
-/// How many nodes a graph has; the number after them is that of a node that has ended for good.
+/// How many nodes are known at once.
 const NODES: usize = 12;
+
+/// The places of these nodes, and of one that has ended for good.
+const PLACES: [usize; 13] = [0, 1, 2, 3, 4, 5, 6, 7, 8, 9, 10, 11, 12];
 
 /// So many drawn calls.
 #[derive(Clone, Copy)]
@@ -17,14 +19,16 @@ pub(crate) struct Calls {
     pub(crate) count: u64,
 }
 
-/// What is known of a graph: the keys of its nodes, its plain table, and what was last told of each node.
+/// What is known of a graph: which nodes it has, what each is, by its place among them, and what was
+/// last reported of it.
 #[derive(Drop)]
 struct World {
-    alloc: Global,
-    keys: [Key; NODES],
+    numbers: [usize; NODES],
     plains: [Plain; NODES],
     seen: [Option<Option<u64>>; NODES],
-    effects: Effects<u64>,
+    // how many nodes were made, and how many lines carried out
+    made: usize,
+    lines: usize,
     // from which numbers are drawn
     state: u64,
 }
@@ -38,27 +42,23 @@ impl World {
         (self.state >> 33).checked_rem(limit).unwrap_or(0)
     }
 
-    fn node(&mut self) -> usize {
+    fn place(&mut self) -> usize {
         usize::try_from(self.below(12)).unwrap_or(0)
     }
 
-    fn key(&self, rt: &impl Abort, node: usize) -> Key {
-        *self.keys.get(node).expect(rt, "a key")
+    fn plain(&self, place: usize) -> Plain {
+        self.plains.get(place).copied().unwrap_or(Plain::Ended)
     }
 
-    fn put(&mut self, node: usize, plain: Plain) {
-        if let Some(kept) = self.plains.get_mut(node) {
+    fn put(&mut self, place: usize, plain: Plain) {
+        if let Some(kept) = self.plains.get_mut(place) {
             *kept = plain;
         }
     }
 
-    fn watch(&mut self, rt: &impl Abort, key: Key) {
-        for _ in 0..1000 {
-            if self.effects.watch(key).is_ok() {
-                return;
-            }
-        }
-        rt.abort()
+    fn carry_out(&mut self, rt: &impl Abort, table: &mut Table<impl Graph>, line: Line<'_>) {
+        self.lines = self.lines.wrapping_add(1);
+        table.carry_out(rt, self.lines, line);
     }
 
     /// What each node means: as many rounds as there are nodes, each over the round before.
@@ -70,79 +70,90 @@ impl World {
         values
     }
 
-    /// Gives a node a drawn rule.
-    fn redirect(&mut self, rt: &impl Abort, graph: &mut impl Graph, node: usize) {
-        let (a, b, c) = (self.node(), self.node(), self.node());
-        let plain = match self.below(8) {
+    fn drawn_rule(&mut self) -> Plain {
+        let (a, b, c) = (self.place(), self.place(), self.place());
+        match self.below(8) {
             0 => Plain::Blank,
             1 => Plain::Same(a),
             2 => Plain::Odd(a),
             3 | 4 => Plain::Pick(a, b, c),
             _ => Plain::Add(a, b),
-        };
-        let key = self.key(rt, node);
-        let rule = plain.rule(&self.keys).expect(rt, "a rule");
-        let wanted = match self.plains.get(node) {
-            Some(Plain::Ended) => Err(Fault::Gone(key)),
-            _ => Ok(()),
-        };
-        assert_same(rt, &graph.set_rule(key, rule), &wanted);
-        if wanted.is_ok() {
-            self.put(node, plain);
         }
     }
 
-    fn end(&mut self, rt: &impl Abort, graph: &mut impl Graph, node: usize) {
-        assert_same(rt, &graph.end(self.key(rt, node)), &Ok(()));
-        self.put(node, Plain::Ended);
+    /// Gives a node a drawn rule, which only one that has ended refuses.
+    fn redirect(&mut self, rt: &impl Abort, table: &mut Table<impl Graph>, place: usize) {
+        let plain = self.drawn_rule();
+        let node = node_at(&self.numbers, place);
+        if let Plain::Ended = self.plain(place) {
+            self.carry_out(rt, table, Line::Unruled(node, Gone(node)));
+            return;
+        }
+        let rule = plain.of(&self.numbers);
+        self.carry_out(rt, table, Line::SetRule(node, rule));
+        self.put(place, plain);
+    }
+
+    fn end(&mut self, rt: &impl Abort, table: &mut Table<impl Graph>, place: usize) {
+        let node = node_at(&self.numbers, place);
+        self.carry_out(rt, table, Line::End(node));
+        self.put(place, Plain::Ended);
     }
 
     /// Puts a new source in the place of a node. What needed that one needs what has ended for good.
-    fn replace(&mut self, rt: &impl Abort, graph: &mut impl Graph, node: usize) {
-        let old = self.key(rt, node);
-        self.end(rt, graph, node);
+    fn replace(&mut self, rt: &impl Abort, table: &mut Table<impl Graph>, place: usize) {
+        let (old, node) = (node_at(&self.numbers, place), self.made);
+        self.end(rt, table, place);
         let value = self.below(3);
-        let key = graph.source(value).expect(rt, "a source");
-        assert_same(rt, &graph.get(old), &Err(Fault::Gone(old)));
-        self.effects.unwatch(old);
-        self.watch(rt, key);
-        self.plains = self.plains.map(|plain| plain.without(node, NODES));
-        self.put(node, Plain::Value(value));
-        if let (Some(kept), Some(seen)) = (self.keys.get_mut(node), self.seen.get_mut(node)) {
-            *kept = key;
+        self.carry_out(rt, table, Line::Source(value));
+        self.carry_out(rt, table, Line::Answers(old, Gone(old)));
+        self.carry_out(rt, table, Line::Unwatch(old));
+        self.carry_out(rt, table, Line::Watch(node));
+        self.made = node.wrapping_add(1);
+        let mut places = PLACES;
+        if let Some(gone) = places.get_mut(place) {
+            *gone = NODES;
+        }
+        self.plains = self.plains.map(|plain| plain.of(&places));
+        self.put(place, Plain::Value(value));
+        if let (Some(number), Some(seen)) = (
+            self.numbers.get_mut(place),
+            self.seen.get_mut(place),
+        ) {
+            *number = node;
             *seen = None;
         }
     }
 
     /// Sets a node, which only a source lets.
-    fn set(&mut self, rt: &impl Abort, graph: &mut impl Graph, node: usize) {
-        let key = self.key(rt, node);
+    fn set(&mut self, rt: &impl Abort, table: &mut Table<impl Graph>, place: usize) {
+        let node = node_at(&self.numbers, place);
         let value = self.below(3);
-        let wanted = match self.plains.get(node) {
-            Some(Plain::Value(_)) => Ok(()),
-            Some(Plain::Ended) => Err(Fault::Gone(key)),
-            _ => Err(Fault::NoSource(key)),
-        };
-        assert_same(rt, &graph.set(key, value), &wanted);
-        if wanted.is_ok() {
-            self.put(node, Plain::Value(value));
+        match self.plain(place) {
+            Plain::Value(_) => {
+                self.carry_out(rt, table, Line::Set(node, value));
+                self.put(place, Plain::Value(value));
+            }
+            Plain::Ended => self.carry_out(rt, table, Line::Unset(node, Gone(node))),
+            _ => self.carry_out(rt, table, Line::Unset(node, NoSource(node))),
         }
     }
 
     /// Asks for a node.
-    fn ask(&mut self, rt: &impl Abort, graph: &mut impl Graph, node: usize) {
-        let answer = graph.get(self.key(rt, node));
-        let values = self.recomputed();
-        assert_same(rt, &answer.ok(), &value_at(&values, node));
+    fn ask(&mut self, rt: &impl Abort, table: &mut Table<impl Graph>, place: usize) {
+        let wanted = value_at(&self.recomputed(), place).map_or(AnyFault, Value);
+        let node = node_at(&self.numbers, place);
+        self.carry_out(rt, table, Line::Answers(node, wanted));
     }
 
-    /// Flushes: what each watched node meant at the last flush, and what was told since, is what it means.
-    fn flush(&mut self, rt: &impl Abort, graph: &mut impl Graph) {
-        let mut told = Vec::new(self.alloc);
-        assert_same(rt, &graph.flush(&mut self.effects, &mut told), &Ok(()));
+    /// Flushes: what each watched node meant at the last flush, and what was reported since, is what it
+    /// means.
+    fn flush(&mut self, rt: &impl Abort, table: &mut Table<impl Graph>) {
+        self.carry_out(rt, table, Line::Flush);
+        let told = table.reports();
         for change in told.iter() {
-            for (key, seen) in self.keys.iter().zip(self.seen.iter_mut()) {
-                if *key == change.key {
+            for (number, seen) in self.numbers.iter().zip(self.seen.iter_mut()) {
+                if table.key(rt, *number) == change.key {
                     let value = change.answer.ok();
                     assert!(rt; *seen != Some(value));
                     *seen = Some(value);
@@ -154,37 +165,37 @@ impl World {
     }
 
     /// One drawn call on both, and a comparison of one node.
-    fn call(&mut self, rt: &impl Abort, graph: &mut impl Graph) {
-        let node = self.node();
+    fn call(&mut self, rt: &impl Abort, table: &mut Table<impl Graph>) {
+        let place = self.place();
         match self.below(12) {
-            0 | 1 => self.redirect(rt, graph, node),
-            2 => self.end(rt, graph, node),
-            3 => self.replace(rt, graph, node),
-            4 | 5 | 6 => self.set(rt, graph, node),
-            7 => self.flush(rt, graph),
+            0 | 1 => self.redirect(rt, table, place),
+            2 => self.end(rt, table, place),
+            3 => self.replace(rt, table, place),
+            4 | 5 | 6 => self.set(rt, table, place),
+            7 => self.flush(rt, table),
             _ => {}
         }
-        let asked = self.node();
-        self.ask(rt, graph, asked);
+        let asked = self.place();
+        self.ask(rt, table, asked);
     }
 }
 
-impl Scene for Calls {
-    fn play<R: Abort, G: Graph>(&self, rt: &R, alloc: Global, graph: &mut G) {
-        let first = graph.source(1).expect(rt, "a source");
+impl Course for Calls {
+    fn take<R: Abort, G: Graph>(&self, rt: &R, table: &mut Table<G>) {
         let mut world = World {
-            alloc,
-            keys: [first; NODES],
+            numbers: [0; NODES],
             plains: [Plain::Value(1); NODES],
             seen: [None; NODES],
-            effects: Effects::new(alloc),
+            made: 1,
+            lines: 0,
             state: self.seed,
         };
-        for node in 0..NODES {
-            world.replace(rt, graph, node);
+        world.carry_out(rt, table, Line::Source(1));
+        for place in 0..NODES {
+            world.replace(rt, table, place);
         }
         for _ in 0..self.count {
-            world.call(rt, graph);
+            world.call(rt, table);
         }
     }
 }
@@ -195,5 +206,5 @@ fn drawn_graphs_answer_as_a_recomputation_does(rt: HostRuntime) {
         seed: 20,
         count: 2_000,
     };
-    play_whole(&rt, rt.alloc(), &calls);
+    take_whole(&rt, rt.alloc(), &calls);
 }

@@ -1,9 +1,8 @@
 //! Effects: what a flush tells.
 
-use crate::graph_calls::play_whole;
 use crate::graph_lines::Answer::{Gone, NoValue, Value};
 use crate::graph_lines::Line::{End, Memo, Set, SetRule, Shows, Source, Tells, Unwatch, Watch};
-use crate::graph_lines::Lines;
+use crate::graph_lines::{Lines, take_whole};
 use crate::graph_plain::Plain::{Add, Blank, Odd, Same};
 
 #[test]
@@ -35,7 +34,7 @@ fn a_flush_tells_what_has_changed_once(rt: HostRuntime) {
         Set(1, 1),
         Tells(&[(1, Value(1))]),
     ]);
-    play_whole(&rt, rt.alloc(), &lines);
+    take_whole(&rt, rt.alloc(), &lines);
 }
 
 #[test]
@@ -61,5 +60,5 @@ fn a_node_that_means_nothing_is_told_once(rt: HostRuntime) {
         Shows(3, 9, 0),
         Tells(&[]),
     ]);
-    play_whole(&rt, rt.alloc(), &lines);
+    take_whole(&rt, rt.alloc(), &lines);
 }

@@ -1,11 +1,10 @@
-//! What is told of nodes that mean nothing, and which refusal comes first.
+//! What is told of nodes that mean nothing, which refusal comes first, and its text.
 
-use crate::graph_calls::play_whole;
-use crate::graph_lines::Answer::{AnyCycle, Cycle, Gone, NoSource, NoValue};
+use crate::graph_lines::Answer::{AnyCycle, Cycle, Gone, NoSource, NoValue, Short};
 use crate::graph_lines::Line::{
-    EndScope, Fails, Memo, SetRule, Shows, Source, SourceIn, Unknown, Unruled, Unset,
+    Answers, EndScope, Memo, Prints, SetRule, Shows, Source, SourceIn, Unknown, Unruled, Unset,
 };
-use crate::graph_lines::Lines;
+use crate::graph_lines::{Lines, take_whole};
 use crate::graph_plain::Plain::{Add, Blank, Same};
 
 #[test]
@@ -18,11 +17,11 @@ fn what_has_ended_is_told_by_name(rt: HostRuntime) {
         Shows(3, 3, 2),
         // the scope ends, and another node takes the slot of the one that ended
         EndScope,
-        Fails(3, Gone(1)),
+        Answers(3, Gone(1)),
         Source(70),
         Unknown(1),
-        Fails(1, Gone(1)),
-        Fails(3, Gone(1)),
+        Answers(1, Gone(1)),
+        Answers(3, Gone(1)),
         Unset(1, Gone(1)),
         Unruled(1, Gone(1)),
         Shows(4, 70, 0),
@@ -31,7 +30,7 @@ fn what_has_ended_is_told_by_name(rt: HostRuntime) {
         Unset(2, NoSource(2)),
         Shows(3, 71, 0),
     ]);
-    play_whole(&rt, rt.alloc(), &lines);
+    take_whole(&rt, rt.alloc(), &lines);
 }
 
 #[test]
@@ -44,20 +43,34 @@ fn cycles_are_told_and_can_be_broken(rt: HostRuntime) {
         Shows(3, 3, 2),
         // a source that is made a memo closes a cycle, and one that needs it isn't on it
         SetRule(0, Same(2)),
-        Fails(3, AnyCycle),
-        Fails(0, AnyCycle),
+        Answers(3, AnyCycle),
+        Answers(0, AnyCycle),
         Shows(1, 2, 0),
         // a node that needs itself
         SetRule(1, Same(1)),
-        Fails(1, Cycle(1)),
+        Answers(1, Cycle(1)),
         // the cycle is broken
         SetRule(1, Blank),
         SetRule(0, Blank),
-        Fails(3, NoValue(0)),
+        Answers(3, NoValue(0)),
         Source(4),
         SetRule(0, Same(4)),
         SetRule(1, Same(4)),
         Shows(3, 8, 4),
     ]);
-    play_whole(&rt, rt.alloc(), &lines);
+    take_whole(&rt, rt.alloc(), &lines);
+}
+
+#[test]
+fn faults_name_their_nodes(rt: HostRuntime) {
+    let lines = Lines(&[
+        Source(3),
+        Memo(Same(0)),
+        Prints(Gone(0), "node 0@1 is gone"),
+        Prints(Cycle(1), "node 1@1 needs itself"),
+        Prints(NoValue(1), "the rule of node 1@1 gives no value"),
+        Prints(NoSource(1), "node 1@1 has a rule, and can't be set"),
+        Prints(Short, "out of memory"),
+    ]);
+    take_whole(&rt, rt.alloc(), &lines);
 }

@@ -1,12 +1,20 @@
 //! Tests as data: lines that say what is done with a graph, and what it answers.
 
-use crate::graph_calls::{Graph, Scene};
+use crate::expected::assert_prints;
+use crate::fresh::{Scene, play_both};
+use crate::graph_calls::{Graph, Tested};
 use crate::graph_plain::Plain;
 use example_libraries::memos::Formula;
-use reactive::{Effects, Fault, Key, Scope};
+use generational_box::{Storage, StoreError};
+use reactive::{Effects, Fault, Key, Node, Reactive, Scope, Told};
 use std::alloc::Global;
 use std::mem;
 use std::process::Abort;
+
+/// How often a line is tried that lacks memory.
+const TRIES: u64 = 1000;
+
+const SHORT: Fault = Fault::Store(StoreError::OutOfMemory);
 
 /// What a call answers. Nodes are named by their numbers, in the order in which they were made.
 #[derive(Clone, Copy)]
@@ -18,6 +26,9 @@ pub(crate) enum Answer {
     Cycle(usize),
     /// Some node needs itself.
     AnyCycle,
+    /// Any refusal but for memory.
+    AnyFault,
+    Short,
 }
 
 /// What is done with a graph, and with one scope and one list of effects.
@@ -28,6 +39,10 @@ pub(crate) enum Line<'a> {
     /// Makes them in the scope.
     SourceIn(u64),
     MemoIn(Plain),
+    /// Makes so many memos after a node, of which each adds the second node to the one before.
+    Chain(usize, usize, u64),
+    /// Makes so many pairs of memos over a node, of which each adds both nodes of the pair below.
+    Ladder(usize, u64),
     Set(usize, u64),
     SetRule(usize, Plain),
     End(usize),
@@ -37,148 +52,330 @@ pub(crate) enum Line<'a> {
     Unruled(usize, Answer),
     /// This node shows this value, for which so many rules come to a value.
     Shows(usize, u64, u64),
-    /// A `get` is refused so.
-    Fails(usize, Answer),
+    /// A `get` is answered so.
+    Answers(usize, Answer),
     /// This node isn't known without a step.
     Unknown(usize),
     Watch(usize),
     Unwatch(usize),
+    /// A flush, whose reports are kept.
+    Flush,
     /// A flush reports this of these nodes.
     Tells(&'a [(usize, Answer)]),
+    /// A refusal has this text.
+    Prints(Answer, &'a str),
 }
 
-/// The nodes that lines name, and what they share.
-struct Table {
+/// A graph, the nodes that lines name, and what they share.
+pub(crate) struct Table<G> {
     alloc: Global,
+    graph: G,
     keys: Vec<Key>,
     effects: Effects<u64>,
     scope: Scope,
+    told: Vec<Told<u64>>,
+    // how often a rule had come to a value before the line
+    runs: u64,
+    // how often a line lacked memory
+    refused: u64,
 }
 
-impl Table {
-    fn key(&self, rt: &impl Abort, node: usize) -> Key {
+impl<G: Graph> Table<G> {
+    /// Carries out a line, which must be answered as it says. One that lacks memory is tried again.
+    pub(crate) fn carry_out(&mut self, rt: &impl Abort, place: usize, line: Line<'_>) {
+        self.runs = self.graph.runs();
+        for _ in 0..TRIES {
+            if let Some(is_right) = self.is_right(rt, line) {
+                assert!(rt; is_right, "line {place}");
+                return;
+            }
+            self.refused = self.refused.saturating_add(1);
+        }
+        rt.abort()
+    }
+
+    /// What flushes have reported since this was asked.
+    pub(crate) fn reports(&mut self) -> Vec<Told<u64>> {
+        mem::replace(&mut self.told, Vec::new(self.alloc))
+    }
+
+    /// The key of a node.
+    pub(crate) fn key(&self, rt: &impl Abort, node: usize) -> Key {
         *self.keys.get(node).expect(rt, "a key")
     }
 
-    /// Whether an answer is the one that is wanted.
-    fn is(&self, given: Result<u64, Fault>, wanted: Answer) -> bool {
-        let is_of = |node: usize, key: Key| self.keys.get(node).is_some_and(|it| *it == key);
-        match (given, wanted) {
-            (Ok(value), Answer::Value(other)) => value == other,
-            (Err(Fault::Gone(key)), Answer::Gone(node)) => is_of(node, key),
-            (Err(Fault::NoValue(key)), Answer::NoValue(node)) => is_of(node, key),
-            (Err(Fault::NoSource(key)), Answer::NoSource(node)) => is_of(node, key),
-            (Err(Fault::Cycle(key)), Answer::Cycle(node)) => is_of(node, key),
-            (Err(Fault::Cycle(_)), Answer::AnyCycle) => true,
-            _ => false,
+    /// Whether a line is answered as it says. None where it lacks memory.
+    fn is_right(&mut self, rt: &impl Abort, line: Line<'_>) -> Option<bool> {
+        if let Some(made) = self.made(line) {
+            let key = made.ok()?;
+            return Some(self.keep(key));
         }
+        if self.is_built(rt, line) || self.is_changed(rt, line) {
+            return Some(true);
+        }
+        self.is_answered(rt, line)
+    }
+
+    /// Keeps the key of a new node.
+    fn keep(&mut self, key: Key) -> bool {
+        self.keys.push(key).is_ok() || self.keys.push(key).is_ok()
     }
 
     /// Makes a node, if a line says so.
-    fn made(&mut self, graph: &mut impl Graph, line: Line<'_>) -> Option<Key> {
+    fn made(&mut self, line: Line<'_>) -> Option<Result<Key, StoreError>> {
         match line {
-            Line::Source(value) => graph.source(value),
-            Line::SourceIn(value) => graph.source_in(&mut self.scope, value),
-            Line::Memo(plain) => graph.memo(plain.rule(&self.keys)?),
-            Line::MemoIn(plain) => graph.memo_in(&mut self.scope, plain.rule(&self.keys)?),
+            Line::Source(value) => Some(self.graph.source(value)),
+            Line::SourceIn(value) => Some(self.graph.source_in(&mut self.scope, value)),
+            Line::Memo(plain) => Some(self.graph.memo(plain.rule(&self.keys)?)),
+            Line::MemoIn(plain) => {
+                let rule = plain.rule(&self.keys)?;
+                Some(self.graph.memo_in(&mut self.scope, rule))
+            }
             _ => None,
         }
     }
 
-    /// Changes nodes, if a line says so; whether that is answered as it says.
-    fn is_changed(&mut self, rt: &impl Abort, graph: &mut impl Graph, line: Line<'_>) -> bool {
+    /// Makes a sum of two nodes.
+    fn sum(&mut self, rt: &impl Abort, a: Key, b: Key) -> Key {
+        let key = self
+            .graph
+            .memo(Formula::Add(a, b))
+            .ok()
+            .expect(rt, "a memo");
+        assert!(rt; self.keep(key));
+        key
+    }
+
+    fn chain(&mut self, rt: &impl Abort, first: Key, other: Key, count: u64) {
+        let mut last = first;
+        for _ in 0..count {
+            last = self.sum(rt, last, other);
+        }
+    }
+
+    fn ladder(&mut self, rt: &impl Abort, foot: Key, count: u64) {
+        let (mut left, mut right) = (foot, foot);
+        for _ in 0..count {
+            let sum = self.sum(rt, left, right);
+            right = self.sum(rt, right, left);
+            left = sum;
+        }
+    }
+
+    /// Makes many nodes, if a line says so.
+    fn is_built(&mut self, rt: &impl Abort, line: Line<'_>) -> bool {
         match line {
-            Line::Set(node, value) => graph.set(self.key(rt, node), value).is_ok(),
-            Line::SetRule(node, plain) => {
-                let rule = plain.rule(&self.keys).expect(rt, "a rule");
-                graph.set_rule(self.key(rt, node), rule).is_ok()
+            Line::Chain(first, other, count) => {
+                let (first, other) = (self.key(rt, first), self.key(rt, other));
+                self.chain(rt, first, other, count);
+                true
             }
-            Line::Unset(node, wanted) => {
-                let answer = graph.set(self.key(rt, node), 1);
-                self.is(answer.map(|()| 0), wanted)
-            }
-            Line::Unruled(node, wanted) => {
-                let answer = graph.set_rule(self.key(rt, node), Formula::Blank);
-                self.is(answer.map(|()| 0), wanted)
-            }
-            Line::End(node) => graph.end(self.key(rt, node)).is_ok(),
-            Line::EndScope => {
-                let ended = mem::replace(&mut self.scope, Scope::new(self.alloc));
-                graph.end_scope(ended).is_ok()
+            Line::Ladder(foot, count) => {
+                let foot = self.key(rt, foot);
+                self.ladder(rt, foot, count);
+                true
             }
             _ => false,
         }
     }
 
-    /// Asks, if a line says so; whether that is answered as it says.
-    fn is_answered(&mut self, rt: &impl Abort, graph: &mut impl Graph, line: Line<'_>) -> bool {
+    /// Changes nodes, if a line says so; whether that is answered as it says.
+    fn is_changed(&mut self, rt: &impl Abort, line: Line<'_>) -> bool {
+        match line {
+            Line::Set(node, value) => {
+                let key = self.key(rt, node);
+                self.graph.set(key, value).is_ok()
+            }
+            Line::SetRule(node, plain) => {
+                let key = self.key(rt, node);
+                let rule = plain.rule(&self.keys).expect(rt, "a rule");
+                self.graph.set_rule(key, rule).is_ok()
+            }
+            Line::Unset(node, wanted) => {
+                let key = self.key(rt, node);
+                let answer = self.graph.set(key, 1);
+                answer == Err(self.fault(rt, wanted))
+            }
+            Line::Unruled(node, wanted) => {
+                let key = self.key(rt, node);
+                let answer = self.graph.set_rule(key, Formula::Blank);
+                answer == Err(self.fault(rt, wanted))
+            }
+            Line::End(node) => {
+                let key = self.key(rt, node);
+                self.graph.end(key).is_ok()
+            }
+            Line::EndScope => {
+                let ended = mem::replace(&mut self.scope, Scope::new(self.alloc));
+                self.graph.end_scope(ended).is_ok()
+            }
+            _ => false,
+        }
+    }
+
+    /// Asks, if a line says so; whether that is answered as it says. None where it lacks memory.
+    fn is_answered(&mut self, rt: &impl Abort, line: Line<'_>) -> Option<bool> {
         match line {
             Line::Shows(node, value, runs) => {
-                let before = graph.runs();
                 let key = self.key(rt, node);
-                let answer = graph.get(key);
-                answer == Ok(value)
-                    && graph.runs().wrapping_sub(before) == runs
-                    && graph.seen(key) == answer
+                let answer = self.answer(key)?;
+                let is_right = answer == Ok(value)
+                    && self.graph.runs().wrapping_sub(self.runs) == runs
+                    && self.graph.seen(key) == answer;
+                Some(is_right)
             }
-            Line::Fails(node, wanted) => {
-                let answer = graph.get(self.key(rt, node));
-                self.is(answer, wanted)
+            Line::Answers(node, wanted) => {
+                let key = self.key(rt, node);
+                let answer = self.answer(key)?;
+                Some(self.is(rt, answer, wanted))
             }
-            Line::Unknown(node) => !graph.is_known(self.key(rt, node)),
+            Line::Unknown(node) => Some(!self.graph.is_known(self.key(rt, node))),
+            Line::Prints(answer, text) => {
+                assert_prints(rt, self.alloc, &self.fault(rt, answer), text);
+                Some(true)
+            }
+            _ => self.is_reported(rt, line),
+        }
+    }
+
+    /// Watches nodes or flushes, if a line says so; whether that is answered as it says. None where it
+    /// lacks memory.
+    fn is_reported(&mut self, rt: &impl Abort, line: Line<'_>) -> Option<bool> {
+        match line {
             Line::Watch(node) => {
                 let key = self.key(rt, node);
-                self.effects.watch(key).is_ok() || self.effects.watch(key).is_ok()
+                self.effects.watch(key).ok()?;
+                Some(true)
             }
             Line::Unwatch(node) => {
                 let key = self.key(rt, node);
                 self.effects.unwatch(key);
-                true
+                Some(true)
+            }
+            Line::Flush => {
+                self.graph.flush(&mut self.effects, &mut self.told).ok()?;
+                Some(true)
             }
             Line::Tells(wanted) => {
-                let mut told = Vec::new(self.alloc);
-                let is_flushed = graph.flush(&mut self.effects, &mut told).is_ok();
-                is_flushed
-                    && told.len() == wanted.len()
-                    && told.iter().zip(wanted).all(|(change, row)| {
-                        change.key == self.key(rt, row.0) && self.is(change.answer, row.1)
-                    })
+                self.graph.flush(&mut self.effects, &mut self.told).ok()?;
+                Some(self.has_told(rt, wanted))
             }
-            _ => false,
+            _ => Some(false),
+        }
+    }
+
+    /// What a `get` answers. None where it lacks memory.
+    fn answer(&mut self, key: Key) -> Option<Result<u64, Fault>> {
+        let answer = self.graph.get(key);
+        if answer == Err(SHORT) {
+            return None;
+        }
+        Some(answer)
+    }
+
+    /// Whether an answer is the one that is wanted.
+    fn is(&self, rt: &impl Abort, given: Result<u64, Fault>, wanted: Answer) -> bool {
+        match wanted {
+            Answer::Value(value) => given == Ok(value),
+            Answer::AnyCycle => matches!(given, Err(Fault::Cycle(_))),
+            Answer::AnyFault => given.is_err(),
+            _ => given == Err(self.fault(rt, wanted)),
+        }
+    }
+
+    /// The refusal that is wanted.
+    fn fault(&self, rt: &impl Abort, wanted: Answer) -> Fault {
+        match wanted {
+            Answer::Gone(node) => Fault::Gone(self.key(rt, node)),
+            Answer::NoValue(node) => Fault::NoValue(self.key(rt, node)),
+            Answer::NoSource(node) => Fault::NoSource(self.key(rt, node)),
+            Answer::Cycle(node) => Fault::Cycle(self.key(rt, node)),
+            _ => SHORT,
+        }
+    }
+
+    /// Whether flushes have reported this, and nothing else.
+    fn has_told(&mut self, rt: &impl Abort, wanted: &[(usize, Answer)]) -> bool {
+        let told = self.reports();
+        if told.len() != wanted.len() {
+            return false;
+        }
+        for (change, row) in told.iter().zip(wanted.iter()) {
+            if change.key != self.key(rt, row.0) || !self.is(rt, change.answer, row.1) {
+                return false;
+            }
+        }
+        true
+    }
+}
+
+/// What is done over a new graph.
+pub(crate) trait Course {
+    fn take<R: Abort, G: Graph>(&self, rt: &R, table: &mut Table<G>);
+}
+
+/// Lines that are carried out in turn.
+#[derive(Clone, Copy)]
+pub(crate) struct Lines<'a>(pub(crate) &'a [Line<'a>]);
+
+impl<'a> Course for Lines<'a> {
+    fn take<R: Abort, G: Graph>(&self, rt: &R, table: &mut Table<G>) {
+        for (place, line) in self.0.iter().enumerate() {
+            table.carry_out(rt, place, *line);
         }
     }
 }
 
-/// Lines that are carried out over a new graph.
+/// A course over a new graph.
 #[derive(Clone, Copy)]
-pub(crate) struct Lines<'a>(pub(crate) &'a [Line<'a>]);
+struct OverGraph<'a, P> {
+    course: &'a P,
+    // whether memory may be refused
+    may_lack: bool,
+}
 
-impl<'a> Scene for Lines<'a> {
-    fn play<R: Abort, G: Graph>(&self, rt: &R, alloc: Global, graph: &mut G) {
+impl<'a, P: Course> Scene<Node<u64, Formula>> for OverGraph<'a, P> {
+    fn play<R: Abort, S: Storage<Node<u64, Formula>> + Drop>(
+        &self,
+        rt: &R,
+        alloc: Global,
+        store: S,
+    ) {
+        assert!(rt; store.is_fresh());
         let mut table = Table {
             alloc,
+            graph: Tested(Reactive::new(alloc, store)),
             keys: Vec::new(alloc),
             effects: Effects::new(alloc),
             scope: Scope::new(alloc),
+            told: Vec::new(alloc),
+            runs: 0,
+            refused: 0,
         };
-        for (place, line) in self.0.iter().enumerate() {
-            match table.made(graph, *line) {
-                Some(key) => assert!(rt;
-                    table.keys.push(key).is_ok() || table.keys.push(key).is_ok()
-                ),
-                None => {
-                    let is_right = table.is_changed(rt, graph, *line)
-                        || table.is_answered(rt, graph, *line);
-                    assert!(rt; is_right, "line {place}");
-                }
-            }
-        }
+        self.course.take(rt, &mut table);
         let Table {
             alloc: _,
+            graph: _,
             keys: _,
             effects: _,
             scope,
+            told: _,
+            runs: _,
+            refused,
         } = table;
         scope.leak();
+        assert!(rt; self.may_lack || refused == 0);
     }
+}
+
+/// Takes a course over a new graph, once with each order of free slots.
+pub(crate) fn take<P: Course + Copy>(rt: &impl Abort, alloc: Global, course: &P) {
+    let may_lack = true;
+    play_both(rt, alloc, &OverGraph { course, may_lack });
+}
+
+/// Takes a course in which no call lacks memory.
+pub(crate) fn take_whole<P: Course + Copy>(rt: &impl Abort, alloc: Global, course: &P) {
+    let may_lack = false;
+    play_both(rt, alloc, &OverGraph { course, may_lack });
 }

@@ -1,13 +1,12 @@
 //! Refused memory. Each test passes whichever allocation is refused, and those after it that ask for
 //! less: what is refused changes nothing, and is tried again.
 
-use crate::graph_calls::play;
 use crate::graph_drawn::Calls;
 use crate::graph_lines::Answer::{Cycle, Gone, Value};
 use crate::graph_lines::Line::{
-    EndScope, Fails, MemoIn, Set, SetRule, Shows, SourceIn, Tells, Watch,
+    Answers, EndScope, MemoIn, Set, SetRule, Shows, SourceIn, Tells, Watch,
 };
-use crate::graph_lines::Lines;
+use crate::graph_lines::{Lines, take};
 use crate::graph_plain::Plain::{Add, Same};
 
 #[test]
@@ -33,15 +32,15 @@ fn what_is_refused_memory_is_as_it_was(rt: HostRuntime) {
         Set(0, 2),
         Tells(&[(12, Value(26)), (12, Value(26))]),
         SetRule(0, Same(12)),
-        Fails(12, Cycle(12)),
+        Answers(12, Cycle(12)),
         EndScope,
         Tells(&[(12, Gone(12)), (12, Gone(12))]),
     ]);
-    let _ = play(&rt, rt.alloc(), &lines);
+    take(&rt, rt.alloc(), &lines);
 }
 
 #[test]
 fn drawn_calls_that_lack_memory_are_made_again(rt: HostRuntime) {
     let calls = Calls { seed: 7, count: 40 };
-    let _ = play(&rt, rt.alloc(), &calls);
+    take(&rt, rt.alloc(), &calls);
 }

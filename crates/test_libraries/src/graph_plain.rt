@@ -47,17 +47,24 @@ impl Plain {
         }
     }
 
-    /// The node where another has ended for good, whose number was the first and is the second.
-    pub(crate) fn without(self, node: usize, ended: usize) -> Plain {
-        let to = |a: usize| if a == node { ended } else { a };
+    /// The same of other nodes, each the one that stands there in the list.
+    pub(crate) fn of(self, nodes: &[usize]) -> Plain {
         match self {
             Plain::Ended | Plain::Value(_) | Plain::Blank => self,
-            Plain::Same(a) => Plain::Same(to(a)),
-            Plain::Odd(a) => Plain::Odd(to(a)),
-            Plain::Add(a, b) => Plain::Add(to(a), to(b)),
-            Plain::Pick(test, a, b) => Plain::Pick(to(test), to(a), to(b)),
+            Plain::Same(a) => Plain::Same(node_at(nodes, a)),
+            Plain::Odd(a) => Plain::Odd(node_at(nodes, a)),
+            Plain::Add(a, b) => Plain::Add(node_at(nodes, a), node_at(nodes, b)),
+            Plain::Pick(test, a, b) => {
+                let test = node_at(nodes, test);
+                Plain::Pick(test, node_at(nodes, a), node_at(nodes, b))
+            }
         }
     }
+}
+
+/// The node that stands there in a list.
+pub(crate) fn node_at(nodes: &[usize], place: usize) -> usize {
+    nodes.get(place).copied().unwrap_or(0)
 }
 
 fn key_at(keys: &[Key], node: usize) -> Option<Key> {

@@ -28,8 +28,6 @@ mod fresh;
 #[cfg(test)]
 mod graph_calls;
 #[cfg(test)]
-mod graph_chain;
-#[cfg(test)]
 mod graph_costs;
 #[cfg(test)]
 mod graph_drawn;
@@ -43,8 +41,6 @@ mod graph_lines;
 mod graph_memory;
 #[cfg(test)]
 mod graph_plain;
-#[cfg(test)]
-mod graph_texts;
 #[cfg(test)]
 mod growth;
 #[cfg(test)]
