@@ -119,6 +119,7 @@ fn is_only<S: Storage<u64>>(rt: &impl Abort, table: &EntityTable<u64, S>, wanted
     for (entity, _) in table.iter() {
         assert_same(rt, &entity, &wanted);
     }
+    assert_same(rt, &table.len(), &1);
 }
 
 /// Entities that are gone over, before and after one of them goes.

@@ -1,7 +1,7 @@
 //! How often rules are run.
 
 use crate::graph_lines::Answer::{AnyCycle, AnyFault};
-use crate::graph_lines::Line::{Answers, Chain, Ladder, Memo, Set, SetRule, Shows, Source};
+use crate::graph_lines::Line::{Answers, Chain, Ladder, Memo, Ran, Set, SetRule, Shows, Source};
 use crate::graph_lines::{Lines, take_whole};
 use crate::graph_plain::Plain::{Add, Blank, Odd, Pick, Same};
 
@@ -85,6 +85,7 @@ fn many_paths_run_each_rule_once(rt: HostRuntime) {
         Shows(79, 1 << 40, 79),
         Set(0, 2),
         Shows(79, 2 << 40, 79),
+        Ran(158),
         // a rule that is put is run, and what reads it means nothing
         SetRule(0, Odd(0)),
         Answers(79, AnyFault),
@@ -108,6 +109,7 @@ fn a_long_chain_is_no_recursion(rt: HostRuntime) {
         Answers(100_001, AnyCycle),
         SetRule(0, Same(1)),
         Shows(100_001, 0, 100_001),
+        Ran(300_001),
     ]);
     take_whole(&rt, rt.alloc(), &lines);
 }

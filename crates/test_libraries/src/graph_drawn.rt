@@ -20,7 +20,7 @@ pub(crate) struct Calls {
 }
 
 /// What is known of a graph: which nodes it has, what each is, by its place among them, and what was
-/// last reported of it.
+/// last told of it.
 #[derive(Drop)]
 struct World {
     numbers: [usize; NODES],
@@ -146,11 +146,10 @@ impl World {
         self.carry_out(rt, table, Line::Answers(node, wanted));
     }
 
-    /// Flushes: what each watched node meant at the last flush, and what was reported since, is what it
-    /// means.
+    /// Flushes: what each watched node meant at the last flush, and what was told since, is what it means.
     fn flush(&mut self, rt: &impl Abort, table: &mut Table<impl Graph>) {
         self.carry_out(rt, table, Line::Flush);
-        let told = table.reports();
+        let told = table.take_told();
         for change in told.iter() {
             for (number, seen) in self.numbers.iter().zip(self.seen.iter_mut()) {
                 if table.key(rt, *number) == change.key {

@@ -28,6 +28,7 @@ pub(crate) enum Answer {
     AnyCycle,
     /// Any refusal but for memory.
     AnyFault,
+    /// Memory is lacking. A line that is answered so is tried again, so this is for texts alone.
     Short,
 }
 
@@ -52,15 +53,17 @@ pub(crate) enum Line<'a> {
     Unruled(usize, Answer),
     /// This node shows this value, for which so many rules come to a value.
     Shows(usize, u64, u64),
+    /// So many rules have come to a value in all.
+    Ran(u64),
     /// A `get` is answered so.
     Answers(usize, Answer),
     /// This node isn't known without a step.
     Unknown(usize),
     Watch(usize),
     Unwatch(usize),
-    /// A flush, whose reports are kept.
+    /// A flush. What it tells is kept.
     Flush,
-    /// A flush reports this of these nodes.
+    /// A flush tells this of these nodes.
     Tells(&'a [(usize, Answer)]),
     /// A refusal has this text.
     Prints(Answer, &'a str),
@@ -94,8 +97,8 @@ impl<G: Graph> Table<G> {
         rt.abort()
     }
 
-    /// What flushes have reported since this was asked.
-    pub(crate) fn reports(&mut self) -> Vec<Told<u64>> {
+    /// What flushes have told since this was asked.
+    pub(crate) fn take_told(&mut self) -> Vec<Told<u64>> {
         mem::replace(&mut self.told, Vec::new(self.alloc))
     }
 
@@ -108,12 +111,17 @@ impl<G: Graph> Table<G> {
     fn is_right(&mut self, rt: &impl Abort, line: Line<'_>) -> Option<bool> {
         if let Some(made) = self.made(line) {
             let key = made.ok()?;
-            return Some(self.keep(key));
+            return Some(self.keep(key) && self.is_idle());
         }
         if self.is_built(rt, line) || self.is_changed(rt, line) {
-            return Some(true);
+            return Some(self.is_idle());
         }
         self.is_answered(rt, line)
+    }
+
+    /// Whether no rule has come to a value for the line: what makes or changes nodes runs none.
+    fn is_idle(&self) -> bool {
+        self.graph.runs() == self.runs
     }
 
     /// Keeps the key of a new node.
@@ -224,6 +232,7 @@ impl<G: Graph> Table<G> {
                     && self.graph.seen(key) == answer;
                 Some(is_right)
             }
+            Line::Ran(count) => Some(self.graph.runs() == count),
             Line::Answers(node, wanted) => {
                 let key = self.key(rt, node);
                 let answer = self.answer(key)?;
@@ -234,13 +243,13 @@ impl<G: Graph> Table<G> {
                 assert_prints(rt, self.alloc, &self.fault(rt, answer), text);
                 Some(true)
             }
-            _ => self.is_reported(rt, line),
+            _ => self.is_of_effects(rt, line),
         }
     }
 
     /// Watches nodes or flushes, if a line says so; whether that is answered as it says. None where it
     /// lacks memory.
-    fn is_reported(&mut self, rt: &impl Abort, line: Line<'_>) -> Option<bool> {
+    fn is_of_effects(&mut self, rt: &impl Abort, line: Line<'_>) -> Option<bool> {
         match line {
             Line::Watch(node) => {
                 let key = self.key(rt, node);
@@ -294,9 +303,9 @@ impl<G: Graph> Table<G> {
         }
     }
 
-    /// Whether flushes have reported this, and nothing else.
+    /// Whether flushes have told this, and nothing else.
     fn has_told(&mut self, rt: &impl Abort, wanted: &[(usize, Answer)]) -> bool {
-        let told = self.reports();
+        let told = self.take_told();
         if told.len() != wanted.len() {
             return false;
         }
