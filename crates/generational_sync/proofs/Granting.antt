@@ -1,6 +1,6 @@
 -- A call whose answer tells of no borrow, and of no want, was one in whose way none stood; one that was refused
 -- left all as it was.
-use Rattle.std.proofs.Common.{◌≡◌, ℕ, Bool, true, false, cond, Option, Some, refl, sym, ap, subst, ◌∙◌, inl, inr}
+use Rattle.std.proofs.Common.{◌≡◌, ℕ, Bool, true, false, cond, Option, None, Some, refl, sym, ap, subst, ◌∙◌, inl, inr}
 use Rattle.std.specs.Prelude.{not, ◌&&◌, nat_eq}
 use Rattle.std.specs.Bool.{OnTrue}
 use Rattle.std.proofs.lemmas.Bool.{true≢false}
@@ -13,10 +13,17 @@ use Rattle.generational_errors.specs.declared.error.BorrowMutError.{BorrowMutErr
 use Rattle.generational_errors.specs.declared.error.Refused.{Refused as IsRefused}
 use Rattle.generational_errors.specs.declared.error.Refused.TheVariants as refusal
 use Rattle.generational_core.specs.Answers.{end_refused, read_refused}
+use Rattle.generational_core.specs.declared.boxes.GenerationalPointer.{GenerationalPointer}
 use Rattle.generational_core.specs.declared.steps.StepCall.{StepCall}
-use Rattle.generational_core.specs.State.{State}
-use Rattle.generational_core.specs.Machine.{Action, Answer, NewNames, Outcome, act}
-use Rattle.generational_core.specs.Machine.Answer.{BorrowRefused, Refused, Back}
+use Rattle.generational_core.specs.Names.{Name}
+use Rattle.generational_core.specs.Cells.{Content, content_of}
+use Rattle.generational_core.specs.Cells.Content.{Here, Lent}
+use Rattle.generational_core.specs.State.{State, content_at}
+use Rattle.generational_core.specs.Machine.{Action, Answer, NewNames, Outcome, act, cell_at}
+use Rattle.generational_core.specs.Machine.{read_at, unless}
+use Rattle.generational_core.specs.Machine.Action.{Read}
+use Rattle.generational_core.specs.Machine.Answer.{BorrowRefused, Refused, Back, Flag}
+use Rattle.generational_core.specs.Borrowing.{reach, read_refusal, refusal_at, refusal_to_read}
 use Rattle.generational_core.specs.Borrowing.BorrowRefusal.{Dropped}
 use Rattle.generational_core.specs.Steps.{Meets, limit_tickets, takes_ticket, last_ticket}
 use Rattle.generational_core.specs.StepCalls.{is_hindered, is_ready, recorded_as}
@@ -52,6 +59,11 @@ end_leaves T (refusal.Store e) = refl
 abbrev tells_of_end : Option StepReply → Bool
 tells_of_end (Some (reply.Dropped l)) = true
 tells_of_end _ = false
+
+-- the location of a reply that does so
+abbrev told_in : Location → Option StepReply → Location
+told_in x (Some (reply.Dropped l)) = l
+told_in x _ = x
 
 module _ {T : Type 0} where
   -- whether an answer tells of want of memory or of numbers
@@ -95,6 +107,66 @@ module _ {T : Type 0} where
   dropped_ready told S R a c answer l asked met replied =
       let free = dropped_told R a answer (sym (ap tells_of_end replied)) in
       granted_ready told S R a c answer asked met free.0 free.1
+
+  -- the location of an answer that tells of a value that is gone
+  abbrev dropped_in : Location → Answer T → Location
+  dropped_in x (BorrowRefused (Dropped l)) = l
+  dropped_in x _ = x
+
+  told_as : (R : State T) (b : GenerationalPointer) (l x : Location) (answer : Answer T)
+      → told_in x (recorded_reply R (Read b l) answer) ≡ dropped_in x answer
+  told_as R b l x (BorrowRefused (Dropped m)) = refl
+  told_as R b l x (BorrowRefused t) = refl
+  told_as R b l x (Refused OutOfMemory) = refl
+  told_as R b l x (Refused NumbersExhausted) = refl
+  told_as R b l x (Refused UnknownOwner) = refl
+  told_as R b l x (Flag true) = refl
+  told_as R b l x (Flag false) = refl
+  told_as R b l x _ = refl
+
+  -- a read tells of no location but the box's own
+  reads_none : (S : State T) (l x : Location) (r : Option Name) (c : Option (Content T))
+      → dropped_in x (read_at S l r c).0 ≡ x
+  reads_none S l x (Some m) (Some (Here v rs)) = refl
+  reads_none S l x _ _ = refl
+
+  own_in : (S : State T) (x : Location) (r : Option Name) (contents : Name → Option (Content T))
+      (rest : Outcome T) → dropped_in x rest.0 ≡ x
+      → dropped_in x (unless (refusal_at r x (λ n. read_refusal (contents n))) S rest).0 ≡ x
+  own_in S x None contents rest h = refl
+  own_in S x (Some n) contents rest h = at (contents n)
+    where
+      at : (c : Option (Content T)) → dropped_in x (unless (read_refusal c) S rest).0 ≡ x
+      at (Some (Lent w)) = refl
+      at (Some (Here v rs)) = h
+      at None = h
+
+  act_tells : (S : State T) (b : GenerationalPointer) (l : Location) (new : NewNames)
+      → dropped_in b.created_at (act S (Read b l) new).0 ≡ b.created_at
+  unfolding refusal_to_read
+  act_tells S b l new =
+      own_in S b.created_at (reach S b) (content_at S) _
+      (reads_none S l b.created_at (reach S b) (content_of (cell_at S (reach S b))))
+
+  limited : (S : State T) (x : Location) (out : Outcome T) → dropped_in x out.0 ≡ x
+      → dropped_in x (limit_tickets S out).0 ≡ x
+  limited S x out h = at (takes_ticket out.0 && nat_eq S.next last_ticket)
+    where
+      at : (b : Bool) → dropped_in x (cond b (Refused NumbersExhausted, S) out).0 ≡ x
+      at true = refl
+      at false = h
+
+  pub read_told : (S R : State T) (b : GenerationalPointer) (l : Location) (answer : Answer T)
+      → Meets S (Read b l) answer R → (told : Location)
+      → Some (reply.Dropped told) ≡ recorded_reply R (Read b l) answer → told ≡ b.created_at
+  read_told S R b l answer met told replied =
+      ap (told_in b.created_at) replied ∙ told_as R b l b.created_at answer ∙ own met
+    where
+      own : Meets S (Read b l) answer R → dropped_in b.created_at answer ≡ b.created_at
+      own (inl m) =
+          ap (λ (o : Outcome T). dropped_in b.created_at o.0) m.2
+          ∙ limited S b.created_at (act S (Read b l) m.0) (act_tells S b l m.0)
+      own (inr m) = ap (dropped_in b.created_at) m.1
 
   pub left_as : (S R : State T) (a : Action T) (answer : Answer T) → Meets S a answer R
       → leaves answer ≡ true → R ≡ S

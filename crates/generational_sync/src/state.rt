@@ -3,12 +3,16 @@
 ghost use Rattle.std.specs.Prelude.{◌≡◌, ◌<◌, ◌+◌, ◌^◌, [], IfOk, IfErr, IfSome, OnErr, OnOk, Some, length};
 ghost use Rattle.std.specs.Prelude.{option_copied};
 ghost use Rattle.std.specs.Bool.{OnFalse, OnTrue};
+ghost use Rattle.generational_errors.specs.declared.error.Location.{Location as Place};
 ghost use Rattle.generational_errors.specs.declared.error.StoreError.TheVariants.{OutOfMemory};
 ghost use Rattle.generational_core.specs.declared.steps.StepCall.TheVariants as call;
 ghost use Rattle.generational_core.specs.Conditions.{fresh};
-ghost use Rattle.generational_core.specs.Answers.{value_behind};
+ghost use Rattle.generational_core.specs.Answers.{read_refused, value_behind};
+ghost use Rattle.generational_core.specs.Machine.Action.{Read};
 ghost use Rattle.generational_core.specs.StepCalls.{id_of_owner, is_ready};
 ghost use Rattle.shared_history.specs.Counts.{new_tallies};
+ghost use Rattle.shared_history.specs.Replies.{recorded_reply};
+ghost use Rattle.shared_records.specs.declared.step.StepReply.TheVariants as reply;
 ghost use Rattle.shared_history.specs.Bases.{IsCounted, all_trimmed, new_base};
 ghost use Rattle.generational_sync.specs.Keeping.{HasEnded, IsSettled, WasRefused};
 ghost use Rattle.generational_sync.specs.Shared.{IsBlank, IsCheckpoint, MayRefuseCheckpoint};
@@ -24,11 +28,12 @@ use crate::laws::{
 };
 use generational_box::laws::{calls_are_ready_where_no_borrow_is_told, steps_keep_the_store};
 use generational_box::{
-    AnyStorage, GenerationalPointer, GenerationalRef, Location, Owner, StepCall, Storage,
+    AnyStorage, BorrowError, GenerationalPointer, GenerationalRef, Location, Owner, Refused, StepCall, Storage,
     StoreError, UnsyncStorage,
 };
 use shared_history::kept::KeptBase;
 use shared_history::log::{Log, Outdated};
+use shared_history::replies::read_refusal;
 use shared_history::{Base, Count, Tally, tallies};
 use shared_records::{AnyEntry, Entry, ReadDropped, Step, StepReply};
 use std::alloc::Global;
@@ -365,27 +370,34 @@ fn settle_told<T: Drop, const NUMBER: u64, M: Count, L: Count, C: Count, R: Coun
 
 // Records the refusal of a read, which left the store as it was, if no writer stands in its way. The
 // answer is whether none does. That a value is gone is told often, since a handle may be kept for
-// longer.
+// longer; it is always the box's own location that is told. The reply is made here, so that it is put
+// into memory here, and not where a read begins.
 #[inline(always)]
 fn settle_refused_read<T: Drop, const NUMBER: u64, M: Count, L: Count, C: Count, R: Count>(
     store: &UnsyncStorage<T>,
     log: &mut Log<NUMBER, M, L, C, R>,
     asked: GenerationalPointer,
     at: Location,
-    reply: Option<StepReply>,
+    refused: &Refused<BorrowError>,
     tally: &mut Tally<M, L, C, R>,
 ) -> bool
-    requires { 1 < log.old.room }
-    ensures ready { WasRefused (call.Read asked at) reply store.now.state
+    requires room { 1 < log.old.room }
+    requires own { (told : Place) → Some (reply.Dropped told)
+        ≡ recorded_reply store.now.state (Read asked at) (read_refused refused.now)
+        → told ≡ asked.created_at }
+    ensures ready { WasRefused (call.Read asked at)
+        (recorded_reply store.now.state (Read asked at) (read_refused refused.now)) store.now.state
         → result ≡ is_ready store.now.state (call.Read asked at) }
-    ensures settled { OnTrue result (IsSettled NUMBER log.old tally.old (call.Read asked at) reply
+    ensures settled { OnTrue result (IsSettled NUMBER log.old tally.old (call.Read asked at)
+        (recorded_reply store.now.state (Read asked at) (read_refused refused.now))
         store.now.state log.new tally.new) }
     ensures left { OnFalse result ((log.new ≡ log.old) × (tally.new ≡ tally.old)) }
 {
     calls_are_ready_where_no_borrow_is_told::<T>();
+    let reply = read_refusal::<T>(refused);
     if let Some(answer) = reply {
-        if let StepReply::Dropped(told) = answer {
-            settle(store, log, ReadDropped { asked, at, told }, tally);
+        if let StepReply::Dropped(_) = answer {
+            settle(store, log, ReadDropped { asked, at }, tally);
             return true;
         }
     }

@@ -167,17 +167,16 @@ impl Entry for ReadBegun {
 pub struct ReadDropped {
     pub asked: GenerationalPointer,
     pub at: Location,
-    pub told: Location,
 }
 
 impl Entry for ReadDropped {
     ghost as_call = { λ e. call.Read e.asked e.at };
 
-    ghost as_reply = { λ e. reply.Dropped e.told };
+    ghost as_reply = { λ e. reply.Dropped e.asked.created_at };
 
     #[inline(always)]
     fn form(self, taken: Taken, places: &mut Places) -> Option<Form> {
-        read_dropped(taken, places, self.asked, self.at, self.told)
+        read_dropped(taken, places, self.asked, self.at)
     }
 
     #[inline(always)]
@@ -187,7 +186,7 @@ impl Entry for ReadDropped {
 
     #[inline(always)]
     fn reply(self) -> StepReply {
-        StepReply::Dropped(self.told)
+        StepReply::Dropped(self.asked.created_at)
     }
 }
 

@@ -124,13 +124,12 @@ pub fn read_dropped(
     places: &mut Places,
     asked: GenerationalPointer,
     at: Location,
-    told: Location,
 ) -> Option<Form>
     ensures extends { Extends places.old places.new }
     ensures form { IfSome result (IsForm taken.number places.new taken.reached
-        (step_of taken.worker (call.Read asked at) (reply.Dropped told))) }
+        (step_of taken.worker (call.Read asked at) (reply.Dropped asked.created_at))) }
 {
-    if !fits(taken, asked) || !is_same(told, asked.created_at) {
+    if !fits(taken, asked) {
         return None;
     }
     let (made, read) = find_two(places, asked.created_at, at)?;

@@ -21,7 +21,7 @@ use generational_box::{
     GenerationalPointer, GenerationalRef, GenerationalRefMut, Location, Refused, StepCall, Storage,
     StoreError, UnsyncStorage, ValueDroppedError,
 };
-use shared_history::replies::{back_reply, end_refusal, flag_reply, read_refusal};
+use shared_history::replies::{back_reply, end_refusal, flag_reply};
 use shared_history::{Count, Tally};
 use shared_records::{ReadBegun, ReadEnded, ValueSet, WriteBegun, WriteEnded};
 
@@ -97,9 +97,8 @@ impl<T: Drop, const NUMBER: u64, M: Count, L: Count, C: Count, R: Count> SyncSta
                 Some(Ok(guard))
             }
             Err(refused) => {
-                let reply = read_refusal::<T>(&refused);
                 let (store, log) = (&self.store, &mut self.log);
-                if !settle_refused_read(store, log, pointer, location, reply, tally) {
+                if !settle_refused_read(store, log, pointer, location, &refused, tally) {
                     return None;
                 }
                 Some(Err(refused))

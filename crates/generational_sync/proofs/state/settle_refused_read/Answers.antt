@@ -1,10 +1,26 @@
-use Rattle.std.proofs.Common.{Some, ap, sym, ◌∙◌}
+use Rattle.std.proofs.Common.{Some, ap, sym, subst, ◌∙◌}
 use Rattle.generational_core.specs.declared.steps.StepCall.TheVariants as call
+use Rattle.generational_core.specs.Machine.Action.{Read}
+use Rattle.shared_records.specs.declared.step.StepReply.TheVariants as reply
+use Rattle.generational_sync.specs.Keeping.{IsSettled}
 use Rattle.generational_sync.proofs.Granting.{dropped_ready}
 use Rattle.generational_sync.proofs.state.settle_refused_read.Goals as goal
 
 pub returns-in-Dropped-clause-ready : goal.returns-in-Dropped-clause-ready
 returns-in-Dropped-clause-ready g c = λ it.
-    sym (dropped_ready c.calls_are_ready_where_no_borrow_is_told.ensures.answer c.args.store.now.state
-    c.args.store.now.state it.action (call.Read c.args.asked c.args.at) it.answer c.in-Dropped.told
-    it.asked it.met (sym (c.in-Some.is ∙ ap Some c.in-Dropped.is) ∙ it.replied))
+    let state = c.args.store.now.state in
+    let told = sym (c.in-Some.is ∙ ap Some c.in-Dropped.is)
+    ∙ c.read_refusal-reply.ensures.reply state (Read c.args.asked c.args.at) in
+    sym (dropped_ready c.calls_are_ready_where_no_borrow_is_told.ensures.answer state state it.action
+    (call.Read c.args.asked c.args.at) it.answer c.in-Dropped.field-0 it.asked it.met
+    (told ∙ it.replied))
+
+pub returns-in-Dropped-clause-settled : goal.returns-in-Dropped-clause-settled
+returns-in-Dropped-clause-settled g c =
+    let state = c.args.store.now.state in
+    let told = sym (c.in-Some.is ∙ ap Some c.in-Dropped.is)
+    ∙ c.read_refusal-reply.ensures.reply state (Read c.args.asked c.args.at) in
+    subst (λ r. IsSettled g.row.NUMBER c.args.log.now c.args.tally.now
+    (call.Read c.args.asked c.args.at) r state c.settle.new.log c.settle.new.tally)
+    (ap (λ l. Some (reply.Dropped l)) (sym (c.requires.own c.in-Dropped.field-0 told)) ∙ told)
+    c.settle.ensures

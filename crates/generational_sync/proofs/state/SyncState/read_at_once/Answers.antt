@@ -1,10 +1,10 @@
-use Rattle.std.proofs.Common.{Some, ap, refl}
+use Rattle.std.proofs.Common.{Some, ap, arith, refl, rules}
 use Rattle.generational_core.specs.Answers.{read_refused}
 use Rattle.generational_core.specs.Machine.Action.{Read}
 use Rattle.generational_core.specs.Machine.Answer.{Reads}
 use Rattle.generational_core.specs.declared.steps.StepCall.TheVariants as call
 use Rattle.shared_records.specs.declared.step.StepReply.TheVariants as reply
-use Rattle.generational_sync.proofs.Granting.{granted_ready, hindered, left_kept, left_ready, read_leaves, refused}
+use Rattle.generational_sync.proofs.Granting.{granted_ready, hindered, left_kept, left_ready, read_leaves, read_told, refused}
 use Rattle.generational_sync.proofs.Keeping.{recorded}
 use Rattle.generational_sync.proofs.state.SyncState.read_at_once.Goals as goal
 
@@ -32,9 +32,9 @@ invariant_of-self-in-Err g c =
     (read_refused c.in-Err.refused) c.in-Err.ensures (read_leaves g.row.T.Denot c.in-Err.refused)
     (c.if-not-settle_refused_read.ensures.ready (refused c.self.inside.store.state c.begin_read.new.store.state (Read c.pointer-pointer.result c.args.location)
     (read_refused c.in-Err.refused) refl c.in-Err.ensures
-    (c.read_refusal-reply.ensures.reply c.begin_read.new.store.state (Read c.pointer-pointer.result c.args.location))
+    refl
     (read_leaves g.row.T.Denot c.in-Err.refused)))) c.in-Err.ensures
-    (c.read_refusal-reply.ensures.reply c.begin_read.new.store.state (Read c.pointer-pointer.result c.args.location)) refl c.if-not-settle_refused_read.ensures.settled).0
+    refl refl c.if-not-settle_refused_read.ensures.settled).0
 
 pub returns-in-Ok-clause-step : goal.returns-in-Ok-clause-step
 returns-in-Ok-clause-step g c =
@@ -53,9 +53,9 @@ returns-else-not-settle_refused_read-clause-step g c =
     (read_refused c.in-Err.refused) c.in-Err.ensures (read_leaves g.row.T.Denot c.in-Err.refused)
     (c.if-not-settle_refused_read.ensures.ready (refused c.self.inside.store.state c.begin_read.new.store.state (Read c.pointer-pointer.result c.args.location)
     (read_refused c.in-Err.refused) refl c.in-Err.ensures
-    (c.read_refusal-reply.ensures.reply c.begin_read.new.store.state (Read c.pointer-pointer.result c.args.location))
+    refl
     (read_leaves g.row.T.Denot c.in-Err.refused)))) c.in-Err.ensures
-    (c.read_refusal-reply.ensures.reply c.begin_read.new.store.state (Read c.pointer-pointer.result c.args.location)) refl c.if-not-settle_refused_read.ensures.settled).1
+    refl refl c.if-not-settle_refused_read.ensures.settled).1
 
 pub returns-then-not-settle_refused_read-clause-none : goal.returns-then-not-settle_refused_read-clause-none
 returns-then-not-settle_refused_read-clause-none g c =
@@ -65,5 +65,10 @@ returns-then-not-settle_refused_read-clause-none g c =
     c.if-not-settle_refused_read.ensures.left.0 (ap (λ b. call.Read b c.args.location) c.pointer-pointer.ensures)
     (c.if-not-settle_refused_read.ensures.ready (refused c.self.inside.store.state c.begin_read.new.store.state (Read c.pointer-pointer.result c.args.location)
     (read_refused c.in-Err.refused) refl c.in-Err.ensures
-    (c.read_refusal-reply.ensures.reply c.begin_read.new.store.state (Read c.pointer-pointer.result c.args.location))
+    refl
     (read_leaves g.row.T.Denot c.in-Err.refused))) c.if-not-settle_refused_read.ensures.left.1
+
+pub settle_refused_read-requires : goal.settle_refused_read-requires
+settle_refused_read-requires g c =
+    (omega arith, (search rules, read_told c.self.inside.store.state c.begin_read.new.store.state
+    c.pointer-pointer.result c.args.location (read_refused c.in-Err.refused) c.in-Err.ensures))
