@@ -1,6 +1,5 @@
 -- Bases: what their rows leave as it was, and what they count of the steps that were trimmed.
-use Rattle.std.proofs.Common.{◌≡◌, ℕ, ◌+◌, ◌^◌, ◌<◌, List, [], ◌∷◌, length, cond, refl, ap, subst, ◌∙◌, arith}
-use Rattle.std.proofs.lemmas.List.Sums.{sum_by-cons}
+use Rattle.std.proofs.Common.{◌≡◌, ℕ, ◌+◌, ◌^◌, ◌<◌, List, [], ◌∷◌, length, refl, ap, subst, ◌∙◌, arith}
 use Rattle.generational_core.specs.declared.rows.BaseRow.{BaseRow}
 use Rattle.generational_core.specs.declared.rows.BaseRow.TheVariants as row
 use Rattle.generational_core.specs.Plain.{Plain, plain}
@@ -11,8 +10,8 @@ use Rattle.generational_sync.specs.Keeping.{shared}
 use Rattle.generational_sync.specs.Shared.{IsCheckpoint, SharedState}
 use Rattle.shared_history.specs.Logs.{LogState}
 use Rattle.shared_history.specs.declared.base.TrimmedSteps.{TrimmedSteps}
-use Rattle.shared_records.specs.Kinds.{count, step_kind, same_kind}
-use Rattle.shared_records.specs.declared.step.Kind.{Kind}
+use Rattle.shared_history.proofs.Appending.{all_kinds}
+use Rattle.shared_records.specs.Kinds.{count}
 use Rattle.shared_records.specs.declared.step.Kind.TheVariants.{Made, Lent, Changed, Refused}
 use Rattle.shared_records.specs.declared.step.Step.{Step}
 
@@ -40,31 +39,6 @@ told_number base = (rows_keep base.rows _).0
 
 pub told_start : (base : BaseState) → (plain_of base).start ≡ 1
 told_start base = (rows_keep base.rows _).1
-
-abbrev bit : Kind → Kind → ℕ
-bit k l = cond (same_kind k l) 1 0
-
-count-cons : (k : Kind) (x : Step) (xs : List Step)
-    → count k (x ∷ xs) ≡ bit k (step_kind x.reply) + count k xs
-count-cons k x xs = sum_by-cons (λ (s : Step). bit k (step_kind s.reply)) x xs
-
--- a kind is one of the four
-one_kind : (k : Kind) → bit Made k + bit Lent k + bit Changed k + bit Refused k ≡ 1
-one_kind Made = refl
-one_kind Lent = refl
-one_kind Changed = refl
-one_kind Refused = refl
-
--- so the steps of the four kinds are all
-all_kinds : (steps : List Step)
-    → count Made steps + count Lent steps + count Changed steps + count Refused steps
-    ≡ length steps
-all_kinds [] = refl
-all_kinds (x ∷ xs) =
-    let rest = all_kinds xs in let one = one_kind (step_kind x.reply) in
-    let made = count-cons Made x xs in let lent = count-cons Lent x xs in
-    let changed = count-cons Changed x xs in let refused = count-cons Refused x xs in
-    omega arith
 
 module _ (base : BaseState) (steps : List Step) (t : TrimmedSteps)
     (counts : t ≡ counts_of base steps) where

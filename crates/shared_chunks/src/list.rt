@@ -20,7 +20,7 @@ const FREE: usize = 128;
 ///
 /// The items stand in chunks that are full, and after these in the last one. Behind it there may be
 /// a spare one, which is empty: when the last chunk is full, the spare one takes its place. Each
-/// chunk has twice the room of the one before, up to 1024 items; of items with 16 bytes that is
+/// chunk has twice the room of the one before, up to 1024 items; of items with 8 bytes that is
 /// less than what the C library gets from the system block by block. Up to 128 chunks of that
 /// size that `empty` frees are kept, and become spare ones again.
 #[derive(Drop)]

@@ -1,4 +1,4 @@
--- A step more, by the letters of its locations, is one more of its kind.
+-- A step more, by the letters of its locations, is one more of its kind; and of which kinds steps are.
 use Rattle.std.proofs.Common.{◌≡◌, ℕ, ◌+◌, ◌≤◌, List, [], ◌∷◌, refl, sym, ap, ◌∙◌, cond, length}
 use Rattle.std.proofs.Common.{arith, length-append}
 use Rattle.std.specs.Prelude.{sum_by}
@@ -6,6 +6,7 @@ use Rattle.std.proofs.lemmas.List.Sums.{count_by-le-length, sum_by-append, sum_b
 use Rattle.shared_records.specs.Kinds.{count, step_kind, same_kind}
 use Rattle.shared_records.specs.Letters.{Appends, lettered, place_reply}
 use Rattle.shared_records.specs.declared.step.Kind.{Kind}
+use Rattle.shared_records.specs.declared.step.Kind.TheVariants.{Made, Lent, Changed, Refused}
 use Rattle.shared_records.specs.declared.step.Step.{Step}
 use Rattle.shared_records.specs.declared.step.StepReply.{StepReply}
 use Rattle.shared_records.specs.declared.step.StepReply.TheVariants as reply
@@ -45,3 +46,28 @@ fewer kind before after step more =
     let few = count_by-le-length (λ (s : Step). same_kind kind (step_kind s.reply)) before in
     let all = ap length more.is ∙ length-append before (more.last ∷ []) in
     omega (arith, few, all)
+
+abbrev bit : Kind → Kind → ℕ
+bit k l = cond (same_kind k l) 1 0
+
+count-cons : (k : Kind) (x : Step) (xs : List Step)
+    → count k (x ∷ xs) ≡ bit k (step_kind x.reply) + count k xs
+count-cons k x xs = sum_by-cons (λ (s : Step). bit k (step_kind s.reply)) x xs
+
+-- a kind is one of the four
+one_kind : (k : Kind) → bit Made k + bit Lent k + bit Changed k + bit Refused k ≡ 1
+one_kind Made = refl
+one_kind Lent = refl
+one_kind Changed = refl
+one_kind Refused = refl
+
+-- so the steps of the four kinds are all
+pub all_kinds : (steps : List Step)
+    → count Made steps + count Lent steps + count Changed steps + count Refused steps
+    ≡ length steps
+all_kinds [] = refl
+all_kinds (x ∷ xs) =
+    let rest = all_kinds xs in let one = one_kind (step_kind x.reply) in
+    let made = count-cons Made x xs in let lent = count-cons Lent x xs in
+    let changed = count-cons Changed x xs in let refused = count-cons Refused x xs in
+    omega arith

@@ -113,9 +113,7 @@ impl<const NUMBER: u64, M: Count, L: Count, C: Count, R: Count> Log<NUMBER, M, L
         ensures standing { self.new.standing ≡ self.old.standing }
         ensures ok { OnOk result (steps ≤ self.new.room) }
     {
-        if self.standing > usize::MAX - 2 {
-            return Err(AllocError);
-        }
+        self.history.room_is_bounded();
         self.history.reserve(self.standing + steps)
     }
 
@@ -202,20 +200,19 @@ impl<const NUMBER: u64, M: Count, L: Count, C: Count, R: Count> Log<NUMBER, M, L
 
     // How many steps of each kind are trimmed where the history begins anew. None where they would
     // be too many together.
+    #[tactic(auto, using(crate::proofs::Appending::all_kinds))]
     pub fn trimmed_steps(&self) -> Option<TrimmedSteps>
         ensures counts { IfSome result (λ t. t ≡ counts_of self.now.base self.now.steps) }
         ensures within { OnSome result
             (all_trimmed self.now.base + length self.now.steps < 2 ^ 64) }
         ensures none { IfNone result (2 ^ 64 ≤ all_trimmed self.now.base + length self.now.steps) }
     {
-        if self
-            .base
+        self.base
             .trimmed()
-            .checked_add(self.history.len() as u64)
-            .is_none()
-        {
-            return None;
-        }
+            .checked_add(self.made_steps)?
+            .checked_add(self.lent_steps)?
+            .checked_add(self.changed_steps)?
+            .checked_add(self.refused_steps)?;
         Some(TrimmedSteps {
             made: self.base.count(Kind::Made) + self.made_steps,
             lent: self.base.count(Kind::Lent) + self.lent_steps,

@@ -1,5 +1,5 @@
 -- Decoding, one item more, and where the tables grow.
-use Rattle.std.proofs.Common.{◌≡◌, ℕ, zero, suc, ◌<◌, ◌≤◌, List, [], ◌∷◌, ◌++◌, length, get_or, Option, Some, None, option_map, option_to_list, refl, sym, ap, subst, ◌∙◌, arith, append_assoc, length-append, rules}
+use Rattle.std.proofs.Common.{◌≡◌, ℕ, zero, suc, ◌+◌, ◌*◌, ◌/◌, ◌%◌, ◌<◌, ◌≤◌, List, [], ◌∷◌, ◌++◌, length, get_or, Option, Some, None, option_map, option_to_list, refl, sym, ap, subst, ◌∙◌, arith, append_assoc, length-append, rules}
 use Rattle.std.proofs.lemmas.List.{append-nil, get_or_append_left}
 use Rattle.generational_errors.specs.declared.error.Location.{Location}
 use Rattle.shared_records.specs.declared.step.Step.{Step}
@@ -7,29 +7,33 @@ use Rattle.std.proofs.Math.Seq.{get_or-append_seam}
 use Rattle.shared_records.specs.declared.short.Reached.{Reached}
 use Rattle.shared_records.specs.declared.short.Short.{Short}
 use Rattle.shared_records.specs.declared.short.Short.TheVariants as short
+use Rattle.shared_records.specs.declared.short.ShortName.{ShortName}
+use Rattle.shared_records.specs.declared.shorten.Names.{Names}
+use Rattle.shared_records.specs.declared.shorten.Names.TheVariants as names
 use Rattle.shared_records.specs.Letters.{Appends, lettered_step}
 use Rattle.shared_records.specs.Decoding.{AreWithin, Extends, IsWithin, advanced, after, decode, named}
-use Rattle.shared_records.specs.Decoding.{no_step, nowhere, place_at, reached_by, step_at}
+use Rattle.shared_records.specs.Decoding.{name_item, name_items, naming, naming_all, no_step}
+use Rattle.shared_records.specs.Decoding.{nowhere, place_at, reached_by, step_at}
 
 -- within tables, and in longer ones
 pub within_grows : (p q r s : ℕ) (x : Short) → p ≤ r → q ≤ s → IsWithin p q x → IsWithin r s x
-within_grows p q r s (short.Name slot generation) h k w = tt
-within_grows p q r s (short.Long i) h k w = omega arith
-within_grows p q r s (short.Leak w a slot generation) h k i = omega arith
-within_grows p q r s (short.Insert w a back slot generation) h k i = omega arith
-within_grows p q r s (short.LeakRc w a slot generation) h k i = omega arith
-within_grows p q r s (short.InsertRc w a back slot generation) h k i = omega arith
-within_grows p q r s (short.LeakReference w a b slot generation) h k i = (omega arith, omega arith)
+within_grows p q r s (short.Name high low generation) h k i = tt
+within_grows p q r s (short.Long high low) h k i = omega arith
+within_grows p q r s (short.Leak w a) h k i = omega arith
+within_grows p q r s (short.Insert w a back) h k i = omega arith
+within_grows p q r s (short.LeakRc w a) h k i = omega arith
+within_grows p q r s (short.InsertRc w a back) h k i = omega arith
+within_grows p q r s (short.LeakReference w a b) h k i = (omega arith, omega arith)
 within_grows p q r s (short.Owner w) h k i = tt
-within_grows p q r s (short.ReleaseOwner w key) h k i = tt
-within_grows p q r s (short.Read w a b slot generation) h k i = (omega arith, omega arith)
-within_grows p q r s (short.Write w a b slot generation) h k i = (omega arith, omega arith)
-within_grows p q r s (short.ReadDropped w a b slot generation) h k i = (omega arith, omega arith)
-within_grows p q r s (short.Set w a slot generation) h k i = omega arith
-within_grows p q r s (short.End w a slot generation) h k i = omega arith
-within_grows p q r s (short.PointTo w a b slot generation) h k i = (omega arith, omega arith)
-within_grows p q r s (short.ReleaseRead w t) h k i = tt
-within_grows p q r s (short.ReleaseWrite w t) h k i = tt
+within_grows p q r s (short.ReleaseOwner w back) h k i = tt
+within_grows p q r s (short.Read w a b) h k i = (omega arith, omega arith)
+within_grows p q r s (short.Write w a b) h k i = (omega arith, omega arith)
+within_grows p q r s (short.ReadDropped w a b) h k i = (omega arith, omega arith)
+within_grows p q r s (short.Set w a) h k i = omega arith
+within_grows p q r s (short.End w a) h k i = omega arith
+within_grows p q r s (short.PointTo w a b) h k i = (omega arith, omega arith)
+within_grows p q r s (short.ReleaseRead w back) h k i = tt
+within_grows p q r s (short.ReleaseWrite w back) h k i = tt
 
 pub all_within_grow : (p q r s : ℕ) (xs : List Short) → p ≤ r → q ≤ s → AreWithin p q xs → AreWithin r s xs
 all_within_grow p q r s [] h k w = tt
@@ -82,6 +86,60 @@ module _ (number : ℕ) (places : List Location) (long : List Step) where
   reached_snoc r [] x = refl
   reached_snoc r (y ∷ ys) x = reached_snoc (after number places long r y) ys x
 
+-- an item has its name's slot, and the long step's number, in two parts
+name_is : (n : ShortName)
+    → record { slot = n.slot / 65536 * 65536 + n.slot % 65536; generation = n.generation } ≡ n
+name_is n =
+    let whole : n.slot / 65536 * 65536 + n.slot % 65536 ≡ n.slot = omega arith in
+    ap (λ slot. record { slot = slot; generation = n.generation }) whole
+
+pub long_is : (i : ℕ) → i / 4294967296 * 4294967296 + i % 4294967296 ≡ i
+long_is i = omega arith
+
+-- names are no steps
+module _ (number : ℕ) (places : List Location) (long : List Step) where
+  pub names_within : (p q : ℕ) (xs : List Short) (all : Names) → AreWithin p q xs
+      → AreWithin p q (xs ++ name_items all)
+  names_within p q xs names.None w = subst (AreWithin p q) (sym (append-nil xs)) w
+  names_within p q xs (names.One n) w = within_snoc p q xs (name_item n) w tt
+  names_within p q xs (names.Two n m) w =
+      subst (AreWithin p q) (append_assoc xs (name_item n ∷ []) (name_item m ∷ []))
+      (within_snoc p q (xs ++ name_item n ∷ []) (name_item m)
+      (within_snoc p q xs (name_item n) w tt) tt)
+
+  name_kept : (r : Reached) (xs : List Short) (n : ShortName)
+      → decode number places long r (xs ++ name_item n ∷ []) ≡ decode number places long r xs
+  name_kept r xs n =
+      decode_snoc number places long r xs (name_item n)
+      ∙ append-nil (decode number places long r xs)
+
+  pub names_kept : (r : Reached) (xs : List Short) (all : Names)
+      → decode number places long r (xs ++ name_items all) ≡ decode number places long r xs
+  names_kept r xs names.None = ap (decode number places long r) (append-nil xs)
+  names_kept r xs (names.One n) = name_kept r xs n
+  names_kept r xs (names.Two n m) =
+      ap (decode number places long r) (sym (append_assoc xs (name_item n ∷ []) (name_item m ∷ [])))
+      ∙ name_kept r (xs ++ name_item n ∷ []) m
+      ∙ name_kept r xs n
+
+  name_reached : (r : Reached) (xs : List Short) (n : ShortName)
+      → reached_by number places long r (xs ++ name_item n ∷ [])
+      ≡ naming (reached_by number places long r xs) n
+  name_reached r xs n =
+      reached_snoc number places long r xs (name_item n)
+      ∙ ap (naming (reached_by number places long r xs)) (name_is n)
+
+  pub names_reached : (r : Reached) (xs : List Short) (all : Names)
+      → reached_by number places long r (xs ++ name_items all)
+      ≡ naming_all (reached_by number places long r xs) all
+  names_reached r xs names.None = ap (reached_by number places long r) (append-nil xs)
+  names_reached r xs (names.One n) = name_reached r xs n
+  names_reached r xs (names.Two n m) =
+      ap (reached_by number places long r)
+      (sym (append_assoc xs (name_item n ∷ []) (name_item m ∷ [])))
+      ∙ name_reached r (xs ++ name_item n ∷ []) m
+      ∙ ap (λ now. naming now m) (name_reached r xs n)
+
 -- where the tables grow
 module _ (number : ℕ) (places : List Location) (long : List Step) (more : List Location) (others : List Step) where
   pub place_grows : (i : ℕ) → i < length places → place_at (places ++ more) i ≡ place_at places i
@@ -89,49 +147,50 @@ module _ (number : ℕ) (places : List Location) (long : List Step) (more : List
 
   pub step_grows : (r : Reached) (x : Short) → IsWithin (length places) (length long) x
       → step_at number (places ++ more) (long ++ others) r x ≡ step_at number places long r x
-  step_grows r (short.Name slot generation) h = refl
-  step_grows r (short.Long i) h = ap Some (get_or_append_left long others no_step i h)
-  step_grows r (short.Leak w a slot generation) h =
-      ap (λ l. step_at number (l ∷ []) long r (short.Leak w 0 slot generation)) (place_grows a h)
-  step_grows r (short.Insert w a back slot generation) h =
-      ap (λ l. step_at number (l ∷ []) long r (short.Insert w 0 back slot generation)) (place_grows a h)
-  step_grows r (short.LeakRc w a slot generation) h =
-      ap (λ l. step_at number (l ∷ []) long r (short.LeakRc w 0 slot generation)) (place_grows a h)
-  step_grows r (short.InsertRc w a back slot generation) h =
-      ap (λ l. step_at number (l ∷ []) long r (short.InsertRc w 0 back slot generation)) (place_grows a h)
-  step_grows r (short.LeakReference w a b slot generation) h =
-      ap (λ l. step_at number (l ∷ place_at (places ++ more) b ∷ []) long r
-      (short.LeakReference w 0 1 slot generation)) (place_grows a h.0)
-      ∙ ap (λ l. step_at number (place_at places a ∷ l ∷ []) long r
-      (short.LeakReference w 0 1 slot generation)) (place_grows b h.1)
+  step_grows r (short.Name high low generation) h = refl
+  step_grows r (short.Long high low) h =
+      ap Some (get_or_append_left long others no_step (high * 4294967296 + low) h)
+  step_grows r (short.Leak w a) h =
+      ap (λ l. step_at number (l ∷ []) long r (short.Leak w 0)) (place_grows a h)
+  step_grows r (short.Insert w a back) h =
+      ap (λ l. step_at number (l ∷ []) long r (short.Insert w 0 back)) (place_grows a h)
+  step_grows r (short.LeakRc w a) h =
+      ap (λ l. step_at number (l ∷ []) long r (short.LeakRc w 0)) (place_grows a h)
+  step_grows r (short.InsertRc w a back) h =
+      ap (λ l. step_at number (l ∷ []) long r (short.InsertRc w 0 back)) (place_grows a h)
+  step_grows r (short.LeakReference w a b) h =
+      ap (λ l. step_at number (l ∷ place_at (places ++ more) b ∷ []) long r (short.LeakReference w 0 1))
+      (place_grows a h.0)
+      ∙ ap (λ l. step_at number (place_at places a ∷ l ∷ []) long r (short.LeakReference w 0 1))
+      (place_grows b h.1)
   step_grows r (short.Owner w) h = refl
-  step_grows r (short.ReleaseOwner w key) h = refl
-  step_grows r (short.Read w a b slot generation) h =
-      ap (λ l. step_at number (l ∷ place_at (places ++ more) b ∷ []) long r
-      (short.Read w 0 1 slot generation)) (place_grows a h.0)
-      ∙ ap (λ l. step_at number (place_at places a ∷ l ∷ []) long r
-      (short.Read w 0 1 slot generation)) (place_grows b h.1)
-  step_grows r (short.Write w a b slot generation) h =
-      ap (λ l. step_at number (l ∷ place_at (places ++ more) b ∷ []) long r
-      (short.Write w 0 1 slot generation)) (place_grows a h.0)
-      ∙ ap (λ l. step_at number (place_at places a ∷ l ∷ []) long r
-      (short.Write w 0 1 slot generation)) (place_grows b h.1)
-  step_grows r (short.ReadDropped w a b slot generation) h =
-      ap (λ l. step_at number (l ∷ place_at (places ++ more) b ∷ []) long r
-      (short.ReadDropped w 0 1 slot generation)) (place_grows a h.0)
-      ∙ ap (λ l. step_at number (place_at places a ∷ l ∷ []) long r
-      (short.ReadDropped w 0 1 slot generation)) (place_grows b h.1)
-  step_grows r (short.Set w a slot generation) h =
-      ap (λ l. step_at number (l ∷ []) long r (short.Set w 0 slot generation)) (place_grows a h)
-  step_grows r (short.End w a slot generation) h =
-      ap (λ l. step_at number (l ∷ []) long r (short.End w 0 slot generation)) (place_grows a h)
-  step_grows r (short.PointTo w a b slot generation) h =
-      ap (λ l. step_at number (l ∷ place_at (places ++ more) b ∷ []) long r
-      (short.PointTo w 0 1 slot generation)) (place_grows a h.0)
-      ∙ ap (λ l. step_at number (place_at places a ∷ l ∷ []) long r
-      (short.PointTo w 0 1 slot generation)) (place_grows b h.1)
-  step_grows r (short.ReleaseRead w t) h = refl
-  step_grows r (short.ReleaseWrite w t) h = refl
+  step_grows r (short.ReleaseOwner w back) h = refl
+  step_grows r (short.Read w a b) h =
+      ap (λ l. step_at number (l ∷ place_at (places ++ more) b ∷ []) long r (short.Read w 0 1))
+      (place_grows a h.0)
+      ∙ ap (λ l. step_at number (place_at places a ∷ l ∷ []) long r (short.Read w 0 1))
+      (place_grows b h.1)
+  step_grows r (short.Write w a b) h =
+      ap (λ l. step_at number (l ∷ place_at (places ++ more) b ∷ []) long r (short.Write w 0 1))
+      (place_grows a h.0)
+      ∙ ap (λ l. step_at number (place_at places a ∷ l ∷ []) long r (short.Write w 0 1))
+      (place_grows b h.1)
+  step_grows r (short.ReadDropped w a b) h =
+      ap (λ l. step_at number (l ∷ place_at (places ++ more) b ∷ []) long r (short.ReadDropped w 0 1))
+      (place_grows a h.0)
+      ∙ ap (λ l. step_at number (place_at places a ∷ l ∷ []) long r (short.ReadDropped w 0 1))
+      (place_grows b h.1)
+  step_grows r (short.Set w a) h =
+      ap (λ l. step_at number (l ∷ []) long r (short.Set w 0)) (place_grows a h)
+  step_grows r (short.End w a) h =
+      ap (λ l. step_at number (l ∷ []) long r (short.End w 0)) (place_grows a h)
+  step_grows r (short.PointTo w a b) h =
+      ap (λ l. step_at number (l ∷ place_at (places ++ more) b ∷ []) long r (short.PointTo w 0 1))
+      (place_grows a h.0)
+      ∙ ap (λ l. step_at number (place_at places a ∷ l ∷ []) long r (short.PointTo w 0 1))
+      (place_grows b h.1)
+  step_grows r (short.ReleaseRead w back) h = refl
+  step_grows r (short.ReleaseWrite w back) h = refl
 
   pub decode_grows : (r : Reached) (xs : List Short) → AreWithin (length places) (length long) xs
       → decode number (places ++ more) (long ++ others) r xs ≡ decode number places long r xs
@@ -217,6 +276,8 @@ appends_one before longer o step is same =
 
 -- the newest of the long steps
 pub long_last : (long longer : List Step) (step : Step) → longer ≡ long ++ step ∷ []
-    → get_or longer (length long) no_step ≡ step
+    → get_or longer (length long / 4294967296 * 4294967296 + length long % 4294967296) no_step ≡ step
 long_last long longer step is =
-    ap (λ ss. get_or ss (length long) no_step) is ∙ get_or-append_seam long step [] no_step
+    ap (λ i. get_or longer i no_step) (long_is (length long))
+    ∙ ap (λ ss. get_or ss (length long) no_step) is
+    ∙ get_or-append_seam long step [] no_step

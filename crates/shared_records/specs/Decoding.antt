@@ -1,15 +1,18 @@
 -- The steps for which short ones stand.
-use Rattle.std.specs.Prelude.{◌≡◌, ℕ, ◌+◌, ◌-◌, ◌<◌, ◌%◌, ◌^◌, List, [], ◌∷◌, ◌++◌, length, slice_index_or, Option, Some, None, option_map, option_to_list}
+use Rattle.std.specs.Prelude.{◌≡◌, ℕ, ◌+◌, ◌-◌, ◌*◌, ◌<◌, ◌/◌, ◌%◌, ◌^◌, List, [], ◌∷◌, ◌++◌, length, slice_index_or, Option, Some, None, IfSome, option_map, option_to_list}
 use Rattle.generational_errors.specs.declared.error.Location.{Location}
+use Rattle.generational_core.specs.declared.boxes.GenerationalBoxId.{GenerationalBoxId}
 use Rattle.generational_core.specs.declared.boxes.GenerationalPointer.{GenerationalPointer}
 use Rattle.generational_core.specs.declared.owner.OwnerId.{OwnerId}
 use Rattle.generational_core.specs.declared.steps.StepCall.TheVariants as call
 use Rattle.generational_core.specs.Boxes.{box_of, id_of}
+use Rattle.generational_core.specs.Names.{Name}
 use Rattle.shared_records.specs.declared.short.Reached.{Reached}
 use Rattle.shared_records.specs.declared.short.Short.{Short}
 use Rattle.shared_records.specs.declared.short.Short.TheVariants as short
-use Rattle.shared_records.specs.declared.shorten.Form.{Form}
-use Rattle.shared_records.specs.declared.shorten.Form.TheVariants.{One, Two}
+use Rattle.shared_records.specs.declared.short.ShortName.{ShortName}
+use Rattle.shared_records.specs.declared.shorten.Names.{Names}
+use Rattle.shared_records.specs.declared.shorten.Names.TheVariants as names
 use Rattle.shared_records.specs.declared.step.Step.{Step}
 use Rattle.shared_records.specs.declared.step.StepReply.{StepReply}
 use Rattle.shared_records.specs.declared.step.StepReply.TheVariants as reply
@@ -43,33 +46,51 @@ next_after next (reply.Writer t) = (t + 1) % 2 ^ 64
 next_after next (reply.Owner o) = (next + 1) % 2 ^ 64
 next_after next _ = next
 
+-- the name that a short one stands for, and its item, which has the slot in two parts
+abbrev pub full : ShortName → Name
+full n = record { slot = n.slot; generation = n.generation }
+
+abbrev pub name_item : ShortName → Short
+name_item n = short.Name (n.slot / 65536) (n.slot % 65536) n.generation
+
+-- the item of the long step with a number, which it has in two parts too
+abbrev pub long_item : ℕ → Short
+long_item i = short.Long (i / 4294967296) (i % 4294967296)
+
 -- a short step's numbers lie in tables of these lengths
 abbrev pub IsWithin : ℕ → ℕ → Short → Type 0
-IsWithin p q (short.Long i) = i < q
-IsWithin p q (short.Leak w a slot generation) = a < p
-IsWithin p q (short.Insert w a back slot generation) = a < p
-IsWithin p q (short.LeakRc w a slot generation) = a < p
-IsWithin p q (short.InsertRc w a back slot generation) = a < p
-IsWithin p q (short.LeakReference w a b slot generation) = (a < p) × (b < p)
-IsWithin p q (short.Read w a b slot generation) = (a < p) × (b < p)
-IsWithin p q (short.Write w a b slot generation) = (a < p) × (b < p)
-IsWithin p q (short.ReadDropped w a b slot generation) = (a < p) × (b < p)
-IsWithin p q (short.Set w a slot generation) = a < p
-IsWithin p q (short.End w a slot generation) = a < p
-IsWithin p q (short.PointTo w a b slot generation) = (a < p) × (b < p)
+IsWithin p q (short.Long high low) = high * 4294967296 + low < q
+IsWithin p q (short.Leak w a) = a < p
+IsWithin p q (short.Insert w a back) = a < p
+IsWithin p q (short.LeakRc w a) = a < p
+IsWithin p q (short.InsertRc w a back) = a < p
+IsWithin p q (short.LeakReference w a b) = (a < p) × (b < p)
+IsWithin p q (short.Read w a b) = (a < p) × (b < p)
+IsWithin p q (short.Write w a b) = (a < p) × (b < p)
+IsWithin p q (short.ReadDropped w a b) = (a < p) × (b < p)
+IsWithin p q (short.Set w a) = a < p
+IsWithin p q (short.End w a) = a < p
+IsWithin p q (short.PointTo w a b) = (a < p) × (b < p)
 IsWithin p q x = Unit {0}
 
 abbrev pub AreWithin : ℕ → ℕ → List Short → Type 0
 AreWithin p q [] = Unit {0}
 AreWithin p q (x ∷ xs) = IsWithin p q x × AreWithin p q xs
 
--- what decoding has come to at first, where this is the next ticket; and after an item, which may be
--- a name, and after a step, if it is one
+-- what decoding has come to at first, where this is the next ticket; after a cell is named; after an
+-- item, which may be a name; and after a step, if it is one
+abbrev pub no_name : ShortName
+no_name = record { slot = 0; generation = 0 }
+
 abbrev pub reached_first : ℕ → Reached
-reached_first next = record { next = next; slot = 0; generation = 0 }
+reached_first next = record { next = next; last = no_name; before = no_name }
+
+abbrev pub naming : Reached → ShortName → Reached
+naming r n = record r { last = n; before = r.last }
 
 abbrev pub named : Reached → Short → Reached
-named r (short.Name slot generation) = record r { slot = slot; generation = generation }
+named r (short.Name high low generation) =
+    naming r (record { slot = high * 65536 + low; generation = generation })
 named r x = r
 
 abbrev pub advanced : Reached → Option Step → Reached
@@ -81,54 +102,48 @@ module _ (number : ℕ) where
   owner_id key = record { store = number; key = key }
 
   module _ (places : List Location) where
-    abbrev pub box_at : ℕ → ℕ → ℕ → GenerationalPointer
-    box_at a slot generation =
-        box_of number (record { slot = slot; generation = generation }) (place_at places a)
+    abbrev pub box_at : ℕ → ShortName → GenerationalPointer
+    box_at a n = box_of number (full n) (place_at places a)
 
     module _ (long : List Step) where
-      -- The step for which a short one stands, and none for a name. A borrow or an owner has the
-      -- next ticket, an owner's box tells by how much the owner's key is less, and what names two
-      -- cells has the first's name from before.
+      -- The step for which a short one stands, and none for a name. A borrow that begins and a new
+      -- owner have the next ticket, and any other ticket and key are told by how much they are less.
+      -- A box is of the cell that was named last; of two cells, one is that which was named before.
       abbrev pub step_at : Reached → Short → Option Step
-      step_at r (short.Name slot generation) = None
-      step_at r (short.Long i) = Some (slice_index_or long i no_step)
-      step_at r (short.Leak w a slot generation) =
-          Some (step_of w (call.Leak (place_at places a)) (reply.Made (box_at a slot generation)))
-      step_at r (short.Insert w a back slot generation) =
+      step_at r (short.Name high low generation) = None
+      step_at r (short.Long high low) =
+          Some (slice_index_or long (high * 4294967296 + low) no_step)
+      step_at r (short.Leak w a) =
+          Some (step_of w (call.Leak (place_at places a)) (reply.Made (box_at a r.last)))
+      step_at r (short.Insert w a back) =
           Some (step_of w (call.Insert (owner_id (r.next - back)) (place_at places a))
-          (reply.Made (box_at a slot generation)))
-      step_at r (short.LeakRc w a slot generation) =
+          (reply.Made (box_at a r.last)))
+      step_at r (short.LeakRc w a) =
           Some (step_of w (call.LeakRc (place_at places a))
-          (reply.MadeShared (id_of number (record { slot = r.slot; generation = r.generation }))
-          (box_at a slot generation)))
-      step_at r (short.InsertRc w a back slot generation) =
+          (reply.MadeShared (id_of number (full r.before)) (box_at a r.last)))
+      step_at r (short.InsertRc w a back) =
           Some (step_of w (call.InsertRc (owner_id (r.next - back)) (place_at places a))
-          (reply.MadeShared (id_of number (record { slot = r.slot; generation = r.generation }))
-          (box_at a slot generation)))
-      step_at r (short.LeakReference w a b slot generation) =
-          Some (step_of w (call.LeakReference (box_at a r.slot r.generation))
-          (reply.Made (box_at b slot generation)))
+          (reply.MadeShared (id_of number (full r.before)) (box_at a r.last)))
+      step_at r (short.LeakReference w a b) =
+          Some (step_of w (call.LeakReference (box_at a r.before)) (reply.Made (box_at b r.last)))
       step_at r (short.Owner w) = Some (step_of w call.Owner (reply.Owner (owner_id r.next)))
-      step_at r (short.ReleaseOwner w key) =
-          Some (step_of w (call.ReleaseOwner (owner_id key)) reply.Done)
-      step_at r (short.Read w a b slot generation) =
-          Some (step_of w (call.Read (box_at a slot generation) (place_at places b))
-          (reply.Reader r.next))
-      step_at r (short.Write w a b slot generation) =
-          Some (step_of w (call.Write (box_at a slot generation) (place_at places b))
-          (reply.Writer r.next))
-      step_at r (short.ReadDropped w a b slot generation) =
-          Some (step_of w (call.Read (box_at a slot generation) (place_at places b))
+      step_at r (short.ReleaseOwner w back) =
+          Some (step_of w (call.ReleaseOwner (owner_id (r.next - back))) reply.Done)
+      step_at r (short.Read w a b) =
+          Some (step_of w (call.Read (box_at a r.last) (place_at places b)) (reply.Reader r.next))
+      step_at r (short.Write w a b) =
+          Some (step_of w (call.Write (box_at a r.last) (place_at places b)) (reply.Writer r.next))
+      step_at r (short.ReadDropped w a b) =
+          Some (step_of w (call.Read (box_at a r.last) (place_at places b))
           (reply.Dropped (place_at places a)))
-      step_at r (short.Set w a slot generation) =
-          Some (step_of w (call.Set (box_at a slot generation)) reply.Done)
-      step_at r (short.End w a slot generation) =
-          Some (step_of w (call.ManuallyDrop (box_at a slot generation)) reply.Done)
-      step_at r (short.PointTo w a b slot generation) =
-          Some (step_of w (call.PointTo (box_at a r.slot r.generation) (box_at b slot generation))
-          reply.Done)
-      step_at r (short.ReleaseRead w t) = Some (step_of w (call.ReleaseRead t) reply.Done)
-      step_at r (short.ReleaseWrite w t) = Some (step_of w (call.ReleaseWrite t) reply.Done)
+      step_at r (short.Set w a) = Some (step_of w (call.Set (box_at a r.last)) reply.Done)
+      step_at r (short.End w a) = Some (step_of w (call.ManuallyDrop (box_at a r.last)) reply.Done)
+      step_at r (short.PointTo w a b) =
+          Some (step_of w (call.PointTo (box_at a r.last) (box_at b r.before)) reply.Done)
+      step_at r (short.ReleaseRead w back) =
+          Some (step_of w (call.ReleaseRead (r.next - back)) reply.Done)
+      step_at r (short.ReleaseWrite w back) =
+          Some (step_of w (call.ReleaseWrite (r.next - back)) reply.Done)
 
       abbrev pub after : Reached → Short → Reached
       after r x = advanced (named r x) (step_at r x)
@@ -142,6 +157,33 @@ module _ (number : ℕ) where
       reached_by r [] = r
       reached_by r (x ∷ xs) = reached_by (after r x) xs
 
+-- what decoding has come to after these names, their items, and whether each fits into its item
+abbrev pub naming_all : Reached → Names → Reached
+naming_all r names.None = r
+naming_all r (names.One n) = naming r n
+naming_all r (names.Two n m) = naming (naming r n) m
+
+abbrev pub name_items : Names → List Short
+name_items names.None = []
+name_items (names.One n) = name_item n ∷ []
+name_items (names.Two n m) = name_item n ∷ name_item m ∷ []
+
+abbrev pub AreShort : Names → Type 0
+AreShort names.None = Unit {0}
+AreShort (names.One n) = n.slot < 16777216
+AreShort (names.Two n m) = (n.slot < 16777216) × (m.slot < 16777216)
+
+-- items go on by names alone, and so does what decoding has come to
+pub record IsNaming (before after : List Short) (r s : Reached) : Type 0 where
+  pub all : Names
+  pub items : after ≡ before ++ name_items all
+  pub reached : s ≡ naming_all r all
+
+-- the cells with these ids, as far as there are such, are the one that was named last and that before it
+pub record AreNamed (number : ℕ) (r : Reached) (before last : Option GenerationalBoxId) : Type 0 where
+  pub before_is : IfSome before (λ id. id ≡ id_of number (full r.before))
+  pub last_is : IfSome last (λ id. id ≡ id_of number (full r.last))
+
 -- a short step that isn't a long one stands for this step, by letters, where decoding has come to this
 pub record StandsFor (number : ℕ) (places : List Location) (r : Reached) (step : Step) (x : Short)
     : Type 0 where
@@ -150,9 +192,3 @@ pub record StandsFor (number : ℕ) (places : List Location) (r : Reached) (step
       → option_map lettered_step (step_at number places long r x) ≡ Some (lettered_step step)
   pub goes_on : (long : List Step)
       → after number places long r x ≡ advanced r (Some step)
-
--- and so does a form: its one item, or its second one after the name that is the first
-abbrev pub IsForm : ℕ → List Location → Reached → Step → Form → Type 0
-IsForm number places r step (One x) = StandsFor number places r step x
-IsForm number places r step (Two slot generation x) =
-    StandsFor number places (named r (short.Name slot generation)) step x

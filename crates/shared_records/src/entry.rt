@@ -1,18 +1,20 @@
 //! What a list of steps is told of a call and its reply.
 
-ghost use Rattle.std.specs.Prelude.{◌≡◌, IfSome};
+ghost use Rattle.std.specs.Prelude.{◌≡◌, IfSome, None, Option, Some};
+ghost use Rattle.generational_core.specs.declared.boxes.GenerationalBoxId.{GenerationalBoxId};
 ghost use Rattle.generational_core.specs.declared.steps.StepCall.{StepCall};
 ghost use Rattle.generational_core.specs.declared.steps.StepCall.TheVariants as call;
 ghost use Rattle.shared_records.specs.declared.step.StepReply.{StepReply};
 ghost use Rattle.shared_records.specs.declared.step.StepReply.TheVariants as reply;
-ghost use Rattle.shared_records.specs.Decoding.{Extends, IsForm};
+ghost use Rattle.shared_records.specs.Decoding.{AreNamed, AreShort, Extends, StandsFor};
+ghost use Rattle.shared_records.specs.Decoding.{naming_all};
 ghost use Rattle.shared_records.specs.Kinds.{made_by, referred_by, shared_by, step_of};
 
 use crate::places::Places;
 use crate::short::Short;
 use crate::shorten::{
-    Form, Taken, end, insert, insert_rc, leak, leak_rc, leak_reference, point_to, read,
-    read_dropped, set, write,
+    Names, Taken, back_to, end, insert, insert_rc, is_next, leak, leak_rc, leak_reference, name_one,
+    name_two, point_to, read, read_dropped, set, worker_of, write,
 };
 use crate::step::StepReply;
 use generational_core::{GenerationalBoxId, GenerationalPointer, Location, OwnerId, StepCall};
@@ -24,11 +26,24 @@ pub trait Entry: Copy {
 
     ghost as_reply: { Self → StepReply };
 
-    /// How the step is kept in 16 bytes, or in twice as many; None where it has no form or a number
-    /// doesn't fit.
-    fn form(self, taken: Taken, places: &mut Places) -> Option<Form>
+    /// The cells of its boxes: the one that its item takes to be named last, and the one before it.
+    ghost last: { Self → Option GenerationalBoxId };
+
+    ghost before: { Self → Option GenerationalBoxId };
+
+    /// What names the step's cells before its item; None where one isn't of the store, a number doesn't
+    /// fit, or the step has no short form.
+    fn names(self, taken: Taken) -> Option<Names>
+        ensures short { IfSome result AreShort }
+        ensures named { IfSome result (λ names. AreNamed taken.number
+            (naming_all taken.reached names) (Self.before self) (Self.last self)) };
+
+    /// The step in 8 bytes, where its cells are named; None where it has no such form or a number doesn't
+    /// fit.
+    fn form(self, taken: Taken, places: &mut Places) -> Option<Short>
+        requires { AreNamed taken.number taken.reached (Self.before self) (Self.last self) }
         ensures extends { Extends places.old places.new }
-        ensures form { IfSome result (IsForm taken.number places.new taken.reached
+        ensures form { IfSome result (StandsFor taken.number places.new taken.reached
             (step_of taken.worker (Self.as_call self) (Self.as_reply self))) };
 
     /// The call.
@@ -52,8 +67,17 @@ impl Entry for AnyEntry {
 
     ghost as_reply = { λ e. e.reply };
 
+    ghost last = { λ _. None };
+
+    ghost before = { λ _. None };
+
     #[inline(always)]
-    fn form(self, _taken: Taken, _places: &mut Places) -> Option<Form> {
+    fn names(self, _taken: Taken) -> Option<Names> {
+        None
+    }
+
+    #[inline(always)]
+    fn form(self, _taken: Taken, _places: &mut Places) -> Option<Short> {
         None
     }
 
@@ -114,8 +138,17 @@ impl Entry for BoxMade {
 
     ghost as_reply = { λ e. reply.Made e.made };
 
+    ghost last = { λ e. Some e.made.id };
+
+    ghost before = { λ _. None };
+
     #[inline(always)]
-    fn form(self, taken: Taken, places: &mut Places) -> Option<Form> {
+    fn names(self, taken: Taken) -> Option<Names> {
+        name_one(taken, self.made.id)
+    }
+
+    #[inline(always)]
+    fn form(self, taken: Taken, places: &mut Places) -> Option<Short> {
         match self.owner {
             None => leak(taken, places, self.at, self.made),
             Some(owner) => insert(taken, places, owner, self.at, self.made),
@@ -146,8 +179,17 @@ impl Entry for ReadBegun {
 
     ghost as_reply = { λ e. reply.Reader e.ticket };
 
+    ghost last = { λ e. Some e.asked.id };
+
+    ghost before = { λ _. None };
+
     #[inline(always)]
-    fn form(self, taken: Taken, places: &mut Places) -> Option<Form> {
+    fn names(self, taken: Taken) -> Option<Names> {
+        name_one(taken, self.asked.id)
+    }
+
+    #[inline(always)]
+    fn form(self, taken: Taken, places: &mut Places) -> Option<Short> {
         read(taken, places, self.asked, self.at, self.ticket)
     }
 
@@ -174,8 +216,17 @@ impl Entry for ReadDropped {
 
     ghost as_reply = { λ e. reply.Dropped e.asked.created_at };
 
+    ghost last = { λ e. Some e.asked.id };
+
+    ghost before = { λ _. None };
+
     #[inline(always)]
-    fn form(self, taken: Taken, places: &mut Places) -> Option<Form> {
+    fn names(self, taken: Taken) -> Option<Names> {
+        name_one(taken, self.asked.id)
+    }
+
+    #[inline(always)]
+    fn form(self, taken: Taken, places: &mut Places) -> Option<Short> {
         read_dropped(taken, places, self.asked, self.at)
     }
 
@@ -203,8 +254,17 @@ impl Entry for WriteBegun {
 
     ghost as_reply = { λ e. reply.Writer e.ticket };
 
+    ghost last = { λ e. Some e.asked.id };
+
+    ghost before = { λ _. None };
+
     #[inline(always)]
-    fn form(self, taken: Taken, places: &mut Places) -> Option<Form> {
+    fn names(self, taken: Taken) -> Option<Names> {
+        name_one(taken, self.asked.id)
+    }
+
+    #[inline(always)]
+    fn form(self, taken: Taken, places: &mut Places) -> Option<Short> {
         write(taken, places, self.asked, self.at, self.ticket)
     }
 
@@ -230,8 +290,17 @@ impl Entry for BoxEnded {
 
     ghost as_reply = { λ _. reply.Done };
 
+    ghost last = { λ e. Some e.asked.id };
+
+    ghost before = { λ _. None };
+
     #[inline(always)]
-    fn form(self, taken: Taken, places: &mut Places) -> Option<Form> {
+    fn names(self, taken: Taken) -> Option<Names> {
+        name_one(taken, self.asked.id)
+    }
+
+    #[inline(always)]
+    fn form(self, taken: Taken, places: &mut Places) -> Option<Short> {
         end(taken, places, self.asked)
     }
 
@@ -257,9 +326,20 @@ impl Entry for ReadEnded {
 
     ghost as_reply = { λ _. reply.Done };
 
+    ghost last = { λ _. None };
+
+    ghost before = { λ _. None };
+
     #[inline(always)]
-    fn form(self, taken: Taken, _places: &mut Places) -> Option<Form> {
-        Some(Form::One(Short::ReleaseRead(taken.worker, self.ticket)))
+    fn names(self, _taken: Taken) -> Option<Names> {
+        Some(Names::None)
+    }
+
+    #[inline(always)]
+    fn form(self, taken: Taken, _places: &mut Places) -> Option<Short> {
+        let worker = worker_of(taken)?;
+        let back = back_to(taken, self.ticket)?;
+        Some(Short::ReleaseRead(worker, back))
     }
 
     #[inline(always)]
@@ -284,9 +364,20 @@ impl Entry for WriteEnded {
 
     ghost as_reply = { λ _. reply.Done };
 
+    ghost last = { λ _. None };
+
+    ghost before = { λ _. None };
+
     #[inline(always)]
-    fn form(self, taken: Taken, _places: &mut Places) -> Option<Form> {
-        Some(Form::One(Short::ReleaseWrite(taken.worker, self.ticket)))
+    fn names(self, _taken: Taken) -> Option<Names> {
+        Some(Names::None)
+    }
+
+    #[inline(always)]
+    fn form(self, taken: Taken, _places: &mut Places) -> Option<Short> {
+        let worker = worker_of(taken)?;
+        let back = back_to(taken, self.ticket)?;
+        Some(Short::ReleaseWrite(worker, back))
     }
 
     #[inline(always)]
@@ -315,8 +406,17 @@ impl Entry for SharedMade {
 
     ghost as_reply = { λ e. reply.MadeShared e.cell e.made };
 
+    ghost last = { λ e. Some e.made.id };
+
+    ghost before = { λ e. Some e.cell };
+
     #[inline(always)]
-    fn form(self, taken: Taken, places: &mut Places) -> Option<Form> {
+    fn names(self, taken: Taken) -> Option<Names> {
+        name_two(taken, self.cell, self.made.id)
+    }
+
+    #[inline(always)]
+    fn form(self, taken: Taken, places: &mut Places) -> Option<Short> {
         match self.owner {
             None => leak_rc(taken, places, self.at, self.cell, self.made),
             Some(owner) => insert_rc(taken, places, owner, self.at, self.cell, self.made),
@@ -347,8 +447,20 @@ impl Entry for ReferenceMade {
 
     ghost as_reply = { λ e. reply.Made e.made };
 
+    ghost last = { λ e. Some e.made.id };
+
+    ghost before = { λ e. Some e.asked.id };
+
     #[inline(always)]
-    fn form(self, taken: Taken, places: &mut Places) -> Option<Form> {
+    fn names(self, taken: Taken) -> Option<Names> {
+        match self.owner {
+            None => name_two(taken, self.asked.id, self.made.id),
+            Some(_) => None,
+        }
+    }
+
+    #[inline(always)]
+    fn form(self, taken: Taken, places: &mut Places) -> Option<Short> {
         match self.owner {
             None => leak_reference(taken, places, self.asked, self.made),
             Some(_) => None,
@@ -377,12 +489,21 @@ impl Entry for OwnerMade {
 
     ghost as_reply = { λ e. reply.Owner e.owner };
 
+    ghost last = { λ _. None };
+
+    ghost before = { λ _. None };
+
     #[inline(always)]
-    fn form(self, taken: Taken, _places: &mut Places) -> Option<Form> {
-        if self.owner.store != taken.number || self.owner.key != taken.reached.next {
+    fn names(self, _taken: Taken) -> Option<Names> {
+        Some(Names::None)
+    }
+
+    #[inline(always)]
+    fn form(self, taken: Taken, _places: &mut Places) -> Option<Short> {
+        if self.owner.store != taken.number || !is_next(taken, self.owner.key) {
             return None;
         }
-        Some(Form::One(Short::Owner(taken.worker)))
+        Some(Short::Owner(taken.worker))
     }
 
     #[inline(always)]
@@ -407,8 +528,17 @@ impl Entry for ValueSet {
 
     ghost as_reply = { λ _. reply.Done };
 
+    ghost last = { λ e. Some e.asked.id };
+
+    ghost before = { λ _. None };
+
     #[inline(always)]
-    fn form(self, taken: Taken, places: &mut Places) -> Option<Form> {
+    fn names(self, taken: Taken) -> Option<Names> {
+        name_one(taken, self.asked.id)
+    }
+
+    #[inline(always)]
+    fn form(self, taken: Taken, places: &mut Places) -> Option<Short> {
         set(taken, places, self.asked)
     }
 
@@ -435,8 +565,17 @@ impl Entry for BoxPointed {
 
     ghost as_reply = { λ _. reply.Done };
 
+    ghost last = { λ e. Some e.asked.id };
+
+    ghost before = { λ e. Some e.other.id };
+
     #[inline(always)]
-    fn form(self, taken: Taken, places: &mut Places) -> Option<Form> {
+    fn names(self, taken: Taken) -> Option<Names> {
+        name_two(taken, self.other.id, self.asked.id)
+    }
+
+    #[inline(always)]
+    fn form(self, taken: Taken, places: &mut Places) -> Option<Short> {
         point_to(taken, places, self.asked, self.other)
     }
 
@@ -462,12 +601,23 @@ impl Entry for OwnerEnded {
 
     ghost as_reply = { λ _. reply.Done };
 
+    ghost last = { λ _. None };
+
+    ghost before = { λ _. None };
+
     #[inline(always)]
-    fn form(self, taken: Taken, _places: &mut Places) -> Option<Form> {
+    fn names(self, _taken: Taken) -> Option<Names> {
+        Some(Names::None)
+    }
+
+    #[inline(always)]
+    fn form(self, taken: Taken, _places: &mut Places) -> Option<Short> {
         if self.owner.store != taken.number {
             return None;
         }
-        Some(Form::One(Short::ReleaseOwner(taken.worker, self.owner.key)))
+        let worker = worker_of(taken)?;
+        let back = back_to(taken, self.owner.key)?;
+        Some(Short::ReleaseOwner(worker, back))
     }
 
     #[inline(always)]

@@ -1,7 +1,7 @@
 //! The steps of a shared store, and how its history keeps them.
 //!
 //! A [`Step`] is a worker, its call and the reply, without values. A [`StepList`] keeps most steps in
-//! 16 bytes, with a number for each location, and any other whole. It is a part of
+//! 8 bytes, with a number for each location and with names for cells, and any other whole. It is a part of
 //! `generational_sync`, which exports what users need.
 #![tactic(auto)]
 

@@ -1,9 +1,9 @@
-//! Steps in 16 bytes, and the steps for which they stand.
+//! Steps in 8 bytes, and the steps for which they stand.
 
 ghost use Rattle.std.specs.Prelude.{◌≡◌, ◌<◌, ◌++◌, OnOk, length, option_to_list};
 ghost use Rattle.shared_records.specs.Decoding.{AreWithin, IsWithin, advanced, box_at, decode};
-ghost use Rattle.shared_records.specs.Decoding.{named, next_after, owner_id, reached_first};
-ghost use Rattle.shared_records.specs.Decoding.{step_at};
+ghost use Rattle.shared_records.specs.Decoding.{name_item, named, naming, next_after, owner_id};
+ghost use Rattle.shared_records.specs.Decoding.{reached_first, step_at};
 ghost use Rattle.shared_records.specs.Kinds.{step_of};
 
 use crate::step::{Step, StepReply};
@@ -12,58 +12,79 @@ use generational_core::{GenerationalPointer, Location, OwnerId, StepCall};
 use std::alloc::AllocError;
 use std::mem::size_of;
 
-/// A step: its worker, its locations by their numbers, a slot and a generation; or a ticket. The
-/// ticket of a borrow that begins, and the key of a new owner, isn't kept: it is the next ticket.
-/// Every box is of the store whose history it is. Of two cells that a step names, the first's name
-/// stands before it, as an item of its own.
+/// A step: its worker, and its locations by their numbers. The cells of its boxes are named by what
+/// stands before it. The ticket of a borrow that begins, and the key of a new owner, isn't kept: it is
+/// the next ticket; another ticket is kept as by how much it is less than that. Every box is of the
+/// store whose history it is.
 #[derive(Clone, Copy)]
 pub enum Short {
-    /// No step, but the name of a cell for the next item: slot, generation.
-    Name(u32, u32),
-    /// Any step that has no other form: the one with this number among the long ones.
-    Long(u64),
-    /// A box was made: worker, location, slot, generation.
-    Leak(u16, u16, u32, u32),
-    /// An owner's box was made: worker, location, by how much the owner's key is less than the next
-    /// ticket, slot, generation.
-    Insert(u16, u16, u16, u32, u32),
-    /// A shared value was made, whose cell was named: worker, location, the box's slot, generation.
-    LeakRc(u16, u16, u32, u32),
-    /// An owner's shared value was made, whose cell was named: worker, location, by how much the
-    /// owner's key is less than the next ticket, the box's slot, generation.
-    InsertRc(u16, u16, u16, u32, u32),
-    /// A reference was made by a box that was named: worker, where that box was made, where the
-    /// reference was, slot, generation.
-    LeakReference(u16, u16, u16, u32, u32),
+    /// No step, but the name of a cell for what comes next: the slot in two parts, of which the first
+    /// counts 65536 each, and the generation. The cell that was named before it is kept too.
+    Name(u8, u16, u32),
+    /// Any step that has no other form: the one with this number among the long ones, in two parts, of
+    /// which the first counts 2^32 each.
+    Long(u16, u32),
+    /// A box of the named cell was made: worker, location.
+    Leak(u16, u16),
+    /// An owner's box of the named cell was made: worker, location, by how much the owner's key is less
+    /// than the next ticket.
+    Insert(u16, u16, u16),
+    /// A shared value was made, whose cell is the one named before, and a box: worker, location.
+    LeakRc(u16, u16),
+    /// An owner's shared value was made likewise: worker, location, by how much the owner's key is less
+    /// than the next ticket.
+    InsertRc(u16, u16, u16),
+    /// A reference of the named cell was made by a box of the one before: worker, where that box was
+    /// made, where the reference was.
+    LeakReference(u16, u16, u16),
     /// An owner was given: worker.
     Owner(u32),
-    /// An owner was released: worker, key.
-    ReleaseOwner(u32, u64),
-    /// A read began: worker, where the box was made, where it is read, slot, generation.
-    Read(u16, u16, u16, u32, u32),
+    /// An owner was released: worker, by how much its key is less than the next ticket.
+    ReleaseOwner(u16, u32),
+    /// A read began: worker, where the box was made, where it is read.
+    Read(u16, u16, u16),
     /// A write began: the same.
-    Write(u16, u16, u16, u32, u32),
+    Write(u16, u16, u16),
     /// A read was told where the box was made, which reached nothing: the same.
-    ReadDropped(u16, u16, u16, u32, u32),
-    /// A value was set: worker, where the box was made, slot, generation.
-    Set(u16, u16, u32, u32),
+    ReadDropped(u16, u16, u16),
+    /// A value was set: worker, where the box was made.
+    Set(u16, u16),
     /// A box was ended: the same.
-    End(u16, u16, u32, u32),
-    /// A box that was named was pointed at another: worker, where the one was made, where the other
-    /// was, the other's slot, generation.
-    PointTo(u16, u16, u16, u32, u32),
-    /// A reader was released: worker, ticket.
-    ReleaseRead(u32, u64),
-    /// A writer was released: worker, ticket.
-    ReleaseWrite(u32, u64),
+    End(u16, u16),
+    /// A box of the named cell was pointed at one of the cell before: worker, where the one was made,
+    /// where the other was.
+    PointTo(u16, u16, u16),
+    /// A reader was released: worker, by how much its ticket is less than the next.
+    ReleaseRead(u16, u32),
+    /// A writer was released: the same.
+    ReleaseWrite(u16, u32),
 }
 
-/// What decoding has come to: the next ticket, and the name of a cell that was read last.
+/// The name of a cell: its slot, below 2^24, and its generation.
+#[derive(Clone, Copy)]
+pub struct ShortName {
+    pub slot: u32,
+    pub generation: u32,
+}
+
+impl ShortName {
+    /// The item that names the cell.
+    #[inline(always)]
+    pub fn item(self) -> Short
+        requires { self.slot < 16777216 }
+        ensures { result ≡ name_item self }
+    {
+        let high = (self.slot / 65536) as u8;
+        Short::Name(high, (self.slot % 65536) as u16, self.generation)
+    }
+}
+
+/// What decoding has come to: the next ticket, the cell that was named last, and the one before it.
 #[derive(Clone, Copy)]
 pub struct Reached {
     pub next: u64,
-    pub slot: u32,
-    pub generation: u32,
+    pub last: ShortName,
+    pub before: ShortName,
 }
 
 impl Reached {
@@ -71,22 +92,26 @@ impl Reached {
     pub fn first(next: u64) -> Reached
         ensures { result ≡ reached_first next }
     {
-        Reached {
-            next,
+        let none = ShortName {
             slot: 0,
             generation: 0,
+        };
+        Reached {
+            next,
+            last: none,
+            before: none,
         }
     }
 
     /// What decoding comes to after this name.
     #[inline(always)]
-    pub fn named(self, slot: u32, generation: u32) -> Reached
-        ensures { result ≡ record self { slot = slot; generation = generation } }
+    pub fn naming(self, name: ShortName) -> Reached
+        ensures { result ≡ naming self name }
     {
         Reached {
             next: self.next,
-            slot,
-            generation,
+            last: name,
+            before: self.last,
         }
     }
 
@@ -97,14 +122,14 @@ impl Reached {
     {
         Reached {
             next: next_after(self.next, reply),
-            slot: self.slot,
-            generation: self.generation,
+            last: self.last,
+            before: self.before,
         }
     }
 }
 
 // What a step takes of memory.
-const _: () = prove!(size_of::<Short>() == 16);
+const _: () = prove!(size_of::<Short>() == 8);
 
 // A worker's step.
 pub(crate) fn step(worker: u32, call: StepCall, reply: StepReply) -> Step
@@ -129,88 +154,84 @@ pub fn step_at(
     requires { IsWithin (length places.now) (length long.now) short }
     ensures { result ≡ step_at number places.now long.now reached short }
 {
-    let Reached {
-        next,
-        slot: first,
-        generation: birth,
-    } = reached;
+    let Reached { next, last, before } = reached;
     match short {
-        Short::Name(_, _) => None,
-        Short::Long(at) => Some(long[at as usize]),
-        Short::Leak(worker, place, slot, generation) => {
+        Short::Name(_, _, _) => None,
+        Short::Long(high, low) => Some(long[(high as usize) * 4294967296 + low as usize]),
+        Short::Leak(worker, place) => {
             let call = StepCall::Leak(places[place as usize]);
-            let made = box_at(number, places, place, slot, generation);
+            let made = box_at(number, places, place, last);
             Some(step(worker as u32, call, StepReply::Made(made)))
         }
-        Short::Insert(worker, place, back, slot, generation) => {
+        Short::Insert(worker, place, back) => {
             let owner = owner_id(number, next.saturating_sub(back as u64));
             let call = StepCall::Insert(owner, places[place as usize]);
-            let made = box_at(number, places, place, slot, generation);
+            let made = box_at(number, places, place, last);
             Some(step(worker as u32, call, StepReply::Made(made)))
         }
-        Short::LeakRc(worker, place, slot, generation) => {
+        Short::LeakRc(worker, place) => {
             let call = StepCall::LeakRc(places[place as usize]);
-            let cell = id_at(number, first as usize, birth as u64);
-            let made = box_at(number, places, place, slot, generation);
+            let cell = id_at(number, before.slot as usize, before.generation as u64);
+            let made = box_at(number, places, place, last);
             Some(step(worker as u32, call, StepReply::MadeShared(cell, made)))
         }
-        Short::InsertRc(worker, place, back, slot, generation) => {
+        Short::InsertRc(worker, place, back) => {
             let owner = owner_id(number, next.saturating_sub(back as u64));
             let call = StepCall::InsertRc(owner, places[place as usize]);
-            let cell = id_at(number, first as usize, birth as u64);
-            let made = box_at(number, places, place, slot, generation);
+            let cell = id_at(number, before.slot as usize, before.generation as u64);
+            let made = box_at(number, places, place, last);
             Some(step(worker as u32, call, StepReply::MadeShared(cell, made)))
         }
-        Short::LeakReference(worker, asked, place, slot, generation) => {
-            let call = StepCall::LeakReference(box_at(number, places, asked, first, birth));
-            let made = box_at(number, places, place, slot, generation);
+        Short::LeakReference(worker, asked, place) => {
+            let call = StepCall::LeakReference(box_at(number, places, asked, before));
+            let made = box_at(number, places, place, last);
             Some(step(worker as u32, call, StepReply::Made(made)))
         }
         Short::Owner(worker) => {
             let reply = StepReply::Owner(owner_id(number, next));
             Some(step(worker, StepCall::Owner, reply))
         }
-        Short::ReleaseOwner(worker, key) => {
-            let call = StepCall::ReleaseOwner(owner_id(number, key));
-            Some(step(worker, call, StepReply::Done))
+        Short::ReleaseOwner(worker, back) => {
+            let owner = owner_id(number, next.saturating_sub(back as u64));
+            let call = StepCall::ReleaseOwner(owner);
+            Some(step(worker as u32, call, StepReply::Done))
         }
-        Short::Read(worker, made, read, slot, generation) => {
-            let asked = box_at(number, places, made, slot, generation);
+        Short::Read(worker, made, read) => {
+            let asked = box_at(number, places, made, last);
             let call = StepCall::Read(asked, places[read as usize]);
             Some(step(worker as u32, call, StepReply::Reader(next)))
         }
-        Short::Write(worker, made, written, slot, generation) => {
-            let asked = box_at(number, places, made, slot, generation);
+        Short::Write(worker, made, written) => {
+            let asked = box_at(number, places, made, last);
             let call = StepCall::Write(asked, places[written as usize]);
             Some(step(worker as u32, call, StepReply::Writer(next)))
         }
-        Short::ReadDropped(worker, made, read, slot, generation) => {
-            let asked = box_at(number, places, made, slot, generation);
+        Short::ReadDropped(worker, made, read) => {
+            let asked = box_at(number, places, made, last);
             let call = StepCall::Read(asked, places[read as usize]);
             Some(step(worker as u32, call, StepReply::Dropped(asked.created_at)))
         }
-        Short::Set(worker, made, slot, generation) => {
-            let call = StepCall::Set(box_at(number, places, made, slot, generation));
+        Short::Set(worker, made) => {
+            let call = StepCall::Set(box_at(number, places, made, last));
             Some(step(worker as u32, call, StepReply::Done))
         }
-        Short::End(worker, made, slot, generation) => {
-            let call = StepCall::ManuallyDrop(box_at(number, places, made, slot, generation));
+        Short::End(worker, made) => {
+            let call = StepCall::ManuallyDrop(box_at(number, places, made, last));
             Some(step(worker as u32, call, StepReply::Done))
         }
-        Short::PointTo(worker, made, target, slot, generation) => {
-            let asked = box_at(number, places, made, first, birth);
-            let other = box_at(number, places, target, slot, generation);
-            Some(step(
-                worker as u32,
-                StepCall::PointTo(asked, other),
-                StepReply::Done,
-            ))
+        Short::PointTo(worker, made, target) => {
+            let asked = box_at(number, places, made, last);
+            let other = box_at(number, places, target, before);
+            let call = StepCall::PointTo(asked, other);
+            Some(step(worker as u32, call, StepReply::Done))
         }
-        Short::ReleaseRead(worker, ticket) => {
-            Some(step(worker, StepCall::ReleaseRead(ticket), StepReply::Done))
+        Short::ReleaseRead(worker, back) => {
+            let call = StepCall::ReleaseRead(next.saturating_sub(back as u64));
+            Some(step(worker as u32, call, StepReply::Done))
         }
-        Short::ReleaseWrite(worker, ticket) => {
-            Some(step(worker, StepCall::ReleaseWrite(ticket), StepReply::Done))
+        Short::ReleaseWrite(worker, back) => {
+            let call = StepCall::ReleaseWrite(next.saturating_sub(back as u64));
+            Some(step(worker as u32, call, StepReply::Done))
         }
     }
 }
@@ -220,16 +241,15 @@ fn box_at(
     number: u64,
     places: &[Location],
     place: u16,
-    slot: u32,
-    generation: u32,
+    name: ShortName,
 ) -> GenerationalPointer
     requires { place < length places.now }
-    ensures { result ≡ box_at number places.now place slot generation }
+    ensures { result ≡ box_at number places.now place name }
 {
     pointer_at(
         number,
-        slot as usize,
-        generation as u64,
+        name.slot as usize,
+        name.generation as u64,
         places[place as usize],
     )
 }
@@ -262,7 +282,10 @@ fn go_on(reached: Reached, short: Short, step: Option<Step>) -> Reached
     ensures { result ≡ advanced (named reached short) step }
 {
     let reached = match short {
-        Short::Name(slot, generation) => reached.named(slot, generation),
+        Short::Name(high, low, generation) => reached.naming(ShortName {
+            slot: (high as u32) * 65536 + low as u32,
+            generation,
+        }),
         _ => reached,
     };
     match step {
@@ -301,4 +324,15 @@ pub fn decode_all(
         push_some(all, step)?;
     }
     Ok(())
+}
+
+/// How many of the items are steps, and not names.
+pub fn steps_among(short: &[Short]) -> usize {
+    let mut steps = 0usize;
+    for item in short.iter() {
+        if !matches!(item, Short::Name(_, _, _)) {
+            steps = steps.wrapping_add(1);
+        }
+    }
+    steps
 }

@@ -1,17 +1,17 @@
-//! How steps are kept in 16 bytes.
+//! How steps are kept in 8 bytes.
 
-ghost use Rattle.std.specs.Prelude.{◌≡◌, ◌-◌, ◌<◌, ◌≤◌, IfSome, OnSome};
+ghost use Rattle.std.specs.Prelude.{◌≡◌, ◌-◌, ◌<◌, IfSome, None, Some};
 ghost use Rattle.std.specs.Bool.{OnTrue};
 ghost use Rattle.generational_core.specs.declared.steps.StepCall.TheVariants as call;
+ghost use Rattle.generational_core.specs.Boxes.{id_of};
 ghost use Rattle.shared_records.specs.declared.step.StepReply.TheVariants as reply;
-ghost use Rattle.shared_records.specs.declared.shorten.Form.TheVariants.{Two};
-ghost use Rattle.shared_records.specs.Decoding.{Extends, IsAt, IsForm};
+ghost use Rattle.shared_records.specs.Decoding.{AreNamed, AreShort, Extends, IsAt, StandsFor, full};
+ghost use Rattle.shared_records.specs.Decoding.{naming_all, owner_id};
 ghost use Rattle.shared_records.specs.Kinds.{step_of};
 
 use crate::places::{Places, is_same};
-use crate::short::{Reached, Short};
-use crate::step::StepReply;
-use generational_core::{GenerationalBoxId, GenerationalPointer, Location, OwnerId, StepCall};
+use crate::short::{Reached, Short, ShortName};
+use generational_core::{GenerationalBoxId, GenerationalPointer, Location, OwnerId};
 
 /// Where a step is taken: the store's number, what decoding comes to before it, and the worker.
 #[derive(Clone, Copy)]
@@ -21,24 +21,72 @@ pub struct Taken {
     pub worker: u32,
 }
 
-/// How a step is kept: in one item; or in two, of which the first names a cell by its slot and
-/// generation.
+/// The names that stand before a step's item, in order.
 #[derive(Clone, Copy)]
-pub enum Form {
-    One(Short),
-    Two(u32, u32, Short),
+pub enum Names {
+    None,
+    One(ShortName),
+    Two(ShortName, ShortName),
 }
 
-// Whether the worker's number and the box's fit, and the box is of the store.
+// The name of a cell of the store, where its numbers fit.
 #[inline(always)]
-fn fits(taken: Taken, asked: GenerationalPointer) -> bool
-    ensures { OnTrue result ((asked.id.store ≡ taken.number) × (asked.id.slot < 4294967296)
-        × (asked.id.generation < 4294967296) × (taken.worker < 65536)) }
+fn short_name(taken: Taken, id: GenerationalBoxId) -> Option<ShortName>
+    ensures { IfSome result (λ n. (id ≡ id_of taken.number (full n)) × (n.slot < 16777216)) }
 {
-    asked.id.store == taken.number
-        && asked.id.slot < 4294967296
-        && asked.id.generation < 4294967296
-        && taken.worker < 65536
+    if id.store != taken.number || id.slot >= 16777216 || id.generation >= 4294967296 {
+        return None;
+    }
+    Some(ShortName {
+        slot: id.slot as u32,
+        generation: id.generation as u32,
+    })
+}
+
+// Whether the cell with this id is the one that was named last.
+#[inline(always)]
+fn is_last(taken: Taken, id: GenerationalBoxId) -> bool
+    ensures { OnTrue result (id ≡ id_of taken.number (full taken.reached.last)) }
+{
+    let last = taken.reached.last;
+    id.slot == last.slot as usize
+        && id.generation == last.generation as u64
+        && id.store == taken.number
+}
+
+/// What names the cell with this id as the last one, where it fits. Mostly it is that already.
+#[inline(always)]
+pub fn name_one(taken: Taken, id: GenerationalBoxId) -> Option<Names>
+    ensures short { IfSome result AreShort }
+    ensures named { IfSome result
+        (λ names. AreNamed taken.number (naming_all taken.reached names) None (Some id)) }
+{
+    if is_last(taken, id) {
+        return Some(Names::None);
+    }
+    Some(Names::One(short_name(taken, id)?))
+}
+
+/// What names two cells, one as the last and one as that before it, where they fit.
+#[inline(always)]
+pub fn name_two(taken: Taken, before: GenerationalBoxId, last: GenerationalBoxId) -> Option<Names>
+    ensures short { IfSome result AreShort }
+    ensures named { IfSome result
+        (λ names. AreNamed taken.number (naming_all taken.reached names) (Some before) (Some last)) }
+{
+    let second = short_name(taken, last)?;
+    if is_last(taken, before) {
+        return Some(Names::One(second));
+    }
+    Some(Names::Two(short_name(taken, before)?, second))
+}
+
+/// The worker's number, where it fits.
+#[inline(always)]
+pub fn worker_of(taken: Taken) -> Option<u16>
+    ensures { IfSome result (λ worker. worker ≡ taken.worker) }
+{
+    u16::try_from(taken.worker).ok()
 }
 
 #[inline(always)]
@@ -47,22 +95,18 @@ pub fn leak(
     places: &mut Places,
     at: Location,
     made: GenerationalPointer,
-) -> Option<Form>
+) -> Option<Short>
+    requires { made.id ≡ id_of taken.number (full taken.reached.last) }
     ensures extends { Extends places.old places.new }
-    ensures form { IfSome result (IsForm taken.number places.new taken.reached
+    ensures form { IfSome result (StandsFor taken.number places.new taken.reached
         (step_of taken.worker (call.Leak at) (reply.Made made))) }
 {
-    if !fits(taken, made) || !is_same(made.created_at, at) {
+    if !is_same(made.created_at, at) {
         return None;
     }
+    let worker = worker_of(taken)?;
     let place = places.find_or_add(at)?;
-    let short = Short::Leak(
-        taken.worker as u16,
-        place,
-        made.id.slot as u32,
-        made.id.generation as u32,
-    );
-    Some(Form::One(short))
+    Some(Short::Leak(worker, place))
 }
 
 #[inline(always)]
@@ -72,24 +116,19 @@ pub fn insert(
     owner: OwnerId,
     at: Location,
     made: GenerationalPointer,
-) -> Option<Form>
+) -> Option<Short>
+    requires { made.id ≡ id_of taken.number (full taken.reached.last) }
     ensures extends { Extends places.old places.new }
-    ensures form { IfSome result (IsForm taken.number places.new taken.reached
+    ensures form { IfSome result (StandsFor taken.number places.new taken.reached
         (step_of taken.worker (call.Insert owner at) (reply.Made made))) }
 {
-    if !fits(taken, made) || !is_same(made.created_at, at) {
+    if !is_same(made.created_at, at) {
         return None;
     }
-    let back = back_to(taken, owner)?;
+    let worker = worker_of(taken)?;
+    let back = back_to_owner(taken, owner)?;
     let place = places.find_or_add(at)?;
-    let short = Short::Insert(
-        taken.worker as u16,
-        place,
-        back,
-        made.id.slot as u32,
-        made.id.generation as u32,
-    );
-    Some(Form::One(short))
+    Some(Short::Insert(worker, place, back))
 }
 
 #[inline(always)]
@@ -99,48 +138,18 @@ pub fn read(
     asked: GenerationalPointer,
     at: Location,
     ticket: u64,
-) -> Option<Form>
+) -> Option<Short>
+    requires { asked.id ≡ id_of taken.number (full taken.reached.last) }
     ensures extends { Extends places.old places.new }
-    ensures form { IfSome result (IsForm taken.number places.new taken.reached
+    ensures form { IfSome result (StandsFor taken.number places.new taken.reached
         (step_of taken.worker (call.Read asked at) (reply.Reader ticket))) }
 {
-    if !fits(taken, asked) || ticket != taken.reached.next {
+    if !is_next(taken, ticket) {
         return None;
     }
-    let (made, read) = find_two(places, asked.created_at, at)?;
-    let short = Short::Read(
-        taken.worker as u16,
-        made,
-        read,
-        asked.id.slot as u32,
-        asked.id.generation as u32,
-    );
-    Some(Form::One(short))
-}
-
-#[inline(always)]
-pub fn read_dropped(
-    taken: Taken,
-    places: &mut Places,
-    asked: GenerationalPointer,
-    at: Location,
-) -> Option<Form>
-    ensures extends { Extends places.old places.new }
-    ensures form { IfSome result (IsForm taken.number places.new taken.reached
-        (step_of taken.worker (call.Read asked at) (reply.Dropped asked.created_at))) }
-{
-    if !fits(taken, asked) {
-        return None;
-    }
-    let (made, read) = find_two(places, asked.created_at, at)?;
-    let short = Short::ReadDropped(
-        taken.worker as u16,
-        made,
-        read,
-        asked.id.slot as u32,
-        asked.id.generation as u32,
-    );
-    Some(Form::One(short))
+    let worker = worker_of(taken)?;
+    let (made, there) = find_two(places, asked.created_at, at)?;
+    Some(Short::Read(worker, made, there))
 }
 
 #[inline(always)]
@@ -150,61 +159,162 @@ pub fn write(
     asked: GenerationalPointer,
     at: Location,
     ticket: u64,
-) -> Option<Form>
+) -> Option<Short>
+    requires { asked.id ≡ id_of taken.number (full taken.reached.last) }
     ensures extends { Extends places.old places.new }
-    ensures form { IfSome result (IsForm taken.number places.new taken.reached
+    ensures form { IfSome result (StandsFor taken.number places.new taken.reached
         (step_of taken.worker (call.Write asked at) (reply.Writer ticket))) }
 {
-    if ticket != taken.reached.next || !fits(taken, asked) {
+    if !is_next(taken, ticket) {
         return None;
     }
-    let (made, written) = find_two(places, asked.created_at, at)?;
-    let short = Short::Write(
-        taken.worker as u16,
-        made,
-        written,
-        asked.id.slot as u32,
-        asked.id.generation as u32,
-    );
-    Some(Form::One(short))
+    let worker = worker_of(taken)?;
+    let (made, there) = find_two(places, asked.created_at, at)?;
+    Some(Short::Write(worker, made, there))
 }
 
 #[inline(always)]
-pub fn set(taken: Taken, places: &mut Places, asked: GenerationalPointer) -> Option<Form>
+pub fn read_dropped(
+    taken: Taken,
+    places: &mut Places,
+    asked: GenerationalPointer,
+    at: Location,
+) -> Option<Short>
+    requires { asked.id ≡ id_of taken.number (full taken.reached.last) }
     ensures extends { Extends places.old places.new }
-    ensures form { IfSome result (IsForm taken.number places.new taken.reached
-        (step_of taken.worker (call.Set asked) reply.Done)) }
+    ensures form { IfSome result (StandsFor taken.number places.new taken.reached
+        (step_of taken.worker (call.Read asked at) (reply.Dropped asked.created_at))) }
 {
-    if !fits(taken, asked) {
-        return None;
-    }
-    let made = places.find_or_add(asked.created_at)?;
-    let short = Short::Set(
-        taken.worker as u16,
-        made,
-        asked.id.slot as u32,
-        asked.id.generation as u32,
-    );
-    Some(Form::One(short))
+    let worker = worker_of(taken)?;
+    let (made, there) = find_two(places, asked.created_at, at)?;
+    Some(Short::ReadDropped(worker, made, there))
 }
 
 #[inline(always)]
-pub fn end(taken: Taken, places: &mut Places, asked: GenerationalPointer) -> Option<Form>
+pub fn set(
+    taken: Taken,
+    places: &mut Places,
+    asked: GenerationalPointer,
+) -> Option<Short>
+    requires { asked.id ≡ id_of taken.number (full taken.reached.last) }
     ensures extends { Extends places.old places.new }
-    ensures form { IfSome result (IsForm taken.number places.new taken.reached
-        (step_of taken.worker (call.ManuallyDrop asked) reply.Done)) }
+    ensures form { IfSome result (StandsFor taken.number places.new taken.reached
+        (step_of taken.worker (call.Set asked) (reply.Done))) }
 {
-    if !fits(taken, asked) {
+    let worker = worker_of(taken)?;
+    let made = places.find_or_add(asked.created_at)?;
+    Some(Short::Set(worker, made))
+}
+
+#[inline(always)]
+pub fn end(
+    taken: Taken,
+    places: &mut Places,
+    asked: GenerationalPointer,
+) -> Option<Short>
+    requires { asked.id ≡ id_of taken.number (full taken.reached.last) }
+    ensures extends { Extends places.old places.new }
+    ensures form { IfSome result (StandsFor taken.number places.new taken.reached
+        (step_of taken.worker (call.ManuallyDrop asked) (reply.Done))) }
+{
+    let worker = worker_of(taken)?;
+    let made = places.find_or_add(asked.created_at)?;
+    Some(Short::End(worker, made))
+}
+
+#[inline(always)]
+pub fn leak_rc(
+    taken: Taken,
+    places: &mut Places,
+    at: Location,
+    cell: GenerationalBoxId,
+    made: GenerationalPointer,
+) -> Option<Short>
+    requires { AreNamed taken.number taken.reached (Some cell) (Some made.id) }
+    ensures extends { Extends places.old places.new }
+    ensures form { IfSome result (StandsFor taken.number places.new taken.reached
+        (step_of taken.worker (call.LeakRc at) (reply.MadeShared cell made))) }
+{
+    if !is_same(made.created_at, at) {
         return None;
     }
-    let made = places.find_or_add(asked.created_at)?;
-    let short = Short::End(
-        taken.worker as u16,
-        made,
-        asked.id.slot as u32,
-        asked.id.generation as u32,
-    );
-    Some(Form::One(short))
+    let worker = worker_of(taken)?;
+    let place = places.find_or_add(at)?;
+    Some(Short::LeakRc(worker, place))
+}
+
+#[inline(always)]
+pub fn insert_rc(
+    taken: Taken,
+    places: &mut Places,
+    owner: OwnerId,
+    at: Location,
+    cell: GenerationalBoxId,
+    made: GenerationalPointer,
+) -> Option<Short>
+    requires { AreNamed taken.number taken.reached (Some cell) (Some made.id) }
+    ensures extends { Extends places.old places.new }
+    ensures form { IfSome result (StandsFor taken.number places.new taken.reached
+        (step_of taken.worker (call.InsertRc owner at) (reply.MadeShared cell made))) }
+{
+    if !is_same(made.created_at, at) {
+        return None;
+    }
+    let worker = worker_of(taken)?;
+    let back = back_to_owner(taken, owner)?;
+    let place = places.find_or_add(at)?;
+    Some(Short::InsertRc(worker, place, back))
+}
+
+#[inline(always)]
+pub fn leak_reference(
+    taken: Taken,
+    places: &mut Places,
+    asked: GenerationalPointer,
+    made: GenerationalPointer,
+) -> Option<Short>
+    requires { AreNamed taken.number taken.reached (Some asked.id) (Some made.id) }
+    ensures extends { Extends places.old places.new }
+    ensures form { IfSome result (StandsFor taken.number places.new taken.reached
+        (step_of taken.worker (call.LeakReference asked) (reply.Made made))) }
+{
+    let worker = worker_of(taken)?;
+    let (at, place) = find_two(places, asked.created_at, made.created_at)?;
+    Some(Short::LeakReference(worker, at, place))
+}
+
+#[inline(always)]
+pub fn point_to(
+    taken: Taken,
+    places: &mut Places,
+    asked: GenerationalPointer,
+    other: GenerationalPointer,
+) -> Option<Short>
+    requires { AreNamed taken.number taken.reached (Some other.id) (Some asked.id) }
+    ensures extends { Extends places.old places.new }
+    ensures form { IfSome result (StandsFor taken.number places.new taken.reached
+        (step_of taken.worker (call.PointTo asked other) (reply.Done))) }
+{
+    let worker = worker_of(taken)?;
+    let (made, target) = find_two(places, asked.created_at, other.created_at)?;
+    Some(Short::PointTo(worker, made, target))
+}
+
+/// Whether a ticket is the one that decoding gives next.
+#[inline(always)]
+pub fn is_next(taken: Taken, ticket: u64) -> bool
+    ensures { OnTrue result (ticket ≡ taken.reached.next) }
+{
+    ticket == taken.reached.next
+}
+
+/// By how much a ticket or an owner's key is less than the next ticket, where that fits.
+#[inline(always)]
+pub fn back_to(taken: Taken, ticket: u64) -> Option<u32>
+    ensures { IfSome result (λ back. ticket ≡ taken.reached.next - back) }
+{
+    let back = taken.reached.next.checked_sub(ticket)?;
+    u32::try_from(back).ok()
 }
 
 // The numbers of two locations.
@@ -218,128 +328,10 @@ fn find_two(places: &mut Places, one: Location, two: Location) -> Option<(u16, u
     Some((first, second))
 }
 
-// The two items of a step, of which the first names the cell with this id, where it is of the store
-// and its numbers fit.
+// By how much the key of an owner of the store is less than the next ticket, where that fits.
 #[inline(always)]
-fn two(taken: Taken, first: GenerationalBoxId, short: Short) -> Option<Form>
-    ensures own { OnSome result (first.store ≡ taken.number) }
-    ensures form { IfSome result (λ f. f ≡ Two first.slot first.generation short) }
-{
-    if first.store != taken.number || first.slot >= 4294967296 || first.generation >= 4294967296 {
-        return None;
-    }
-    Some(Form::Two(first.slot as u32, first.generation as u32, short))
-}
-
-#[inline(always)]
-pub fn leak_rc(
-    taken: Taken,
-    places: &mut Places,
-    at: Location,
-    cell: GenerationalBoxId,
-    made: GenerationalPointer,
-) -> Option<Form>
-    ensures extends { Extends places.old places.new }
-    ensures form { IfSome result (IsForm taken.number places.new taken.reached
-        (step_of taken.worker (call.LeakRc at) (reply.MadeShared cell made))) }
-{
-    if !fits(taken, made) || !is_same(made.created_at, at) {
-        return None;
-    }
-    let place = places.find_or_add(at)?;
-    let short = Short::LeakRc(
-        taken.worker as u16,
-        place,
-        made.id.slot as u32,
-        made.id.generation as u32,
-    );
-    two(taken, cell, short)
-}
-
-#[inline(always)]
-pub fn insert_rc(
-    taken: Taken,
-    places: &mut Places,
-    owner: OwnerId,
-    at: Location,
-    cell: GenerationalBoxId,
-    made: GenerationalPointer,
-) -> Option<Form>
-    ensures extends { Extends places.old places.new }
-    ensures form { IfSome result (IsForm taken.number places.new taken.reached
-        (step_of taken.worker (call.InsertRc owner at) (reply.MadeShared cell made))) }
-{
-    if !fits(taken, made) || !is_same(made.created_at, at) {
-        return None;
-    }
-    let back = back_to(taken, owner)?;
-    let place = places.find_or_add(at)?;
-    let short = Short::InsertRc(
-        taken.worker as u16,
-        place,
-        back,
-        made.id.slot as u32,
-        made.id.generation as u32,
-    );
-    two(taken, cell, short)
-}
-
-#[inline(always)]
-pub fn leak_reference(
-    taken: Taken,
-    places: &mut Places,
-    asked: GenerationalPointer,
-    made: GenerationalPointer,
-) -> Option<Form>
-    ensures extends { Extends places.old places.new }
-    ensures form { IfSome result (IsForm taken.number places.new taken.reached
-        (step_of taken.worker (call.LeakReference asked) (reply.Made made))) }
-{
-    if !fits(taken, made) {
-        return None;
-    }
-    let (at, place) = find_two(places, asked.created_at, made.created_at)?;
-    let short = Short::LeakReference(
-        taken.worker as u16,
-        at,
-        place,
-        made.id.slot as u32,
-        made.id.generation as u32,
-    );
-    two(taken, asked.id, short)
-}
-
-#[inline(always)]
-pub fn point_to(
-    taken: Taken,
-    places: &mut Places,
-    asked: GenerationalPointer,
-    other: GenerationalPointer,
-) -> Option<Form>
-    ensures extends { Extends places.old places.new }
-    ensures form { IfSome result (IsForm taken.number places.new taken.reached
-        (step_of taken.worker (call.PointTo asked other) reply.Done)) }
-{
-    if !fits(taken, other) {
-        return None;
-    }
-    let (made, target) = find_two(places, asked.created_at, other.created_at)?;
-    let short = Short::PointTo(
-        taken.worker as u16,
-        made,
-        target,
-        other.id.slot as u32,
-        other.id.generation as u32,
-    );
-    two(taken, asked.id, short)
-}
-
-// By how much an owner's key is less than the next ticket, where the owner is of the store and that
-// fits.
-#[inline(always)]
-fn back_to(taken: Taken, owner: OwnerId) -> Option<u16>
-    ensures { IfSome result (λ back. (owner.store ≡ taken.number)
-        × (owner.key ≡ taken.reached.next - back) × (back ≤ taken.reached.next)) }
+fn back_to_owner(taken: Taken, owner: OwnerId) -> Option<u16>
+    ensures { IfSome result (λ back. owner ≡ owner_id taken.number (taken.reached.next - back)) }
 {
     if owner.store != taken.number {
         return None;

@@ -1,33 +1,35 @@
 //! The list of a history's steps.
 
 ghost use Rattle.std.specs.Prelude.{◌≡◌, ◌+◌, ◌<◌, ◌≤◌, ◌^◌, [], ◌∷◌, ◌++◌, IfOk, OnOk, OnErr};
-ghost use Rattle.std.specs.Prelude.{Some, length};
-ghost use Rattle.shared_records.specs.Decoding.{AreWithin, decode, next_after, reached_by};
-ghost use Rattle.shared_records.specs.Decoding.{reached_first};
-ghost use Rattle.shared_records.specs.declared.short.Short.TheVariants.{Long};
+ghost use Rattle.std.specs.Prelude.{IfSome, length};
+ghost use Rattle.shared_records.specs.Decoding.{AreShort, AreWithin, Extends, IsNaming, StandsFor};
+ghost use Rattle.shared_records.specs.Decoding.{decode, long_item, name_items};
+ghost use Rattle.shared_records.specs.Decoding.{naming_all, next_after, reached_by, reached_first};
 ghost use Rattle.shared_records.specs.Kinds.{step_of};
 ghost use Rattle.shared_records.specs.Letters.{Appends};
 
 use crate::entry::Entry;
 use crate::places::Places;
-use crate::short::{Reached, Short, decode_all, step};
-use crate::shorten::{Form, Taken};
+use crate::short::{Reached, Short, decode_all, step, steps_among};
+use crate::shorten::{Names, Taken};
 use crate::step::{Step, StepReply};
 use generational_core::StepCall;
 use shared_chunks::Chunks;
 use std::alloc::{AllocError, Global};
 use std::marker::Model;
 
-/// Steps of the store with this number, in 16 or 32 bytes each where they have a short form, and in
-/// 208 else. Contracts see the steps, and for how many more there is room.
+// How many long steps there are at most: as many as their items can number.
+const MOST_LONG: usize = 281474976710656;
+
+/// Steps of the store with this number, in 8 bytes each where they have a short form, with 8 more for
+/// a cell's name, and in 216 else. Contracts see the steps, and for how many more there is room.
 ///
 /// A location's text is kept once: a step comes back with the same letters, which may stand
 /// elsewhere in memory.
 #[derive(Drop)]
 pub struct StepList<const NUMBER: u64> {
-    // for how many more steps there is room, and how many there are
+    // for how many more steps there is room
     room: usize,
-    len: usize,
     // what decoding comes to after the last step; what an append writes stands together up to here,
     // and at the beginning of the short steps
     reached: Reached,
@@ -40,7 +42,7 @@ pub struct StepList<const NUMBER: u64> {
 }
 
 impl<const NUMBER: u64> Model for StepList<NUMBER> {
-    ghost use Rattle.std.specs.Prelude.{◌≡◌, ◌+◌, ◌≤◌, length};
+    ghost use Rattle.std.specs.Prelude.{◌≡◌, ◌+◌, ◌≤◌, ◌^◌, length};
     ghost use Rattle.shared_records.specs.Decoding.{AreWithin, decode, reached_by, reached_first};
     ghost use Rattle.shared_records.specs.Lists.{StepsState};
 
@@ -56,9 +58,8 @@ impl<const NUMBER: u64> Model for StepList<NUMBER> {
         (AreWithin (length l.places) (length l.long.items) l.short.items)
         × (l.reached ≡ reached_by NUMBER l.places l.long.items
         (reached_first l.start) l.short.items)
-        × (l.len ≡ length (decode NUMBER l.places l.long.items
-        (reached_first l.start) l.short.items))
-        × (l.room + l.room ≤ l.short.room) × (l.room ≤ l.long.room) };
+        × (l.room + l.room + l.room ≤ l.short.room) × (l.room ≤ l.long.room)
+        × (length l.long.items + l.room ≤ 2 ^ 48) };
 }
 
 impl<const NUMBER: u64> StepList<NUMBER> {
@@ -68,7 +69,6 @@ impl<const NUMBER: u64> StepList<NUMBER> {
     {
         StepList {
             alloc,
-            len: 0,
             room: 0,
             start: 0,
             reached: Reached::first(0),
@@ -76,6 +76,15 @@ impl<const NUMBER: u64> StepList<NUMBER> {
             short: Chunks::new(alloc),
             long: Chunks::new(alloc),
         }
+    }
+
+    /// Does nothing: there is never room for more steps than long ones can be numbered. A caller's proof
+    /// cites it.
+    #[inline(always)]
+    pub fn room_is_bounded(&self)
+        ensures { self.now.room ≤ 2 ^ 48 }
+    {
+        let _ = &self.room;
     }
 
     /// Makes room for so many steps more.
@@ -91,8 +100,8 @@ impl<const NUMBER: u64> StepList<NUMBER> {
         self.grow(more)
     }
 
-    // Makes room for so many steps more, for which there wasn't yet: two short ones and a long one
-    // for each.
+    // Makes room for so many steps more, for which there wasn't yet: three short ones and a long one
+    // for each. A longer list has room for more long ones, so that it is seldom looked at.
     #[cold]
     #[inline(never)]
     fn grow(&mut self, more: usize) -> Result<(), AllocError>
@@ -101,12 +110,19 @@ impl<const NUMBER: u64> StepList<NUMBER> {
         ensures room { self.old.room ≤ self.new.room }
         ensures ok { OnOk result (more ≤ self.new.room) }
     {
-        let Some(items) = more.checked_mul(2) else {
+        let Some(items) = more.checked_mul(3) else {
             return Err(AllocError);
         };
+        let left = MOST_LONG.saturating_sub(self.long.len());
+        if left < more {
+            return Err(AllocError);
+        }
         self.short.reserve(items)?;
-        self.long.reserve(more)?;
-        self.room = self.long.room().min(self.short.room() / 2);
+        let usual = self.short.len().min(1024) / 8;
+        if self.long.reserve(more.max(usual)).is_err() {
+            self.long.reserve(more)?;
+        }
+        self.room = self.long.room().min(self.short.room() / 3).min(left);
         Ok(())
     }
 
@@ -131,14 +147,6 @@ impl<const NUMBER: u64> StepList<NUMBER> {
             &mut self.long,
             entry,
         );
-        self.len += 1;
-    }
-
-    /// How many steps there are. Takes no memory, and is O(1).
-    pub fn len(&self) -> usize
-        ensures { result ≡ length self.now.steps }
-    {
-        self.len
     }
 
     /// The steps in order.
@@ -147,7 +155,7 @@ impl<const NUMBER: u64> StepList<NUMBER> {
     {
         let long = self.long.to_vec()?;
         let short = self.short.to_vec()?;
-        let mut all = Vec::with_capacity(self.alloc, self.len)?;
+        let mut all = Vec::with_capacity(self.alloc, steps_among(short.as_slice()))?;
         decode_all(
             &mut all,
             NUMBER,
@@ -171,7 +179,6 @@ impl<const NUMBER: u64> StepList<NUMBER> {
         let no_long = Vec::with_capacity(self.alloc, 1)?;
         let short = self.short.empty(no_short);
         let long = self.long.empty(no_long);
-        self.len = 0;
         self.start = next;
         self.reached = Reached::first(next);
         Ok(OldSteps { short, long })
@@ -200,7 +207,8 @@ fn keep<const NUMBER: u64, E: Entry>(
     requires within { AreWithin (length places.old) (length long.old.items) list.old.items }
     requires reached { reached.old ≡
         reached_by NUMBER places.old long.old.items (reached_first start) list.old.items }
-    requires room { (1 < list.old.room) × (0 < long.old.room) }
+    requires room { (2 < list.old.room) × (0 < long.old.room) }
+    requires numbered { length long.old.items < 2 ^ 48 }
     ensures within { AreWithin (length places.new) (length long.new.items) list.new.items }
     ensures reached { reached.new ≡
         reached_by NUMBER places.new long.new.items (reached_first start) list.new.items }
@@ -208,29 +216,73 @@ fn keep<const NUMBER: u64, E: Entry>(
         (decode NUMBER places.old long.old.items (reached_first start) list.old.items)
         (step_of worker (E.as_call entry) (E.as_reply entry))
         (decode NUMBER places.new long.new.items (reached_first start) list.new.items) }
-    ensures room { list.old.room ≤ list.new.room + 2 }
+    ensures room { list.old.room ≤ list.new.room + 3 }
     ensures bounded { length list.new.items + list.new.room < 2 ^ 64 }
     ensures long { long.old.room ≤ long.new.room + 1 }
+    ensures few { length long.new.items ≤ length long.old.items + 1 }
+{
+    match shortened::<NUMBER, E>(worker, reached, places, list, entry) {
+        Some(short) => {
+            list.push(short);
+            advance(reached, entry);
+        }
+        None => {
+            keep_whole(worker, list, long, entry);
+            advance(reached, entry);
+        }
+    }
+}
+
+// Names the step's cells, where they fit, and answers the step's item, if it has one.
+#[inline(always)]
+fn shortened<const NUMBER: u64, E: Entry>(
+    worker: u32,
+    reached: &mut Reached,
+    places: &mut Places,
+    list: &mut Chunks<Short>,
+    entry: E,
+) -> Option<Short>
+    requires room { 1 < list.old.room }
+    ensures extends { Extends places.old places.new }
+    ensures names { IsNaming list.old.items list.new.items reached.old reached.new }
+    ensures room { list.old.room ≤ list.new.room + 2 }
+    ensures form { IfSome result (StandsFor NUMBER places.new reached.new
+        (step_of worker (E.as_call entry) (E.as_reply entry))) }
 {
     let taken = Taken {
         number: NUMBER,
         reached: *reached,
         worker,
     };
-    match entry.form(taken, places) {
-        Some(Form::One(short)) => {
-            list.push(short);
-            advance(reached, entry);
+    let names = entry.names(taken)?;
+    name_cells(names, reached, list);
+    let taken = Taken {
+        number: NUMBER,
+        reached: *reached,
+        worker,
+    };
+    entry.form(taken, places)
+}
+
+// Appends the names that stand before a step.
+#[inline(always)]
+fn name_cells(names: Names, reached: &mut Reached, list: &mut Chunks<Short>)
+    requires short { AreShort names }
+    requires room { 1 < list.old.room }
+    ensures list { list.new.items ≡ list.old.items ++ name_items names }
+    ensures reached { reached.new ≡ naming_all reached.old names }
+    ensures room { list.old.room ≤ list.new.room + 2 }
+{
+    match names {
+        Names::None => {}
+        Names::One(name) => {
+            list.push(name.item());
+            *reached = reached.naming(name);
         }
-        Some(Form::Two(slot, generation, short)) => {
-            list.push(Short::Name(slot, generation));
-            list.push(short);
-            *reached = reached.named(slot, generation);
-            advance(reached, entry);
-        }
-        None => {
-            keep_whole(worker, list, long, entry);
-            advance(reached, entry);
+        Names::Two(first, second) => {
+            list.push(first.item());
+            list.push(second.item());
+            *reached = reached.naming(first).naming(second);
         }
     }
 }
@@ -247,8 +299,9 @@ fn advance<E: Entry>(reached: &mut Reached, entry: E)
 // handed to the other is put into memory here, and not where a short step is kept.
 #[inline(always)]
 fn keep_whole<E: Entry>(worker: u32, list: &mut Chunks<Short>, long: &mut Chunks<Step>, entry: E)
+    requires numbered { length long.old.items < 2 ^ 48 }
     requires room { (0 < list.old.room) × (0 < long.old.room) }
-    ensures list { list.new.items ≡ list.old.items ++ Long (length long.old.items) ∷ [] }
+    ensures list { list.new.items ≡ list.old.items ++ long_item (length long.old.items) ∷ [] }
     ensures room { list.new.room + 1 ≡ list.old.room }
     ensures bounded { length list.new.items + list.new.room < 2 ^ 64 }
     ensures long { long.new.items
@@ -267,14 +320,15 @@ fn push_whole(
     call: StepCall,
     reply: StepReply,
 )
+    requires numbered { length long.old.items < 2 ^ 48 }
     requires room { (0 < list.old.room) × (0 < long.old.room) }
-    ensures list { list.new.items ≡ list.old.items ++ Long (length long.old.items) ∷ [] }
+    ensures list { list.new.items ≡ list.old.items ++ long_item (length long.old.items) ∷ [] }
     ensures room { list.new.room + 1 ≡ list.old.room }
     ensures bounded { length list.new.items + list.new.room < 2 ^ 64 }
     ensures long { long.new.items ≡ long.old.items ++ step_of worker call reply ∷ [] }
     ensures long_room { long.new.room + 1 ≡ long.old.room }
 {
-    let at = long.len() as u64;
+    let at = long.len();
     long.push(step(worker, call, reply));
-    list.push(Short::Long(at));
+    list.push(Short::Long((at / 4294967296) as u16, (at % 4294967296) as u32));
 }

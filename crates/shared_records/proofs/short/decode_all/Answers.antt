@@ -10,7 +10,7 @@ use Rattle.shared_records.proofs.short.decode_all.Goals as goal
 pub step_at-step-requires : goal.step_at-step-requires
 step_at-step-requires c =
     within_at (length c.args.places.now) (length c.args.long.now) c.args.short.now
-    c.loop-item.item-index (short.Name 0 0) c.loop-item-test.true c.requires
+    c.loop-item.item-index (short.Name 0 0 0) c.loop-item-test.true c.requires
 
 pub loop-item-preserved : goal.loop-item-preserved
 loop-item-preserved c =
@@ -21,9 +21,9 @@ loop-item-preserved c =
     let i = c.loop-item.item-index in
     let xs = c.args.short.now in
     let front = take i xs in
-    let x = get_or xs i (short.Name 0 0) in
+    let x = get_or xs i (short.Name 0 0 0) in
     let more : i + 1 ≡ suc i = omega arith in
-    let one = ap (λ k. take k xs) more ∙ take-suc xs i (short.Name 0 0) c.loop-item-test.true in
+    let one = ap (λ k. take k xs) more ∙ take-suc xs i (short.Name 0 0 0) c.loop-item-test.true in
     let steps = ap (λ ys. decode n ps ls start ys) one ∙ decode_snoc n ps ls start front x in
     let goes = ap (λ ys. reached_by n ps ls start ys) one ∙ reached_snoc n ps ls start front x in
     let reached = c.loop-item.invariant.reached in
