@@ -9,9 +9,10 @@ words, whichever store it has, and prints the same line. Each round runs each st
 is printed is the median of the rounds, and that of the rounds' ratios to the floor, by the wall. Calls are
 those of all workers together. Processor time is that of the process, user and system, with all of its
 threads, and with what it lets go at its end; in `shared` with the audit too. `trimmed` is `unaudited` where
-each worker makes a checkpoint after every 100,000 steps of its own. Bytes a step are what the process has at
-its most, less what it has with no round at all, over the steps: those of `unaudited` are the history's, and
-those of `shared` have the list that the audit answers as well.
+each worker makes a checkpoint after every 100,000 steps of its own. Bytes a step are what the process has more at
+its most than with half as many rounds, over the steps of the other half: those of `unaudited` are the history's,
+and those of `shared` have the list that the audit answers as well. They aren't told where the half takes no more
+than this script itself, whose own memory the system counts as that of what it starts.
 
 For each number of live values there is told by the wall how long a first checkpoint stops the others, and a second
 one, whose first was at half as many.
@@ -19,7 +20,9 @@ one, whose first was at half as many.
 The first line and the last tell the load, and how many processors others than these runs kept busy meanwhile.
 """
 import argparse
+import math
 import os
+import resource
 import statistics
 import subprocess
 import sys
@@ -53,10 +56,13 @@ def measure(program, store, calls, workers, wanted):
     if store == "trimmed":
         # each worker makes checkpoints after so many rounds of its own
         store, between = "unaudited", [BETWEEN // steps]
-    words = [program, store, calls, workers]
-    base_wall, base_used, _, base_bytes = run([*words, 0])
-    wall, used, made, most = run([*words, wanted // (in_a_round * workers), *between])
-    bytes_a_step = (most - base_bytes) / (made * steps / in_a_round)
+    words, rounds = [program, store, calls, workers], wanted // (in_a_round * workers)
+    base_wall, base_used, _, _ = run([*words, 0])
+    wall, used, made, most = run([*words, rounds, *between])
+    _, _, half_made, half_most = run([*words, rounds // 2, *between])
+    own = resource.getrusage(resource.RUSAGE_SELF).ru_maxrss * 1024
+    more_steps = (made - half_made) * steps / in_a_round
+    bytes_a_step = (most - half_most) / more_steps if half_most > own else math.nan
     return (wall - base_wall) / made * 1e9, (used - base_used) / made * 1e9, bytes_a_step
 
 
