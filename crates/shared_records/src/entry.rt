@@ -13,8 +13,8 @@ ghost use Rattle.shared_records.specs.Kinds.{made_by, referred_by, shared_by, st
 use crate::places::Places;
 use crate::short::Short;
 use crate::shorten::{
-    Names, Taken, back_to, end, insert, insert_rc, is_next, leak, leak_rc, leak_reference, name_one,
-    name_two, point_to, read, read_dropped, set, worker_of, write,
+    Names, Taken, back_to, insert, insert_rc, is_next, leak, leak_rc, leak_reference, name_one,
+    name_two, point_to, read, read_dropped, worker_of, write,
 };
 use crate::step::StepReply;
 use generational_core::{GenerationalBoxId, GenerationalPointer, Location, OwnerId, StepCall};
@@ -301,7 +301,9 @@ impl Entry for BoxEnded {
 
     #[inline(always)]
     fn form(self, taken: Taken, places: &mut Places) -> Option<Short> {
-        end(taken, places, self.asked)
+        let worker = worker_of(taken)?;
+        let made = places.find_or_add(self.asked.created_at)?;
+        Some(Short::End(worker, made))
     }
 
     #[inline(always)]
@@ -539,7 +541,9 @@ impl Entry for ValueSet {
 
     #[inline(always)]
     fn form(self, taken: Taken, places: &mut Places) -> Option<Short> {
-        set(taken, places, self.asked)
+        let worker = worker_of(taken)?;
+        let made = places.find_or_add(self.asked.created_at)?;
+        Some(Short::Set(worker, made))
     }
 
     #[inline(always)]

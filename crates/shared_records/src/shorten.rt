@@ -191,38 +191,6 @@ pub fn read_dropped(
 }
 
 #[inline(always)]
-pub fn set(
-    taken: Taken,
-    places: &mut Places,
-    asked: GenerationalPointer,
-) -> Option<Short>
-    requires { asked.id ≡ id_of taken.number (full taken.reached.last) }
-    ensures extends { Extends places.old places.new }
-    ensures form { IfSome result (StandsFor taken.number places.new taken.reached
-        (step_of taken.worker (call.Set asked) (reply.Done))) }
-{
-    let worker = worker_of(taken)?;
-    let made = places.find_or_add(asked.created_at)?;
-    Some(Short::Set(worker, made))
-}
-
-#[inline(always)]
-pub fn end(
-    taken: Taken,
-    places: &mut Places,
-    asked: GenerationalPointer,
-) -> Option<Short>
-    requires { asked.id ≡ id_of taken.number (full taken.reached.last) }
-    ensures extends { Extends places.old places.new }
-    ensures form { IfSome result (StandsFor taken.number places.new taken.reached
-        (step_of taken.worker (call.ManuallyDrop asked) (reply.Done))) }
-{
-    let worker = worker_of(taken)?;
-    let made = places.find_or_add(asked.created_at)?;
-    Some(Short::End(worker, made))
-}
-
-#[inline(always)]
 pub fn leak_rc(
     taken: Taken,
     places: &mut Places,

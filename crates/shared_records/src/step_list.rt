@@ -5,12 +5,13 @@ ghost use Rattle.std.specs.Prelude.{IfSome, length};
 ghost use Rattle.shared_records.specs.Decoding.{AreShort, AreWithin, Extends, IsNaming, StandsFor};
 ghost use Rattle.shared_records.specs.Decoding.{decode, long_item, name_items};
 ghost use Rattle.shared_records.specs.Decoding.{naming_all, next_after, reached_by, reached_first};
+ghost use Rattle.shared_records.specs.declared.shorten.Names.TheVariants as names;
 ghost use Rattle.shared_records.specs.Kinds.{step_of};
 ghost use Rattle.shared_records.specs.Letters.{Appends};
 
 use crate::entry::Entry;
 use crate::places::Places;
-use crate::short::{Reached, Short, decode_all, step, steps_among};
+use crate::short::{Reached, Short, ShortName, decode_all, step, steps_among};
 use crate::shorten::{Names, Taken};
 use crate::step::{Step, StepReply};
 use generational_core::StepCall;
@@ -279,12 +280,28 @@ fn name_cells(names: Names, reached: &mut Reached, list: &mut Chunks<Short>)
             list.push(name.item());
             *reached = reached.naming(name);
         }
-        Names::Two(first, second) => {
-            list.push(first.item());
-            list.push(second.item());
-            *reached = reached.naming(first).naming(second);
-        }
+        Names::Two(first, second) => name_two_cells(first, second, reached, list),
     }
+}
+
+// Appends two names. It isn't inlined, so that the functions that a step's form is inlined into stay small
+// enough to be inlined themselves.
+#[inline(never)]
+fn name_two_cells(
+    first: ShortName,
+    second: ShortName,
+    reached: &mut Reached,
+    list: &mut Chunks<Short>,
+)
+    requires short { (first.slot < 16777216) × (second.slot < 16777216) }
+    requires room { 1 < list.old.room }
+    ensures list { list.new.items ≡ list.old.items ++ name_items (names.Two first second) }
+    ensures reached { reached.new ≡ naming_all reached.old (names.Two first second) }
+    ensures room { list.new.room + 2 ≡ list.old.room }
+{
+    list.push(first.item());
+    list.push(second.item());
+    *reached = reached.naming(first).naming(second);
 }
 
 // Decoding comes past the step.
