@@ -1,25 +1,84 @@
 #!/usr/bin/env python3
-"""Draws docs/instructions.svg from the first table of docs/PERFORMANCE.md: instructions a call, N = 1000.
+"""Draws docs/instructions.svg and docs/shared.svg from tables of docs/PERFORMANCE.md.
 
-    .ci/bars.py          writes the picture
+    .ci/bars.py          writes the pictures
 """
+import dataclasses
 import os
-import re
 
 DOCS = os.path.join(os.path.dirname(os.path.abspath(__file__)), "..", "docs")
-SUBJECTS = (("upstream", "#c9c9c9"), ("upstream with locations", "#8f8f8f"), ("slotmap", "#e3c77a"),
-            ("this crate", "#2f6fb0"))
+OWN, UPSTREAM, LOCATIONS, LEAST = "#2f6fb0", "#c9c9c9", "#8f8f8f", "#e3c77a"
 WIDTH, LEFT, TOP, BAR, GAP = 920, 235, 62, 13, 18
-SCALE = (WIDTH - LEFT - 70) / 400
 
 
-def rows(page):
-    """Each workload's name with its counts, in the order of the subjects."""
-    table = page.split("## Instructions a call")[1].split("\n\n")
-    lines = next(part for part in table if part.startswith("| workload")).splitlines()[2:]
-    for line in lines:
-        name, *cells = [cell.strip(" *") for cell in line.strip("|").split("|")]
-        yield name, [float(cell) for cell in cells[: len(SUBJECTS)]]
+@dataclasses.dataclass(frozen=True)
+class Picture:
+    """A picture of a table: the section that it stands in, what its rows begin with, and its first columns."""
+
+    file: str
+    section: str
+    head: str
+    title: str
+    desc: str
+    # the subjects, in the order of the columns after a row's name, and the decimals of their numbers
+    subjects: tuple
+    decimals: int
+    most: float
+
+    def rows(self, page):
+        """Each row's name with its numbers, in the order of the subjects."""
+        table = page.split(f"## {self.section}\n")[1].split("\n\n")
+        lines = next(part for part in table if part.startswith(self.head)).splitlines()[2:]
+        before = ""
+        for line in lines:
+            cells = [cell.strip(" *`") for cell in line.strip("|").split("|")]
+            names, numbers = cells[: self.names()], cells[self.names() :][: len(self.subjects)]
+            before = names[0] or before
+            yield ", ".join([before, *names[1:]]), [float(number) for number in numbers]
+
+    def names(self):
+        """How many columns name a row."""
+        return self.head.count("|") - 1
+
+    def draw(self, rows):
+        height = TOP + len(rows) * (len(self.subjects) * BAR + GAP)
+        scale = (WIDTH - LEFT - 70) / self.most
+        lines = [f'<svg xmlns="http://www.w3.org/2000/svg" viewBox="0 0 {WIDTH} {height}" width="{WIDTH}" '
+                 f'height="{height}" font-family="sans-serif" font-size="14">',
+                 f"  <title>{self.title}</title>",
+                 f"  <desc>{self.desc}</desc>",
+                 f'  <rect x="0" y="0" width="{WIDTH}" height="{height}" fill="#ffffff"/>',
+                 f'  <text x="{LEFT}" y="22">{self.title}</text>',
+                 *self.legend()]
+        y = TOP
+        for name, numbers in rows:
+            lines.append(f'  <text x="{LEFT - 10}" y="{y + 2 * BAR + 4}" text-anchor="end" font-size="13">{name}</text>')
+            for (_, color), number in zip(self.subjects, numbers):
+                lines += bar(LEFT, y, number * scale, color, f"{number:.{self.decimals}f}")
+                y += BAR
+            y += GAP
+        return "\n".join(lines + ["</svg>", ""])
+
+    def legend(self):
+        x = LEFT
+        for name, color in self.subjects:
+            yield f'  <rect x="{x}" y="34" width="12" height="12" fill="{color}"/>'
+            yield f'  <text x="{x + 17}" y="45" font-size="12">{name}</text>'
+            x += 40 + 8 * len(name)
+
+
+PICTURES = (
+    Picture("instructions.svg", "Instructions a call", "| workload, `u64` |",
+            "Instructions a call (u64, N = 1000, with the workload's own instructions)",
+            "Bars of the first table of this page, for values u64 and N = 1000.",
+            (("upstream", UPSTREAM), ("upstream with locations", LOCATIONS), ("slotmap", LEAST), ("this crate", OWN)),
+            1, 400),
+    Picture("shared.svg", "The shared store", "| list | workers |",
+            "Nanoseconds a call of the shared store, by the wall, for 1, 2 and 4 workers",
+            "Bars of the table of the shared store.",
+            (("shared store", OWN), ("trimmed", "#8fb4dc"), ("floor", LEAST), ("upstream with locations", LOCATIONS)),
+            0, 300),
+)
 
 
 def bar(x, y, length, color, text):
@@ -27,39 +86,14 @@ def bar(x, y, length, color, text):
             f'  <text x="{x + length + 5:.1f}" y="{y + BAR - 4:g}" font-size="11">{text}</text>']
 
 
-def legend():
-    x = LEFT
-    for name, color in SUBJECTS:
-        yield f'  <rect x="{x}" y="34" width="12" height="12" fill="{color}"/>'
-        yield f'  <text x="{x + 17}" y="45" font-size="12">{name}</text>'
-        x += 40 + 8 * len(name)
-
-
-def picture(workloads):
-    height = TOP + len(workloads) * (len(SUBJECTS) * BAR + GAP)
-    lines = [f'<svg xmlns="http://www.w3.org/2000/svg" viewBox="0 0 {WIDTH} {height}" width="{WIDTH}" '
-             f'height="{height}" font-family="sans-serif" font-size="14">',
-             "  <title>Instructions a call</title>",
-             "  <desc>Bars of the first table of this page, for values u64 and N = 1000.</desc>",
-             f'  <rect x="0" y="0" width="{WIDTH}" height="{height}" fill="#ffffff"/>',
-             f'  <text x="{LEFT}" y="22">Instructions a call (u64, N = 1000, with the workload\'s own instructions)</text>',
-             *legend()]
-    y = TOP
-    for name, counts in workloads:
-        lines.append(f'  <text x="{LEFT - 10}" y="{y + 2 * BAR + 4}" text-anchor="end" font-size="13">{name}</text>')
-        for (_, color), count in zip(SUBJECTS, counts):
-            lines += bar(LEFT, y, count * SCALE, color, f"{count:.1f}")
-            y += BAR
-        y += GAP
-    return "\n".join(lines + ["</svg>", ""])
-
-
 def main():
-    with open(os.path.join(DOCS, "PERFORMANCE.md"), encoding="utf-8") as page:
-        workloads = list(rows(page.read()))
-    assert workloads and all(re.match(r"w\d", name) for name, _ in workloads)
-    with open(os.path.join(DOCS, "instructions.svg"), "w", encoding="utf-8") as out:
-        out.write(picture(workloads))
+    with open(os.path.join(DOCS, "PERFORMANCE.md"), encoding="utf-8") as file:
+        page = file.read()
+    for picture in PICTURES:
+        rows = list(picture.rows(page))
+        assert rows, f"{picture.file}: the page has no such table"
+        with open(os.path.join(DOCS, picture.file), "w", encoding="utf-8") as out:
+            out.write(picture.draw(rows))
 
 
 if __name__ == "__main__":
