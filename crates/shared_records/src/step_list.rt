@@ -284,9 +284,9 @@ fn name_cells(names: Names, reached: &mut Reached, list: &mut Chunks<Short>)
     }
 }
 
-// Appends two names. It isn't inlined, so that the functions that a step's form is inlined into stay small
-// enough to be inlined themselves.
-#[inline(never)]
+// Appends two names. It isn't inlined always, since what a step's form is inlined into would be too large
+// to be inlined itself.
+#[inline]
 fn name_two_cells(
     first: ShortName,
     second: ShortName,
