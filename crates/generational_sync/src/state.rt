@@ -190,6 +190,7 @@ impl<T: Drop, const NUMBER: u64, M: Count, L: Count, C: Count, R: Count> SyncSta
     /// ```rust
     /// let same = state.open(&guard).copied() == Some(value);
     /// ```
+    #[inline]
     pub fn open(&self, guard: &GenerationalRef<T>) -> Option<&T>
         ensures { option_copied result ≡ value_behind self.now.state guard.now }
     {
