@@ -11,7 +11,7 @@ use Rattle.shared_records.specs.declared.short.ShortName.{ShortName}
 use Rattle.shared_records.specs.declared.shorten.Names.{Names}
 use Rattle.shared_records.specs.declared.shorten.Names.TheVariants as names
 use Rattle.shared_records.specs.Letters.{Appends, lettered_step}
-use Rattle.shared_records.specs.Decoding.{AreWithin, Extends, IsWithin, advanced, after, decode, named}
+use Rattle.shared_records.specs.Decoding.{AreWithin, Extends, IsNaming, IsWithin, advanced, after, decode, named}
 use Rattle.shared_records.specs.Decoding.{name_item, name_items, naming, naming_all, no_step}
 use Rattle.shared_records.specs.Decoding.{nowhere, place_at, reached_by, step_at}
 
@@ -98,7 +98,7 @@ long_is i = omega arith
 
 -- names are no steps
 module _ (number : ℕ) (places : List Location) (long : List Step) where
-  pub names_within : (p q : ℕ) (xs : List Short) (all : Names) → AreWithin p q xs
+  names_within : (p q : ℕ) (xs : List Short) (all : Names) → AreWithin p q xs
       → AreWithin p q (xs ++ name_items all)
   names_within p q xs names.None w = subst (AreWithin p q) (sym (append-nil xs)) w
   names_within p q xs (names.One n) w = within_snoc p q xs (name_item n) w tt
@@ -113,7 +113,7 @@ module _ (number : ℕ) (places : List Location) (long : List Step) where
       decode_snoc number places long r xs (name_item n)
       ∙ append-nil (decode number places long r xs)
 
-  pub names_kept : (r : Reached) (xs : List Short) (all : Names)
+  names_kept : (r : Reached) (xs : List Short) (all : Names)
       → decode number places long r (xs ++ name_items all) ≡ decode number places long r xs
   names_kept r xs names.None = ap (decode number places long r) (append-nil xs)
   names_kept r xs (names.One n) = name_kept r xs n
@@ -129,7 +129,7 @@ module _ (number : ℕ) (places : List Location) (long : List Step) where
       reached_snoc number places long r xs (name_item n)
       ∙ ap (naming (reached_by number places long r xs)) (name_is n)
 
-  pub names_reached : (r : Reached) (xs : List Short) (all : Names)
+  names_reached : (r : Reached) (xs : List Short) (all : Names)
       → reached_by number places long r (xs ++ name_items all)
       ≡ naming_all (reached_by number places long r xs) all
   names_reached r xs names.None = ap (reached_by number places long r) (append-nil xs)
@@ -210,51 +210,6 @@ module _ (number : ℕ) (places : List Location) (long : List Step) (more : List
       (advanced (named r x) o) xs) (step_grows r x h.0)
       ∙ reached_grows (after number places long r x) xs h.1
 
--- one item more, after which the tables may be longer
-module _ (number : ℕ) (start : Reached) (places wider : List Location) (long longer : List Step)
-    (xs more : List Short) (x : Short) (table : Extends places wider) (others : List Step)
-    (is_longer : longer ≡ long ++ others) (is_more : more ≡ xs ++ x ∷ [])
-    (within : AreWithin (length places) (length long) xs) where
-  kept_steps : decode number wider longer start xs ≡ decode number places long start xs
-  kept_steps =
-      ap (λ ps. decode number ps longer start xs) table.is
-      ∙ ap (λ ls. decode number (places ++ table.more) ls start xs) is_longer
-      ∙ decode_grows number places long table.more others start xs within
-
-  kept_reached : reached_by number wider longer start xs ≡ reached_by number places long start xs
-  kept_reached =
-      ap (λ ps. reached_by number ps longer start xs) table.is
-      ∙ ap (λ ls. reached_by number (places ++ table.more) ls start xs) is_longer
-      ∙ reached_grows number places long table.more others start xs within
-
-  pub grown_within : IsWithin (length wider) (length longer) x
-      → AreWithin (length wider) (length longer) more
-  grown_within one =
-      let p = ap length table.is ∙ length-append places table.more in
-      let q = ap length is_longer ∙ length-append long others in
-      subst (λ ys. AreWithin (length wider) (length longer) ys) (sym is_more)
-      (within_snoc (length wider) (length longer) xs x
-      (all_within_grow (length places) (length long) (length wider) (length longer) xs
-      (omega arith) (omega arith) within) one)
-
-  module _ (now : Reached) (is_now : now ≡ reached_by number places long start xs) where
-    pub grown_reached : after number wider longer now x ≡ reached_by number wider longer start more
-    grown_reached =
-        ap (λ n. after number wider longer n x) (is_now ∙ sym kept_reached)
-        ∙ sym (reached_snoc number wider longer start xs x)
-        ∙ ap (λ ys. reached_by number wider longer start ys) (sym is_more)
-
-    pub grown_steps : decode number wider longer start more
-        ≡ decode number places long start xs ++ option_to_list (step_at number wider longer now x)
-    grown_steps =
-        ap (λ ys. decode number wider longer start ys) is_more
-        ∙ decode_snoc number wider longer start xs x
-        ∙ ap (λ steps. steps
-        ++ option_to_list (step_at number wider longer (reached_by number wider longer start xs) x))
-        kept_steps
-        ∙ ap (λ n. decode number places long start xs
-        ++ option_to_list (step_at number wider longer n x)) (kept_reached ∙ sym is_now)
-
 -- what a list of none or one is that is this step by its letters
 lettered_one : (o : Option Step) (step : Step)
     → option_map lettered_step o ≡ Some (lettered_step step)
@@ -263,7 +218,7 @@ lettered_one None step h = absurd (search rules)
 lettered_one (Some s) step h = (s, refl, search rules)
 
 -- a list that goes on by such a step
-pub appends_one : (before longer : List Step) (o : Option Step) (step : Step)
+appends_one : (before longer : List Step) (o : Option Step) (step : Step)
     → longer ≡ before ++ option_to_list o
     → option_map lettered_step o ≡ Some (lettered_step step) → Appends before step longer
 appends_one before longer o step is same =
@@ -273,6 +228,67 @@ appends_one before longer o step is same =
       is = is ∙ ap (λ l. before ++ l) one.1;
       same = one.2;
     }
+
+-- names, and then one item more, after which the tables may be longer
+module _ (number : ℕ) (start : Reached) (places wider : List Location) (long longer : List Step)
+    (xs ys more : List Short) (r now : Reached) (x : Short) (names : IsNaming xs ys r now)
+    (table : Extends places wider) (others : List Step) (is_longer : longer ≡ long ++ others)
+    (is_more : more ≡ ys ++ x ∷ []) (within : AreWithin (length places) (length long) xs)
+    (is_r : r ≡ reached_by number places long start xs) where
+  named_within : AreWithin (length places) (length long) ys
+  named_within =
+      subst (AreWithin (length places) (length long)) (sym names.items)
+      (names_within number places long (length places) (length long) xs names.all within)
+
+  named_steps : decode number places long start ys ≡ decode number places long start xs
+  named_steps =
+      ap (decode number places long start) names.items
+      ∙ names_kept number places long start xs names.all
+
+  kept_steps : decode number wider longer start ys ≡ decode number places long start xs
+  kept_steps =
+      ap (λ ps. decode number ps longer start ys) table.is
+      ∙ ap (λ ls. decode number (places ++ table.more) ls start ys) is_longer
+      ∙ decode_grows number places long table.more others start ys named_within
+      ∙ named_steps
+
+  kept_reached : now ≡ reached_by number wider longer start ys
+  kept_reached =
+      names.reached
+      ∙ ap (λ n. naming_all n names.all) is_r
+      ∙ sym (names_reached number places long start xs names.all)
+      ∙ ap (reached_by number places long start) (sym names.items)
+      ∙ sym (reached_grows number places long table.more others start ys named_within)
+      ∙ ap (λ ls. reached_by number (places ++ table.more) ls start ys) (sym is_longer)
+      ∙ ap (λ ps. reached_by number ps longer start ys) (sym table.is)
+
+  pub grown_within : IsWithin (length wider) (length longer) x
+      → AreWithin (length wider) (length longer) more
+  grown_within one =
+      let p = ap length table.is ∙ length-append places table.more in
+      let q = ap length is_longer ∙ length-append long others in
+      subst (λ zs. AreWithin (length wider) (length longer) zs) (sym is_more)
+      (within_snoc (length wider) (length longer) ys x
+      (all_within_grow (length places) (length long) (length wider) (length longer) ys
+      (omega arith) (omega arith) named_within) one)
+
+  pub grown_reached : after number wider longer now x ≡ reached_by number wider longer start more
+  grown_reached =
+      ap (λ n. after number wider longer n x) kept_reached
+      ∙ sym (reached_snoc number wider longer start ys x)
+      ∙ ap (λ zs. reached_by number wider longer start zs) (sym is_more)
+
+  pub grown_steps : (step : Step)
+      → option_map lettered_step (step_at number wider longer now x) ≡ Some (lettered_step step)
+      → Appends (decode number places long start xs) step (decode number wider longer start more)
+  grown_steps step same =
+      appends_one (decode number places long start xs) (decode number wider longer start more)
+      (step_at number wider longer now x) step
+      (ap (λ zs. decode number wider longer start zs) is_more
+      ∙ decode_snoc number wider longer start ys x
+      ∙ ap (λ n. decode number wider longer start ys
+      ++ option_to_list (step_at number wider longer n x)) (sym kept_reached)
+      ∙ ap (λ steps. steps ++ option_to_list (step_at number wider longer now x)) kept_steps) same
 
 -- the newest of the long steps
 pub long_last : (long longer : List Step) (step : Step) → longer ≡ long ++ step ∷ []
