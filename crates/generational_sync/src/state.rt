@@ -28,8 +28,8 @@ use crate::laws::{
 };
 use generational_box::laws::{calls_are_ready_where_no_borrow_is_told, steps_keep_the_store};
 use generational_box::{
-    AnyStorage, BorrowError, GenerationalPointer, GenerationalRef, Location, Owner, Refused, StepCall, Storage,
-    StoreError, UnsyncStorage,
+    AnyStorage, BorrowError, GenerationalPointer, GenerationalRef, Location, Owner, Refused,
+    StepCall, Storage, StoreError, UnsyncStorage,
 };
 use shared_history::kept::KeptBase;
 use shared_history::log::{Log, Outdated};

@@ -237,12 +237,7 @@ pub fn step_at(
 }
 
 // The box of a cell that was made at the location with this number.
-fn box_at(
-    number: u64,
-    places: &[Location],
-    place: u16,
-    name: ShortName,
-) -> GenerationalPointer
+fn box_at(number: u64, places: &[Location], place: u16, name: ShortName) -> GenerationalPointer
     requires { place < length places.now }
     ensures { result ≡ box_at number places.now place name }
 {

@@ -69,6 +69,11 @@ returns-then-not-settle_refused_read-clause-none g c =
     (read_leaves g.row.T.Denot c.in-Err.refused))) c.if-not-settle_refused_read.ensures.left.1
 
 pub settle_refused_read-requires : goal.settle_refused_read-requires
-settle_refused_read-requires g c =
-    (omega arith, (search rules, read_told c.self.inside.store.state c.begin_read.new.store.state
-    c.pointer-pointer.result c.args.location (read_refused c.in-Err.refused) c.in-Err.ensures))
+settle_refused_read-requires g c = (
+  omega arith,
+  (
+    search rules,
+    read_told c.self.inside.store.state c.begin_read.new.store.state
+        c.pointer-pointer.result c.args.location (read_refused c.in-Err.refused) c.in-Err.ensures,
+  ),
+)
