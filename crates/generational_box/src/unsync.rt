@@ -29,7 +29,7 @@ use store_cells::entry::{Kind, StorageEntryData};
 use store_parts::names::CellName;
 use store_parts::owners::{OwnerRecord, OwnerRecords};
 use store_parts::pool::{LastFirst, SlotPool};
-use store_rows::{PackedRows, RowRoom};
+use store_rows::{PackedRows, PastRows};
 use store_slots::found::Found;
 use store_slots::refusals::{dropped, dropped_mut};
 use store_slots::slots::Slots;
@@ -151,7 +151,9 @@ impl<T, P: SlotPool> Store<T, P> {
 
 impl<T: Drop, P: SlotPool> Store<T, P> {
     ghost use Rattle.std.specs.Prelude.{◌≡◌, IfErr, IfOk};
+    ghost use Rattle.generational_core.specs.Plain.{plain};
     ghost use Rattle.generational_core.specs.Rows.{ReadBack, rows_of};
+    ghost use Rattle.store_rows.specs.Past.{ArePast};
     ghost use Rattle.generational_errors.specs.declared.error.StoreError.TheVariants.{OutOfMemory};
 
     /// Makes room for this many cells more, where there isn't, and for no more than these. After it so
@@ -175,21 +177,23 @@ impl<T: Drop, P: SlotPool> Store<T, P> {
     }
 
     /// The rows of the store, packed: those that `rows` gives, in the same order. What the shared
-    /// store's checkpoint asks, which hands in room, so that no memory is touched for the first time.
+    /// store's checkpoint asks, which hands in the rows of an earlier state: their memory is used again,
+    /// and a slot that is there as it is now isn't written.
     ///
     /// Refused by `OutOfMemory` alone. It changes nothing, and takes time for each slot, each borrow,
     /// each record of an owner and each box of its list; and memory for each of these for which there
     /// is no room, and for each record of an owner.
-    pub fn pack_rows(&self, room: RowRoom) -> Result<PackedRows, StoreError>
+    pub fn pack_rows(&self, past: PackedRows) -> Result<PackedRows, StoreError>
+        requires { ArePast (plain self.now.state) past }
         ensures rows { IfOk result (λ rows. rows ≡ rows_of self.now.state) }
         ensures back { IfOk result (λ rows. ReadBack self.now.state rows) }
         ensures cause { IfErr result (λ error. error ≡ OutOfMemory) }
     {
-        let RowRoom {
+        let PastRows {
             mut slots,
             mut whole,
             mut owners,
-        } = room;
+        } = past.into_past();
         self.slots.pack_rows(self.number, &mut slots, &mut whole)?;
         self.owners.push_rows(self.alloc, self.number, &mut owners)?;
         Ok(PackedRows::of(self.number, slots, whole, owners))

@@ -173,7 +173,7 @@ module _ {T : Type 0} where
   left_as S R a answer met left = (meets_fine S R a answer met).1 left
 
   pub left_kept : {number : ℕ} {log room after : LogState} (S R : State T) (a : Action T)
-      (answer : Answer T) → IsKept number S log → room.base ≡ log.base → room.steps ≡ log.steps
+      (answer : Answer T) → IsKept number S log → room.bases ≡ log.bases → room.steps ≡ log.steps
       → room.standing ≡ log.standing → Meets S a answer R → leaves answer ≡ true → after ≡ room
       → IsKept number R after
   left_kept {number = number} {room = room} S R a answer kept base steps stay met left is =
@@ -202,7 +202,7 @@ module _ {T : Type 0} where
   -- a call in whose way a borrow stands, and that left all as it was
   pub hindered : {old : SharedState T} {counts raised : Counts} {after : LogState}
       {c d : StepCall} (log room : LogState) (S R : State T) (a : Action T) (answer : Answer T)
-      → room.base ≡ log.base
+      → room.bases ≡ log.bases
       → room.steps ≡ log.steps → shared S log ≡ old → Meets S a answer R → leaves answer ≡ true
       → after ≡ room → c ≡ d → false ≡ is_ready R c → raised ≡ counts
       → IsHindered old counts d (shared R after) raised

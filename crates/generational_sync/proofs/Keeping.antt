@@ -1,7 +1,7 @@
 -- What lies under the lock stays as it is kept, and each call that is recorded is a step.
 use Rattle.std.proofs.Common.{◌≡◌, ℕ, ◌+◌, ◌≤◌, ◌<◌, Bool, true, false, cond, List, [], ◌∷◌}
 use Rattle.std.proofs.Common.{length, Option, None, Some, Ok, refl, sym, ap, subst, ◌∙◌}
-use Rattle.std.proofs.Common.{arith, inl, inr, IfSome}
+use Rattle.std.proofs.Common.{arith, inl, inr, IfSome, if◌then◌else◌, unwrap_or}
 use Rattle.std.specs.Prelude.{is_some, nat_eq, option_map, option_to_list}
 use Rattle.std.proofs.lemmas.Bool.{and_parts, true≢false}
 use Rattle.std.specs.FinMap as map
@@ -43,8 +43,13 @@ use Rattle.shared_history.specs.Bases.{BaseState, new_base, plain_of}
 use Rattle.generational_sync.specs.Keeping.{HasEnded, IsAnswered, IsKept, IsSettled, WasAnswered, shared}
 use Rattle.generational_sync.specs.Placing.{LeadsTo}
 use Rattle.generational_sync.specs.Shared.{IsStep, IsUnseenStep, RecordsCall, Replays, SharedState}
-use Rattle.shared_history.specs.Logs.{LogState}
-use Rattle.generational_core.specs.Rows.{ReadBack, told_by}
+use Rattle.shared_history.specs.Logs.{Bases, LogState}
+use Rattle.generational_core.specs.Rows.{ReadBack, rows_of, told_by}
+use Rattle.generational_core.specs.declared.rows.BaseRow.{BaseRow}
+use Rattle.generational_sessions.proofs.carrying.Plain.{plain_meets}
+use Rattle.generational_sessions.specs.History.{plain_answer, plain_call}
+use Rattle.store_rows.specs.Past.{ArePast}
+use Rattle.generational_sync.proofs.Past.{own_past, past_still}
 use Rattle.generational_sync.proofs.Trimming.{told_number, told_start}
 use Rattle.generational_sync.proofs.Answering.{opened_own}
 use Rattle.generational_sync.proofs.Counting.{meets_fine, written_stand}
@@ -98,6 +103,12 @@ no_step : (steps after : List Step) (worker : ℕ) (c : Option StepCall) → aft
     → RecordsCall steps worker c None after
 no_step steps after worker None is = is
 no_step steps after worker (Some c) is = is
+
+-- fresh rows and those of the base before are of an earlier state
+pub taken_past : (P : Plain) (fresh : Option (List BaseRow)) (past : List BaseRow)
+    → IfSome fresh (λ rows. rows ≡ []) → ArePast P past → ArePast P (unwrap_or fresh past)
+taken_past P None past none all = all
+taken_past P (Some rows) past none all = subst (ArePast P) (sym none) tt
 
 module _ {T : Type 0} where
   tells : (answer : Answer T) (r : StepReply) → Some (step_kind r) ≡ kind_in answer
@@ -173,70 +184,100 @@ module _ {T : Type 0} where
   pub kept_number : LeadTo Numbered → (number : ℕ) (S : State T) (log : LogState)
       → IsKept number S log → S.number ≡ number
   kept_number numbered number S log kept =
-      same_number (plain_of log.base) (plain S) log.steps kept.leads
-      ∙ (numbered (plain_of log.base) log.steps kept.leads.end kept.sound kept.leads.replays
-      ∙ (told_number log.base ∙ kept.own))
+      same_number (plain_of log.bases.base) (plain S) log.steps kept.leads
+      ∙ (numbered (plain_of log.bases.base) log.steps kept.leads.end kept.sound kept.leads.replays
+      ∙ (told_number log.bases.base ∙ kept.own))
 
   kept_start : LeadTo Started → (number : ℕ) (S : State T) (log : LogState) → IsKept number S log
       → S.start ≡ 1
   kept_start started number S log kept =
-      same_start (plain_of log.base) (plain S) log.steps kept.leads
-      ∙ (started (plain_of log.base) log.steps kept.leads.end kept.sound kept.leads.replays
-      ∙ told_start log.base)
+      same_start (plain_of log.bases.base) (plain S) log.steps kept.leads
+      ∙ (started (plain_of log.bases.base) log.steps kept.leads.end kept.sound kept.leads.replays
+      ∙ told_start log.bases.base)
 
   -- the base of a state that it tells, from which an empty history goes on
   pub rebased : LeadTo Numbered → LeadTo Started → (number : ℕ)
       (S : State T) (log after : LogState) → IsKept number S log
-      → after.base.number ≡ number → after.base.next ≡ S.next → after.base.peak ≡ S.peak
-      → ReadBack S after.base.rows → after.steps ≡ [] → after.standing ≡ log.standing
-      → (plain_of after.base ≡ plain S) × IsKept number S after
-  rebased numbered started number S log after kept own next peak read none stay =
+      → after.bases.past ≡ log.bases.base.rows → after.bases.base.rows ≡ rows_of S
+      → after.bases.base.number ≡ number → after.bases.base.next ≡ S.next → after.bases.base.peak ≡ S.peak
+      → ReadBack S after.bases.base.rows → after.steps ≡ [] → after.standing ≡ log.standing
+      → (plain_of after.bases.base ≡ plain S) × IsKept number S after
+  rebased numbered started number S log after kept past rows own next peak read none stay =
       let same = kept_number numbered number S log kept in
       let first = kept_start started number S log kept in
-      let told : plain_of after.base ≡ plain S =
-      (λ i. told_by ((own ∙ sym same) i) (next i) (peak i) after.base.rows) ∙ read first in (
+      let told : plain_of after.bases.base ≡ plain S =
+      (λ i. told_by ((own ∙ sym same) i) (next i) (peak i) after.bases.base.rows) ∙ read first in (
         told,
         record {
           own = own;
           sound = subst IsSound (sym told) kept.ends;
-          leads = led_nowhere (plain_of after.base) (plain S) after.steps told none;
+          leads = led_nowhere (plain_of after.bases.base) (plain S) after.steps told none;
           ends = kept.ends;
+          rows = subst (ArePast (plain S)) (sym rows) (own_past S kept.ends);
+          past = subst (ArePast (plain S)) (sym past) kept.rows;
           room = (let had = kept.room in omega arith);
         },
       )
 
   pub fresh_kept : (number : ℕ) (S : State T) (log : LogState)
       → start number ≡ plain (fresh {T = T} number 1 0) → IsSound (start number)
-      → S ≡ fresh number 1 0 → log.base ≡ new_base number → log.steps ≡ [] → IsKept number S log
+      → S ≡ fresh number 1 0 → log.bases ≡ record { base = new_base number; past = [] } → log.steps ≡ [] → IsKept number S log
   fresh_kept number S log begins sound is based none =
       let empty = no_borrows (map.entries map.empty)
       (sym (map.len-entries map.empty) ∙ map.len-empty name_cmp (Cell T)) in
       let few = ap borrows is in
-      let told : plain_of log.base ≡ plain S = ap plain_of based ∙ (begins ∙ ap plain (sym is)) in
+      let told : plain_of log.bases.base ≡ plain S = ap (λ (b : Bases). plain_of b.base) based ∙ (begins ∙ ap plain (sym is)) in
       record {
-        own = ap (λ (b : BaseState). b.number) based;
-        sound = subst (λ b. IsSound (plain_of b)) (sym based) sound;
-        leads = led_nowhere (plain_of log.base) (plain S) log.steps told none;
+        own = ap (λ (b : Bases). b.base.number) based;
+        sound = subst (λ (b : Bases). IsSound (plain_of b.base)) (sym based) sound;
+        leads = led_nowhere (plain_of log.bases.base) (plain S) log.steps told none;
         ends = subst IsSound (begins ∙ ap plain (sym is)) sound;
+        rows = subst (λ (b : Bases). ArePast (plain S) b.base.rows) (sym based) tt;
+        past = subst (λ (b : Bases). ArePast (plain S) b.past) (sym based) tt;
         room = omega arith;
       }
 
   -- where a log has made room, and is else as it was
   pub room_kept : {number : ℕ} {S : State T} {log room : LogState} → IsKept number S log
-      → room.base ≡ log.base → room.steps ≡ log.steps → room.standing ≡ log.standing
+      → room.bases ≡ log.bases → room.steps ≡ log.steps → room.standing ≡ log.standing
       → IsKept number S room
   room_kept {S = S} {log = log} {room = room} kept base steps stay = record {
-    own = ap (λ (b : BaseState). b.number) base ∙ kept.own;
-    sound = subst (λ b. IsSound (plain_of b)) (sym base) kept.sound;
-    leads = led_as (λ i. plain_of (sym base i)) (sym steps) refl kept.leads;
+    own = ap (λ (b : Bases). b.base.number) base ∙ kept.own;
+    sound = subst (λ (b : Bases). IsSound (plain_of b.base)) (sym base) kept.sound;
+    leads = led_as (λ i. plain_of (sym base i).base) (sym steps) refl kept.leads;
     ends = kept.ends;
+    rows = subst (λ (b : Bases). ArePast (plain S) b.base.rows) (sym base) kept.rows;
+    past = subst (λ (b : Bases). ArePast (plain S) b.past) (sym base) kept.past;
     room = (let had = kept.room in omega arith);
   }
+
+  -- where the rows of the base before were taken, or fresh ones in their place
+  pub taken_kept : {number : ℕ} {S : State T} {log after : LogState} (fresh : Bool)
+      → IsKept number S log → after ≡ record log {
+        bases = record {
+          base = log.bases.base;
+          past = if fresh then log.bases.past else [];
+        };
+      } → IsKept number S after
+  taken_kept {number = number} {S = S} {log = log} fresh kept is =
+      subst (IsKept number S) (sym is) (record {
+        own = kept.own;
+        sound = kept.sound;
+        leads = kept.leads;
+        ends = kept.ends;
+        rows = kept.rows;
+        past = left fresh;
+        room = kept.room;
+      })
+    where
+      left : (fresh : Bool) → ArePast (plain S) (if fresh then log.bases.past else [])
+      left true = kept.past
+      left false = tt
 
   -- a call that the store has answered, for whose step there is room
   abbrev pub answered : {number : ℕ} {R : State T} {log room : LogState} {c : StepCall}
       {r : Option StepReply} (S : State T) (a : Action T) (answer : Answer T) → IsKept number S log
-      → room.base ≡ log.base → room.steps ≡ log.steps → room.standing ≡ log.standing
+      → room.bases ≡ log.bases → room.steps ≡ log.steps → room.standing ≡ log.standing
       → recorded_as a ≡ Some c → is_ready S c ≡ true → Meets S a answer R → r ≡ recorded_reply R a answer
       → WasAnswered number room c r R
   answered S a answer kept base steps stay asked ready met replied = record {
@@ -253,20 +294,20 @@ module _ {T : Type 0} where
   }
 
   pub room_shared : (S : State T) (log room : LogState) {old : SharedState T}
-      → room.base ≡ log.base → room.steps ≡ log.steps → shared S log ≡ old → shared S room ≡ old
+      → room.bases ≡ log.bases → room.steps ≡ log.steps → shared S log ≡ old → shared S room ≡ old
   room_shared S log room base steps view =
-      (λ i. record { state = S; base = base i; history = steps i }) ∙ view
+      (λ i. record { state = S; base = (base i).base; history = steps i }) ∙ view
 
   -- a call for which the log found no room
   pub lacked : {number : ℕ} (S : State T) (log room : LogState) {old : SharedState T}
-      {counts : Counts} {a : Action T} → room.base ≡ log.base → room.steps ≡ log.steps
+      {counts : Counts} {a : Action T} → room.bases ≡ log.bases → room.steps ≡ log.steps
       → shared S log ≡ old → IsStep number old counts a (Refused OutOfMemory) (shared S room) counts
   lacked {number = number} S log room {counts = counts} {a = a} base steps view =
       subst (λ old. IsStep number old counts a (Refused OutOfMemory) (shared S room) counts) view
       (record {
         state = inr (refl, refl);
         history = no_step log.steps room.steps counts.worker (recorded_as a) steps;
-        base = base;
+        base = ap (λ (b : Bases). b.base) base;
         tally = refl;
         reply = tt;
       })
@@ -283,7 +324,7 @@ module _ {T : Type 0} where
   -- what the record of a reply comes to, where the log had made room for it and was else as it was
   pub recorded : {number : ℕ} {S R : State T} {log room after : LogState} {old : SharedState T}
       {c : StepCall} {r : Option StepReply} {counts raised : Counts} {a b : Action T}
-      {answer told : Answer T} → IsKept number S log → room.base ≡ log.base → room.steps ≡ log.steps
+      {answer told : Answer T} → IsKept number S log → room.bases ≡ log.bases → room.steps ≡ log.steps
       → room.standing ≡ log.standing → shared S log ≡ old → a ≡ b → recorded_as a ≡ Some c
       → is_ready S c ≡ true → Meets S a answer R → r ≡ recorded_reply R a answer → answer ≡ told
       → IsSettled number room counts c r R after raised
@@ -362,7 +403,7 @@ module _ {T : Type 0} (lawful : AreLawful T) (sound : LeadTo Sound) (numbered : 
     ended : ends_borrow a ≡ true → is_some r ≡ true → borrows R + 1 ≤ borrows S
     ended ends is = stood S R a answer ends it.met (ap is_some (sym it.replied) ∙ is)
 
-    module _ (after : LogState) (counts : Counts) (based : after.base ≡ log.base)
+    module _ (after : LogState) (counts : Counts) (based : after.bases ≡ log.bases)
         (more : Records log.steps counts.worker c r after.steps) where
       stepped : (raised : Counts) → raised ≡ tallied r counts
           → IsStep number (shared S log) counts a answer (shared R after) raised
@@ -371,17 +412,17 @@ module _ {T : Type 0} (lawful : AreLawful T) (sound : LeadTo Sound) (numbered : 
         history = subst (λ (p : Option StepCall × Option StepReply).
             RecordsCall log.steps counts.worker p.0 p.1 after.steps)
             (λ i. (sym it.asked i, it.replied i)) more;
-        base = based;
+        base = ap (λ (b : Bases). b.base) based;
         tally = count ∙ ap (λ k. raised_by k counts) tell.kind;
         reply = may;
       }
 
       -- the history leads to the state after it, which is sound
       leads : (x : Option StepReply) → r ≡ x
-          → LeadsTo (plain_of log.base) after.steps (plain R) × IsSound (plain R)
+          → LeadsTo (plain_of log.bases.base) after.steps (plain R) × IsSound (plain R)
       leads (Some x) is =
           let step = lawful S R a c answer x it.kept.ends it.asked it.met (sym it.replied ∙ is) in (
-            led_on (plain_of log.base) (plain S) (plain R) log.steps after.steps
+            led_on (plain_of log.bases.base) (plain S) (plain R) log.steps after.steps
                 (step_of counts.worker c x) it.kept.leads
                 (subst (λ y. Records log.steps counts.worker c y after.steps) is more) step,
             sound (plain S) (step_of counts.worker c x ∷ []) (plain R) it.kept.ends step,
@@ -393,12 +434,21 @@ module _ {T : Type 0} (lawful : AreLawful T) (sound : LeadTo Sound) (numbered : 
             subst IsSound stay it.kept.ends,
           )
 
+      -- rows of an earlier state are such of the state after it
+      still : {rows : List BaseRow} (before : List BaseRow) → rows ≡ before
+          → ArePast (plain S) before → ArePast (plain R) rows
+      still before same past =
+          subst (ArePast (plain R)) (sym same) (past_still (plain S) (plain R) (plain_call a)
+          (plain_answer answer) it.kept.ends (plain_meets S R a answer it.met) before past)
+
       kept_on : borrows R ≤ after.standing → IsKept number R after
       kept_on few = record {
-        own = ap (λ (b : BaseState). b.number) based ∙ it.kept.own;
-        sound = subst (λ b. IsSound (plain_of b)) (sym based) it.kept.sound;
-        leads = led_as (λ i. plain_of (sym based i)) refl refl (leads r refl).0;
+        own = ap (λ (b : Bases). b.base.number) based ∙ it.kept.own;
+        sound = subst (λ (b : Bases). IsSound (plain_of b.base)) (sym based) it.kept.sound;
+        leads = led_as (λ i. plain_of (sym based i).base) refl refl (leads r refl).0;
         ends = (leads r refl).1;
+        rows = still log.bases.base.rows (ap (λ (b : Bases). b.base.rows) based) it.kept.rows;
+        past = still log.bases.past (ap (λ (b : Bases). b.past) based) it.kept.past;
         room = few;
       }
 
@@ -433,7 +483,7 @@ module _ {T : Type 0} (lawful : AreLawful T) (sound : LeadTo Sound) (numbered : 
 
   -- what a log and a tally come to that record its reply
   module _ (R : State T) (log after : LogState) (c : StepCall) (r : Option StepReply)
-      (counts raised : Counts) (based : after.base ≡ log.base)
+      (counts raised : Counts) (based : after.bases ≡ log.bases)
       (more : Records log.steps counts.worker c r after.steps)
       (count : raised ≡ tallied r counts) where
     settled_as : (WasAnswered number log c r R → IsKept number R after)

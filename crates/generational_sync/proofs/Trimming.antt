@@ -11,7 +11,6 @@ use Rattle.generational_sync.specs.Shared.{IsCheckpoint, SharedState}
 use Rattle.shared_history.specs.Logs.{LogState}
 use Rattle.shared_history.specs.declared.base.TrimmedSteps.{TrimmedSteps}
 use Rattle.shared_history.proofs.Appending.{all_kinds}
-use Rattle.shared_records.specs.Kinds.{count}
 use Rattle.shared_records.specs.declared.step.Kind.TheVariants.{Made, Lent, Changed, Refused}
 use Rattle.shared_records.specs.declared.step.Step.{Step}
 
@@ -74,9 +73,9 @@ module _ (base : BaseState) (steps : List Step) (t : TrimmedSteps)
 
 -- a checkpoint, as contracts see the states before and after it
 pub checkpoint_seen : {T : Type 0} {S : State T} {old : SharedState T} (log after : LogState)
-    {trimmed : ℕ} → shared S log ≡ old → after.steps ≡ [] → plain_of after.base ≡ plain S
-    → after.base.rows ≡ rows_of S → Trims log.base log.steps after.base
-    → trimmed ≡ all_trimmed after.base → IsCheckpoint old (shared S after) trimmed
+    {trimmed : ℕ} → shared S log ≡ old → after.steps ≡ [] → plain_of after.bases.base ≡ plain S
+    → after.bases.base.rows ≡ rows_of S → Trims log.bases.base log.steps after.bases.base
+    → trimmed ≡ all_trimmed after.bases.base → IsCheckpoint old (shared S after) trimmed
 checkpoint_seen {S = S} log after {trimmed = trimmed} view none told rows trims counted =
     subst (λ o. IsCheckpoint o (shared S after) trimmed) view (record {
       state = refl;

@@ -12,6 +12,7 @@ use Rattle.shared_history.specs.Counts.{Counts}
 use Rattle.shared_history.specs.Replies.{recorded_reply}
 use Rattle.shared_history.specs.Logs.{LogState}
 use Rattle.shared_history.specs.Standing.{borrows, ends_borrow}
+use Rattle.store_rows.specs.Past.{ArePast}
 use Rattle.generational_sync.specs.Placing.{LeadsTo}
 use Rattle.generational_sync.specs.Shared.{IsStep, SharedState}
 
@@ -19,16 +20,19 @@ use Rattle.generational_sync.specs.Shared.{IsStep, SharedState}
 pub record IsKept {T : Type 0} (number : ℕ) (S : State T) (log : LogState) : Type 0 where
   -- the base tells a sound state of this store, from which the history leads to the state without
   -- its values, which is sound too
-  pub own : log.base.number ≡ number
-  pub sound : IsSound (plain_of log.base)
-  pub leads : LeadsTo (plain_of log.base) log.steps (plain S)
+  pub own : log.bases.base.number ≡ number
+  pub sound : IsSound (plain_of log.bases.base)
+  pub leads : LeadsTo (plain_of log.bases.base) log.steps (plain S)
   pub ends : IsSound (plain S)
+  -- what its rows and those of the base before it tell of where values were made is so
+  pub rows : ArePast (plain S) log.bases.base.rows
+  pub past : ArePast (plain S) log.bases.past
   -- there is room for the release of each borrow that stands
   pub room : borrows S ≤ log.standing
 
 -- a store's state with its log, as contracts see them
 abbrev pub shared : {T : Type 0} → State T → LogState → SharedState T
-shared S log = record { state = S; base = log.base; history = log.steps }
+shared S log = record { state = S; base = log.bases.base; history = log.steps }
 
 -- A call that the store has answered, in a state from which the log hasn't gone on yet.
 pub record IsAnswered {T : Type 0} (number : ℕ) (S : State T) (log : LogState) (action : Action T)

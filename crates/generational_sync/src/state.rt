@@ -39,7 +39,7 @@ use shared_records::{AnyEntry, Entry, ReadDropped, Step, StepReply};
 use std::alloc::Global;
 use std::marker::Model;
 use std::sync::ledger::Blank;
-use store_rows::{RowCounts, RowRoom};
+use store_rows::{PackedRows, RowCounts};
 
 /// A store with the history of its steps. Contracts see it as the machine's state, a base and that
 /// list.
@@ -203,8 +203,9 @@ impl<T: Drop, const NUMBER: u64, M: Count, L: Count, C: Count, R: Count> SyncSta
     ///
     /// Refused, in this order: `NumbersExhausted`, where the steps that were trimmed and those of
     /// the history together would be more than fit into 64 bits; `OutOfMemory`. A refusal changes
-    /// nothing. It takes time and memory for each slot, borrow and owner's box that there is. The rows
-    /// of the old base are kept until the new ones are made, and their room is kept for the next ones.
+    /// nothing. It takes time for each slot, borrow and owner's box that there is. The rows stand in
+    /// the memory of those of the base before the last, so it takes more where there are more, as the
+    /// first two times; a slot that is there as it is now isn't written again.
     ///
     /// ```rust
     /// rt.compare(&state.checkpoint(), &Ok(2));
@@ -214,11 +215,11 @@ impl<T: Drop, const NUMBER: u64, M: Count, L: Count, C: Count, R: Count> SyncSta
         ensures err { OnErr result (self.new ≡ self.old) }
         ensures refusal { IfErr result (λ e. MayRefuseCheckpoint self.old e) }
     {
-        let room = match self.take_room()?.touch() {
-            Ok(room) => room,
+        let fresh = match self.wanted_rows()?.touch() {
+            Ok(fresh) => fresh,
             Err(error) => return Err(error),
         };
-        match self.trim(room) {
+        match self.trim(fresh) {
             Ok((trimmed, _)) => Ok(trimmed),
             Err(error) => Err(error),
         }
@@ -226,27 +227,24 @@ impl<T: Drop, const NUMBER: u64, M: Count, L: Count, C: Count, R: Count> SyncSta
 
     // What a checkpoint would need, so that it can be got while the lock is open. Refused where no
     // more steps can be counted as trimmed.
-    pub(crate) fn take_room(&mut self) -> Result<WantedRoom, StoreError>
-        ensures same { self.new ≡ self.old }
+    pub(crate) fn wanted_rows(&self) -> Result<WantedRows, StoreError>
         ensures ok { OnOk result
-            (all_trimmed self.old.base + length self.old.history < 2 ^ 64) }
-        ensures refusal { IfErr result (λ e. MayRefuseCheckpoint self.old e) }
+            (all_trimmed self.now.base + length self.now.history < 2 ^ 64) }
+        ensures refusal { IfErr result (λ e. MayRefuseCheckpoint self.now e) }
     {
         if self.log.trimmed_steps().is_none() {
             return Err(StoreError::NumbersExhausted);
         }
-        let (room, mut counts) = self.log.take_room();
-        counts.slots = self.store.slots();
-        Ok(WantedRoom {
+        Ok(WantedRows {
             alloc: self.log.alloc(),
-            room,
-            counts,
+            counts: self.log.wanted_rows(self.store.slots()),
         })
     }
 
     // Makes a checkpoint, and answers what is kept no more too, so that it can be let go later. The
-    // room is for the rows.
-    pub(crate) fn trim(&mut self, room: RowRoom) -> Result<(u64, Outdated), StoreError>
+    // rows are packed into fresh ones without any, where they are handed in, or else into past ones.
+    pub(crate) fn trim(&mut self, fresh: Option<PackedRows>) -> Result<(u64, Outdated), StoreError>
+        requires { IfSome fresh (λ rows. rows ≡ []) }
         ensures ok { IfOk result (λ r. IsCheckpoint self.old self.new r.0) }
         ensures err { OnErr result (self.new ≡ self.old) }
         ensures refusal { IfErr result (λ e. MayRefuseCheckpoint self.old e) }
@@ -255,7 +253,8 @@ impl<T: Drop, const NUMBER: u64, M: Count, L: Count, C: Count, R: Count> SyncSta
         let Some(steps) = self.log.trimmed_steps() else {
             return Err(StoreError::NumbersExhausted);
         };
-        let rows = match self.store.pack_rows(room) {
+        let past = self.log.take_past(fresh);
+        let rows = match self.store.pack_rows(past) {
             Ok(rows) => rows,
             Err(error) => return Err(error),
         };
@@ -291,21 +290,24 @@ impl<T: Drop, const NUMBER: u64, M: Count, L: Count, C: Count, R: Count> SyncSta
     }
 }
 
-/// Room for the rows of a checkpoint, and for how many there should be.
+/// For how many rows of a checkpoint there is no room yet.
 #[derive(Drop)]
-pub(crate) struct WantedRoom {
+pub(crate) struct WantedRows {
     alloc: Global,
-    room: RowRoom,
-    counts: RowCounts,
+    counts: Option<RowCounts>,
 }
 
-impl WantedRoom {
-    // The room, made where there isn't, and touched.
-    pub(crate) fn touch(self) -> Result<RowRoom, StoreError>
-        ensures { IfErr result (λ e. e ≡ OutOfMemory) }
+impl WantedRows {
+    // Room for them, if it is wanted, touched.
+    pub(crate) fn touch(self) -> Result<Option<PackedRows>, StoreError>
+        ensures ok { IfOk result (λ fresh. IfSome fresh (λ rows. rows ≡ [])) }
+        ensures refusal { IfErr result (λ e. e ≡ OutOfMemory) }
     {
-        match self.room.touch(self.alloc, self.counts) {
-            Ok(room) => Ok(room),
+        let Some(counts) = self.counts else {
+            return Ok(None);
+        };
+        match PackedRows::with_room(self.alloc, counts) {
+            Ok(rows) => Ok(Some(rows)),
             Err(_) => Err(StoreError::OutOfMemory),
         }
     }

@@ -7,7 +7,7 @@ use crate::base::{Base, TrimmedSteps};
 use shared_records::Kind;
 use std::alloc::{AllocError, Global};
 use std::marker::Model;
-use store_rows::{PackedRows, RowCounts, RowRoom};
+use store_rows::{PackedRows, RowCounts};
 
 /// A base whose rows are packed. Contracts see it as the [`Base`] that an audit answers.
 #[derive(Drop)]
@@ -123,8 +123,10 @@ impl KeptBase {
         self.rows.counts()
     }
 
-    // The room that its rows took.
-    pub fn into_room(self) -> RowRoom {
-        self.rows.into_room()
+    // Its rows.
+    pub fn into_rows(self) -> PackedRows
+        ensures { result ≡ self.rows }
+    {
+        self.rows
     }
 }

@@ -1,7 +1,7 @@
 //! The history of a store, with its books.
 
 ghost use Rattle.std.specs.Prelude.{◌≡◌, ◌+◌, ◌^◌, ◌<◌, ◌≤◌, [], IfOk, IfSome, OnOk};
-ghost use Rattle.std.specs.Prelude.{OnErr, OnSome, IfNone, length};
+ghost use Rattle.std.specs.Prelude.{OnErr, OnSome, IfNone, if◌then◌else◌, is_some, length, unwrap_or};
 ghost use Rattle.std.specs.Bool.{OnFalse, OnTrue};
 ghost use Rattle.shared_history.specs.Bases.{IsCounted, Trims, all_trimmed, counts_of, new_base};
 ghost use Rattle.shared_history.specs.Counts.{raised};
@@ -18,7 +18,7 @@ use std::alloc::{AllocError, Global};
 use std::marker::Model;
 use std::mem;
 use std::sync::ledger::Book;
-use store_rows::{RowCounts, RowRoom};
+use store_rows::{PackedRows, RowCounts};
 
 /// A base and the steps from there in order, room for a release of each borrow that stands, and for
 /// each kind how many steps there are and a book. Contracts see the base, the steps and the room.
@@ -34,8 +34,8 @@ pub struct Log<const NUMBER: u64, M: Count, L: Count, C: Count, R: Count> {
     refused_steps: u64,
     history: StepList<NUMBER>,
     base: KeptBase,
-    // room for the rows of the next base
-    room: RowRoom,
+    // the rows of the base before it, into which those of the next one are packed
+    past: PackedRows,
     alloc: Global,
     made: Book<M>,
     lent: Book<L>,
@@ -57,7 +57,7 @@ impl<const NUMBER: u64, M: Count, L: Count, C: Count, R: Count> Model for Log<NU
     ghost coded = { Prim.hlevel (codes, finite.code) };
 
     ghost view = { λ l. record {
-      base = l.base;
+      bases = record { base = l.base; past = l.past };
       steps = l.history.steps;
       standing = l.standing;
       room = l.history.room - l.standing;
@@ -84,13 +84,17 @@ impl<const NUMBER: u64, M: Count, L: Count, C: Count, R: Count> Log<NUMBER, M, L
         refused: Book<R>,
     ) -> Self
         requires { (made.total ≡ 0) × (lent.total ≡ 0) × (changed.total ≡ 0) × (refused.total ≡ 0) }
-        ensures { result ≡
-            record { base = new_base NUMBER; steps = []; standing = 0; room = result.room } }
+        ensures { result ≡ record {
+          bases = record { base = new_base NUMBER; past = [] };
+          steps = [];
+          standing = 0;
+          room = result.room;
+        } }
     {
         Log {
             alloc,
             base: KeptBase::new(alloc, NUMBER),
-            room: RowRoom::new(alloc),
+            past: PackedRows::new(alloc),
             history: StepList::new(alloc),
             standing: 0,
             made_steps: 0,
@@ -108,7 +112,7 @@ impl<const NUMBER: u64, M: Count, L: Count, C: Count, R: Count> Log<NUMBER, M, L
     #[inline(always)]
     pub fn reserve(&mut self, steps: usize) -> Result<(), AllocError>
         requires { steps ≤ 2 }
-        ensures base { self.new.base ≡ self.old.base }
+        ensures bases { self.new.bases ≡ self.old.bases }
         ensures steps { self.new.steps ≡ self.old.steps }
         ensures standing { self.new.standing ≡ self.old.standing }
         ensures ok { OnOk result (steps ≤ self.new.room) }
@@ -122,7 +126,7 @@ impl<const NUMBER: u64, M: Count, L: Count, C: Count, R: Count> Log<NUMBER, M, L
     #[inline(always)]
     fn append<E: Entry>(&mut self, entry: E, tally: &mut Tally<M, L, C, R>)
         requires room { 0 < self.old.room }
-        ensures base { self.new.base ≡ self.old.base }
+        ensures bases { self.new.bases ≡ self.old.bases }
         ensures steps { Appends self.old.steps
             (step_of tally.old.worker (E.as_call entry) (E.as_reply entry)) self.new.steps }
         ensures standing { self.new.standing ≡ self.old.standing }
@@ -155,7 +159,7 @@ impl<const NUMBER: u64, M: Count, L: Count, C: Count, R: Count> Log<NUMBER, M, L
     #[inline(always)]
     pub fn settle<E: Entry>(&mut self, entry: E, tally: &mut Tally<M, L, C, R>)
         requires room { 1 < self.old.room }
-        ensures base { self.new.base ≡ self.old.base }
+        ensures bases { self.new.bases ≡ self.old.bases }
         ensures steps { Appends self.old.steps
             (step_of tally.old.worker (E.as_call entry) (E.as_reply entry)) self.new.steps }
         ensures standing { self.new.standing ≡ self.old.standing + lent_by (E.as_reply entry) }
@@ -171,7 +175,7 @@ impl<const NUMBER: u64, M: Count, L: Count, C: Count, R: Count> Log<NUMBER, M, L
     // began. It is looked at here whether one stands, which is cheaper than to have each caller show it.
     #[inline(always)]
     pub fn settle_end<E: Entry>(&mut self, entry: E, tally: &mut Tally<M, L, C, R>)
-        ensures base { self.new.base ≡ self.old.base }
+        ensures bases { self.new.bases ≡ self.old.bases }
         ensures steps { 0 < self.old.standing → Appends self.old.steps
             (step_of tally.old.worker (E.as_call entry) (E.as_reply entry)) self.new.steps }
         ensures standing { 0 < self.old.standing → self.new.standing + 1 ≡ self.old.standing }
@@ -191,7 +195,7 @@ impl<const NUMBER: u64, M: Count, L: Count, C: Count, R: Count> Log<NUMBER, M, L
     fn borrow_begins(&mut self)
         requires room { 0 < self.old.room }
         requires bounded { self.old.standing + self.old.room < 2 ^ 64 }
-        ensures base { self.new.base ≡ self.old.base }
+        ensures bases { self.new.bases ≡ self.old.bases }
         ensures steps { self.new.steps ≡ self.old.steps }
         ensures standing { self.new.standing ≡ self.old.standing + 1 }
     {
@@ -202,10 +206,10 @@ impl<const NUMBER: u64, M: Count, L: Count, C: Count, R: Count> Log<NUMBER, M, L
     // be too many together.
     #[tactic(auto, using(crate::proofs::Appending::all_kinds))]
     pub fn trimmed_steps(&self) -> Option<TrimmedSteps>
-        ensures counts { IfSome result (λ t. t ≡ counts_of self.now.base self.now.steps) }
+        ensures counts { IfSome result (λ t. t ≡ counts_of self.now.bases.base self.now.steps) }
         ensures within { OnSome result
-            (all_trimmed self.now.base + length self.now.steps < 2 ^ 64) }
-        ensures none { IfNone result (2 ^ 64 ≤ all_trimmed self.now.base + length self.now.steps) }
+            (all_trimmed self.now.bases.base + length self.now.steps < 2 ^ 64) }
+        ensures none { IfNone result (2 ^ 64 ≤ all_trimmed self.now.bases.base + length self.now.steps) }
     {
         self.base
             .trimmed()
@@ -226,21 +230,42 @@ impl<const NUMBER: u64, M: Count, L: Count, C: Count, R: Count> Log<NUMBER, M, L
         self.alloc
     }
 
-    // The room for the rows of the next base, which is that of the last one but one; and how many rows
-    // the base has. None is left.
-    pub fn take_room(&mut self) -> (RowRoom, RowCounts)
-        ensures { self.new ≡ self.old }
+    // For how many rows room is wanted before a base of so many slots is packed. None where there is
+    // room for them.
+    pub fn wanted_rows(&self, slots: usize) -> Option<RowCounts> {
+        let mut counts = self.base.row_counts();
+        counts.slots = slots;
+        if self.past.has_room(counts) {
+            return None;
+        }
+        Some(counts)
+    }
+
+    // Rows into which the next base's are packed: fresh ones without any, where they are handed in, or
+    // else those of the base before the last one, of which none are left then.
+    pub fn take_past(&mut self, fresh: Option<PackedRows>) -> PackedRows
+        requires { IfSome fresh (λ rows. rows ≡ []) }
+        ensures rows { result ≡ unwrap_or fresh self.old.bases.past }
+        ensures left { self.new ≡ record self.old {
+          bases = record {
+            base = self.old.bases.base;
+            past = if is_some fresh then self.old.bases.past else [];
+          };
+        } }
     {
-        let room = mem::replace(&mut self.room, RowRoom::new(self.alloc));
-        (room, self.base.row_counts())
+        match fresh {
+            Some(rows) => rows,
+            None => mem::replace(&mut self.past, PackedRows::new(self.alloc)),
+        }
     }
 
     // Lets the history begin anew at a base that counts all steps so far as trimmed. What is kept no
     // more is answered, so that who holds a lock can let it go when it is open. Want of memory
-    // changes nothing, and the room stays.
+    // changes nothing.
     pub fn rebase(&mut self, base: KeptBase) -> Result<Outdated, AllocError>
-        requires { Trims self.old.base self.old.steps base }
-        ensures base { OnOk result (self.new.base ≡ base) }
+        requires { Trims self.old.bases.base self.old.steps base }
+        ensures bases { OnOk result
+            (self.new.bases ≡ record { base = base; past = self.old.bases.base.rows }) }
         ensures steps { OnOk result (self.new.steps ≡ []) }
         ensures standing { self.new.standing ≡ self.old.standing }
         ensures room { self.old.room ≤ self.new.room }
@@ -248,20 +273,20 @@ impl<const NUMBER: u64, M: Count, L: Count, C: Count, R: Count> Log<NUMBER, M, L
     {
         let steps = self.history.empty(base.next())?;
         let before = mem::replace(&mut self.base, base);
-        let room = mem::replace(&mut self.room, before.into_room());
+        let rows = mem::replace(&mut self.past, before.into_rows());
         self.made_steps = 0;
         self.lent_steps = 0;
         self.changed_steps = 0;
         self.refused_steps = 0;
-        Ok(Outdated { steps, room })
+        Ok(Outdated { steps, rows })
     }
 
     // A copy of the base and of the steps, which a whole tally has counted by their kinds.
     pub fn audit(&mut self, whole: &mut Tally<M, L, C, R>) -> Result<(Base, Vec<Step>), AllocError>
         requires { whole.old.parts ≡ M.workers }
-        ensures base { IfOk result (λ r. r.0 ≡ self.old.base) }
+        ensures base { IfOk result (λ r. r.0 ≡ self.old.bases.base) }
         ensures steps { IfOk result (λ r. r.1.items ≡ self.old.steps) }
-        ensures counts { IsCounted whole.old self.old.base self.old.steps }
+        ensures counts { IsCounted whole.old self.old.bases.base self.old.steps }
         ensures log { self.new ≡ self.old }
         ensures tally { whole.new ≡ whole.old }
     {
@@ -278,7 +303,7 @@ impl<const NUMBER: u64, M: Count, L: Count, C: Count, R: Count> Log<NUMBER, M, L
 
     // A copy of the base and of the steps.
     fn copies(&self) -> Result<(Base, Vec<Step>), AllocError>
-        ensures base { IfOk result (λ r. r.0 ≡ self.now.base) }
+        ensures base { IfOk result (λ r. r.0 ≡ self.now.bases.base) }
         ensures steps { IfOk result (λ r. r.1.items ≡ self.now.steps) }
     {
         let steps = self.history.to_vec()?;
@@ -304,9 +329,9 @@ fn begins_borrow<E: Entry>(entry: E) -> bool
     matches!(entry.reply(), StepReply::Reader(_) | StepReply::Writer(_))
 }
 
-/// Steps and room that are kept no more.
+/// Steps and rows that are kept no more.
 #[derive(Drop)]
 pub struct Outdated {
     steps: OldSteps,
-    room: RowRoom,
+    rows: PackedRows,
 }

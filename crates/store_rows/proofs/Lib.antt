@@ -1,1 +1,3 @@
 pub mod Packing
+pub mod Past
+pub mod Pairs

@@ -1,9 +1,11 @@
 //! The rows of a whole store, packed.
 
-ghost use Rattle.std.specs.Prelude.{◌≡◌, ◌++◌, [], IfOk, OnOk, length};
-ghost use Rattle.store_rows.specs.Packed.{AreWithin, unpack_all};
+ghost use Rattle.std.specs.Prelude.{◌≡◌, ◌++◌, [], IfOk, OnOk};
+ghost use Rattle.store_rows.specs.Packed.{unpack_all};
+ghost use Rattle.store_rows.specs.Past.{AreSlotsOf};
 
-use crate::packed::{PackedSlot, unpack};
+use crate::columns::{PackedSlots, touched};
+use crate::packed::{after, unpack};
 use generational_core::BaseRow;
 use std::alloc::{AllocError, Global};
 use std::marker::Model;
@@ -16,77 +18,34 @@ pub struct RowCounts {
     pub owners: usize,
 }
 
-/// Room for packed rows, without any. Contracts see nothing of it.
+/// The packed slots of an earlier state, and room for rows, without any. A slot that hasn't changed
+/// needn't be written again.
 #[derive(Drop)]
-pub struct RowRoom {
-    pub slots: Vec<PackedSlot>,
+pub struct PastRows {
+    pub slots: PackedSlots,
     pub whole: Vec<BaseRow>,
     pub owners: Vec<BaseRow>,
-    ghost no_slots: { slots.items ≡ [] },
     ghost no_whole: { whole.items ≡ [] },
     ghost no_owners: { owners.items ≡ [] },
-}
-
-impl RowRoom {
-    /// No room. Takes no memory.
-    pub fn new(alloc: Global) -> RowRoom {
-        RowRoom {
-            slots: Vec::new(alloc),
-            whole: Vec::new(alloc),
-            owners: Vec::new(alloc),
-        }
-    }
-
-    /// Makes room for so many of each, and some more of each, whose memory is touched.
-    pub fn touch(self, alloc: Global, counts: RowCounts) -> Result<RowRoom, AllocError> {
-        Ok(RowRoom {
-            slots: touched(alloc, self.slots, counts.slots, PackedSlot::Free(1))?,
-            whole: touched(alloc, self.whole, counts.whole, BaseRow::Slot(1, 1))?,
-            owners: touched(alloc, self.owners, counts.owners, BaseRow::Owner(1, 1))?,
-        })
-    }
-}
-
-// An empty list with room for so many elements and some more, whose memory is touched.
-fn touched<X: Copy>(
-    alloc: Global,
-    items: Vec<X>,
-    wanted: usize,
-    some: X,
-) -> Result<Vec<X>, AllocError>
-    ensures { IfOk result (λ room. room.items ≡ []) }
-{
-    if wanted <= items.capacity() {
-        let mut items = items;
-        items.clear();
-        return Ok(items);
-    }
-    drop(items);
-    let mut room = Vec::new(alloc);
-    room.resize(wanted.saturating_add(wanted / 8), some)?;
-    room.clear();
-    Ok(room)
 }
 
 /// The rows of what a store with this number has, packed. Contracts see the rows.
 #[derive(Drop)]
 pub struct PackedRows {
     number: u64,
-    slots: Vec<PackedSlot>,
+    slots: PackedSlots,
     whole: Vec<BaseRow>,
     owners: Vec<BaseRow>,
 }
 
 impl Model for PackedRows {
-    ghost use Rattle.std.specs.Prelude.{List, ◌++◌, length};
+    ghost use Rattle.std.specs.Prelude.{List, ◌++◌};
     ghost use Rattle.generational_core.specs.declared.rows.BaseRow.{BaseRow};
-    ghost use Rattle.store_rows.specs.Packed.{AreWithin, unpack_all};
+    ghost use Rattle.store_rows.specs.Packed.{unpack_all};
 
     ghost Value = { List BaseRow };
 
-    ghost view = { λ r. unpack_all r.number r.whole.items 0 r.slots.items ++ r.owners.items };
-
-    ghost invariant = { λ r. AreWithin (length r.whole.items) r.slots.items };
+    ghost view = { λ r. unpack_all r.number r.whole.items 0 r.slots ++ r.owners.items };
 }
 
 impl PackedRows {
@@ -94,18 +53,27 @@ impl PackedRows {
     pub fn new(alloc: Global) -> PackedRows
         ensures { result ≡ [] }
     {
-        PackedRows::of(0, Vec::new(alloc), Vec::new(alloc), Vec::new(alloc))
+        PackedRows::of(0, PackedSlots::new(alloc), Vec::new(alloc), Vec::new(alloc))
+    }
+
+    /// No rows, with room for so many of each, and some more of each, whose memory is touched.
+    pub fn with_room(alloc: Global, counts: RowCounts) -> Result<PackedRows, AllocError>
+        ensures { IfOk result (λ rows. rows ≡ []) }
+    {
+        let slots = PackedSlots::with_room(alloc, counts.slots)?;
+        let whole = touched(alloc, counts.whole, BaseRow::Slot(1, 1))?;
+        let owners = touched(alloc, counts.owners, BaseRow::Owner(1, 1))?;
+        Ok(PackedRows::of(0, slots, whole, owners))
     }
 
     /// The rows of these slots, and those of the owners after them.
     pub fn of(
         number: u64,
-        slots: Vec<PackedSlot>,
+        slots: PackedSlots,
         whole: Vec<BaseRow>,
         owners: Vec<BaseRow>,
     ) -> PackedRows
-        requires { AreWithin (length whole.items) slots.items }
-        ensures { result ≡ unpack_all number whole.items 0 slots.items ++ owners.items }
+        ensures { result ≡ unpack_all number whole.items 0 slots ++ owners.items }
     {
         PackedRows {
             number,
@@ -124,18 +92,26 @@ impl PackedRows {
         }
     }
 
-    /// The room that the rows took.
-    pub fn into_room(self) -> RowRoom {
+    /// Whether so many of each can stand in the memory that the rows take.
+    pub fn has_room(&self, counts: RowCounts) -> bool {
+        self.slots.has_room(counts.slots)
+            && counts.whole <= self.whole.capacity()
+            && counts.owners <= self.owners.capacity()
+    }
+
+    /// The slots, for the next rows in their place.
+    pub fn into_past(self) -> PastRows
+        ensures { AreSlotsOf self result.slots }
+    {
         let PackedRows {
             number: _,
-            mut slots,
+            slots,
             mut whole,
             mut owners,
         } = self;
-        slots.clear();
         whole.clear();
         owners.clear();
-        RowRoom {
+        PastRows {
             slots,
             whole,
             owners,
@@ -147,12 +123,7 @@ impl PackedRows {
         ensures { IfOk result (λ rows. rows.items ≡ self.now) }
     {
         let mut rows = Vec::new(alloc);
-        unpack_all(
-            &mut rows,
-            self.number,
-            self.whole.as_slice(),
-            self.slots.as_slice(),
-        )?;
+        unpack_all(&mut rows, self.number, self.whole.as_slice(), &self.slots)?;
         rows.extend_from_slice(self.owners.as_slice())?;
         Ok(rows)
     }
@@ -163,14 +134,16 @@ fn unpack_all(
     rows: &mut Vec<BaseRow>,
     number: u64,
     whole: &[BaseRow],
-    slots: &[PackedSlot],
+    slots: &PackedSlots,
 ) -> Result<(), AllocError>
-    requires { AreWithin (length whole.now) slots.now }
     ensures { OnOk result
         (rows.new.items ≡ rows.old.items ++ unpack_all number whole.now 0 slots.now) }
 {
+    let mut rest = whole;
     for slot in 0..slots.len() {
-        unpack(rows, number, whole, slot, slots[slot])?;
+        let packed = slots.slot(slot);
+        unpack(rows, number, rest, slot, packed, slots.created_at(slot))?;
+        rest = after(rest, packed);
     }
     Ok(())
 }

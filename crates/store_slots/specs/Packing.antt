@@ -1,30 +1,53 @@
 -- Slots as they are packed.
-use Rattle.std.specs.Prelude.{◌≡◌, ℕ, List, [], ◌∷◌, ◌++◌, length}
+use Rattle.std.specs.Prelude.{◌≡◌, ℕ, ◌+◌, ◌<◌, List, [], ◌∷◌, ◌++◌, IfSome, length, slice_get, take}
+use Rattle.generational_errors.specs.declared.error.Location.{Location}
+use Rattle.generational_core.specs.Cells.{location_of}
 use Rattle.generational_core.specs.declared.rows.BaseRow.{BaseRow}
-use Rattle.store_cells.specs.Entry.{Entry}
-use Rattle.store_rows.specs.Packed.{AreWithin, IsWithin, unpack, unpack_all}
+use Rattle.store_cells.specs.Entry.{Entry, cell_of}
+use Rattle.store_rows.specs.Packed.{unpack, unpack_all, whole_in, whole_of}
 use Rattle.store_rows.specs.declared.packed.PackedSlot.{PackedSlot}
+use Rattle.store_rows.specs.declared.packed.PackedSlot.TheVariants as packed
 use Rattle.store_slots.specs.SlotRows.{entry_rows, rows_from}
 
--- All slots are packed: their rows are told, whichever of them stand among the whole ones.
+-- All slots are packed: their rows are told, and all whole ones are theirs.
 pub record ArePacked {T : Type 0} (number : ℕ) (entries : List (Entry T)) (whole : List BaseRow)
-    (slots : List PackedSlot) : Type 0 where
-  pub within : AreWithin (length whole) slots
+    (slots : List (PackedSlot × Location)) : Type 0 where
+  pub all : whole_of slots ≡ length whole
   pub rows : unpack_all number whole 0 slots ≡ rows_from number 0 entries
 
--- A slot is packed in few bytes, which tell its rows whatever else is packed.
-pub record IsSmall {T : Type 0} (slot : ℕ) (packed : PackedSlot) (e : Entry T) : Type 0 where
-  pub within : (most : ℕ) → IsWithin most packed
+-- A slot is packed in few bytes, which tell its rows without a whole one.
+pub record IsSmall {T : Type 0} (slot : ℕ) (p : PackedSlot × Location) (e : Entry T) : Type 0 where
+  pub none : whole_in p.0 ≡ 0
   pub rows : (number : ℕ) (whole : List BaseRow)
-      → unpack number whole slot packed ≡ entry_rows number slot e
+      → unpack number whole slot p ≡ entry_rows number slot e
 
--- One slot more is packed, after these, and maybe whole rows are appended.
-pub record Packs {T : Type 0} (number slot : ℕ) (e : Entry T) (whole : List BaseRow)
-    (slots : List PackedSlot) (whole_after : List BaseRow) (slots_after : List PackedSlot)
-    : Type 0 where
-  pub packed : PackedSlot
+-- A slot is packed, and maybe whole rows are appended, which are its own.
+pub record IsPacked {T : Type 0} (number slot : ℕ) (e : Entry T) (whole whole_after : List BaseRow)
+    (p : PackedSlot × Location) : Type 0 where
   pub more : List BaseRow
-  pub slots_grow : slots_after ≡ slots ++ packed ∷ []
-  pub whole_grow : whole_after ≡ whole ++ more
-  pub within : IsWithin (length whole_after) packed
-  pub rows : unpack number whole_after slot packed ≡ entry_rows number slot e
+  pub grows : whole_after ≡ whole ++ more
+  pub many : whole_in p.0 ≡ length more
+  pub rows : unpack number more slot p ≡ entry_rows number slot e
+
+-- One slot more is packed after those before it, and the slots behind it are as they were.
+pub record Packs {T : Type 0} (number slot : ℕ) (e : Entry T) (whole : List BaseRow)
+    (slots : List (PackedSlot × Location)) (whole_after : List BaseRow)
+    (slots_after : List (PackedSlot × Location)) : Type 0 where
+  pub packed : PackedSlot × Location
+  pub is : IsPacked number slot e whole whole_after packed
+  pub here : take (slot + 1) slots_after ≡ take slot slots ++ packed ∷ []
+  pub rest : (i : ℕ) → slot < i → slice_get slots_after i ≡ slice_get slots i
+
+-- a slot's cell, if there is one, was made there
+abbrev pub WasMadeIn : {T : Type 0} → Entry T → Location → Type 0
+WasMadeIn e l = IfSome (location_of (cell_of e.kept)) (λ k. l ≡ k)
+
+-- a slot as it was packed in an earlier state, and all of them
+abbrev pub IsPastOf : {T : Type 0} → Entry T → PackedSlot × Location → Type 0
+IsPastOf e (packed.Value g, l) = g ≡ e.generation → WasMadeIn e l
+IsPastOf e (packed.Shared g, l) = g ≡ e.generation → WasMadeIn e l
+IsPastOf e p = Unit {0}
+
+abbrev pub ArePastOf : {T : Type 0} → List (Entry T) → List (PackedSlot × Location) → Type 0
+ArePastOf entries slots = (slot : ℕ) → IfSome (slice_get entries slot)
+    (λ e. IfSome (slice_get slots slot) (λ p. IsPastOf e p))

@@ -1,66 +1,116 @@
 //! The rows of slots, packed.
 
-ghost use Rattle.std.specs.Prelude.{◌≡◌, ◌<◌, ◌++◌, ◌∷◌, [], IfSome, OnOk, length, slice_get};
-ghost use Rattle.store_rows.specs.Packed.{unpack};
-ghost use Rattle.store_slots.specs.Packing.{ArePacked, IsSmall, Packs};
+ghost use Rattle.std.specs.Prelude.{◌≡◌, ◌<◌, ◌≤◌, ◌+◌, ◌++◌, ◌∷◌, [], ℕ, IfOk, IfSome, OnOk};
+ghost use Rattle.std.specs.Prelude.{length, slice_get, take};
+ghost use Rattle.std.specs.Bool.{OnTrue};
+ghost use Rattle.store_slots.specs.Packing.{ArePacked, ArePastOf, IsPacked, IsPastOf};
+ghost use Rattle.store_slots.specs.Packing.{IsSmall, Packs, WasMadeIn};
+ghost use Rattle.generational_errors.specs.declared.error.Location.{Location as Place};
 
 use crate::rows::push_slot;
-use generational_core::BaseRow;
+use generational_core::{BaseRow, Location};
 use std::alloc::AllocError;
 use store_cells::entries::Entries;
 use store_cells::entry::Kind;
 use store_parts::names::CellName;
-use store_room::{push_more, reserve_more};
-use store_rows::PackedSlot;
+use store_rows::{PackedSlot, PackedSlots};
 
-/// Packs the rows of all slots, with ids of the store with this number, into an empty list and behind
-/// whole rows.
+/// Packs the rows of all slots, with ids of the store with this number, into the place of slots that
+/// were packed in an earlier state, and into a list of whole rows. A slot that is as it was then isn't
+/// written.
 pub fn pack_slots<T: Drop>(
     entries: &Entries<T>,
     number: u64,
-    slots: &mut Vec<PackedSlot>,
+    slots: &mut PackedSlots,
     whole: &mut Vec<BaseRow>,
 ) -> Result<(), AllocError>
-    requires { slots.old.items ≡ [] }
+    requires past { ArePastOf entries.now.slots slots.old }
+    requires none { whole.old.items ≡ [] }
     ensures { OnOk result
-        (ArePacked number entries.now.slots whole.new.items slots.new.items) }
+        (ArePacked number entries.now.slots whole.new.items slots.new) }
 {
     for slot in 0..entries.len() {
         pack_slot(entries, number, slot, slots, whole)?;
     }
+    slots.truncate(entries.len());
     Ok(())
 }
 
 // Packs the rows of the next slot.
+#[inline(always)]
 fn pack_slot<T: Drop>(
     entries: &Entries<T>,
     number: u64,
     slot: usize,
-    slots: &mut Vec<PackedSlot>,
+    slots: &mut PackedSlots,
     whole: &mut Vec<BaseRow>,
 ) -> Result<(), AllocError>
-    requires { slot < length entries.now.slots }
+    requires within { slot < length entries.now.slots }
+    requires next { slot ≤ length slots.old }
+    requires past { IfSome (slice_get entries.now.slots slot)
+        (λ e. IfSome (slice_get slots.old slot) (λ p. IsPastOf e p)) }
     ensures { OnOk result (IfSome (slice_get entries.now.slots slot) (λ e.
-        Packs number slot e whole.old.items slots.old.items whole.new.items slots.new.items)) }
+        Packs number slot e whole.old.items slots.old whole.new.items slots.new)) }
 {
+    if slot < slots.len() && stays(entries, slot, slots.slot(slot)) {
+        return Ok(());
+    }
+    let (packed, created_at) = packed_slot(entries, number, slot, whole)?;
+    slots.put(slot, packed, created_at)
+}
+
+// A slot, of which maybe whole rows are appended, and where its cell was made.
+fn packed_slot<T: Drop>(
+    entries: &Entries<T>,
+    number: u64,
+    slot: usize,
+    whole: &mut Vec<BaseRow>,
+) -> Result<(PackedSlot, Location), AllocError>
+    requires { slot < length entries.now.slots }
+    ensures { IfOk result (λ p. IfSome (slice_get entries.now.slots slot)
+        (λ e. IsPacked number slot e whole.old.items whole.new.items p)) }
+{
+    let created_at = entries.details(slot).created_at;
     if let Some(packed) = small_slot(entries, slot) {
-        return push_packed(slots, packed);
+        return Ok((packed, created_at));
     }
     let from = whole.len();
     push_slot(entries, number, slot, whole)?;
-    push_more(slots, PackedSlot::Whole(from, whole.len()))
+    // no memory holds more rows
+    let Ok(many) = u32::try_from(whole.len() - from) else {
+        return Err(AllocError);
+    };
+    Ok((PackedSlot::Whole(many), created_at))
 }
 
-// Appends a slot, for which there mostly is room.
+// Whether a slot is as it was when it was packed. Where its cell was made needn't be asked: a name's
+// cell stays where it was made.
 #[inline(always)]
-fn push_packed(slots: &mut Vec<PackedSlot>, packed: PackedSlot) -> Result<(), AllocError>
-    ensures { OnOk result (slots.new.items ≡ slots.old.items ++ packed ∷ []) }
+fn stays<T: Drop>(entries: &Entries<T>, slot: usize, past: PackedSlot) -> bool
+    requires { slot < length entries.now.slots }
+    ensures { OnTrue result (IfSome (slice_get entries.now.slots slot)
+        (λ e. (l : Place) → IsPastOf e (past, l) → IsSmall slot (past, l) e)) }
 {
-    if slots.len() == slots.capacity() {
-        reserve_more(slots, 1)?;
+    let name = CellName {
+        slot,
+        generation: entries.generation(slot),
+    };
+    match past {
+        PackedSlot::Value(generation) => {
+            generation as u64 == name.generation && entries.has_unborrowed_value(name)
+        }
+        PackedSlot::Free(generation) => {
+            generation as u64 == name.generation
+                && entries.kind(name).is_none()
+                && entries.target(name).is_none()
+        }
+        PackedSlot::Shared(generation) => {
+            generation as u64 == name.generation
+                && matches!(entries.kind(name), Some(Kind::Shared))
+                && entries.is_unborrowed(slot)
+        }
+        PackedSlot::Whole(_) => false,
     }
-    slots.push_reserved(packed);
-    Ok(())
 }
 
 // The last generation that fits.
@@ -71,7 +121,8 @@ const MOST: u64 = u32::MAX as u64;
 #[inline(always)]
 fn small_slot<T: Drop>(entries: &Entries<T>, slot: usize) -> Option<PackedSlot>
     requires { slot < length entries.now.slots }
-    ensures { IfSome result (λ p. IfSome (slice_get entries.now.slots slot) (IsSmall slot p)) }
+    ensures { IfSome result (λ p. IfSome (slice_get entries.now.slots slot)
+        (λ e. (l : Place) → WasMadeIn e l → IsSmall slot (p, l) e)) }
 {
     let name = CellName {
         slot,
@@ -80,10 +131,9 @@ fn small_slot<T: Drop>(entries: &Entries<T>, slot: usize) -> Option<PackedSlot>
     if name.generation > MOST || !entries.is_unborrowed(slot) {
         return None;
     }
-    let created_at = entries.details(slot).created_at;
     match entries.kind(name) {
-        Some(Kind::Value) => Some(PackedSlot::Value(name.generation as u32, created_at)),
-        Some(Kind::Shared) => Some(PackedSlot::Shared(name.generation as u32, created_at)),
+        Some(Kind::Value) => Some(PackedSlot::Value(name.generation as u32)),
+        Some(Kind::Shared) => Some(PackedSlot::Shared(name.generation as u32)),
         None => match entries.target(name) {
             Some(_) => None,
             None => Some(PackedSlot::Free(name.generation as u32)),

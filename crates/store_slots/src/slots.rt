@@ -43,7 +43,9 @@ ghost use Rattle.store_slots.specs.SlotsState.{refusal_to_write_at};
 ghost use Rattle.store_slots.specs.SlotsState.{would_end, Finds, HasEnded, IsMade, IsReadable, IsWritable};
 ghost use Rattle.store_slots.specs.SlotsState.{IsTurned};
 ghost use Rattle.store_slots.specs.Removal.{live_target};
-ghost use Rattle.store_rows.specs.Packed.{AreWithin, unpack_all};
+ghost use Rattle.store_rows.specs.Packed.{unpack_all};
+ghost use Rattle.store_rows.specs.Past.{ArePastSlots};
+ghost use Rattle.generational_core.specs.Plain.{plain};
 ghost use Rattle.store_slots.specs.SlotRows.{all_slot_rows, ReadSlots};
 ghost use Rattle.store_slots.specs.SlotsState.{with_records};
 
@@ -66,7 +68,7 @@ use store_cells::entries::Entries;
 use store_cells::entry::{Kind, StorageEntryData};
 use store_parts::names::CellName;
 use store_parts::pool::{SlotPool, grow_within};
-use store_rows::PackedSlot;
+use store_rows::PackedSlots;
 
 /// The slots of a store. Contracts see the state of the abstract machine for which they stand,
 /// without a number, owners and tickets, and how many cells more take no memory. `P` chooses which
@@ -159,17 +161,18 @@ impl<T: Drop, P: SlotPool> Slots<T, P> {
         push_slots(&self.entries, number, rows)
     }
 
-    /// Packs the rows of the slots, ascending, with ids of the store with this number, into an empty
-    /// list and behind whole rows.
+    /// Packs the rows of the slots, ascending, with ids of the store with this number, into the place
+    /// of those of an earlier state and into a list of whole rows. Takes time for each slot, and
+    /// memory where there are more than then.
     pub fn pack_rows(
         &self,
         number: u64,
-        slots: &mut Vec<PackedSlot>,
+        slots: &mut PackedSlots,
         whole: &mut Vec<BaseRow>,
     ) -> Result<(), AllocError>
-        requires { slots.old.items ≡ [] }
-        ensures within { OnOk result (AreWithin (length whole.new.items) slots.new.items) }
-        ensures rows { OnOk result (unpack_all number whole.new.items 0 slots.new.items
+        requires past { ArePastSlots (plain self.now.state) slots.old }
+        requires none { whole.old.items ≡ [] }
+        ensures rows { OnOk result (unpack_all number whole.new.items 0 slots.new
             ≡ all_slot_rows number self.now.state) }
         ensures back { ReadSlots number self.now.state }
     {

@@ -22,7 +22,7 @@ returns-in-Some g c = λ ended.
     c.histories_lead_to_sound_states.ensures.sound c.histories_lead_to_sound_states.ensures.number
     c.steps_keep_the_store.ensures.number c.free_calls_are_answered_so.ensures g.row.NUMBER
     c.args.store.now.state c.args.log.now c.settle_end.new.self call (Some reply) c.args.tally.now
-    c.settle_end.new.tally c.settle_end.ensures.base (c.settle_end.ensures.steps stood)
+    c.settle_end.new.tally c.settle_end.ensures.bases (c.settle_end.ensures.steps stood)
     (c.settle_end.ensures.tally stood) it.some it.ends (c.settle_end.ensures.standing stood))
 
 pub returns-in-None : goal.returns-in-None

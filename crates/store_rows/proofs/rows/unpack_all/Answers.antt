@@ -1,27 +1,22 @@
-use Rattle.std.proofs.Common.{◌≡◌, ◌+◌, length, suc, take, arith, append_assoc}
-use Rattle.store_rows.specs.Packed.{unpack_all}
-use Rattle.store_rows.specs.declared.packed.PackedSlot.TheVariants.{Free}
-use Rattle.store_rows.proofs.Packing.{unpack_more, within_at}
+use Rattle.std.proofs.Common.{◌≡◌, ◌++◌, ◌+◌, ◌∷◌, ◌∙◌, ap, append_assoc, arith, drop, suc, sym}
+use Rattle.generational_errors.specs.declared.error.Location.{Location}
+use Rattle.store_rows.specs.declared.packed.PackedSlot.{PackedSlot}
+use Rattle.store_rows.proofs.Pairs.{drop_next}
+use Rattle.store_rows.specs.Packed.{unpack, unpack_all}
 use Rattle.store_rows.proofs.rows.unpack_all.Goals as goal
-
-pub unpack-requires : goal.unpack-requires
-unpack-requires c =
-    within_at (length c.args.whole.now) c.args.slots.now c.loop-slot.slot (Free 0)
-    c.loop-slot-test.true c.requires
 
 pub loop-slot-preserved : goal.loop-slot-preserved
 loop-slot-preserved c =
     let n = c.args.number in
-    let w = c.args.whole.now in
-    let i = c.loop-slot.slot in
-    let xs = c.args.slots.now in
-    let more : i + 1 ≡ suc i = omega arith in
-    let at : 0 + i ≡ i = omega arith in
-    rw (
-      c.in_ok-unpack.ensures,
-      c.loop-slot.invariant,
-      more,
-      unpack_more n w 0 i xs (Free 0) c.loop-slot-test.true,
-      at,
-    )
-    (append_assoc c.args.rows.now.items (unpack_all n w 0 (take i xs)) _)
+    let k = c.loop-slot.slot in
+    let rest = c.loop-slot.rest.now in
+    let e : PackedSlot × Location = (c.slot-packed.result, c.created_at.result) in
+    let more : k + 1 ≡ suc k = omega arith in
+    let others = drop (k + 1) c.args.slots.now in
+    (λ i. c.in_ok-unpack.ensures i ++ unpack_all n (c.after-rest.ensures i) (k + 1) others)
+    ∙ append_assoc c.loop-slot.rows.items (unpack n rest k e) _
+    ∙ ap (λ slots. c.loop-slot.rows.items ++ unpack_all n rest k slots)
+    (ap (λ m. e ∷ drop m c.args.slots.now) more ∙ sym (drop_next c.args.slots.now k c.slot-packed.result c.created_at.result
+    (omega (arith, c.loop-slot-test.true, c.len-slot-end.ensures)) c.slot-packed.ensures
+    c.created_at.ensures))
+    ∙ c.loop-slot.invariant

@@ -9,7 +9,7 @@ use Rattle.generational_sync.proofs.state.SyncState.make.Goals as goal
 
 pub invariant_of-self-in-Ok : goal.invariant_of-self-in-Ok
 invariant_of-self-in-Ok g c =
-    (recorded c.self.invariant c.reserve.ensures.base c.reserve.ensures.steps
+    (recorded c.self.invariant c.reserve.ensures.bases c.reserve.ensures.steps
     c.reserve.ensures.standing c.self.view_is refl c.requires
     (make_ready c.self.inside.store.state (option_copied c.args.owner) c.args.value c.args.location
     (made_by c.args.id c.args.location) c.requires) c.in-Ok.ensures.step
@@ -17,7 +17,7 @@ invariant_of-self-in-Ok g c =
 
 pub invariant_of-self-in-Err : goal.invariant_of-self-in-Err
 invariant_of-self-in-Err g c =
-    (recorded c.self.invariant c.reserve.ensures.base c.reserve.ensures.steps
+    (recorded c.self.invariant c.reserve.ensures.bases c.reserve.ensures.steps
     c.reserve.ensures.standing c.self.view_is refl (c.requires ∙ ap Some (sym c.making-call.ensures))
     (make_ready c.self.inside.store.state (option_copied c.args.owner) c.args.value c.args.location
     c.making-call.result (c.requires ∙ ap Some (sym c.making-call.ensures))) c.in-Err.ensures.step
@@ -28,7 +28,7 @@ invariant_of-self-in-Err g c =
 
 pub returns-in-Ok-clause-step : goal.returns-in-Ok-clause-step
 returns-in-Ok-clause-step g c =
-    (recorded c.self.invariant c.reserve.ensures.base c.reserve.ensures.steps
+    (recorded c.self.invariant c.reserve.ensures.bases c.reserve.ensures.steps
     c.reserve.ensures.standing c.self.view_is refl c.requires
     (make_ready c.self.inside.store.state (option_copied c.args.owner) c.args.value c.args.location
     (made_by c.args.id c.args.location) c.requires) c.in-Ok.ensures.step
@@ -36,7 +36,7 @@ returns-in-Ok-clause-step g c =
 
 pub returns-in-Err-clause-step : goal.returns-in-Err-clause-step
 returns-in-Err-clause-step g c =
-    (recorded c.self.invariant c.reserve.ensures.base c.reserve.ensures.steps
+    (recorded c.self.invariant c.reserve.ensures.bases c.reserve.ensures.steps
     c.reserve.ensures.standing c.self.view_is refl (c.requires ∙ ap Some (sym c.making-call.ensures))
     (make_ready c.self.inside.store.state (option_copied c.args.owner) c.args.value c.args.location
     c.making-call.result (c.requires ∙ ap Some (sym c.making-call.ensures))) c.in-Err.ensures.step

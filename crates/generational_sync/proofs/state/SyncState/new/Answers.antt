@@ -8,4 +8,4 @@ invariant_of-state g c =
     fresh_kept g.row.NUMBER c.new.result.state c.new-2.result
     (c.recorded_calls_are_lawful.ensures.start g.row.NUMBER)
     (c.histories_lead_to_sound_states.ensures.start g.row.NUMBER) c.new.ensures
-    (ap (λ (l : LogState). l.base) c.new-2.ensures) (ap (λ (l : LogState). l.steps) c.new-2.ensures)
+    (ap (λ (l : LogState). l.bases) c.new-2.ensures) (ap (λ (l : LogState). l.steps) c.new-2.ensures)

@@ -6,14 +6,14 @@ use Rattle.generational_sync.proofs.state.SyncState.owner.Goals as goal
 
 pub invariant_of-self-in-Ok : goal.invariant_of-self-in-Ok
 invariant_of-self-in-Ok g c =
-    (recorded c.self.invariant c.reserve.ensures.base c.reserve.ensures.steps
+    (recorded c.self.invariant c.reserve.ensures.bases c.reserve.ensures.steps
     c.reserve.ensures.standing c.self.view_is refl refl
     refl c.in-Ok.ensures
     (ap (λ o. Some (reply.Owner o)) c.id.ensures) refl c.settle.ensures).0
 
 pub invariant_of-self-in-Err : goal.invariant_of-self-in-Err
 invariant_of-self-in-Err g c =
-    (recorded c.self.invariant c.reserve.ensures.base c.reserve.ensures.steps
+    (recorded c.self.invariant c.reserve.ensures.bases c.reserve.ensures.steps
     c.reserve.ensures.standing c.self.view_is refl refl
     refl c.in-Err.ensures
     (c.store_reply-reply.ensures.reply c.owner.new.self.state NewOwner) refl c.settle_any.ensures).0
@@ -21,7 +21,7 @@ invariant_of-self-in-Err g c =
 pub returns-in-Ok : goal.returns-in-Ok
 returns-in-Ok g c =
     record {
-      step = (recorded c.self.invariant c.reserve.ensures.base c.reserve.ensures.steps
+      step = (recorded c.self.invariant c.reserve.ensures.bases c.reserve.ensures.steps
           c.reserve.ensures.standing c.self.view_is refl refl
           refl c.in-Ok.ensures
           (ap (λ o. Some (reply.Owner o)) c.id.ensures) refl c.settle.ensures).1;
@@ -30,7 +30,7 @@ returns-in-Ok g c =
 pub returns-in-Err : goal.returns-in-Err
 returns-in-Err g c =
     record {
-      step = (recorded c.self.invariant c.reserve.ensures.base c.reserve.ensures.steps
+      step = (recorded c.self.invariant c.reserve.ensures.bases c.reserve.ensures.steps
           c.reserve.ensures.standing c.self.view_is refl refl
           refl c.in-Err.ensures
           (c.store_reply-reply.ensures.reply c.owner.new.self.state NewOwner) refl c.settle_any.ensures).1;

@@ -6,7 +6,7 @@ use Rattle.generational_sync.proofs.state.SyncState.point_to.Goals as goal
 
 pub invariant_of-self-in-Ok : goal.invariant_of-self-in-Ok
 invariant_of-self-in-Ok g c =
-    (recorded c.self.invariant c.reserve.ensures.base c.reserve.ensures.steps
+    (recorded c.self.invariant c.reserve.ensures.bases c.reserve.ensures.steps
     c.reserve.ensures.standing c.self.view_is (λ i. Point (c.pointer-pointer.ensures i) (c.pointer-target.ensures i)) refl
     (ready_as c.self.view_is (λ i. call.PointTo (c.pointer-pointer.ensures i)
     (c.pointer-target.ensures i)) c.requires) c.in-Ok.ensures
@@ -14,7 +14,7 @@ invariant_of-self-in-Ok g c =
 
 pub invariant_of-self-in-Err : goal.invariant_of-self-in-Err
 invariant_of-self-in-Err g c =
-    (recorded c.self.invariant c.reserve.ensures.base c.reserve.ensures.steps
+    (recorded c.self.invariant c.reserve.ensures.bases c.reserve.ensures.steps
     c.reserve.ensures.standing c.self.view_is (λ i. Point (c.pointer-pointer.ensures i) (c.pointer-target.ensures i)) refl
     (ready_as c.self.view_is (λ i. call.PointTo (c.pointer-pointer.ensures i)
     (c.pointer-target.ensures i)) c.requires) c.in-Err.ensures
@@ -24,7 +24,7 @@ invariant_of-self-in-Err g c =
 pub returns-in-Ok : goal.returns-in-Ok
 returns-in-Ok g c =
     record {
-      step = (recorded c.self.invariant c.reserve.ensures.base c.reserve.ensures.steps
+      step = (recorded c.self.invariant c.reserve.ensures.bases c.reserve.ensures.steps
           c.reserve.ensures.standing c.self.view_is (λ i. Point (c.pointer-pointer.ensures i) (c.pointer-target.ensures i)) refl
           (ready_as c.self.view_is (λ i. call.PointTo (c.pointer-pointer.ensures i)
           (c.pointer-target.ensures i)) c.requires) c.in-Ok.ensures
@@ -34,7 +34,7 @@ returns-in-Ok g c =
 pub returns-in-Err : goal.returns-in-Err
 returns-in-Err g c =
     record {
-      step = (recorded c.self.invariant c.reserve.ensures.base c.reserve.ensures.steps
+      step = (recorded c.self.invariant c.reserve.ensures.bases c.reserve.ensures.steps
           c.reserve.ensures.standing c.self.view_is (λ i. Point (c.pointer-pointer.ensures i) (c.pointer-target.ensures i)) refl
           (ready_as c.self.view_is (λ i. call.PointTo (c.pointer-pointer.ensures i)
           (c.pointer-target.ensures i)) c.requires) c.in-Err.ensures

@@ -10,7 +10,7 @@ use Rattle.generational_sync.proofs.state.SyncState.read_at_once.Goals as goal
 
 pub invariant_of-self-in-Ok : goal.invariant_of-self-in-Ok
 invariant_of-self-in-Ok g c =
-    (recorded c.self.invariant c.reserve.ensures.base c.reserve.ensures.steps
+    (recorded c.self.invariant c.reserve.ensures.bases c.reserve.ensures.steps
     c.reserve.ensures.standing c.self.view_is (ap (λ b. Read b c.args.location) c.pointer-pointer.ensures) refl
     (granted_ready c.calls_are_ready_where_no_borrow_is_told.ensures.answer c.self.inside.store.state
     c.begin_read.new.store.state (Read c.pointer-pointer.result c.args.location)
@@ -20,13 +20,13 @@ invariant_of-self-in-Ok g c =
 pub invariant_of-self-then-not-settle_refused_read : goal.invariant_of-self-then-not-settle_refused_read
 invariant_of-self-then-not-settle_refused_read g c =
     left_kept c.self.inside.store.state c.begin_read.new.store.state (Read c.pointer-pointer.result c.args.location)
-    (read_refused c.in-Err.refused) c.self.invariant c.reserve.ensures.base c.reserve.ensures.steps
+    (read_refused c.in-Err.refused) c.self.invariant c.reserve.ensures.bases c.reserve.ensures.steps
     c.reserve.ensures.standing c.in-Err.ensures (read_leaves g.row.T.Denot c.in-Err.refused)
     c.if-not-settle_refused_read.ensures.left.0
 
 pub invariant_of-self-in-Err : goal.invariant_of-self-in-Err
 invariant_of-self-in-Err g c =
-    (recorded c.self.invariant c.reserve.ensures.base c.reserve.ensures.steps
+    (recorded c.self.invariant c.reserve.ensures.bases c.reserve.ensures.steps
     c.reserve.ensures.standing c.self.view_is (ap (λ b. Read b c.args.location) c.pointer-pointer.ensures) refl
     (left_ready (call.Read c.pointer-pointer.result c.args.location) c.self.inside.store.state c.begin_read.new.store.state (Read c.pointer-pointer.result c.args.location)
     (read_refused c.in-Err.refused) c.in-Err.ensures (read_leaves g.row.T.Denot c.in-Err.refused)
@@ -38,7 +38,7 @@ invariant_of-self-in-Err g c =
 
 pub returns-in-Ok-clause-step : goal.returns-in-Ok-clause-step
 returns-in-Ok-clause-step g c =
-    (recorded c.self.invariant c.reserve.ensures.base c.reserve.ensures.steps
+    (recorded c.self.invariant c.reserve.ensures.bases c.reserve.ensures.steps
     c.reserve.ensures.standing c.self.view_is (ap (λ b. Read b c.args.location) c.pointer-pointer.ensures) refl
     (granted_ready c.calls_are_ready_where_no_borrow_is_told.ensures.answer c.self.inside.store.state
     c.begin_read.new.store.state (Read c.pointer-pointer.result c.args.location)
@@ -47,7 +47,7 @@ returns-in-Ok-clause-step g c =
 
 pub returns-else-not-settle_refused_read-clause-step : goal.returns-else-not-settle_refused_read-clause-step
 returns-else-not-settle_refused_read-clause-step g c =
-    (recorded c.self.invariant c.reserve.ensures.base c.reserve.ensures.steps
+    (recorded c.self.invariant c.reserve.ensures.bases c.reserve.ensures.steps
     c.reserve.ensures.standing c.self.view_is (ap (λ b. Read b c.args.location) c.pointer-pointer.ensures) refl
     (left_ready (call.Read c.pointer-pointer.result c.args.location) c.self.inside.store.state c.begin_read.new.store.state (Read c.pointer-pointer.result c.args.location)
     (read_refused c.in-Err.refused) c.in-Err.ensures (read_leaves g.row.T.Denot c.in-Err.refused)
@@ -60,7 +60,7 @@ returns-else-not-settle_refused_read-clause-step g c =
 pub returns-then-not-settle_refused_read-clause-none : goal.returns-then-not-settle_refused_read-clause-none
 returns-then-not-settle_refused_read-clause-none g c =
     hindered c.self.inside.log c.reserve.new.self c.self.inside.store.state c.begin_read.new.store.state (Read c.pointer-pointer.result c.args.location)
-    (read_refused c.in-Err.refused) c.reserve.ensures.base c.reserve.ensures.steps c.self.view_is
+    (read_refused c.in-Err.refused) c.reserve.ensures.bases c.reserve.ensures.steps c.self.view_is
     c.in-Err.ensures (read_leaves g.row.T.Denot c.in-Err.refused)
     c.if-not-settle_refused_read.ensures.left.0 (ap (λ b. call.Read b c.args.location) c.pointer-pointer.ensures)
     (c.if-not-settle_refused_read.ensures.ready (refused c.self.inside.store.state c.begin_read.new.store.state (Read c.pointer-pointer.result c.args.location)

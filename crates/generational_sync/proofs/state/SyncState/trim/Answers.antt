@@ -1,30 +1,45 @@
 -- The base after a checkpoint tells the state, and counts the steps that were trimmed.
-use Rattle.std.proofs.Common.{rules, ap, arith, subst, sym, ◌∙◌}
+use Rattle.std.proofs.Common.{rules, ap, arith, is_some, subst, sym, ◌∙◌}
+use Rattle.generational_core.specs.Plain.{plain}
 use Rattle.generational_core.specs.Rows.{ReadBack}
-use Rattle.shared_history.specs.Bases.{BaseState, all_trimmed}
-use Rattle.generational_sync.proofs.Keeping.{rebased}
+use Rattle.shared_history.specs.Bases.{BaseState, all_trimmed, counts_of}
+use Rattle.shared_history.specs.Logs.{Bases, LogState}
+use Rattle.store_rows.specs.Past.{ArePast}
+use Rattle.generational_sync.specs.Keeping.{shared}
+use Rattle.generational_sync.proofs.Keeping.{rebased, taken_kept, taken_past}
 use Rattle.generational_sync.proofs.Trimming.{checkpoint_seen, trimmed_within, trims_of}
 use Rattle.generational_sync.proofs.state.SyncState.trim.Goals as goal
 
+pub pack_rows-requires : goal.pack_rows-requires
+pack_rows-requires g c =
+    let P = plain c.self.inside.store.state in
+    subst (ArePast P) (sym c.take_past-past.ensures.rows)
+    (taken_past P c.args.fresh c.self.inside.log.bases.past c.requires c.self.invariant.past)
+
 pub of-base-requires : goal.of-base-requires
 of-base-requires g c =
-    trimmed_within c.self.inside.log.base c.self.inside.log.steps c.in-Some.steps
+    trimmed_within c.self.inside.log.bases.base c.self.inside.log.steps c.in-Some.steps
     c.in-Some.ensures.counts c.in-Some.ensures.within
 
 pub rebase-requires : goal.rebase-requires
-rebase-requires g c = (
-  search rules,
-  trims_of c.self.inside.log.base c.self.inside.log.steps c.in-Some.steps c.in-Some.ensures.counts
-      c.of-base.result c.of-base.ensures,
-)
+rebase-requires g c =
+    let taken = c.take_past-past.new.self in (
+      search rules,
+      trims_of taken.bases.base taken.steps c.in-Some.steps (c.in-Some.ensures.counts
+          ∙ ap (λ (l : LogState). counts_of l.bases.base l.steps) (sym c.take_past-past.ensures.left))
+          c.of-base.result c.of-base.ensures,
+    )
 
 -- the base tells the state, and the history goes on from it
 pub invariant_of-self-2 : goal.invariant_of-self-2
 invariant_of-self-2 g c =
-    let base = c.in_ok-outdated.ensures.base ∙ c.of-base.ensures in
+    let bases = c.in_ok-outdated.ensures.bases in
+    let base = ap (λ (b : Bases). b.base) bases ∙ c.of-base.ensures in
     (rebased c.histories_lead_to_sound_states.ensures.number
     c.histories_lead_to_sound_states.ensures.generation g.row.NUMBER c.self.inside.store.state
-    c.self.inside.log c.rebase.new.self c.self.invariant
+    c.take_past-past.new.self c.rebase.new.self
+    (taken_kept (is_some c.args.fresh) c.self.invariant c.take_past-past.ensures.left)
+    (ap (λ (b : Bases). b.past) bases) (ap (λ (b : BaseState). b.rows) base ∙ c.in-Ok.ensures.rows)
     (ap (λ (b : BaseState). b.number) base) (ap (λ (b : BaseState). b.next) base
     ∙ omega (arith, c.tickets_left-next.ensures.count, c.tickets_left-next.ensures.bounded))
     (ap (λ (b : BaseState). b.peak) base ∙ c.peak_live.ensures)
@@ -33,18 +48,23 @@ invariant_of-self-2 g c =
 
 pub returns-clause-ok : goal.returns-clause-ok
 returns-clause-ok g c =
-    let base = c.in_ok-outdated.ensures.base ∙ c.of-base.ensures in
-    let kept = rebased c.histories_lead_to_sound_states.ensures.number
+    let bases = c.in_ok-outdated.ensures.bases in
+    let base = ap (λ (b : Bases). b.base) bases ∙ c.of-base.ensures in
+    let taken = c.take_past-past.new.self in
+    let told = (rebased c.histories_lead_to_sound_states.ensures.number
     c.histories_lead_to_sound_states.ensures.generation g.row.NUMBER c.self.inside.store.state
-    c.self.inside.log c.rebase.new.self c.self.invariant
+    taken c.rebase.new.self
+    (taken_kept (is_some c.args.fresh) c.self.invariant c.take_past-past.ensures.left)
+    (ap (λ (b : Bases). b.past) bases) (ap (λ (b : BaseState). b.rows) base ∙ c.in-Ok.ensures.rows)
     (ap (λ (b : BaseState). b.number) base) (ap (λ (b : BaseState). b.next) base
     ∙ omega (arith, c.tickets_left-next.ensures.count, c.tickets_left-next.ensures.bounded))
     (ap (λ (b : BaseState). b.peak) base ∙ c.peak_live.ensures)
     (subst (ReadBack c.self.inside.store.state) (sym (ap (λ (b : BaseState). b.rows) base))
-    c.in-Ok.ensures.back) c.in_ok-outdated.ensures.steps c.in_ok-outdated.ensures.standing in
-    checkpoint_seen c.self.inside.log c.rebase.new.self c.self.view_is
-    c.in_ok-outdated.ensures.steps kept.0
-    (ap (λ (b : BaseState). b.rows) base ∙ c.in-Ok.ensures.rows)
-    (trims_of c.self.inside.log.base c.self.inside.log.steps c.in-Some.steps
-    c.in-Some.ensures.counts c.rebase.new.self.base base)
-    (c.trimmed-trimmed.ensures ∙ ap all_trimmed (sym c.in_ok-outdated.ensures.base))
+    c.in-Ok.ensures.back) c.in_ok-outdated.ensures.steps c.in_ok-outdated.ensures.standing).0 in
+    checkpoint_seen taken c.rebase.new.self
+    (ap (shared c.self.inside.store.state) c.take_past-past.ensures.left ∙ c.self.view_is)
+    c.in_ok-outdated.ensures.steps told (ap (λ (b : BaseState). b.rows) base ∙ c.in-Ok.ensures.rows)
+    (trims_of taken.bases.base taken.steps c.in-Some.steps (c.in-Some.ensures.counts
+    ∙ ap (λ (l : LogState). counts_of l.bases.base l.steps) (sym c.take_past-past.ensures.left))
+    c.rebase.new.self.bases.base base)
+    (c.trimmed-trimmed.ensures ∙ ap all_trimmed (sym (ap (λ (b : Bases). b.base) bases)))

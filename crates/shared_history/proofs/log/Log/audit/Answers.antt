@@ -11,9 +11,9 @@ returns-clause-counts g c kind =
     let seen = c.whole.view_is in
     let parts = ap (λ (t : Counts). t.parts) seen in
     let steps = ap (λ (l : LogState). l.steps) c.self.view_is in
-    let base = ap (λ (l : LogState). l.base) c.self.view_is in
+    let base = ap (λ (l : LogState). l.bases.base) c.self.view_is in
     let books = c.self.invariant in
-    elim kind as (λ k. trimmed_of k c.args.self.now.base + count k c.args.self.now.steps
+    elim kind as (λ k. trimmed_of k c.args.self.now.bases.base + count k c.args.self.now.steps
     ≡ counted k c.args.whole.now) [
       | Made ↦ omega (
         arith,

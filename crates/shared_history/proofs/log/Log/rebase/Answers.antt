@@ -15,7 +15,7 @@ pub invariant_of-self-2 : goal.invariant_of-self-2
 invariant_of-self-2 g c =
     let none = c.in_ok-steps.ensures.steps in
     let steps = ap (λ (l : LogState). l.steps) c.self.view_is in
-    let base = ap (λ (l : LogState). l.base) c.self.view_is in
+    let base = ap (λ (l : LogState). l.bases.base) c.self.view_is in
     let books = c.self.invariant in
     let after = c.replace-before.ensures.after in (
       nothing_counted Made c.empty.new.self.steps none,

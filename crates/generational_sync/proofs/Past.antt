@@ -1,0 +1,110 @@
+-- Rows of an earlier state are such of each state that comes after, and a state's own rows are.
+use Rattle.std.proofs.Common.{◌≡◌, ℕ, List, [], ◌∷◌, ◌++◌, Option, None, Some, refl, sym, ap, ◌∙◌}
+use Rattle.std.specs.Prelude.{is_some, option_map, map as list_map}
+use Rattle.std.proofs.lemmas.Option.{none-some}
+use Rattle.std.specs.FinMap as map
+use Rattle.generational_errors.specs.declared.error.Location.{Location}
+use Rattle.generational_core.specs.declared.borrow.Borrow.{Borrow}
+use Rattle.generational_core.specs.declared.boxes.GenerationalBoxId.{GenerationalBoxId}
+use Rattle.generational_core.specs.declared.rows.BaseRow.{BaseRow}
+use Rattle.generational_core.specs.declared.rows.BaseRow.TheVariants as row
+use Rattle.generational_core.specs.Boxes.{id_of}
+use Rattle.generational_core.specs.Cells.{Cell, Content, location_of}
+use Rattle.generational_core.specs.Cells.Cell.{Value, Shared, Ref}
+use Rattle.generational_core.specs.Cells.Content.{Here, Lent}
+use Rattle.generational_core.specs.Machine.{Action, Answer}
+use Rattle.generational_core.specs.Names.{Name}
+use Rattle.generational_core.specs.Plain.{Plain, bare_cell, plain}
+use Rattle.generational_core.specs.Rows.{borrow_rows, cell_rows, owner_rows, reader_row, rows_of, slot_rows}
+use Rattle.generational_core.specs.Slots.{slots_of}
+use Rattle.generational_core.specs.State.{IsSound, Ownership, State}
+use Rattle.generational_core.specs.Steps.{Meets}
+use Rattle.generational_core.proofs.machine.Rows.{get_bare_cell}
+use Rattle.generational_core.proofs.machine.Stepping.{meets_ended, meets_given, meets_location}
+use Rattle.store_rows.specs.Past.{ArePast, IsPast, WasMadeAt}
+
+-- ---- a step later
+
+module _ (P Q : Plain) (a : Action (Unit {0})) (answer : Answer (Unit {0})) (sound : IsSound P)
+    (met : Meets P a answer Q) where
+  made_still : (n : Name) (l : Location) → WasMadeAt P n l → WasMadeAt Q n l
+  made_still n l was = (meets_given P Q a answer met n was.0, λ c is. at (map.get P.cells n) refl c is)
+    where
+      at : (before : Option (Cell (Unit {0}))) → map.get P.cells n ≡ before
+          → (c : Cell (Unit {0})) → map.get Q.cells n ≡ Some c → location_of (Some c) ≡ Some l
+      at None none c is =
+          absurd (none-some c (sym (meets_ended P Q a answer met n (was.0, none)).1 ∙ is))
+      at (Some b) some c is =
+          let stays = meets_location P Q a answer n sound met (ap is_some some) (ap is_some is) in
+          ap location_of (sym is) ∙ stays ∙ ap location_of some ∙ was.1 b some
+
+  row_still : (r : BaseRow) → IsPast P r → IsPast Q r
+  row_still (row.Value id l) was = made_still _ l was
+  row_still (row.Shared id l) was = made_still _ l was
+  row_still (row.Slot s g) was = tt
+  row_still (row.Ref id m l) was = tt
+  row_still (row.Reader id t l) was = tt
+  row_still (row.Writer id t l) was = tt
+  row_still (row.Owner k n) was = tt
+  row_still (row.Owned k id) was = tt
+
+  pub past_still : (rows : List BaseRow) → ArePast P rows → ArePast Q rows
+  past_still [] all = tt
+  past_still (r ∷ rows) all = (row_still r all.0, past_still rows all.1)
+
+-- ---- a state's own rows
+
+module _ (P : Plain) where
+  both_past : (xs ys : List BaseRow) → ArePast P xs → ArePast P ys → ArePast P (xs ++ ys)
+  both_past [] ys all more = more
+  both_past (x ∷ xs) ys all more = (all.0, both_past xs ys all.1 more)
+
+  readers_past : (id : GenerationalBoxId) (readers : List Borrow)
+      → ArePast P (list_map (reader_row id) readers)
+  readers_past id [] = tt
+  readers_past id (b ∷ readers) = (tt, readers_past id readers)
+
+  borrows_past : {T : Type 0} (id : GenerationalBoxId) (c : Content T) → ArePast P (borrow_rows id c)
+  borrows_past id (Here v readers) = readers_past id readers
+  borrows_past id (Lent w) = (tt, tt)
+
+  listed_past : (number k : ℕ) (names : List Name)
+      → ArePast P (list_map (λ n. row.Owned k (id_of number n)) names)
+  listed_past number k [] = tt
+  listed_past number k (n ∷ names) = (tt, listed_past number k names)
+
+  owners_past : (number : ℕ) (records : List (ℕ × Ownership)) → ArePast P (owner_rows number records)
+  owners_past number [] = tt
+  owners_past number (e ∷ records) =
+      (tt, both_past _ _ (listed_past number e.0 e.1.names) (owners_past number records))
+
+module _ {T : Type 0} (S : State T) (sound : IsSound (plain S)) where
+  made_here : (n : Name) (c : Cell T) (l : Location) → map.get S.cells n ≡ Some c
+      → location_of (Some (bare_cell c)) ≡ Some l → WasMadeAt (plain S) n l
+  made_here n c l there made =
+      let bare = get_bare_cell S.cells n ∙ ap (option_map bare_cell) there in
+      (sound.given n (ap is_some bare), λ b is. ap location_of (sym is ∙ bare) ∙ made)
+
+  cell_past : (number : ℕ) (n : Name) (c : Option (Cell T)) → map.get S.cells n ≡ c
+      → ArePast (plain S) (cell_rows number n c)
+  cell_past number n None there = tt
+  cell_past number n (Some (Value c l)) there =
+      (made_here n (Value c l) l there refl, borrows_past (plain S) (id_of number n) c)
+  cell_past number n (Some (Shared c l)) there =
+      (made_here n (Shared c l) l there refl, borrows_past (plain S) (id_of number n) c)
+  cell_past number n (Some (Ref m l)) there = (tt, tt)
+
+  slots_past : (number : ℕ) (slots : List (ℕ × ℕ))
+      → ArePast (plain S) (slot_rows number S.cells slots)
+  slots_past number [] = tt
+  slots_past number (e ∷ slots) =
+      let last : Name = record { slot = e.0; generation = e.1 } in (
+        tt,
+        both_past (plain S) _ _ (cell_past number last (map.get S.cells last) refl)
+            (slots_past number slots),
+      )
+
+  pub own_past : ArePast (plain S) (rows_of S)
+  own_past =
+      both_past (plain S) _ _ (slots_past S.number (map.entries (slots_of S)))
+      (owners_past (plain S) S.number (map.entries S.owners))

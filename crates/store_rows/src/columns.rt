@@ -1,0 +1,148 @@
+//! Packed slots.
+
+ghost use Rattle.std.specs.Prelude.{◌≡◌, ◌<◌, ◌≤◌, ◌+◌, ◌++◌, ◌∷◌, [], ℕ, IfOk, IfSome, OnOk};
+ghost use Rattle.std.specs.Prelude.{length, slice_get, take, vec_capacity, vec_len};
+
+use crate::packed::PackedSlot;
+use generational_core::Location;
+use std::alloc::{AllocError, Global};
+use std::marker::Model;
+use store_room::reserve_more;
+
+/// Packed slots, and beside each where its cell was made. Contracts see the pairs.
+///
+/// They are two lists, since who asks whether a slot is as it was needs no location.
+#[derive(Drop)]
+pub struct PackedSlots {
+    slots: Vec<PackedSlot>,
+    made_at: Vec<Location>,
+}
+
+impl Model for PackedSlots {
+    ghost use Rattle.std.specs.Prelude.{◌≡◌, List, length};
+    ghost use Rattle.std.specs.List.{zip};
+    ghost use Rattle.generational_errors.specs.declared.error.Location.{Location};
+    ghost use Rattle.store_rows.specs.declared.packed.PackedSlot.{PackedSlot};
+
+    ghost Value = { List (PackedSlot × Location) };
+
+    ghost view = { λ s. zip s.slots.items s.made_at.items };
+
+    ghost invariant = { λ s. length s.slots.items ≡ length s.made_at.items };
+}
+
+impl PackedSlots {
+    /// No slots. Takes no memory.
+    pub fn new(alloc: Global) -> PackedSlots
+        ensures { result ≡ [] }
+    {
+        PackedSlots {
+            slots: Vec::new(alloc),
+            made_at: Vec::new(alloc),
+        }
+    }
+
+    /// No slots, with room for so many and some more, whose memory is touched.
+    pub fn with_room(alloc: Global, slots: usize) -> Result<PackedSlots, AllocError>
+        ensures { IfOk result (λ slots. slots ≡ []) }
+    {
+        let some = Location::new("", 0, 0);
+        Ok(PackedSlots {
+            slots: touched(alloc, slots, PackedSlot::Free(1))?,
+            made_at: touched(alloc, slots, some)?,
+        })
+    }
+
+    /// Whether so many can stand in the memory that they take.
+    pub fn has_room(&self, slots: usize) -> bool {
+        slots <= self.slots.capacity() && slots <= self.made_at.capacity()
+    }
+
+    /// How many there are.
+    #[inline(always)]
+    pub fn len(&self) -> usize
+        ensures { result ≡ length self.now }
+    {
+        self.slots.len()
+    }
+
+    /// The slot with this number.
+    #[inline(always)]
+    pub fn slot(&self, slot: usize) -> PackedSlot
+        requires { slot < length self.now }
+        ensures { IfSome (slice_get self.now slot) (λ e. result ≡ e.0) }
+    {
+        self.slots[slot]
+    }
+
+    /// Where its cell was made.
+    pub fn created_at(&self, slot: usize) -> Location
+        requires { slot < length self.now }
+        ensures { IfSome (slice_get self.now slot) (λ e. result ≡ e.1) }
+    {
+        self.made_at[slot]
+    }
+
+    /// Puts a slot into its place, or after the last one.
+    #[inline(always)]
+    pub fn put(
+        &mut self,
+        slot: usize,
+        packed: PackedSlot,
+        created_at: Location,
+    ) -> Result<(), AllocError>
+        requires { slot ≤ length self.old }
+        ensures here { OnOk result
+            (take (slot + 1) self.new ≡ take slot self.old ++ (packed, created_at) ∷ []) }
+        ensures rest { OnOk result ((i : ℕ) → slot < i → slice_get self.new i ≡ slice_get self.old i) }
+    {
+        if slot < self.slots.len() {
+            self.slots[slot] = packed;
+            self.made_at[slot] = created_at;
+            return Ok(());
+        }
+        self.push(packed, created_at)
+    }
+
+    // Appends a slot, for which there mostly is room.
+    #[inline(always)]
+    fn push(&mut self, packed: PackedSlot, created_at: Location) -> Result<(), AllocError>
+        ensures ok { OnOk result (self.new ≡ self.old ++ (packed, created_at) ∷ []) }
+    {
+        make_room(&mut self.slots)?;
+        make_room(&mut self.made_at)?;
+        self.slots.push_reserved(packed);
+        self.made_at.push_reserved(created_at);
+        Ok(())
+    }
+
+    /// Leaves so many slots.
+    pub fn truncate(&mut self, slots: usize)
+        ensures { self.new ≡ take slots self.old }
+    {
+        self.slots.truncate(slots);
+        self.made_at.truncate(slots);
+    }
+}
+
+// Makes room for an element more, where there mostly is.
+#[inline(always)]
+fn make_room<X>(items: &mut Vec<X>) -> Result<(), AllocError>
+    ensures items { items.new.items ≡ items.old.items }
+    ensures ok { OnOk result (vec_len items.new + 1 ≤ vec_capacity items.new) }
+{
+    if items.len() < items.capacity() {
+        return Ok(());
+    }
+    reserve_more(items, 1)
+}
+
+/// An empty list with room for so many elements and some more, whose memory is touched.
+pub fn touched<X: Copy>(alloc: Global, wanted: usize, some: X) -> Result<Vec<X>, AllocError>
+    ensures { IfOk result (λ room. room.items ≡ []) }
+{
+    let mut room = Vec::new(alloc);
+    room.resize(wanted.saturating_add(wanted / 8), some)?;
+    room.clear();
+    Ok(room)
+}
