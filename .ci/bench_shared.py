@@ -14,8 +14,9 @@ its most than with half as many rounds, over the steps of the other half: those 
 and those of `shared` have the list that the audit answers as well. They aren't told where the half takes no more
 than this script itself, whose own memory the system counts as that of what it starts.
 
-For each number of live values there is told by the wall how long a first checkpoint stops the others, and a second
-one, whose first was at half as many.
+For each number of live values there is told by the wall how long a first checkpoint takes, a second one, and one of
+the ten after these, each after a box more. The first two make room, while other calls go on; what the others are
+stopped for is less. The later ones stop them for as long as they take.
 
 The first line and the last tell the load, and how many processors others than these runs kept busy meanwhile.
 """
@@ -66,12 +67,10 @@ def measure(program, store, calls, workers, wanted):
     return (wall - base_wall) / made * 1e9, (used - base_used) / made * 1e9, bytes_a_step
 
 
-def stop(program, live, between):
-    """Milliseconds by the wall of the checkpoint at so many live values, of a worker that is alone."""
-    words = [program, "unaudited", "keeps", 1]
-    before, *_ = run([*words, live, between])
-    after, *_ = run([*words, live + 1, between])
-    return (after - before) * 1000
+def checkpoints(program, live):
+    """Milliseconds by the wall of the checkpoints at so many live values, of a worker that is alone."""
+    none, one, two, twelve = (run([program, "unaudited", "keeps", 1, live, it])[0] for it in (0, 1, 2, 12))
+    return (one - none) * 1000, (two - one) * 1000, (twelve - two) * 100
 
 
 class Busy:
@@ -119,8 +118,7 @@ def main():
                     found = measure(path, store, calls, workers, chosen.calls)
                     seen.setdefault((calls, workers, name), []).append(found)
         for live in chosen.live:
-            found = stop(chosen.program, live, live), stop(chosen.program, live, live // 2)
-            stops.setdefault(live, []).append(found)
+            stops.setdefault(live, []).append(checkpoints(chosen.program, live))
     for (calls, workers, name), found in seen.items():
         wall, used, most = (statistics.median(it) for it in zip(*found))
         floor = seen[calls, workers, "floor"]
@@ -128,8 +126,8 @@ def main():
         print(f"{calls:8} {workers} workers {name:10} {wall:7.1f} ns a call by the wall, {ratio:5.2f} of the floor, "
               f"{used:7.1f} of processor time, {most:6.1f} bytes a step")
     for live, found in stops.items():
-        first, second = (statistics.median(it) for it in zip(*found))
-        print(f"a checkpoint at {live} live values: the first {first:.1f} ms, a second {second:.1f}")
+        first, second, later = (statistics.median(it) for it in zip(*found))
+        print(f"checkpoints at {live} live values: the first {first:.1f} ms, the second {second:.1f}, a later one {later:.1f}")
     print(f"meanwhile: {busy.told()}")
 
 

@@ -1,14 +1,16 @@
 #!/usr/bin/env python3
-"""Shows that a shared store with checkpoints runs in bounded memory, that its audit agrees at the end, and that
-without checkpoints a step takes few bytes.
+"""Shows that a shared store with checkpoints runs in bounded memory, that its audit agrees at the end, that a later
+checkpoint goes into the memory of those before it, and that without checkpoints a step takes few bytes.
 
     .ci/checkpoints.py PROGRAM
 
 PROGRAM is `bench_shared`, as `rt ci` leaves it in its crate's out/. It takes 10 million steps of each list of
 calls, with a checkpoint after every 100,000, and may have twice the memory that it has at most in the first 200,000.
-The audit at the end answers the steps since the last checkpoint, and no others. Without checkpoints and an audit each
-step after the first four million may take so many bytes: no clause says that a step is kept in its short form. At the
-end a run without checkpoints is found out, and a limit of bytes that is too low.
+The audit at the end answers the steps since the last checkpoint, and no others. Of twelve checkpoints at 100,000
+values those after the first two may touch so many pages for the first time: no clause says that they make no room.
+Without checkpoints and an audit each step after the first four million may take so many bytes: no clause says that a
+step is kept in its short form. At the end a run without checkpoints is found out, a limit of bytes that is too low, and
+the pages of the first two.
 """
 import os
 import subprocess
@@ -19,27 +21,34 @@ LISTS = {"reads": 7, "writes": 12}
 STEPS, BETWEEN, FIRST = 10_000_000, 100_000, 200_000
 # How many bytes a step may take, and after how many steps that is measured.
 BYTES, HALF = {"reads": 10, "writes": 15}, 4_000_000
+# How many values there are where checkpoints are counted, and how many pages one of these may touch first.
+VALUES, PAGES = 100_000, 20
 
 
 class Failure(Exception):
     """What was seen isn't what is wanted."""
 
 
-def run(program, steps, name, between, store="shared"):
-    """The most memory of a run of so many steps, in KB, and how many the audit answered."""
-    rounds = [str(it // LISTS[name]) for it in (steps, between)]
-    with subprocess.Popen([program, store, name, "1", *rounds], stdout=subprocess.PIPE) as process:
+def run(*words):
+    """What a run printed, word by word, and what the system says of it."""
+    with subprocess.Popen(words, stdout=subprocess.PIPE) as process:
         line = process.stdout.read().split()
         _, status, used = os.wait4(process.pid, 0)
         process.returncode = os.waitstatus_to_exitcode(status)
     if process.returncode != 0:
-        raise Failure(f"{name}: status {process.returncode}")
+        raise Failure(f"{' '.join(words[1:])}: status {process.returncode}")
+    return line, used
+
+
+def steps_of(program, steps, name, between, store="shared"):
+    """The most memory of a run of so many steps, in KB, and how many the audit answered."""
+    line, used = run(program, store, name, "1", *(str(it // LISTS[name]) for it in (steps, between)))
     return used.ru_maxrss, int(line[3])
 
 
 def compare(program, name, steps, between):
-    first, _ = run(program, FIRST, name, BETWEEN)
-    most, audited = run(program, steps, name, between)
+    first, _ = steps_of(program, FIRST, name, BETWEEN)
+    most, audited = steps_of(program, steps, name, between)
     rounds, since = steps // LISTS[name], BETWEEN // LISTS[name]
     # The last checkpoint comes before the round that is one too many.
     left = (rounds - 1) % since + 1
@@ -51,11 +60,26 @@ def compare(program, name, steps, between):
 
 
 def is_short(program, name, limit):
-    half, whole = (run(program, steps, name, 0, "unaudited")[0] for steps in (HALF, 2 * HALF))
+    half, whole = (steps_of(program, steps, name, 0, "unaudited")[0] for steps in (HALF, 2 * HALF))
     took = (whole - half) * 1024 / HALF
     if took > limit:
         raise Failure(f"{name}: a step takes {took:.1f} bytes, and not {limit}")
     return f"{name}: a step takes {took:.1f} bytes, of {limit}"
+
+
+def touches_few(program, after, before):
+    """The pages that a checkpoint touches first, of those after so many and before so many."""
+    first, last = (pages(program, it) for it in (after, before))
+    touched = (last - first) / (before - after)
+    if touched > PAGES:
+        raise Failure(f"a checkpoint touches {touched:.0f} pages, and not {PAGES}")
+    return f"a later checkpoint touches {touched:.1f} pages, of {PAGES}"
+
+
+def pages(program, checkpoints):
+    """How many pages a run touches first that makes VALUES boxes, and then so many checkpoints."""
+    _, used = run(program, "unaudited", "keeps", "1", str(VALUES), str(checkpoints))
+    return used.ru_minflt
 
 
 def find_out(what, tried, *words):
@@ -71,6 +95,8 @@ def main(path):
     for name in LISTS:
         print(compare(program, name, STEPS, BETWEEN))
         print(is_short(program, name, BYTES[name]))
+    print(touches_few(program, 2, 12))
+    find_out("memory for the first two", touches_few, program, 0, 2)
     find_out("a run without checkpoints", compare, program, "reads", STEPS // 10, 0)
     find_out("a limit of 8 bytes", is_short, program, "reads", 8)
 

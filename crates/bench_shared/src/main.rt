@@ -1,7 +1,8 @@
 //! `bench_shared STORE LIST WORKERS ROUNDS [BETWEEN]`: so many workers in threads make a list of
 //! calls so many times over one store, each over boxes of its own; where BETWEEN is told and isn't 0,
-//! with a checkpoint after each so many rounds. One line says how many calls that were, and how many
-//! steps an audit answered. How long it takes, in processor time, is for who runs it to measure
+//! with a checkpoint after each so many rounds, or, where they are those of `keeps`, with so many
+//! checkpoints at the end. One line says how many calls that were, and how many steps an audit
+//! answered. How long it takes, in processor time, is for who runs it to measure
 //! (`.ci/bench_shared.py`).
 //!
 //! | STORE       | what answers the calls                                             |

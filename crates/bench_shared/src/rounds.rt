@@ -5,7 +5,8 @@ use generational_box::{GenerationalBox, Owner};
 use std::sync::Wait;
 
 /// Runs so many rounds, and answers how many calls they made; None where a call wasn't carried out.
-/// A checkpoint, which isn't counted, comes after each so many rounds, and none where that is 0.
+/// A checkpoint, which isn't counted, comes after each so many rounds, and none where that is 0. Of
+/// `Keeps` all checkpoints come at the end, so many, each with a round more after it.
 pub(crate) fn run<S: Calls>(
     store: &mut S,
     rt: &impl Wait,
@@ -13,6 +14,9 @@ pub(crate) fn run<S: Calls>(
     rounds: u64,
     between: u64,
 ) -> Option<u64> {
+    if let List::Keeps = list {
+        return keep(store, rt, rounds, between);
+    }
     let mut calls = 0u64;
     let mut since = 0u64;
     for value in 0..rounds {
@@ -27,8 +31,7 @@ pub(crate) fn run<S: Calls>(
             List::Reads => reading_round(store, rt, value)?,
             List::Together => store.reads_together(rt, value)?,
             List::Writes => writing_round(store, rt, value)?,
-            List::Keeps => keeping_round(store, rt, value)?,
-            List::Drawn(_) => return None,
+            List::Keeps | List::Drawn(_) => return None,
         };
         calls = calls.wrapping_add(made);
     }
@@ -73,10 +76,18 @@ fn reading_round<S: Calls>(store: &mut S, rt: &impl Wait, value: u64) -> Option<
     }
 }
 
-// A call, which is a step.
-fn keeping_round<S: Calls>(store: &mut S, rt: &impl Wait, value: u64) -> Option<u64> {
-    store.leak(rt, value)?;
-    Some(1)
+// Makes so many boxes, and then so many checkpoints, each with a box more after it.
+fn keep<S: Calls>(store: &mut S, rt: &impl Wait, boxes: u64, checkpoints: u64) -> Option<u64> {
+    for value in 0..boxes {
+        store.leak(rt, value)?;
+    }
+    for value in 0..checkpoints {
+        if !store.checkpoint(rt) {
+            return None;
+        }
+        store.leak(rt, value)?;
+    }
+    Some(boxes.wrapping_add(checkpoints))
 }
 
 // 12 calls, each of which is a step.
