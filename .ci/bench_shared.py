@@ -127,7 +127,7 @@ def main():
               f"{used:7.1f} of processor time, {most:6.1f} bytes a step")
     for live, found in stops.items():
         first, second, later = (statistics.median(it) for it in zip(*found))
-        print(f"checkpoints at {live} live values: the first {first:.1f} ms, the second {second:.1f}, a later one {later:.1f}")
+        print(f"checkpoints at {live} values: the first {first:.1f} ms, the second {second:.1f}, a later one {later:.1f}")
     print(f"meanwhile: {busy.told()}")
 
 
