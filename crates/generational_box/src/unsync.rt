@@ -178,7 +178,7 @@ impl<T: Drop, P: SlotPool> Store<T, P> {
 
     /// The rows of the store, packed: those that `rows` gives, in the same order. What the shared
     /// store's checkpoint asks, which hands in the rows of an earlier state: their memory is used again,
-    /// and a slot that is there as it is now isn't written.
+    /// and a free slot, or a value that nobody borrows, isn't written where it is there as it is now.
     ///
     /// Refused by `OutOfMemory` alone. It changes nothing, and takes time for each slot, each borrow,
     /// each record of an owner and each box of its list; and memory for each of these for which there

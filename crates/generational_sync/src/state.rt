@@ -205,7 +205,8 @@ impl<T: Drop, const NUMBER: u64, M: Count, L: Count, C: Count, R: Count> SyncSta
     /// the history together would be more than fit into 64 bits; `OutOfMemory`. A refusal changes
     /// nothing. It takes time for each slot, borrow and owner's box that there is. The rows stand in
     /// the memory of those of the base before the last, so it takes more where there are more, as the
-    /// first two times; a slot that is there as it is now isn't written again.
+    /// first two times; a free slot, or a value that nobody borrows, isn't written again where it is
+    /// there as it is now.
     ///
     /// ```rust
     /// rt.compare(&state.checkpoint(), &Ok(2));

@@ -222,9 +222,10 @@ impl<T: Drop + Send, const NUMBER: u64, M: Count, L: Count, C: Count, R: Count> 
 
     /// Makes the store's state, without values, the base from which its history goes on, and empties
     /// the history. The answer is how many steps were ever trimmed. It isn't a step, and raises no
-    /// count. The rows stand in the memory of those of the base before the last, and a slot that is
-    /// there as it is now isn't written again. Where there are more, room for an eighth more slots than
-    /// there are is made before, while other calls go on. The steps are let go once the lock is open.
+    /// count. The rows stand in the memory of those of the base before the last, and a free slot, or a
+    /// value that nobody borrows, isn't written again where it is there as it is now. Where there are
+    /// more, room for an eighth more slots than there are is made before, while other calls go on. The
+    /// steps are let go once the lock is open.
     ///
     /// Refused, in this order: `NumbersExhausted`, where the steps that were trimmed and those of
     /// the history together would be more than fit into 64 bits; `OutOfMemory`. A refusal changes

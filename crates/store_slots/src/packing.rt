@@ -16,8 +16,8 @@ use store_parts::names::CellName;
 use store_rows::{PackedSlot, PackedSlots};
 
 /// Packs the rows of all slots, with ids of the store with this number, into the place of slots that
-/// were packed in an earlier state, and into a list of whole rows. A slot that is as it was then isn't
-/// written.
+/// were packed in an earlier state, and into a list of whole rows. A slot without whole rows that is as
+/// it was then isn't written.
 pub fn pack_slots<T: Drop>(
     entries: &Entries<T>,
     number: u64,
