@@ -198,6 +198,28 @@ impl<T: Drop, P: SlotPool> Store<T, P> {
         self.owners.push_rows(self.alloc, self.number, &mut owners)?;
         Ok(PackedRows::of(self.number, slots, whole, owners))
     }
+
+    /// Packs the slots from one on, up to another, ahead of the rest, into the place of rows that were
+    /// packed in an earlier state. So a call of `pack_rows` needn't write those of them that don't change until
+    /// then. The answer is such rows too.
+    pub fn pack_ahead(
+        &self,
+        past: PackedRows,
+        from: usize,
+        to: usize,
+    ) -> Result<PackedRows, StoreError>
+        requires { ArePast (plain self.now.state) past }
+        ensures past { IfOk result (λ rows. ArePast (plain self.now.state) rows) }
+        ensures cause { IfErr result (λ error. error ≡ OutOfMemory) }
+    {
+        let PastRows {
+            mut slots,
+            whole,
+            owners,
+        } = past.into_past();
+        self.slots.pack_ahead(&mut slots, from, to)?;
+        Ok(PackedRows::of(self.number, slots, whole, owners))
+    }
 }
 
 /// Prints `store NUMBER: SLOTS slots, FREE free`.

@@ -1,7 +1,7 @@
 -- What lies under the lock stays as it is kept, and each call that is recorded is a step.
 use Rattle.std.proofs.Common.{◌≡◌, ℕ, ◌+◌, ◌≤◌, ◌<◌, Bool, true, false, cond, List, [], ◌∷◌}
 use Rattle.std.proofs.Common.{length, Option, None, Some, Ok, refl, sym, ap, subst, ◌∙◌}
-use Rattle.std.proofs.Common.{arith, inl, inr, IfSome, if◌then◌else◌, unwrap_or}
+use Rattle.std.proofs.Common.{arith, inl, inr, IfSome}
 use Rattle.std.specs.Prelude.{is_some, nat_eq, option_map, option_to_list}
 use Rattle.std.proofs.lemmas.Bool.{and_parts, true≢false}
 use Rattle.std.specs.FinMap as map
@@ -103,12 +103,6 @@ no_step : (steps after : List Step) (worker : ℕ) (c : Option StepCall) → aft
     → RecordsCall steps worker c None after
 no_step steps after worker None is = is
 no_step steps after worker (Some c) is = is
-
--- fresh rows and those of the base before are of an earlier state
-pub taken_past : (P : Plain) (fresh : Option (List BaseRow)) (past : List BaseRow)
-    → IfSome fresh (λ rows. rows ≡ []) → ArePast P past → ArePast P (unwrap_or fresh past)
-taken_past P None past none all = all
-taken_past P (Some rows) past none all = subst (ArePast P) (sym none) tt
 
 module _ {T : Type 0} where
   tells : (answer : Answer T) (r : StepReply) → Some (step_kind r) ≡ kind_in answer
@@ -251,28 +245,19 @@ module _ {T : Type 0} where
     room = (let had = kept.room in omega arith);
   }
 
-  -- where the rows of the base before were taken, or fresh ones in their place
-  pub taken_kept : {number : ℕ} {S : State T} {log after : LogState} (fresh : Bool)
-      → IsKept number S log → after ≡ record log {
-        bases = record {
-          base = log.bases.base;
-          past = if fresh then log.bases.past else [];
-        };
-      } → IsKept number S after
-  taken_kept {number = number} {S = S} {log = log} fresh kept is =
+  -- where the rows of the base before were taken
+  pub taken_kept : {number : ℕ} {S : State T} {log after : LogState} → IsKept number S log
+      → after ≡ record log { bases = record { base = log.bases.base; past = [] } } → IsKept number S after
+  taken_kept {number = number} {S = S} kept is =
       subst (IsKept number S) (sym is) (record {
         own = kept.own;
         sound = kept.sound;
         leads = kept.leads;
         ends = kept.ends;
         rows = kept.rows;
-        past = left fresh;
+        past = tt;
         room = kept.room;
       })
-    where
-      left : (fresh : Bool) → ArePast (plain S) (if fresh then log.bases.past else [])
-      left true = kept.past
-      left false = tt
 
   -- a call that the store has answered, for whose step there is room
   abbrev pub answered : {number : ℕ} {R : State T} {log room : LogState} {c : StepCall}

@@ -1,5 +1,5 @@
 -- Rows of an earlier state are such of each state that comes after, and a state's own rows are.
-use Rattle.std.proofs.Common.{◌≡◌, ℕ, List, [], ◌∷◌, ◌++◌, Option, None, Some, refl, sym, ap, ◌∙◌}
+use Rattle.std.proofs.Common.{◌≡◌, ℕ, List, [], ◌∷◌, Option, None, Some, refl, sym, ap, ◌∙◌}
 use Rattle.std.specs.Prelude.{is_some, option_map, map as list_map}
 use Rattle.std.proofs.lemmas.Option.{none-some}
 use Rattle.std.specs.FinMap as map
@@ -21,6 +21,7 @@ use Rattle.generational_core.specs.State.{IsSound, Ownership, State}
 use Rattle.generational_core.specs.Steps.{Meets}
 use Rattle.generational_core.proofs.machine.Rows.{get_bare_cell}
 use Rattle.generational_core.proofs.machine.Stepping.{meets_ended, meets_given, meets_location}
+use Rattle.store_rows.proofs.Past.{both_past}
 use Rattle.store_rows.specs.Past.{ArePast, IsPast, WasMadeAt}
 
 -- ---- a step later
@@ -55,10 +56,6 @@ module _ (P Q : Plain) (a : Action (Unit {0})) (answer : Answer (Unit {0})) (sou
 -- ---- a state's own rows
 
 module _ (P : Plain) where
-  both_past : (xs ys : List BaseRow) → ArePast P xs → ArePast P ys → ArePast P (xs ++ ys)
-  both_past [] ys all more = more
-  both_past (x ∷ xs) ys all more = (all.0, both_past xs ys all.1 more)
-
   readers_past : (id : GenerationalBoxId) (readers : List Borrow)
       → ArePast P (list_map (reader_row id) readers)
   readers_past id [] = tt
@@ -76,7 +73,7 @@ module _ (P : Plain) where
   owners_past : (number : ℕ) (records : List (ℕ × Ownership)) → ArePast P (owner_rows number records)
   owners_past number [] = tt
   owners_past number (e ∷ records) =
-      (tt, both_past _ _ (listed_past number e.0 e.1.names) (owners_past number records))
+      (tt, both_past P _ _ (listed_past number e.0 e.1.names) (owners_past number records))
 
 module _ {T : Type 0} (S : State T) (sound : IsSound (plain S)) where
   made_here : (n : Name) (c : Cell T) (l : Location) → map.get S.cells n ≡ Some c

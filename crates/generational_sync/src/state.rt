@@ -216,19 +216,18 @@ impl<T: Drop, const NUMBER: u64, M: Count, L: Count, C: Count, R: Count> SyncSta
         ensures err { OnErr result (self.new ≡ self.old) }
         ensures refusal { IfErr result (λ e. MayRefuseCheckpoint self.old e) }
     {
-        let fresh = match self.wanted_rows()?.touch() {
-            Ok(fresh) => fresh,
-            Err(error) => return Err(error),
-        };
-        match self.trim(fresh) {
+        if let Some(wanted) = self.wanted_rows()? {
+            self.replace_past(wanted.reserve()?);
+        }
+        match self.trim() {
             Ok((trimmed, _)) => Ok(trimmed),
             Err(error) => Err(error),
         }
     }
 
-    // What a checkpoint would need, so that it can be got while the lock is open. Refused where no
-    // more steps can be counted as trimmed.
-    pub(crate) fn wanted_rows(&self) -> Result<WantedRows, StoreError>
+    // For how many rows a checkpoint lacks room, so that it can be got while the lock is open. Refused
+    // where no more steps can be counted as trimmed.
+    pub(crate) fn wanted_rows(&self) -> Result<Option<WantedRows>, StoreError>
         ensures ok { OnOk result
             (all_trimmed self.now.base + length self.now.history < 2 ^ 64) }
         ensures refusal { IfErr result (λ e. MayRefuseCheckpoint self.now e) }
@@ -236,16 +235,43 @@ impl<T: Drop, const NUMBER: u64, M: Count, L: Count, C: Count, R: Count> SyncSta
         if self.log.trimmed_steps().is_none() {
             return Err(StoreError::NumbersExhausted);
         }
-        Ok(WantedRows {
+        let Some(counts) = self.log.wanted_rows(self.store.slots()) else {
+            return Ok(None);
+        };
+        Ok(Some(WantedRows {
             alloc: self.log.alloc(),
-            counts: self.log.wanted_rows(self.store.slots()),
-        })
+            counts,
+        }))
     }
 
-    // Makes a checkpoint, and answers what is kept no more too, so that it can be let go later. The
-    // rows are packed into fresh ones without any, where they are handed in, or else into past ones.
-    pub(crate) fn trim(&mut self, fresh: Option<PackedRows>) -> Result<(u64, Outdated), StoreError>
-        requires { IfSome fresh (λ rows. rows ≡ []) }
+    // Has the next checkpoint's rows stand in fresh ones without any, and answers those in whose place
+    // they stand.
+    pub(crate) fn replace_past(&mut self, fresh: PackedRows) -> PackedRows
+        requires { fresh ≡ [] }
+        ensures { self.new ≡ self.old }
+    {
+        self.log.replace_past(fresh)
+    }
+
+    // Packs the slots from one on, up to another, so that the next checkpoint needn't write those of
+    // them that don't change until then.
+    pub(crate) fn pack_ahead(&mut self, from: usize, to: usize) -> Result<(), StoreError>
+        ensures state { self.new ≡ self.old }
+        ensures refusal { IfErr result (λ e. e ≡ OutOfMemory) }
+    {
+        let past = self.log.take_past();
+        let past = self.store.pack_ahead(past, from, to)?;
+        self.log.replace_past(past);
+        Ok(())
+    }
+
+    // How many slots were made.
+    pub(crate) fn slots(&self) -> usize {
+        self.store.slots()
+    }
+
+    // Makes a checkpoint, and answers what is kept no more too, so that it can be let go later.
+    pub(crate) fn trim(&mut self) -> Result<(u64, Outdated), StoreError>
         ensures ok { IfOk result (λ r. IsCheckpoint self.old self.new r.0) }
         ensures err { OnErr result (self.new ≡ self.old) }
         ensures refusal { IfErr result (λ e. MayRefuseCheckpoint self.old e) }
@@ -254,7 +280,7 @@ impl<T: Drop, const NUMBER: u64, M: Count, L: Count, C: Count, R: Count> SyncSta
         let Some(steps) = self.log.trimmed_steps() else {
             return Err(StoreError::NumbersExhausted);
         };
-        let past = self.log.take_past(fresh);
+        let past = self.log.take_past();
         let rows = match self.store.pack_rows(past) {
             Ok(rows) => rows,
             Err(error) => return Err(error),
@@ -295,20 +321,17 @@ impl<T: Drop, const NUMBER: u64, M: Count, L: Count, C: Count, R: Count> SyncSta
 #[derive(Drop)]
 pub(crate) struct WantedRows {
     alloc: Global,
-    counts: Option<RowCounts>,
+    counts: RowCounts,
 }
 
 impl WantedRows {
-    // Room for them, if it is wanted, touched.
-    pub(crate) fn touch(self) -> Result<Option<PackedRows>, StoreError>
-        ensures ok { IfOk result (λ fresh. IfSome fresh (λ rows. rows ≡ [])) }
+    // Room for them, without any.
+    pub(crate) fn reserve(self) -> Result<PackedRows, StoreError>
+        ensures ok { IfOk result (λ rows. rows ≡ []) }
         ensures refusal { IfErr result (λ e. e ≡ OutOfMemory) }
     {
-        let Some(counts) = self.counts else {
-            return Ok(None);
-        };
-        match PackedRows::with_room(self.alloc, counts) {
-            Ok(rows) => Ok(Some(rows)),
+        match PackedRows::with_room(self.alloc, self.counts) {
+            Ok(rows) => Ok(rows),
             Err(_) => Err(StoreError::OutOfMemory),
         }
     }

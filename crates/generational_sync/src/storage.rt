@@ -23,6 +23,9 @@ use std::alloc::Global;
 use std::sync::ledger::Blank;
 use std::sync::{Arc, Condvar, Mutex, MutexGuard, Wait};
 
+// How many slots are packed ahead while the lock is held once.
+const AT_ONCE: usize = 2048;
+
 /// A store that threads share: one [`SyncState`] under one lock.
 ///
 /// `NUMBER` is the store's number, by which it tells its boxes from those of other stores. Each
@@ -222,15 +225,15 @@ impl<T: Drop + Send, const NUMBER: u64, M: Count, L: Count, C: Count, R: Count> 
 
     /// Makes the store's state, without values, the base from which its history goes on, and empties
     /// the history. The answer is how many steps were ever trimmed. It isn't a step, and raises no
-    /// count. The rows stand in the memory of those of the base before the last, and a free slot, or a
-    /// value that nobody borrows, isn't written again where it is there as it is now. Where there are
-    /// more, room for an eighth more slots than there are is made before, while other calls go on. The
-    /// steps are let go once the lock is open.
+    /// count. All slots are packed ahead first, few at a time, with other calls in between. Then no
+    /// other call goes on while the slots that have changed meanwhile are packed, and whatever is
+    /// borrowed, refers or belongs to an owner. The rows stand in the memory of those of the base before
+    /// the last; where that hasn't room for an eighth more slots than there are, room for twice as many is
+    /// reserved. The steps are let go once the lock is open.
     ///
     /// Refused, in this order: `NumbersExhausted`, where the steps that were trimmed and those of
     /// the history together would be more than fit into 64 bits; `OutOfMemory`. A refusal changes
-    /// nothing. While the rows are made, no other call goes on: it takes time for each slot, borrow
-    /// and owner's box that there is.
+    /// nothing. It takes time for each slot, twice, and for each borrow and owner's box that there is.
     ///
     /// ```rust
     /// self.store.checkpoint(rt, &mut self.tally).is_ok()
@@ -244,16 +247,48 @@ impl<T: Drop + Send, const NUMBER: u64, M: Count, L: Count, C: Count, R: Count> 
         ensures refusal { IfErr result MayRefuseTrimming }
     {
         let _ = tally;
-        let held = self.shared.held.lock(rt);
-        let wanted = held.state.wanted_rows();
-        drop(held);
-        let fresh = wanted?.touch()?;
+        self.pack_ahead(rt)?;
         let mut held = self.shared.held.lock(rt);
-        let trimming = held.state.trim(fresh);
+        let trimming = held.state.trim();
         drop(held);
         let (trimmed, outdated) = trimming?;
         drop(outdated);
         Ok(trimmed)
+    }
+
+    // Packs all slots ahead, few at a time, so that a checkpoint has to write but those that change
+    // meanwhile. In between other calls go on; of the slots that these make, it packs as many as there
+    // were at first.
+    fn pack_ahead(&self, rt: &impl Wait) -> Result<(), StoreError>
+        ensures refusal { IfErr result MayRefuseTrimming }
+    {
+        let slots = self.reserve_rows(rt)?;
+        for from in (0..slots.saturating_mul(2)).step_by(AT_ONCE) {
+            let mut held = self.shared.held.lock(rt);
+            if from >= held.state.slots() {
+                return Ok(());
+            }
+            held.state.pack_ahead(from, from.saturating_add(AT_ONCE))?;
+        }
+        Ok(())
+    }
+
+    // Reserves room for a checkpoint's rows while the lock is open, and answers how many slots there are.
+    fn reserve_rows(&self, rt: &impl Wait) -> Result<usize, StoreError>
+        ensures refusal { IfErr result MayRefuseTrimming }
+    {
+        let held = self.shared.held.lock(rt);
+        let slots = held.state.slots();
+        let wanted = held.state.wanted_rows();
+        drop(held);
+        if let Some(wanted) = wanted? {
+            let fresh = wanted.reserve()?;
+            let mut held = self.shared.held.lock(rt);
+            let outdated = held.state.replace_past(fresh);
+            drop(held);
+            drop(outdated);
+        }
+        Ok(slots)
     }
 
     /// The base and the history, asked for with a whole tally (`is_whole` is the test). The list

@@ -230,33 +230,43 @@ impl<const NUMBER: u64, M: Count, L: Count, C: Count, R: Count> Log<NUMBER, M, L
         self.alloc
     }
 
-    // For how many rows room is wanted before a base of so many slots is packed. None where there is
-    // room for them.
+    // For how many rows room is wanted before a base of so many slots is packed: for twice as many slots,
+    // since more may come meanwhile. None where there is room for an eighth more.
     pub fn wanted_rows(&self, slots: usize) -> Option<RowCounts> {
         let mut counts = self.base.row_counts();
-        counts.slots = slots;
+        counts.slots = slots.saturating_add(slots / 8);
         if self.past.has_room(counts) {
             return None;
         }
+        counts.slots = slots.saturating_mul(2);
         Some(counts)
     }
 
-    // Rows into which the next base's are packed: fresh ones without any, where they are handed in, or
-    // else those of the base before the last one, of which none are left then.
-    pub fn take_past(&mut self, fresh: Option<PackedRows>) -> PackedRows
-        requires { IfSome fresh (λ rows. rows ≡ []) }
-        ensures rows { result ≡ unwrap_or fresh self.old.bases.past }
+    // The rows of the base before the last, of which none are left.
+    pub fn take_past(&mut self) -> PackedRows
+        ensures past { result ≡ self.old.bases.past }
         ensures left { self.new ≡ record self.old {
           bases = record {
             base = self.old.bases.base;
-            past = if is_some fresh then self.old.bases.past else [];
+            past = [];
           };
         } }
     {
-        match fresh {
-            Some(rows) => rows,
-            None => mem::replace(&mut self.past, PackedRows::new(self.alloc)),
-        }
+        let none = PackedRows::new(self.alloc);
+        self.replace_past(none)
+    }
+
+    // Puts rows into the place of those of the base before the last, and answers these.
+    pub fn replace_past(&mut self, rows: PackedRows) -> PackedRows
+        ensures past { result ≡ self.old.bases.past }
+        ensures put { self.new ≡ record self.old {
+          bases = record {
+            base = self.old.bases.base;
+            past = rows;
+          };
+        } }
+    {
+        mem::replace(&mut self.past, rows)
     }
 
     // Lets the history begin anew at a base that counts all steps so far as trimmed. What is kept no

@@ -1,6 +1,7 @@
--- The slots of an earlier state's rows are those of an earlier state.
+-- The slots of an earlier state's rows are those of an earlier state, and so are their rows alone.
 use Rattle.std.proofs.Common.{◌≡◌, ℕ, zero, suc, ◌+◌, List, [], ◌∷◌, ◌++◌, Some, subst, arith, slice_get}
-use Rattle.std.proofs.Common.{unwrap_or, ap, drop}
+use Rattle.std.proofs.Common.{unwrap_or, ap, drop, refl}
+use Rattle.std.proofs.Math.Seq.{drop-nil, take-nil}
 use Rattle.generational_core.specs.declared.rows.BaseRow.{BaseRow}
 use Rattle.generational_core.specs.Plain.{Plain}
 use Rattle.store_rows.specs.Packed.{unpack, unpack_all, whole_in}
@@ -42,3 +43,38 @@ module _ (P : Plain) where
       let there : 0 + i ≡ i = omega arith in
       subst (λ s. IsPastSlot P s p) there (past_from of.number of.whole 0 slots
       (past_parts (unpack_all of.number of.whole 0 slots) of.owners (rw of.are at all)).0 i p at)
+
+  pub both_past : (xs ys : List BaseRow) → ArePast P xs → ArePast P ys → ArePast P (xs ++ ys)
+  both_past [] ys all more = more
+  both_past (x ∷ xs) ys all more = (all.0, both_past xs ys all.1 more)
+
+  row_past : (number slot : ℕ) (e : PackedSlot × Location) → IsPastSlot P slot e
+      → ArePast P (unpack number [] slot e)
+  row_past number slot (packed.Free g, l) was = (tt, tt)
+  row_past number slot (packed.Value g, l) was = (tt, (was, tt))
+  row_past number slot (packed.Shared g, l) was = (tt, (was, tt))
+  row_past number slot (packed.Whole n, l) was = rw (take-nil {A = BaseRow} n) tt
+
+  rows_past : (number slot : ℕ) (slots : List (PackedSlot × Location))
+      → ((i : ℕ) (p : PackedSlot × Location) → slice_get slots i ≡ Some p → IsPastSlot P (slot + i) p)
+      → ArePast P (unpack_all number [] slot slots)
+  rows_past number slot [] all = tt
+  rows_past number slot (e ∷ slots) all =
+      let here : slot + 0 ≡ slot = omega arith in
+      let later : (i : ℕ) (p : PackedSlot × Location) → slice_get slots i ≡ Some p
+      → IsPastSlot P ((slot + 1) + i) p =
+      λ i p at.
+      let there : slot + suc i ≡ (slot + 1) + i = omega arith in
+      subst (λ s. IsPastSlot P s p) there (all (suc i) p at)
+      in both_past _ _ (row_past number slot e (subst (λ s. IsPastSlot P s e) here (all 0 e refl)))
+      (rw (drop-nil {A = BaseRow} (whole_in e.0)) (rows_past number (slot + 1) slots later))
+
+  -- without whole rows and rows of owners
+  pub slots_past : (number : ℕ) (slots : List (PackedSlot × Location)) → ArePastSlots P slots
+      → ArePast P (unpack_all number [] 0 slots ++ [])
+  slots_past number slots all =
+      let every : (i : ℕ) (p : PackedSlot × Location) → slice_get slots i ≡ Some p
+      → IsPastSlot P (0 + i) p =
+      λ i p at.
+      let there : i ≡ 0 + i = omega arith in subst (λ s. IsPastSlot P s p) there (all i p at)
+      in both_past _ [] (rows_past number 0 slots every) tt

@@ -42,14 +42,13 @@ impl PackedSlots {
         }
     }
 
-    /// No slots, with room for so many and some more, whose memory is touched.
+    /// No slots, with room for so many. Its memory isn't touched.
     pub fn with_room(alloc: Global, slots: usize) -> Result<PackedSlots, AllocError>
         ensures { IfOk result (λ slots. slots ≡ []) }
     {
-        let some = Location::new("", 0, 0);
         Ok(PackedSlots {
-            slots: touched(alloc, slots, PackedSlot::Free(1))?,
-            made_at: touched(alloc, slots, some)?,
+            slots: reserved(alloc, slots)?,
+            made_at: reserved(alloc, slots)?,
         })
     }
 
@@ -135,6 +134,15 @@ fn make_room<X>(items: &mut Vec<X>) -> Result<(), AllocError>
         return Ok(());
     }
     reserve_more(items, 1)
+}
+
+// An empty list with room for so many elements.
+fn reserved<X: Copy>(alloc: Global, wanted: usize) -> Result<Vec<X>, AllocError>
+    ensures { IfOk result (λ room. room.items ≡ []) }
+{
+    let mut room = Vec::new(alloc);
+    room.reserve_exact(wanted)?;
+    Ok(room)
 }
 
 /// An empty list with room for so many elements and some more, whose memory is touched.

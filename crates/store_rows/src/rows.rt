@@ -56,7 +56,8 @@ impl PackedRows {
         PackedRows::of(0, PackedSlots::new(alloc), Vec::new(alloc), Vec::new(alloc))
     }
 
-    /// No rows, with room for so many of each, and some more of each, whose memory is touched.
+    /// No rows, with room for so many slots, and for so many whole rows and rows of owners and some more,
+    /// whose memory is touched.
     pub fn with_room(alloc: Global, counts: RowCounts) -> Result<PackedRows, AllocError>
         ensures { IfOk result (λ rows. rows ≡ []) }
     {

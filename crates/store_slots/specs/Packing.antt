@@ -1,5 +1,6 @@
 -- Slots as they are packed.
-use Rattle.std.specs.Prelude.{◌≡◌, ℕ, ◌+◌, ◌<◌, List, [], ◌∷◌, ◌++◌, IfSome, length, slice_get, take}
+use Rattle.std.specs.Prelude.{◌≡◌, ℕ, ◌+◌, ◌<◌, List, [], ◌∷◌, ◌++◌, IfSome, Some, length, slice_get, take}
+use Rattle.std.specs.Prelude.{◌⊎◌}
 use Rattle.generational_errors.specs.declared.error.Location.{Location}
 use Rattle.generational_core.specs.Cells.{location_of}
 use Rattle.generational_core.specs.declared.rows.BaseRow.{BaseRow}
@@ -51,3 +52,15 @@ IsPastOf e p = Unit {0}
 abbrev pub ArePastOf : {T : Type 0} → List (Entry T) → List (PackedSlot × Location) → Type 0
 ArePastOf entries slots = (slot : ℕ) → IfSome (slice_get entries slot)
     (λ e. IfSome (slice_get slots slot) (λ p. IsPastOf e p))
+
+-- a packed slot tells of this slot's cell, if it tells of one
+abbrev pub IsOf : {T : Type 0} → Entry T → PackedSlot × Location → Type 0
+IsOf e (packed.Value g, l) = (g ≡ e.generation) × WasMadeIn e l
+IsOf e (packed.Shared g, l) = (g ≡ e.generation) × WasMadeIn e l
+IsOf e p = Unit {0}
+
+-- each packed slot is as it was before, or tells of the slot's cell
+abbrev pub AreRenewed : {T : Type 0} → List (Entry T) → List (PackedSlot × Location)
+    → List (PackedSlot × Location) → Type 0
+AreRenewed {T} entries old slots = (slot : ℕ) (p : PackedSlot × Location) → slice_get slots slot ≡ Some p
+    → (slice_get old slot ≡ Some p) ⊎ ((e : Entry T) × (slice_get entries slot ≡ Some e) × IsOf e p)

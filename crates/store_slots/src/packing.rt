@@ -3,7 +3,7 @@
 ghost use Rattle.std.specs.Prelude.{◌≡◌, ◌<◌, ◌≤◌, ◌+◌, ◌++◌, ◌∷◌, [], ℕ, IfOk, IfSome, OnOk};
 ghost use Rattle.std.specs.Prelude.{length, slice_get, take};
 ghost use Rattle.std.specs.Bool.{OnTrue};
-ghost use Rattle.store_slots.specs.Packing.{ArePacked, ArePastOf, IsPacked, IsPastOf};
+ghost use Rattle.store_slots.specs.Packing.{ArePacked, ArePastOf, AreRenewed, IsPacked, IsPastOf};
 ghost use Rattle.store_slots.specs.Packing.{IsSmall, Packs, WasMadeIn};
 ghost use Rattle.generational_errors.specs.declared.error.Location.{Location as Place};
 
@@ -34,6 +34,42 @@ pub fn pack_slots<T: Drop>(
     }
     slots.truncate(entries.len());
     Ok(())
+}
+
+/// Packs the slots from one on, up to another, ahead of the rest, into the place of slots that were
+/// packed in an earlier state. So they needn't be written when all are packed, unless they change until
+/// then. Of a slot without a small form nothing is told.
+pub fn pack_ahead<T: Drop>(
+    entries: &Entries<T>,
+    slots: &mut PackedSlots,
+    from: usize,
+    to: usize,
+) -> Result<(), AllocError>
+    ensures { OnOk result (AreRenewed entries.now.slots slots.old slots.new) }
+{
+    for slot in from.min(slots.len())..to.min(entries.len()) {
+        put_small(entries, slot, slots)?;
+    }
+    Ok(())
+}
+
+// Packs the next slot ahead.
+#[inline(always)]
+fn put_small<T: Drop>(
+    entries: &Entries<T>,
+    slot: usize,
+    slots: &mut PackedSlots,
+) -> Result<(), AllocError>
+    requires within { slot < length entries.now.slots }
+    requires next { slot ≤ length slots.old }
+    ensures renewed { OnOk result (AreRenewed entries.now.slots slots.old slots.new) }
+    ensures long { OnOk result (slot < length slots.new) }
+{
+    if slot < slots.len() && stays(entries, slot, slots.slot(slot)) {
+        return Ok(());
+    }
+    let packed = small_slot(entries, slot).unwrap_or(PackedSlot::Whole(0));
+    slots.put(slot, packed, entries.details(slot).created_at)
 }
 
 // Packs the rows of the next slot.

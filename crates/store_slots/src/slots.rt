@@ -54,7 +54,7 @@ use crate::blocking_borrow::{
 };
 use crate::counts::{Counts, SlotCounts};
 use crate::found::{Found, look};
-use crate::packing::pack_slots;
+use crate::packing::{pack_ahead, pack_slots};
 use crate::references::{forget, is_boxed, refer};
 use crate::refusals::{dropped, dropped_mut};
 use crate::rows::push_slots;
@@ -177,6 +177,20 @@ impl<T: Drop, P: SlotPool> Slots<T, P> {
         ensures back { ReadSlots number self.now.state }
     {
         pack_slots(&self.entries, number, slots, whole)
+    }
+
+    /// Packs the slots from one on, up to another, ahead of the rest, into the place of those of an
+    /// earlier state.
+    pub fn pack_ahead(
+        &self,
+        slots: &mut PackedSlots,
+        from: usize,
+        to: usize,
+    ) -> Result<(), AllocError>
+        requires { ArePastSlots (plain self.now.state) slots.old }
+        ensures { OnOk result (ArePastSlots (plain self.now.state) slots.new) }
+    {
+        pack_ahead(&self.entries, slots, from, to)
     }
 
     /// Where a cell was made.

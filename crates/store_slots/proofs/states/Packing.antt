@@ -1,21 +1,23 @@
 -- One slot more is packed, in the place of one that was packed in an earlier state.
 use Rattle.store_slots.proofs.Common
-use Common.{ap, append-nil, arith, BaseRow, Cell, cell_of, cells_of, cell_under, Entry}
-use Common.{entry_rows, get_bare_cell, IfSome, inl, inr, length}
-use Common.{length-append, List, Location, None, Option, option_map, refl}
-use Common.{rows_from, slice_get, slice_get_cases, Some, State, suc, sym}
-use Common.{drop, eq-eqb, take, ℕ, [], ◌++◌, ◌+◌, ◌<◌, ◌≤◌, ◌∙◌, ◌∷◌, ◌≡◌}
-use Rattle.std.proofs.Math.Seq.{drop-append_seam, take-suc}
+use Common.{and_from, ap, append-nil, arith, BaseRow, Cell, cell_of, cells_of, drop, Entry, eq-eqb}
+use Common.{entry_rows, Err, get_bare_cell, IfSome, inl, inr, IsSlotTable, le-leb, length}
+use Common.{length-append, List, Location, None, Ok, OnOk, Option, option_map, refl, Result}
+use Common.{rows_from, slice_get, slice_get_cases, SlotTable, Some, State, state_of, subst, suc, sym}
+use Common.{take, unwrap_or, zero, ℕ, ⊎_elim, [], ◌++◌, ◌+◌, ◌<◌, ◌≤◌, ◌∙◌, ◌∷◌, ◌≡◌}
+use Rattle.std.proofs.Common.{◌⊎◌}
+use Rattle.std.proofs.Math.Seq.{drop-append_seam, take-nil, take-suc}
 use Rattle.std.proofs.lemmas.List.{length-take, length-take-le}
 use Rattle.std.proofs.lemmas.Option.{get_or_from_slice_get}
 use Rattle.std.specs.FinMap as map
+use Rattle.std.specs.FinSet as set
 use Rattle.generational_core.specs.Cells.{location_of}
 use Rattle.generational_core.specs.Cells.Cell.{Value, Shared, Ref}
 use Rattle.generational_core.specs.Plain.{bare_cell, plain}
 use Rattle.store_slots.proofs.states.Rows.{rows_more}
-use Rattle.store_slots.proofs.states.States.{get_cells}
-use Rattle.store_slots.specs.Packing.{ArePacked, ArePastOf, IsPacked, IsPastOf, IsSmall, Packs}
-use Rattle.store_slots.specs.Packing.{WasMadeIn}
+use Rattle.store_slots.proofs.states.States.{get_cells, get_given}
+use Rattle.store_slots.specs.Packing.{ArePacked, ArePastOf, AreRenewed, IsOf, IsPacked, IsPastOf}
+use Rattle.store_slots.specs.Packing.{IsSmall, Packs, WasMadeIn}
 use Rattle.store_rows.proofs.Packing.{unpack_grows, unpack_snoc, whole_snoc}
 use Rattle.store_rows.specs.Packed.{unpack, unpack_all, whole_of}
 use Rattle.store_rows.specs.Past.{ArePastSlots, IsPastSlot, WasMadeAt}
@@ -141,20 +143,32 @@ module _ {A : Type 0} where
   made_bare (Some (Shared c k)) l made = (let same = made _ refl in cc)
   made_bare (Some (Ref m k)) l made = (let same = made _ refl in cc)
 
+  bare_made : (c : Option (Cell A)) (l : Location) → IfSome (location_of c) (λ k. l ≡ k)
+      → (b : Cell (Unit {0})) → option_map bare_cell c ≡ Some b → location_of (Some b) ≡ Some l
+  bare_made None l made b is = absurd cc
+  bare_made (Some (Value c k)) l made b is =
+      let same : bare_cell {T = A} (Value c k) ≡ b = cc in rw (← same, made) refl
+  bare_made (Some (Shared c k)) l made b is =
+      let same : bare_cell {T = A} (Shared c k) ≡ b = cc in rw (← same, made) refl
+  bare_made (Some (Ref m k)) l made b is =
+      let same : bare_cell {T = A} (Ref m k) ≡ b = cc in rw (← same, made) refl
+
 module _ {A : Type 0} (slots : List (Entry A)) (S : State A) (are : cells_of slots ≡ S.cells) where
+  -- the cell of a slot without its value
+  bare_in : (slot g : ℕ) (e : Entry A) → slice_get slots slot ≡ Some e → g ≡ e.generation
+      → map.get (plain S).cells (record { slot = slot; generation = g })
+      ≡ option_map bare_cell (cell_of e.kept)
+  bare_in slot g e there same =
+      get_bare_cell S.cells (record { slot = slot; generation = g })
+      ∙ (λ i. option_map bare_cell (map.get (sym are i) (record { slot = slot; generation = same i })))
+      ∙ ap (option_map bare_cell) (get_cells slots (record { slot = slot; generation = e.generation })
+      ∙ rw (there, eq-eqb e.generation e.generation refl) refl)
+
   made_in : (slot g : ℕ) (e : Entry A) (l : Location) → slice_get slots slot ≡ Some e
       → WasMadeAt (plain S) (record { slot = slot; generation = g }) l
       → g ≡ e.generation → WasMadeIn e l
   made_in slot g e l there was same =
-      made_bare (cell_of e.kept) l (λ b is. was.1 b (
-      get_bare_cell S.cells (record { slot = slot; generation = g })
-      ∙ (λ i. option_map bare_cell (map.get (sym are i) (record { slot = slot; generation = same i })))
-      ∙ ap (option_map bare_cell) (get_cells slots (record { slot = slot; generation = e.generation }))
-      ∙ ap (option_map bare_cell) (found slot e there) ∙ is))
-    where
-      found : (slot : ℕ) (e : Entry A) → slice_get slots slot ≡ Some e
-          → cell_under slots (record { slot = slot; generation = e.generation }) ≡ cell_of e.kept
-      found slot e there = rw (there, eq-eqb e.generation e.generation refl) refl
+      made_bare (cell_of e.kept) l (λ b is. was.1 b (bare_in slot g e there same ∙ is))
 
   pub past_of : (past : List (PackedSlot × Location)) → ArePastSlots (plain S) past → ArePastOf slots past
   past_of past all slot = elim (slice_get_cases slots slot).1 [
@@ -171,3 +185,95 @@ module _ {A : Type 0} (slots : List (Entry A)) (S : State A) (are : cells_of slo
       at e there (packed.Shared g, l) was = made_in slot g e l there was
       at e there (packed.Free g, l) was = tt
       at e there (packed.Whole n, l) was = tt
+
+-- ---- slots packed ahead
+
+module _ {X : Type 0} where
+  -- where one element is put into its place, or after the last one, each other is as it was
+  only_at : (k : ℕ) (xs ys : List X) (x : X) → k ≤ length xs → take (suc k) ys ≡ take k xs ++ x ∷ []
+      → ((i : ℕ) → k < i → slice_get ys i ≡ slice_get xs i) → (i : ℕ)
+      → (slice_get ys i ≡ slice_get xs i) ⊎ ((i ≡ k) × (slice_get ys i ≡ Some x))
+  only_at zero xs [] x within here rest i = absurd cc
+  only_at zero xs (y ∷ ys) x within here rest zero = inr (refl, cc)
+  only_at zero xs (y ∷ ys) x within here rest (suc i) = inl (rest (suc i) (omega arith))
+  only_at (suc k) [] ys x within here rest i = absurd (omega arith)
+  only_at (suc k) (z ∷ xs) [] x within here rest i =
+      let none = take-nil {A = X} (suc (suc k)) in absurd cc
+  only_at (suc k) (z ∷ xs) (y ∷ ys) x within here rest zero = inl cc
+  only_at (suc k) (z ∷ xs) (y ∷ ys) x within here rest (suc i) =
+      let front : take (suc k) ys ≡ take k xs ++ x ∷ [] = cc in
+      let behind : (j : ℕ) → k < j → slice_get ys j ≡ slice_get xs j =
+      λ j after. rest (suc j) (omega arith) in
+      ⊎_elim (λ same. inl same) (λ at. inr (ap suc at.0, at.1))
+      (only_at k xs ys x (omega arith) front behind i)
+
+module _ {A : Type 0} (es : List (Entry A)) where
+  -- a slot in few bytes tells of its cell, and so does one of which nothing is told
+  pub small_of : (slot : ℕ) (o : Option PackedSlot) (l : Location) → slot < length es
+      → IfSome (slice_get es slot) (λ e. WasMadeIn e l)
+      → IfSome o (λ p. IfSome (slice_get es slot)
+      (λ e. (k : Location) → WasMadeIn e k → IsSmall slot (p, k) e))
+      → (e : Entry A) × (slice_get es slot ≡ Some e) × IsOf e (unwrap_or o (packed.Whole 0), l)
+  small_of slot o l within made small = elim (slice_get_cases es slot).1 [
+    | inl w ↦ (w.0, w.2, at w.0 o (rw w.2 at made) (rw w.2 at small))
+    | inr w ↦ absurd (omega (arith, w.0))
+  ]
+    where
+      at : (e : Entry A) (o : Option PackedSlot) → WasMadeIn e l
+          → IfSome o (λ p. (k : Location) → WasMadeIn e k → IsSmall slot (p, k) e)
+          → IsOf e (unwrap_or o (packed.Whole 0), l)
+      at e None made small = tt
+      at e (Some (packed.Value g)) made small = (let same = (small l made).rows 0 [] in cc, made)
+      at e (Some (packed.Shared g)) made small = (let same = (small l made).rows 0 [] in cc, made)
+      at e (Some (packed.Free g)) made small = tt
+      at e (Some (packed.Whole n)) made small = tt
+
+  module _ (old slots : List (PackedSlot × Location)) where
+    -- where one is put into its place, or after the last one
+    pub renewed_by : {E : Type 0} (r : Result (Unit {0}) E) (k : ℕ) (p : PackedSlot × Location)
+        → k ≤ length old → (e : Entry A) × (slice_get es k ≡ Some e) × IsOf e p
+        → OnOk r (take (k + 1) slots ≡ take k old ++ p ∷ [])
+        → OnOk r ((i : ℕ) → k < i → slice_get slots i ≡ slice_get old i)
+        → OnOk r (AreRenewed es old slots)
+    renewed_by (Err e) k p within of here rest = tt
+    renewed_by (Ok u) k p within of here rest = λ i q there.
+        let more : suc k ≡ k + 1 = omega arith in
+        ⊎_elim (λ same. inl (sym same ∙ there)) (λ at. inr (
+          of.0,
+          ap (slice_get es) at.0 ∙ of.1,
+          subst (IsOf of.0) (let same : Some p ≡ Some q = sym at.1 ∙ there in cc) of.2,
+        )) (only_at k old slots p within (ap (λ n. take n slots) more ∙ here) rest i)
+
+    -- and where others were renewed before
+    pub renewed_on : (before : List (PackedSlot × Location)) → AreRenewed es before old
+        → AreRenewed es old slots → AreRenewed es before slots
+    renewed_on before first more i p there =
+        ⊎_elim (λ was. first i p was) (λ of. inr of) (more i p there)
+
+module _ {A : Type 0} {p : SlotTable A} (s : IsSlotTable p) (S : State A)
+    (seen : state_of p.start p.counts.peak p.slots ≡ S) where
+  -- what tells of a slot's cell is so of the state, and so are renewed slots
+  told_past : (slot g : ℕ) (e : Entry A) (l : Location) → slice_get p.slots slot ≡ Some e
+      → (g ≡ e.generation) × WasMadeIn e l
+      → WasMadeAt (plain S) (record { slot = slot; generation = g }) l
+  told_past slot g e l there of = (
+    ap (λ (S : State A). set.contains S.given (record { slot = slot; generation = g })) (sym seen)
+        ∙ get_given p.start p.slots (record { slot = slot; generation = g })
+        ∙ rw (there, of.0) (and_from _ _ (le-leb p.start e.generation (rw there at (s.begun slot)))
+        (le-leb e.generation e.generation (omega arith))),
+    λ b is.
+        bare_made (cell_of e.kept) l of.1 b (
+        sym (bare_in p.slots S (ap (λ (S : State A). S.cells) seen) slot g e there of.0) ∙ is),
+  )
+
+  pub renewed_past : (old slots : List (PackedSlot × Location)) → ArePastSlots (plain S) old
+      → AreRenewed p.slots old slots → ArePastSlots (plain S) slots
+  renewed_past old slots all renewed slot q there =
+      ⊎_elim (λ was. all slot q was) (λ of. at of.0 of.1 q of.2) (renewed slot q there)
+    where
+      at : (e : Entry A) → slice_get p.slots slot ≡ Some e → (q : PackedSlot × Location) → IsOf e q
+          → IsPastSlot (plain S) slot q
+      at e there (packed.Value g, l) of = told_past slot g e l there of
+      at e there (packed.Shared g, l) of = told_past slot g e l there of
+      at e there (packed.Free g, l) of = tt
+      at e there (packed.Whole n, l) of = tt

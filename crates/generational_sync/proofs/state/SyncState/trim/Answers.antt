@@ -1,20 +1,19 @@
 -- The base after a checkpoint tells the state, and counts the steps that were trimmed.
-use Rattle.std.proofs.Common.{rules, ap, arith, is_some, subst, sym, ◌∙◌}
+use Rattle.std.proofs.Common.{rules, ap, arith, subst, sym, ◌∙◌}
 use Rattle.generational_core.specs.Plain.{plain}
 use Rattle.generational_core.specs.Rows.{ReadBack}
 use Rattle.shared_history.specs.Bases.{BaseState, all_trimmed, counts_of}
 use Rattle.shared_history.specs.Logs.{Bases, LogState}
 use Rattle.store_rows.specs.Past.{ArePast}
 use Rattle.generational_sync.specs.Keeping.{shared}
-use Rattle.generational_sync.proofs.Keeping.{rebased, taken_kept, taken_past}
+use Rattle.generational_sync.proofs.Keeping.{rebased, taken_kept}
 use Rattle.generational_sync.proofs.Trimming.{checkpoint_seen, trimmed_within, trims_of}
 use Rattle.generational_sync.proofs.state.SyncState.trim.Goals as goal
 
 pub pack_rows-requires : goal.pack_rows-requires
 pack_rows-requires g c =
-    let P = plain c.self.inside.store.state in
-    subst (ArePast P) (sym c.take_past-past.ensures.rows)
-    (taken_past P c.args.fresh c.self.inside.log.bases.past c.requires c.self.invariant.past)
+    subst (ArePast (plain c.self.inside.store.state)) (sym c.take_past-past.ensures.past)
+    c.self.invariant.past
 
 pub of-base-requires : goal.of-base-requires
 of-base-requires g c =
@@ -38,7 +37,7 @@ invariant_of-self-2 g c =
     (rebased c.histories_lead_to_sound_states.ensures.number
     c.histories_lead_to_sound_states.ensures.generation g.row.NUMBER c.self.inside.store.state
     c.take_past-past.new.self c.rebase.new.self
-    (taken_kept (is_some c.args.fresh) c.self.invariant c.take_past-past.ensures.left)
+    (taken_kept c.self.invariant c.take_past-past.ensures.left)
     (ap (λ (b : Bases). b.past) bases) (ap (λ (b : BaseState). b.rows) base ∙ c.in-Ok.ensures.rows)
     (ap (λ (b : BaseState). b.number) base) (ap (λ (b : BaseState). b.next) base
     ∙ omega (arith, c.tickets_left-next.ensures.count, c.tickets_left-next.ensures.bounded))
@@ -54,7 +53,7 @@ returns-clause-ok g c =
     let told = (rebased c.histories_lead_to_sound_states.ensures.number
     c.histories_lead_to_sound_states.ensures.generation g.row.NUMBER c.self.inside.store.state
     taken c.rebase.new.self
-    (taken_kept (is_some c.args.fresh) c.self.invariant c.take_past-past.ensures.left)
+    (taken_kept c.self.invariant c.take_past-past.ensures.left)
     (ap (λ (b : Bases). b.past) bases) (ap (λ (b : BaseState). b.rows) base ∙ c.in-Ok.ensures.rows)
     (ap (λ (b : BaseState). b.number) base) (ap (λ (b : BaseState). b.next) base
     ∙ omega (arith, c.tickets_left-next.ensures.count, c.tickets_left-next.ensures.bounded))
