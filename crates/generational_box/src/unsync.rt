@@ -29,7 +29,7 @@ use store_cells::entry::{Kind, StorageEntryData};
 use store_parts::names::CellName;
 use store_parts::owners::{OwnerRecord, OwnerRecords};
 use store_parts::pool::{LastFirst, SlotPool};
-use store_rows::{PackedRows, PastRows};
+use store_rows::{PackedRows, PastRows, RowCounts};
 use store_slots::found::Found;
 use store_slots::refusals::{dropped, dropped_mut};
 use store_slots::slots::Slots;
@@ -192,11 +192,23 @@ impl<T: Drop, P: SlotPool> Store<T, P> {
         let PastRows {
             mut slots,
             mut whole,
-            mut owners,
+            owners,
         } = past.into_past();
         self.slots.pack_rows(self.number, &mut slots, &mut whole)?;
-        self.owners.push_rows(self.alloc, self.number, &mut owners)?;
+        let owners = self.owners.pack(owners)?;
         Ok(PackedRows::of(self.number, slots, whole, owners))
+    }
+
+    /// For how many slots, records of owners and names on their lists rows need room. Whole rows, which
+    /// borrows and references have, aren't counted.
+    pub fn row_counts(&self) -> RowCounts {
+        let (owners, names) = self.owners.counts();
+        RowCounts {
+            slots: self.slots.counts().slots,
+            whole: 0,
+            owners,
+            names,
+        }
     }
 
     /// Packs the slots from one on, up to another, ahead of the rest, into the place of rows that were
@@ -365,10 +377,8 @@ impl<T: Drop, P: SlotPool> AnyStorage<T> for Store<T, P> {
     }
 
     fn rows(&self) -> Result<Vec<BaseRow>, StoreError> {
-        let mut rows = Vec::new(self.alloc);
-        self.slots.push_rows(self.number, &mut rows)?;
-        self.owners.push_rows(self.alloc, self.number, &mut rows)?;
-        Ok(rows)
+        let packed = self.pack_rows(PackedRows::new(self.alloc))?;
+        Ok(packed.to_vec(self.alloc)?)
     }
 
     #[inline(always)]

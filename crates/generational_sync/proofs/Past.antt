@@ -21,7 +21,7 @@ use Rattle.generational_core.specs.State.{IsSound, Ownership, State}
 use Rattle.generational_core.specs.Steps.{Meets}
 use Rattle.generational_core.proofs.machine.Rows.{get_bare_cell}
 use Rattle.generational_core.proofs.machine.Stepping.{meets_ended, meets_given, meets_location}
-use Rattle.store_rows.proofs.Past.{both_past}
+use Rattle.store_rows.proofs.Past.{both_past, owners_past}
 use Rattle.store_rows.specs.Past.{ArePast, IsPast, WasMadeAt}
 
 -- ---- a step later
@@ -64,16 +64,6 @@ module _ (P : Plain) where
   borrows_past : {T : Type 0} (id : GenerationalBoxId) (c : Content T) → ArePast P (borrow_rows id c)
   borrows_past id (Here v readers) = readers_past id readers
   borrows_past id (Lent w) = (tt, tt)
-
-  listed_past : (number k : ℕ) (names : List Name)
-      → ArePast P (list_map (λ n. row.Owned k (id_of number n)) names)
-  listed_past number k [] = tt
-  listed_past number k (n ∷ names) = (tt, listed_past number k names)
-
-  owners_past : (number : ℕ) (records : List (ℕ × Ownership)) → ArePast P (owner_rows number records)
-  owners_past number [] = tt
-  owners_past number (e ∷ records) =
-      (tt, both_past P _ _ (listed_past number e.0 e.1.names) (owners_past number records))
 
 module _ {T : Type 0} (S : State T) (sound : IsSound (plain S)) where
   made_here : (n : Name) (c : Cell T) (l : Location) → map.get S.cells n ≡ Some c

@@ -235,7 +235,7 @@ impl<T: Drop, const NUMBER: u64, M: Count, L: Count, C: Count, R: Count> SyncSta
         if self.log.trimmed_steps().is_none() {
             return Err(StoreError::NumbersExhausted);
         }
-        let Some(counts) = self.log.wanted_rows(self.store.slots()) else {
+        let Some(counts) = self.log.wanted_rows(self.store.row_counts()) else {
             return Ok(None);
         };
         Ok(Some(WantedRows {

@@ -7,7 +7,7 @@ use crate::base::{Base, TrimmedSteps};
 use shared_records::Kind;
 use std::alloc::{AllocError, Global};
 use std::marker::Model;
-use store_rows::{PackedRows, RowCounts};
+use store_rows::PackedRows;
 
 /// A base whose rows are packed. Contracts see it as the [`Base`] that an audit answers.
 #[derive(Drop)]
@@ -118,9 +118,9 @@ impl KeptBase {
         }
     }
 
-    // How many rows there are of each form.
-    pub fn row_counts(&self) -> RowCounts {
-        self.rows.counts()
+    // How many whole rows there are.
+    pub fn whole_rows(&self) -> usize {
+        self.rows.whole()
     }
 
     // Its rows.

@@ -230,15 +230,16 @@ impl<const NUMBER: u64, M: Count, L: Count, C: Count, R: Count> Log<NUMBER, M, L
         self.alloc
     }
 
-    // For how many rows room is wanted before a base of so many slots is packed: for twice as many slots,
-    // since more may come meanwhile. None where there is room for an eighth more.
-    pub fn wanted_rows(&self, slots: usize) -> Option<RowCounts> {
-        let mut counts = self.base.row_counts();
-        counts.slots = slots.saturating_add(slots / 8);
+    // For how many rows room is wanted before these are packed: for twice as many slots, since more may
+    // come meanwhile. None where there is room for an eighth more slots.
+    pub fn wanted_rows(&self, now: RowCounts) -> Option<RowCounts> {
+        let mut counts = now;
+        counts.whole = self.base.whole_rows();
+        counts.slots = now.slots.saturating_add(now.slots / 8);
         if self.past.has_room(counts) {
             return None;
         }
-        counts.slots = slots.saturating_mul(2);
+        counts.slots = now.slots.saturating_mul(2);
         Some(counts)
     }
 

@@ -48,7 +48,7 @@ use std::marker::Model;
 use std::mem;
 use store_parts::names::CellName;
 use store_parts::queue::reader_row;
-use store_parts::room::{more_room, reserve_room};
+use store_parts::room::reserve_room;
 use store_parts::table::{BorrowTable, NO_INDEX};
 use store_room::{halfway, push_more};
 
@@ -876,6 +876,31 @@ fn larger_room(room: usize) -> Result<usize, StoreError>
         return Err(StoreError::OutOfMemory);
     }
     Ok(most.min(room + more_room(room)))
+}
+
+// For so many slots there is room at first, then for more, and then for many.
+const FEW: usize = 4;
+
+const MORE: usize = 64;
+
+const MANY: usize = 1152;
+
+// By how many slots the room for so many grows: in great steps while they are few, so that a slot
+// is seldom moved, and then by as many again.
+fn more_room(room: usize) -> usize
+    ensures some { 0 < result }
+    ensures most { result ≤ max room 1152 }
+{
+    if room < FEW {
+        return FEW - room;
+    }
+    if room < MORE {
+        return MORE - room;
+    }
+    if room < MANY {
+        return MANY - room;
+    }
+    room
 }
 
 // The answer to a write or an end where the readers at this index stand.

@@ -6,5 +6,6 @@ unfoldable pub use lists.Chains.*
 unfoldable pub use lists.Lists.*
 unfoldable pub use lists.Tables.*
 unfoldable pub use lists.Queues.*
+unfoldable pub use records.Packed.*
 unfoldable pub use records.Places.*
 unfoldable pub use records.Rows.*

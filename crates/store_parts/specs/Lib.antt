@@ -3,6 +3,7 @@ pub mod CellNames
 pub mod Lists
 pub mod OwnerPlaces
 pub mod OwnerRecords
+pub mod PackedOwners
 pub mod Pools
 pub mod Queues
 pub mod Table

@@ -20,12 +20,14 @@ ghost use Rattle.generational_core.specs.Machine.{OwnerName};
 ghost use Rattle.store_parts.specs.OwnerPlaces.{owners_of};
 ghost use Rattle.store_parts.specs.OwnerPlaces.{record_at, HasRecord};
 
+mod packed;
 mod rows;
 
 use crate::names::CellName;
 use crate::pool::{LastFirst, SlotPool, make_room};
 use generational_core::parts::{number_of, place_of};
 use generational_core::{Owner, OwnerId, StoreError};
+pub use packed::PackedOwners;
 use std::alloc::{AllocError, Global};
 use std::marker::Model;
 use store_room::reserve_more;

@@ -1,35 +1,10 @@
 //! Room in buffers.
 
-ghost use Rattle.std.specs.Prelude.{◌≡◌, ◌<◌, ◌≤◌, IfErr, OnOk, max, vec_capacity};
+ghost use Rattle.std.specs.Prelude.{◌≡◌, ◌≤◌, [], IfErr, IfOk, OnOk, vec_capacity};
 ghost use Rattle.generational_errors.specs.declared.error.StoreError.TheVariants.{OutOfMemory};
 
 use generational_core::StoreError;
-use std::alloc::Global;
-
-// For so many slots there is room at first, then for more, and then for many.
-const FEW: usize = 4;
-
-const MORE: usize = 64;
-
-const MANY: usize = 1152;
-
-/// By how many slots the room for so many grows: in great steps while they are few, so that a slot
-/// is seldom moved, and then by as many again.
-pub fn more_room(room: usize) -> usize
-    ensures some { 0 < result }
-    ensures most { result ≤ max room 1152 }
-{
-    if room < FEW {
-        return FEW - room;
-    }
-    if room < MORE {
-        return MORE - room;
-    }
-    if room < MANY {
-        return MANY - room;
-    }
-    room
-}
+use std::alloc::{AllocError, Global};
 
 /// Makes a buffer large enough for this many in all. Want of memory changes nothing in it.
 pub fn reserve_room<X: Drop>(
@@ -57,4 +32,14 @@ pub fn reserve_room<X: Drop>(
         return Err(StoreError::OutOfMemory);
     }
     Ok(())
+}
+
+/// An empty list with room for so many elements and some more, whose memory is touched.
+pub fn touched<X: Copy>(alloc: Global, wanted: usize, some: X) -> Result<Vec<X>, AllocError>
+    ensures { IfOk result (λ room. room.items ≡ []) }
+{
+    let mut room = Vec::new(alloc);
+    room.resize(wanted.saturating_add(wanted / 8), some)?;
+    room.clear();
+    Ok(room)
 }

@@ -2,7 +2,11 @@
 use Rattle.std.proofs.Common.{◌≡◌, ℕ, suc, ◌+◌, ◌≤◌, List, [], ◌∷◌, ◌++◌, length, refl, sym, ap, ◌∙◌, arith}
 use Rattle.std.proofs.Common.{append_assoc, append-nil, drop}
 use Rattle.std.proofs.lemmas.List.{drop-append-le, drop-drop, length-drop, take-append-le}
+use Rattle.std.specs.FinMap as map
 use Rattle.generational_errors.specs.declared.error.Location.{Location}
+use Rattle.generational_core.specs.Rows.{owner_rows}
+use Rattle.store_parts.proofs.records.Packed.{no_owners}
+use Rattle.store_parts.specs.OwnerPlaces.{Place, owners_of}
 use Rattle.generational_core.specs.declared.rows.BaseRow.{BaseRow}
 use Rattle.store_rows.specs.Packed.{unpack, unpack_all, whole_in, whole_of}
 use Rattle.store_rows.specs.declared.packed.PackedSlot.{PackedSlot}
@@ -50,3 +54,9 @@ module _ (number : ℕ) where
       ++ unpack_all number (drop-append-le (whole_in x.0) whole more (omega arith) i) (slot + 1) slots)
       ∙ ap (λ rows. unpack number whole slot x ++ rows)
       (unpack_grows less more (slot + 1) slots (omega (arith, length-drop (whole_in x.0) whole)))
+
+-- no slots and no owners have no rows
+pub no_rows : (number : ℕ) (whole : List BaseRow) (slots : List (PackedSlot × Location))
+    (owners : List Place) → slots ≡ [] → owners ≡ []
+    → unpack_all number whole 0 slots ++ owner_rows number (map.entries (owners_of owners)) ≡ []
+no_rows number whole slots owners none nobody = rw (none, nobody, no_owners) refl

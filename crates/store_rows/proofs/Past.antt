@@ -2,7 +2,13 @@
 use Rattle.std.proofs.Common.{◌≡◌, ℕ, zero, suc, ◌+◌, List, [], ◌∷◌, ◌++◌, Some, subst, arith, slice_get}
 use Rattle.std.proofs.Common.{unwrap_or, ap, drop, refl}
 use Rattle.std.proofs.Math.Seq.{drop-nil, take-nil}
+use Rattle.std.specs.Prelude.{map as list_map}
 use Rattle.generational_core.specs.declared.rows.BaseRow.{BaseRow}
+use Rattle.generational_core.specs.declared.rows.BaseRow.TheVariants as row
+use Rattle.generational_core.specs.Boxes.{id_of}
+use Rattle.generational_core.specs.Names.{Name}
+use Rattle.generational_core.specs.Rows.{owner_rows}
+use Rattle.generational_core.specs.State.{Ownership}
 use Rattle.generational_core.specs.Plain.{Plain}
 use Rattle.store_rows.specs.Packed.{unpack, unpack_all, whole_in}
 use Rattle.store_rows.specs.Past.{ArePast, ArePastSlots, AreSlotsOf, IsPastSlot}
@@ -48,6 +54,16 @@ module _ (P : Plain) where
   both_past [] ys all more = more
   both_past (x ∷ xs) ys all more = (all.0, both_past xs ys all.1 more)
 
+  listed_past : (number k : ℕ) (names : List Name)
+      → ArePast P (list_map (λ n. row.Owned k (id_of number n)) names)
+  listed_past number k [] = tt
+  listed_past number k (n ∷ names) = (tt, listed_past number k names)
+
+  pub owners_past : (number : ℕ) (records : List (ℕ × Ownership)) → ArePast P (owner_rows number records)
+  owners_past number [] = tt
+  owners_past number (e ∷ records) =
+      (tt, both_past _ _ (listed_past number e.0 e.1.names) (owners_past number records))
+
   row_past : (number slot : ℕ) (e : PackedSlot × Location) → IsPastSlot P slot e
       → ArePast P (unpack number [] slot e)
   row_past number slot (packed.Free g, l) was = (tt, tt)
@@ -69,12 +85,13 @@ module _ (P : Plain) where
       in both_past _ _ (row_past number slot e (subst (λ s. IsPastSlot P s e) here (all 0 e refl)))
       (rw (drop-nil {A = BaseRow} (whole_in e.0)) (rows_past number (slot + 1) slots later))
 
-  -- without whole rows and rows of owners
-  pub slots_past : (number : ℕ) (slots : List (PackedSlot × Location)) → ArePastSlots P slots
-      → ArePast P (unpack_all number [] 0 slots ++ [])
-  slots_past number slots all =
+  -- without whole rows, with those of owners
+  pub slots_past : (number : ℕ) (slots : List (PackedSlot × Location)) (records : List (ℕ × Ownership))
+      → ArePastSlots P slots
+      → ArePast P (unpack_all number [] 0 slots ++ owner_rows number records)
+  slots_past number slots records all =
       let every : (i : ℕ) (p : PackedSlot × Location) → slice_get slots i ≡ Some p
       → IsPastSlot P (0 + i) p =
       λ i p at.
       let there : i ≡ 0 + i = omega arith in subst (λ s. IsPastSlot P s p) there (all i p at)
-      in both_past _ [] (rows_past number 0 slots every) tt
+      in both_past _ _ (rows_past number 0 slots every) (owners_past number records)

@@ -47,8 +47,8 @@ impl PackedSlots {
         ensures { IfOk result (λ slots. slots ≡ []) }
     {
         Ok(PackedSlots {
-            slots: reserved(alloc, slots)?,
-            made_at: reserved(alloc, slots)?,
+            slots: Vec::with_capacity(alloc, slots)?,
+            made_at: Vec::with_capacity(alloc, slots)?,
         })
     }
 
@@ -134,23 +134,4 @@ fn make_room<X>(items: &mut Vec<X>) -> Result<(), AllocError>
         return Ok(());
     }
     reserve_more(items, 1)
-}
-
-// An empty list with room for so many elements.
-fn reserved<X: Copy>(alloc: Global, wanted: usize) -> Result<Vec<X>, AllocError>
-    ensures { IfOk result (λ room. room.items ≡ []) }
-{
-    let mut room = Vec::new(alloc);
-    room.reserve_exact(wanted)?;
-    Ok(room)
-}
-
-/// An empty list with room for so many elements and some more, whose memory is touched.
-pub fn touched<X: Copy>(alloc: Global, wanted: usize, some: X) -> Result<Vec<X>, AllocError>
-    ensures { IfOk result (λ room. room.items ≡ []) }
-{
-    let mut room = Vec::new(alloc);
-    room.resize(wanted.saturating_add(wanted / 8), some)?;
-    room.clear();
-    Ok(room)
 }

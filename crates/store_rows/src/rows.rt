@@ -1,32 +1,37 @@
 //! The rows of a whole store, packed.
 
 ghost use Rattle.std.specs.Prelude.{◌≡◌, ◌++◌, [], IfOk, OnOk};
+ghost use Rattle.std.specs.FinMap as map;
+ghost use Rattle.generational_core.specs.Rows.{owner_rows};
+ghost use Rattle.store_parts.specs.OwnerPlaces.{owners_of};
 ghost use Rattle.store_rows.specs.Packed.{unpack_all};
 ghost use Rattle.store_rows.specs.Past.{AreSlotsOf};
 
-use crate::columns::{PackedSlots, touched};
+use crate::columns::PackedSlots;
 use crate::packed::{after, unpack};
 use generational_core::BaseRow;
 use std::alloc::{AllocError, Global};
 use std::marker::Model;
+use store_parts::owners::PackedOwners;
+use store_parts::room::touched;
 
-/// How many slots, whole rows and rows of owners there are.
+/// How many slots, whole rows, places of owners' records and names on their lists there are.
 #[derive(Clone, Copy, Debug)]
 pub struct RowCounts {
     pub slots: usize,
     pub whole: usize,
     pub owners: usize,
+    pub names: usize,
 }
 
-/// The packed slots of an earlier state, and room for rows, without any. A slot that hasn't changed
-/// needn't be written again.
+/// The packed slots and owners of an earlier state, and room for whole rows, without any. A slot that
+/// hasn't changed needn't be written again.
 #[derive(Drop)]
 pub struct PastRows {
     pub slots: PackedSlots,
     pub whole: Vec<BaseRow>,
-    pub owners: Vec<BaseRow>,
+    pub owners: PackedOwners,
     ghost no_whole: { whole.items ≡ [] },
-    ghost no_owners: { owners.items ≡ [] },
 }
 
 /// The rows of what a store with this number has, packed. Contracts see the rows.
@@ -35,17 +40,21 @@ pub struct PackedRows {
     number: u64,
     slots: PackedSlots,
     whole: Vec<BaseRow>,
-    owners: Vec<BaseRow>,
+    owners: PackedOwners,
 }
 
 impl Model for PackedRows {
     ghost use Rattle.std.specs.Prelude.{List, ◌++◌};
+    ghost use Rattle.std.specs.FinMap as map;
+    ghost use Rattle.generational_core.specs.Rows.{owner_rows};
     ghost use Rattle.generational_core.specs.declared.rows.BaseRow.{BaseRow};
+    ghost use Rattle.store_parts.specs.OwnerPlaces.{owners_of};
     ghost use Rattle.store_rows.specs.Packed.{unpack_all};
 
     ghost Value = { List BaseRow };
 
-    ghost view = { λ r. unpack_all r.number r.whole.items 0 r.slots ++ r.owners.items };
+    ghost view = { λ r. unpack_all r.number r.whole.items 0 r.slots
+        ++ owner_rows r.number (map.entries (owners_of r.owners)) };
 }
 
 impl PackedRows {
@@ -53,17 +62,17 @@ impl PackedRows {
     pub fn new(alloc: Global) -> PackedRows
         ensures { result ≡ [] }
     {
-        PackedRows::of(0, PackedSlots::new(alloc), Vec::new(alloc), Vec::new(alloc))
+        let slots = PackedSlots::new(alloc);
+        PackedRows::of(0, slots, Vec::new(alloc), PackedOwners::new(alloc))
     }
 
-    /// No rows, with room for so many slots, and for so many whole rows and rows of owners and some more,
-    /// whose memory is touched.
+    /// No rows, with room for so many of each, and but for slots some more, whose memory is touched.
     pub fn with_room(alloc: Global, counts: RowCounts) -> Result<PackedRows, AllocError>
         ensures { IfOk result (λ rows. rows ≡ []) }
     {
         let slots = PackedSlots::with_room(alloc, counts.slots)?;
         let whole = touched(alloc, counts.whole, BaseRow::Slot(1, 1))?;
-        let owners = touched(alloc, counts.owners, BaseRow::Owner(1, 1))?;
+        let owners = PackedOwners::with_room(alloc, counts.owners, counts.names)?;
         Ok(PackedRows::of(0, slots, whole, owners))
     }
 
@@ -72,9 +81,10 @@ impl PackedRows {
         number: u64,
         slots: PackedSlots,
         whole: Vec<BaseRow>,
-        owners: Vec<BaseRow>,
+        owners: PackedOwners,
     ) -> PackedRows
-        ensures { result ≡ unpack_all number whole.items 0 slots ++ owners.items }
+        ensures { result ≡ unpack_all number whole.items 0 slots
+            ++ owner_rows number (map.entries (owners_of owners)) }
     {
         PackedRows {
             number,
@@ -84,23 +94,19 @@ impl PackedRows {
         }
     }
 
-    /// How many of each there are.
-    pub fn counts(&self) -> RowCounts {
-        RowCounts {
-            slots: self.slots.len(),
-            whole: self.whole.len(),
-            owners: self.owners.len(),
-        }
+    /// How many whole rows there are.
+    pub fn whole(&self) -> usize {
+        self.whole.len()
     }
 
     /// Whether so many of each can stand in the memory that the rows take.
     pub fn has_room(&self, counts: RowCounts) -> bool {
         self.slots.has_room(counts.slots)
             && counts.whole <= self.whole.capacity()
-            && counts.owners <= self.owners.capacity()
+            && self.owners.has_room(counts.owners, counts.names)
     }
 
-    /// The slots, for the next rows in their place.
+    /// The slots and owners, for the next rows in their place.
     pub fn into_past(self) -> PastRows
         ensures { AreSlotsOf self result.slots }
     {
@@ -108,10 +114,9 @@ impl PackedRows {
             number: _,
             slots,
             mut whole,
-            mut owners,
+            owners,
         } = self;
         whole.clear();
-        owners.clear();
         PastRows {
             slots,
             whole,
@@ -125,7 +130,7 @@ impl PackedRows {
     {
         let mut rows = Vec::new(alloc);
         unpack_all(&mut rows, self.number, self.whole.as_slice(), &self.slots)?;
-        rows.extend_from_slice(self.owners.as_slice())?;
+        self.owners.push_rows(alloc, self.number, &mut rows)?;
         Ok(rows)
     }
 }

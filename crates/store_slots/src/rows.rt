@@ -4,7 +4,7 @@ ghost use Rattle.std.specs.Prelude.{◌≡◌, ◌<◌, ◌++◌, IfSome, OnOk, 
 ghost use Rattle.generational_core.specs.Rows.{cell_rows};
 ghost use Rattle.store_parts.specs.CellNames.{name_of_cell};
 ghost use Rattle.store_cells.specs.Entry.{cell_under};
-ghost use Rattle.store_slots.specs.SlotRows.{entry_rows, rows_from};
+ghost use Rattle.store_slots.specs.SlotRows.{entry_rows};
 
 use generational_core::BaseRow;
 use std::alloc::AllocError;
@@ -12,21 +12,6 @@ use store_cells::entries::Entries;
 use store_cells::entry::Kind;
 use store_parts::names::CellName;
 use store_room::push_more;
-
-/// Appends the rows of all slots, in order, with ids of the store with this number.
-pub fn push_slots<T: Drop>(
-    entries: &Entries<T>,
-    number: u64,
-    rows: &mut Vec<BaseRow>,
-) -> Result<(), AllocError>
-    ensures { OnOk result (rows.new.items
-        ≡ rows.old.items ++ rows_from number 0 entries.now.slots) }
-{
-    for slot in 0..entries.len() {
-        push_slot(entries, number, slot, rows)?;
-    }
-    Ok(())
-}
 
 /// Appends the rows of a slot: its own, and those of its live cell.
 pub fn push_slot<T: Drop>(

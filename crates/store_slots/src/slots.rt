@@ -57,7 +57,6 @@ use crate::found::{Found, look};
 use crate::packing::{pack_ahead, pack_slots};
 use crate::references::{forget, is_boxed, refer};
 use crate::refusals::{dropped, dropped_mut};
-use crate::rows::push_slots;
 use generational_core::parts::Borrow;
 use generational_core::{
     BaseRow, BorrowError, BorrowMutError, BorrowMutResult, Location, Refused, StoreError,
@@ -150,15 +149,6 @@ impl<T: Drop, P: SlotPool> Slots<T, P> {
             retired: self.counts.retired(),
             peak_live: self.counts.peak(made),
         }
-    }
-
-    /// Appends the rows of the slots, ascending, with ids of the store with this number.
-    pub fn push_rows(&self, number: u64, rows: &mut Vec<BaseRow>) -> Result<(), AllocError>
-        ensures ok { OnOk result
-            (rows.new.items ≡ rows.old.items ++ all_slot_rows number self.now.state) }
-        ensures back { ReadSlots number self.now.state }
-    {
-        push_slots(&self.entries, number, rows)
     }
 
     /// Packs the rows of the slots, ascending, with ids of the store with this number, into the place

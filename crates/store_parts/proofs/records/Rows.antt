@@ -5,7 +5,7 @@ use Common.{All, AllByRecursion, ap, append-nil, arith, BaseRow, CellName}
 use Common.{HasDistinctKeys, HasRecord, is_at, IsPlaceOf, IsStrictlySortedBy, keys_of}
 use Common.{length, Less, List, lookup, Name, name_of_cell, nat_cmp, nat_cmp_total, None}
 use Common.{Option, option_map, owner_rows, owners_of, Ownership, Place, place_rows, record_at}
-use Common.{record_rows, Records, recursion_from_All, refl, slice_get, Some, suc}
+use Common.{record_rows, recursion_from_All, refl, slice_get, Some, suc}
 use Common.{sym, T, take, take-nil, zero, ℕ, [], ◌++◌, ◌<◌, ◌∙◌, ◌∷◌, ◌≡◌, ◌≤◌}
 use Rattle.store_parts.proofs.records.Places.{get_none, get_one, standing, stands}
 use Rattle.std.proofs.Common.{map as list_map}
@@ -119,13 +119,3 @@ no_rows rows places number i none = rw (none, append-nil rows)
 pub no_rows_vacant : (rows : List BaseRow) (places : List Place) (number i : ℕ)
     → slice_get places i ≡ Some None → rows ≡ rows ++ place_rows number (slice_get places i)
 no_rows_vacant rows places number i vacant = rw (vacant, append-nil rows)
-
--- the same as contracts see the records, and the loop its entries
-pub seen_in_order : {ps qs : List Place} {r : Records} → ps ≡ qs
-    → record { owners = owners_of qs; places = qs } ≡ r → HasDistinctKeys qs → (number : ℕ)
-    → (es : List (ℕ × ℕ)) → IsStrictlySortedBy nat_cmp (keys_of es)
-    → ((key : ℕ) → IsPlaceOf ps key (lookup (is_at (nat_cmp key)) es))
-    → All (λ (e : ℕ × ℕ). lookup (is_at (nat_cmp e.0)) es ≡ Some e.1) es
-    → rows_at ps number es ≡ owner_rows number (map.entries r.owners)
-seen_in_order same view apart number es sorted found each =
-    rw (← view, ← same) (in_order (rw same apart) number es sorted found each)

@@ -5,33 +5,32 @@ ghost use Rattle.std.specs.BTreeMap.{get};
 ghost use Rattle.std.specs.FinMap as map;
 ghost use Rattle.std.specs.Ordering.{nat_cmp};
 ghost use Rattle.generational_core.specs.Rows.{owner_rows, record_rows};
-ghost use Rattle.store_parts.specs.OwnerPlaces.{HasRecord, IsPlaceOf, place_rows};
+ghost use Rattle.store_parts.specs.OwnerPlaces.{HasDistinctKeys, HasRecord, IsPlaceOf, owners_of};
+ghost use Rattle.store_parts.specs.OwnerPlaces.{place_rows};
 ghost use Rattle.store_parts.specs.OwnerPlaces.{record_at};
 
-use super::{OwnerRecord, OwnerRecords};
+use super::OwnerRecord;
 use generational_core::BaseRow;
 use std::alloc::{AllocError, Global};
 use std::collections::BTreeMap;
 use store_room::push_more;
 
-impl OwnerRecords {
-    /// Appends the rows of all records by their keys, with ids of the store with this number.
-    pub fn push_rows(
-        &self,
-        alloc: Global,
-        number: u64,
-        rows: &mut Vec<BaseRow>,
-    ) -> Result<(), AllocError>
-        ensures { OnOk result (rows.new.items
-            ≡ rows.old.items ++ owner_rows number (map.entries self.now.owners)) }
-    {
-        let places = self.places.as_slice();
-        let by_key = places_by_key(alloc, places)?;
-        for (_, place) in by_key.iter() {
-            push_rows_at(places, *place, number, rows)?;
-        }
-        Ok(())
+// Appends the rows of the records at these places by their keys.
+pub(super) fn push_places(
+    alloc: Global,
+    places: &[Option<OwnerRecord>],
+    number: u64,
+    rows: &mut Vec<BaseRow>,
+) -> Result<(), AllocError>
+    requires { HasDistinctKeys places.now }
+    ensures { OnOk result (rows.new.items
+        ≡ rows.old.items ++ owner_rows number (map.entries (owners_of places.now))) }
+{
+    let by_key = places_by_key(alloc, places)?;
+    for (_, place) in by_key.iter() {
+        push_rows_at(places, *place, number, rows)?;
     }
+    Ok(())
 }
 
 impl OwnerRecord {

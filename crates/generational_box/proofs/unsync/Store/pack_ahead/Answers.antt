@@ -2,6 +2,8 @@
 use Rattle.generational_box.proofs.{ap, subst, sym}
 use Rattle.generational_core.specs.Plain.{plain}
 use Rattle.generational_core.specs.State.{State}
+use Rattle.std.specs.FinMap as map
+use Rattle.store_parts.specs.OwnerPlaces.{owners_of}
 use Rattle.store_rows.proofs.Past.{past_slots, slots_past}
 use Rattle.store_rows.specs.Past.{ArePast}
 use Rattle.generational_box.proofs.unsync.Store.pack_ahead.Goals as goal
@@ -18,5 +20,5 @@ returns-clause-past g c =
     subst (λ (S : State _). ArePast (plain S) c.of.result) (ap (λ x. x.state) c.self.view_is) (rw (
       c.of.ensures,
       c.into_past-slots.result.no_whole,
-      c.into_past-slots.result.no_owners,
-    ) (slots_past (plain s.slots.state) s.number c.pack_ahead.new.slots c.in_ok-pack_ahead.ensures))
+    ) (slots_past (plain s.slots.state) s.number c.pack_ahead.new.slots
+    (map.entries (owners_of c.into_past-slots.result.owners)) c.in_ok-pack_ahead.ensures))

@@ -20,8 +20,7 @@ returns-clause-back g c =
     c.of.result (ap (λ x. x.state) c.self.view_is)
     (rw (
       c.of.ensures,
-      c.in_ok-push_rows.ensures,
+      c.in_ok-owners.ensures,
       c.in_ok-pack_rows.ensures.rows,
-      c.into_past-slots.result.no_owners,
     ))
     c.in_ok-pack_rows.ensures.back
