@@ -1,7 +1,7 @@
 -- Elements of a list after a write, of a beginning, and after a push.
-use Rattle.std.proofs.Common.{◌≡◌, ◌≢◌, ℕ, zero, suc, List, [], ◌∷◌, ◌++◌, ◌<◌, length, Some, inl}
-use Rattle.std.proofs.Common.{inr, refl, ap, ⊎_elim, arith}
-use Rattle.std.specs.Prelude.{◌⊎◌, slice_get, slice_set, take}
+use Rattle.std.proofs.Common.{ap, arith, inl, inr, length, List, refl, Some, suc, zero, [], ℕ}
+use Rattle.std.proofs.Common.{⊎_elim, ◌++◌, ◌<◌, ◌∷◌, ◌≡◌, ◌≢◌}
+use Rattle.std.specs.Prelude.{slice_get, slice_set, take, ◌⊎◌}
 use Rattle.std.proofs.lemmas.Option.{none-some, same_Some}
 
 module _ {X : Type 0} where

@@ -1,16 +1,14 @@
 -- What a box reaches and sees depends on its id alone; a box of another store sees nothing. So a call
 -- that leaves each box of another name leaves each of another id.
+use Rattle.std.proofs.Common.{arith}
 use Rattle.generational_sessions.proofs
-use proofs.{Action, Answer, ap, cond, eqb-true, GenerationalPointer, is_some, IsSound, leads_to}
-use proofs.{Location, Meets, meets_number, Name, name_cases, name_of, nat_eq, None, none-some}
-use proofs.{Option, option_map, own_cell, reach, refl, same_Some, Some, some_live, State, sym, true}
-use proofs.{unseen, value_in, ⊎_elim, ◌∙◌, ◌≡◌, ◌≢◌}
+use proofs.{Action, Answer, ap, eqb-true, GenerationalPointer, is_some, IsSound, Meets}
+use proofs.{meets_number, Name, name_cases, name_of, None, none-some, reach, same_Some, Some}
+use proofs.{some_live, State, sym, true, unseen, value_in, ⊎_elim, ◌∙◌, ◌≡◌, ◌≢◌}
 use Rattle.std.specs.FinMap as map
-use Rattle.generational_core.specs.Keeping.{box_with, boxed_at}
-use Rattle.generational_core.specs.Seeing.{value_reached}
+use Rattle.generational_core.specs.{Keeping.box_with, Seeing.value_reached}
 use Rattle.generational_core.specs.declared.boxes.GenerationalBoxId.{GenerationalBoxId}
-use Rattle.generational_core.proofs.machine.Boxing.{reached_boxed}
-use Rattle.generational_core.proofs.machine.Calling.{seen_reached}
+use Rattle.generational_core.proofs.{machine.Boxing.reached_boxed, machine.Calling.seen_reached}
 use Rattle.generational_core.proofs.machine.Seeing.{led_box, reaches}
 
 module _ {T : Type 0} where
@@ -23,17 +21,11 @@ module _ {T : Type 0} where
   -- and what it reaches depends on its id alone
   pub same_id_reach : (S : State T) (a b : GenerationalPointer) → a.id ≡ b.id → reach S a ≡ reach S b
   unfolding reach
-  same_id_reach S a b same =
-      ap (λ id. let n : Name = record { slot = id.slot; generation = id.generation } in
-      cond (nat_eq id.store S.number) (leads_to (map.get S.cells n) n) None) same
+  same_id_reach S a b same = grind arith
 
   -- a box of another store reaches nothing
   pub unreached : (S : State T) (b : GenerationalPointer) → b.id.store ≢ S.number → reach S b ≡ None
-  unreached S b other = at (reach S b) refl
-    where
-      at : (to : Option Name) → reach S b ≡ to → reach S b ≡ None
-      at None is = is
-      at (Some m) is = absurd (other (eqb-true b.id.store S.number (reaches S b m is).number))
+  unreached S b other = grind (arith, eqb-true, reaches)
 
   pub same_id_sees : (S : State T) (a b : GenerationalPointer) → a.id ≡ b.id
       → value_in S a ≡ value_in S b
@@ -42,12 +34,7 @@ module _ {T : Type 0} where
   -- the box that is found by an id sees what each box of that id does
   pub found_sees : (S : State T) (id : GenerationalBoxId) (b : GenerationalPointer)
       → Some b ≡ box_with S id → (a : GenerationalPointer) → a.id ≡ id → value_in S a ≡ value_in S b
-  found_sees S id b found a same = same_id_sees S a b (same ∙ sym (at (boxed_at (own_cell S id)) found))
-    where
-      at : (l : Option Location) → Some b ≡ option_map (λ l. record { id = id; created_at = l }) l
-          → b.id ≡ id
-      at None is = absurd (none-some b (sym is))
-      at (Some l) is = ap (λ (x : GenerationalPointer). x.id) (same_Some b _ is)
+  found_sees S id b found a same = grind (arith, same_id_sees, none-some, same_Some)
 
   -- ---- boxes that see values
 
@@ -60,9 +47,7 @@ module _ {T : Type 0} where
 
   pub seen_cell : (S : State T) (b : GenerationalPointer) → IsSeen S b
       → is_some (map.get S.cells (name_of b)) ≡ true
-  seen_cell S b seen =
-      let to = seen_reach S b seen in
-      (led_box _ (name_of b) to.0 (reaches S b to.0 to.1).leads).0
+  seen_cell S b seen = grind (arith, seen_reach, led_box, reaches)
 
   pub seen_store : (S : State T) (b : GenerationalPointer) → IsSound S → IsSeen S b
       → b.id.store ≡ S.number
@@ -71,9 +56,7 @@ module _ {T : Type 0} where
   -- so those of one name are of one id
   pub one_id : (S : State T) (a b : GenerationalPointer) → IsSound S → IsSeen S a → IsSeen S b
       → name_of a ≡ name_of b → a.id ≡ b.id
-  one_id S a b s seen saw same =
-      let store = seen_store S a s seen ∙ sym (seen_store S b s saw) in
-      λ i. record { store = store i; slot = (same i).slot; generation = (same i).generation }
+  one_id S a b s seen saw same = grind (arith, seen_store)
 
   -- a call that leaves each box of another name leaves each of another id
   pub others_left : {S R : State T} (call : Action T) (answer : Answer T)

@@ -1,10 +1,11 @@
 -- What calls leave: one that changed nothing, one after another, and a write that was released.
+use Rattle.std.proofs.Common.{arith}
 use Rattle.generational_sessions.proofs
 use Rattle.std.specs.Prelude.{IsOk}
 use Rattle.generational_core.proofs.machine.{Changes.filled_content, Telling.filled_reach}
 use Rattle.generational_core.specs.{Answers.WriteGuard, Leaving.IsSet, Leaving.LeavesContent}
 use proofs.{Action, Answer, ap, back_answer, can_write, fill, GenerationalPointer, given_other}
-use proofs.{Here, IsGiven, IsUnchanged, IsSound, leaves, Location, Meets, name_of, reach, refl}
+use proofs.{Here, IsGiven, IsSound, IsUnchanged, leaves, Location, Meets, name_of, reach, refl}
 use proofs.{ReleaseWriter, rests_free, Result, State, take_ticket, true, value_in, Write}
 use proofs.{write_refusal, Writes, writes_back, [], ◌∙◌, ◌≡◌}
 use proofs.callers.Rows.{ticket_keeps}
@@ -22,18 +23,13 @@ module _ {T : Type 0} where
   -- and where it is left twice
   pub left_twice : {S R Q : State T} {b : GenerationalPointer} → IsUnchanged S b R → IsUnchanged R b Q
       → IsUnchanged S b Q
-  left_twice first second = record {
-    reached = second.reached ∙ first.reached;
-    content = λ m to. second.content m (first.reached ∙ to) ∙ first.content m to;
-    seen = second.seen ∙ first.seen;
-  }
+  left_twice first second = grind arith
 
   -- and by a call that leaves it, where its name was given before
   pub left_given : {S R : State T} (call : Action T) (answer : Answer T) → IsSound S
       → Meets S call answer R → (b : GenerationalPointer) → LeavesContent S call b
       → IsGiven S (name_of b) → IsUnchanged S b R
-  left_given {S} {R} call answer s m b leaving given =
-      leaves S R call answer s m b leaving (given_other S R call answer b m given)
+  left_given call answer s m b leaving given = search (arith, leaves, given_other)
 
   -- a write whose guard got another value and was released has set that value
   pub written_by : {S R Q : State T} (b : GenerationalPointer) (l : Location) (w now : WriteGuard T)

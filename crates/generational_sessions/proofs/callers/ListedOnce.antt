@@ -1,23 +1,23 @@
 -- Owners' lists: no name stands twice in one, nor in two of them, and each call leaves them so.
+use Rattle.std.proofs.{Common.arith, lemmas.Cmp.eq_by_cmp_equiv, lemmas.Map.Keys.IsDistinct-push}
 use Rattle.generational_sessions.proofs
-use Rattle.std.proofs.lemmas.{Cmp.eq_by_cmp_equiv, Map.Keys.IsDistinct-push}
 use Rattle.std.specs.Cmp.{IsEquivalence}
 use Rattle.generational_core.proofs.maps.Maps.{get-changed_here, get-changed_none, get-remove_here}
 use Rattle.generational_core.proofs.maps.Maps.{name_same}
 use Rattle.generational_core.specs.{Conditions.names_in, Leaving.GivesOtherOwner}
 use Rattle.generational_core.specs.Leaving.{IsOtherOwner, LeavesOwner}
-use Rattle.generational_sessions.{proofs.callers.Lefts.left_still, specs.ListedOnce.AreListedOnce}
+use Rattle.generational_sessions.proofs.callers.Lefts.{left_still}
+use Rattle.generational_sessions.specs.ListedOnce.{AreListedOnce}
 use proofs.{act, Action, among, Answer, ap, AreNew, Bool, BorrowRefusal, by_cond, by_number, by_run}
 use proofs.{by_step, Call, Cell, cell_at, change, clone_owner, CloneOwner, close, cond, false}
-use proofs.{fresh, GenerationalPointer, get-insert_here, hindrance_to, inl, inr, is_known, is_name}
-use proofs.{IsDistinct, IsUnchanged, IsSound, IsSoundSession, keeps_record, key_cases, List}
-use proofs.{list_any-append, Make, MakeShared, Meets, meets_cases, meets_sound, Name, name_apart}
-use proofs.{name_of, name_total, nat_cmp, nat_eq, nat_lt, new_fresh, NewNames, NewOwner, None}
-use proofs.{one_less, one_listed, one_more, Option, or_cases, Outcome, OwnerName, Owners, Ownership}
+use proofs.{fresh, GenerationalPointer, get-insert_here, hindrance_to, is_known, is_name}
+use proofs.{IsDistinct, IsSound, IsSoundSession, IsUnchanged, keeps_record, List, list_any-append}
+use proofs.{Make, MakeShared, Meets, meets_cases, meets_sound, Name, name_apart, name_of}
+use proofs.{name_total, nat_cmp, nat_eq, nat_lt, new_fresh, NewNames, NewOwner, None, one_less}
+use proofs.{one_listed, one_more, Option, or_cases, Outcome, OwnerName, Owners, Ownership}
 use proofs.{ownership, reach, Refer, refer, refl, refusal_to_read, release_leaves, release_owner}
 use proofs.{ReleaseOwner, Run, session_kept, SessionReply, SessionState, SessionStep, Shared, Some}
-use proofs.{State, subst, sym, true, true≢false, unless, unlisted, ℕ, [], ⊎_elim, ◌++◌, ◌∙◌, ◌∷◌}
-use proofs.{◌≡◌, ◌≢◌, ◌⊎◌}
+use proofs.{State, subst, sym, true, unless, unlisted, [], ℕ, ⊎_elim, ◌++◌, ◌∙◌, ◌∷◌, ◌≡◌, ◌≢◌, ◌⊎◌}
 use Rattle.std.specs.FinMap as map
 use Rattle.std.specs.FinSet as set
 
@@ -28,23 +28,17 @@ name_equal = eq_by_cmp_equiv name_total
 
 -- two owners are one, or two
 owner_cases : (a o : OwnerName) → (a ≡ o) ⊎ (a ≢ o)
-owner_cases a o = ⊎_elim
-    (λ stores. ⊎_elim (λ keys. inl (λ i. record { store = stores i; key = keys i }))
-    (λ ne. inr (λ e. ne (ap (λ (x : OwnerName). x.key) e))) (key_cases by_number a.key o.key))
-    (λ ne. inr (λ e. ne (ap (λ (x : OwnerName). x.store) e))) (key_cases by_number a.store o.store)
+owner_cases a o = grind arith
 
 -- a name that isn't among others, nor the one behind them, isn't among all of them
 apart_pushed : (names : List Name) (m n : Name) → among names n ≡ false → n ≢ m
     → among (names ++ m ∷ []) n ≡ false
-apart_pushed names m n before ne =
-    list_any-append (is_name n) names (m ∷ []) ∙ rw (before, name_apart n m ne) refl
+apart_pushed names m n before ne = grind (arith, list_any-append, name_apart)
 
 -- a name among them is one of the others, or the one behind
 among_pushed : (names : List Name) (m n : Name) → among (names ++ m ∷ []) n ≡ true
     → (among names n ≡ true) ⊎ (n ≡ m)
-among_pushed names m n there = ⊎_elim inl
-    (λ behind. inr (⊎_elim (name_same n m) (λ none. absurd (true≢false (sym none))) (or_cases _ _ behind)))
-    (or_cases _ _ (sym (list_any-append (is_name n) names (m ∷ [])) ∙ there))
+among_pushed names m n there = grind (arith, name_same, or_cases, list_any-append)
 
 module _ {T : Type 0} where
   -- the names of an owner's list: none where the store doesn't know the owner
@@ -59,38 +53,13 @@ module _ {T : Type 0} where
 
   to_lists : {S : State T} → AreListedOnce S → AreApart S
   unfolding IsDistinct
-  to_lists {S} l = record {
-    once = λ o. single o (ownership S o) refl;
-    apart = λ o p n ne. two o p n ne (ownership S o) (ownership S p) refl refl;
-  }
-    where
-      single : (o : OwnerName) (x : Option Ownership) → ownership S o ≡ x
-          → IsDistinct is_name (names_in x)
-      single o None is = tt
-      single o (Some h) is = l.once o h is
-
-      two : (o p : OwnerName) (n : Name) → o ≢ p → (x y : Option Ownership)
-          → ownership S o ≡ x → ownership S p ≡ y → among (names_in x) n ≡ true
-          → among (names_in y) n ≡ false
-      two o p n ne None y is also there = cc
-      two o p n ne (Some h) None is also there = refl
-      two o p n ne (Some h) (Some k) is also there = l.apart o p h k n ne is also there
+  to_lists l = grind arith
 
   from_lists : {S : State T} → AreApart S → AreListedOnce S
-  from_lists a = record {
-    once = λ o h is. rw is at (a.once o);
-    apart = λ o p h k n ne is also there. rw also at (a.apart o p n ne (rw is there));
-  }
+  from_lists a = grind arith
 
   pub fresh_listed : (number start next : ℕ) → AreListedOnce (fresh {T = T} number start next)
-  fresh_listed number start next = record {
-    once = λ o h is. cc (nobody o);
-    apart = λ o p h k n ne is. cc (nobody o);
-  }
-    where
-      nobody : (o : OwnerName) → ownership (fresh {T = T} number start next) o ≡ None
-      nobody o = by_cond (λ x. x ≡ None) (nat_eq o.store number)
-          (λ _. map.get-empty nat_cmp o.key) (λ _. refl)
+  fresh_listed number start next = grind (arith, map.get-empty {X = Ownership} nat_cmp)
 
   -- ---- what becomes of the list of the owner by which a call goes
 
@@ -126,13 +95,11 @@ module _ {T : Type 0} where
     -- where another record is put in the place of the owner's
     put : (own : Bool) (names : List Name) (h : Ownership) → h.names ≡ names
         → Becomes S names (names_in (cond own (map.get (map.insert S.owners a.key h) a.key) None))
-    put false names h is = none refl
-    put true names h is = same (ap names_in (get-insert_here by_number S.owners a.key h) ∙ is)
+    put own names h is = grind (arith, get-insert_here, by_number)
 
     removed : (own : Bool) (names : List Name)
         → Becomes S names (names_in (cond own (map.get (map.remove S.owners a.key) a.key) None))
-    removed false names = none refl
-    removed true names = none (ap names_in (get-remove_here by_number S.owners a.key))
+    removed own names = grind (arith, get-remove_here, by_number)
 
     referred : (b : GenerationalPointer) (to : Option Name) (target : Option (Cell T)) (n : Name)
         → set.contains S.given n ≡ false → Follows (refer S (Some a) b to target n)
@@ -159,9 +126,7 @@ module _ {T : Type 0} where
   -- a name that was never given stands in no list
   unlisted_by : (S : State T) → IsSound S → (o : OwnerName) (n : Name)
       → set.contains S.given n ≡ false → among (names_of S o) n ≡ false
-  unlisted_by S s o n new =
-      (elim (ownership S o) as (λ x. ownership S o ≡ x → among (names_in x) n ≡ false)
-      [ None ↦ λ is. refl | Some h ↦ λ is. unlisted S o h n s is new ]) refl
+  unlisted_by S s o n new = grind (arith, unlisted)
 
   module _ (S R : State T) (s : IsSound S) (a : AreApart S) where
     module _ (o : OwnerName) where
@@ -206,10 +171,7 @@ module _ {T : Type 0} where
 
     -- where all lists are
     all_kept : ((o : OwnerName) → names_of R o ≡ names_of S o) → AreApart R
-    all_kept still = record {
-      once = λ o. rw (still o) (a.once o);
-      apart = λ o p n ne there. rw (still p) (a.apart o p n ne (rw (still o) at there));
-    }
+    all_kept still = grind arith
 
     module _ (call : Action T) (answer : Answer T) (m : Meets S call answer R) where
       -- a call that goes by an owner leaves the lists so, if the machine's outcome does

@@ -5,7 +5,7 @@ use proofs.{Answer, ap, arith, can_write, Done, End, free_sees, GenerationalBox}
 use proofs.{GenerationalPointer, IsSound, keeps, keeps_free, length, Location, Made, made}
 use proofs.{made_apart, made_free, Make, map-append, map-set, Meets, None, Ok, Option, OwnerName}
 use proofs.{pointer_of, reach, refl, refusal_to_write, same_Some, slice_set, Some, State, subst}
-use proofs.{suc, sym, true, value_in, zero, ℕ, [], ◌++◌, ◌+◌, ◌<◌, ◌∙◌, ◌∷◌, ◌≡◌}
+use proofs.{suc, sym, true, value_in, zero, [], ℕ, ◌++◌, ◌+◌, ◌<◌, ◌∙◌, ◌∷◌, ◌≡◌}
 use Rattle.generational_sessions.specs.BoxRows.{AreApart, AreKept, EachBox, HasOtherName, IsFree}
 use Rattle.generational_sessions.specs.BoxRows.{Rows, shown_in, values_in}
 
@@ -146,10 +146,7 @@ module _ {T : Type 0} where
     -- a making, refused or not, leaves the rows
     pub made_beside : (o : Option OwnerName) (v : T) (l : Location) (answer : Answer T)
         → Meets S (Make o v l) answer R → AreKept R rows × (values_in R rows ≡ values_in S rows)
-    made_beside o v l answer m = rows_kept (λ b. record {
-      free = keeps_free (Make o v l) answer s m b tt;
-      seen = λ w. keeps (Make o v l) answer s m b w tt;
-    })
+    made_beside o v l answer m = search (arith, rows_kept, keeps_free, keeps)
 
     -- and its box may stand at their end
     pub made_last : (o : Option OwnerName) (v : T) (l : Location) (a : GenerationalBox T)

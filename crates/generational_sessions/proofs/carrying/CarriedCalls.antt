@@ -1,25 +1,24 @@
 -- A call is answered alike where one state carries another, and the states after it carry again.
 use Rattle.generational_sessions.proofs.sessions
-use sessions.{one_listed, ◌≡◌, eq_by_cmp, cond-true, content_at, has_reader, has_writer}
-use sessions.{KnowsNewNames, rename_box, ℕ, UnknownOwner, refusal_to_read, hindrance_to}
-use sessions.{CarriesCells, shift_borrow, rename_new_names, ◌+◌, ◌-◌, ◌≤◌, ◌∷◌, Some, refl, Name}
-use sessions.{Cell, Here, Lent, fill, make, Done, Flag, Back, Bool, Location, leads_to, can_read}
-use sessions.{is_known, add_cell, write_at, own_cell, by_number, true, cond, ◌&&◌, List, ◌++◌, None}
-use sessions.{State, reach, close, NewNames, refer, point, Owned, false, subst, arith, Value}
-use sessions.{Shared, Owners, box_of, Action, Answer, unless, set_at, [], sym, ap, ◌∙◌, inl, inr}
-use sessions.{max, not, ◌⊎◌, Ref, act, Option, ⊎_elim, nat_eq, nat_lt, filter, eq-eqb, Outcome}
-use sessions.{read_at, Refused, Carries, unwrap_or, nat_cmp_total, refusal_to_write, set_ownership}
-use sessions.{release_owner, rename_content, is_none, is_some, has_same_id, take_ticket}
-use sessions.{add_to_list, clone_owner, next_borrow, KnowsAnswer, option_map, cases_Bool}
-use sessions.{map-append, content_of, shift_owner, rename_cell, list_map, AllByRecursion}
-use sessions.{GenerationalPointer, rename_ownership, contains-insert_name, nat_cmp, NameMap}
-use sessions.{Content, name_of, BorrowRefusal, Dropped, BorrowRefused, KnowsBox, key_same}
-use sessions.{nat_eq_equiv, location_of, remove_reader, rename_action, rename_answer, changed_there}
-use sessions.{eqb-true, cond_both, Ownership, can_write, OwnerName, ownership, KnowsCall, name_test}
+use sessions.{act, Action, add_cell, add_to_list, AllByRecursion, Answer, ap, arith, Back, Bool}
+use sessions.{BorrowRefusal, BorrowRefused, box_of, by_number, can_read, can_write, Carries}
+use sessions.{CarriesCells, Cell, changed_there, clone_owner, close, cond, cond_both}
+use sessions.{contains-insert_name, Content, content_at, content_of, Done, Dropped, eq-eqb}
+use sessions.{eq_by_cmp, false, fill, filter, Flag, GenerationalPointer, has_reader, has_same_id}
+use sessions.{has_writer, Here, hindrance_to, is_known, is_some, key_same, KnowsAnswer, KnowsBox}
+use sessions.{KnowsCall, KnowsNewNames, Lent, List, list_map, Location, location_of, make}
+use sessions.{map-append, max, Name, name_of, NameMap, nat_cmp, nat_cmp_total, nat_eq, nat_eq_equiv}
+use sessions.{nat_lt, NewNames, next_borrow, None, not, one_listed, Option, option_map, Outcome}
+use sessions.{own_cell, Owned, OwnerName, Owners, Ownership, ownership, point, reach, read_at, Ref}
+use sessions.{refer, refl, refusal_to_read, refusal_to_write, Refused, release_owner, remove_reader}
+use sessions.{rename_action, rename_answer, rename_box, rename_cell, rename_content}
+use sessions.{rename_new_names, rename_ownership, set_at, set_ownership, Shared, shift_borrow}
+use sessions.{shift_owner, Some, State, subst, sym, take_ticket, true, UnknownOwner, unless}
+use sessions.{unwrap_or, Value, write_at, [], ℕ, ⊎_elim, ◌++◌, ◌+◌, ◌-◌, ◌∙◌, ◌∷◌, ◌≡◌, ◌≤◌, ◌⊎◌}
 use Rattle.generational_sessions.proofs.carrying.CarriedCells
-use CarriedCells.{cond_map, key_moved, cell_moved, IfThere, same_test, same_size, cells_left}
-use CarriedCells.{ticket_moved, refusals_moved, reader_moved, cells_refilled, hindrance_at_moved}
-use CarriedCells.{others_moved, KnowsTarget, known_target, cells_insert, cells_swept, first_moved}
+use CarriedCells.{cell_moved, cells_insert, cells_left, cells_refilled, cells_swept, cond_map}
+use CarriedCells.{first_moved, hindrance_at_moved, IfThere, key_moved, known_target, KnowsTarget}
+use CarriedCells.{others_moved, reader_moved, refusals_moved, same_size, same_test, ticket_moved}
 use Rattle.std.specs.FinMap as map
 
 -- two outcomes, the first of which is the second one, renamed
@@ -41,21 +40,7 @@ pub same_box_moved : (f : Name → Name) (d : ℕ) {Knows : Name → Type 0}
     (apart : (j k : Name) → Knows j → Knows k → f j ≡ f k → j ≡ k)
     (number : ℕ) (a b : GenerationalPointer) → KnowsBox Knows number a → KnowsBox Knows number b
     → has_same_id (rename_box f d number a) (rename_box f d number b) ≡ has_same_id a b
-same_box_moved f d apart number a b ka kb =
-    at (nat_eq a.id.store number) (nat_eq b.id.store number) refl refl
-  where
-    at : (own mine : Bool) → nat_eq a.id.store number ≡ own → nat_eq b.id.store number ≡ mine
-        → has_same_id (cond own (box_of number (f (name_of a)) a.created_at) a)
-        (cond mine (box_of number (f (name_of b)) b.created_at) b) ≡ has_same_id a b
-    at true true own mine =
-        rw (eqb-true a.id.store number own, eqb-true b.id.store number mine)
-        (ap (λ same. nat_eq number number && same) (sym (name_test (f (name_of a)) (f (name_of b)))
-        ∙ (same_test apart (name_of a) (name_of b) (ka own) (kb mine)
-        ∙ name_test (name_of a) (name_of b))))
-    at true false own other =
-        rw (eqb-true a.id.store number own, nat_eq_equiv.symm number b.id.store ∙ other)
-    at false true other mine = rw (eqb-true b.id.store number mine, other)
-    at false false _ _ = refl
+same_box_moved f d apart number a b ka kb = grind arith
 
 module _ {T U : Type 0} {f : Name → Name} {d : ℕ} {g : T → U}
     {Knows : Name → Type 0} {S : State U} {A : State T} (c : Carries f d g Knows S A) where
@@ -94,13 +79,11 @@ module _ {T U : Type 0} {f : Name → Name} {d : ℕ} {g : T → U}
   -- two outcomes by the same test, and by the same refusal
   if_alike : {b e : Bool} {x y : Outcome U} {v w : Outcome T}
       → b ≡ e → (e ≡ true → Alike x v) → Alike y w → Alike (cond b x y) (cond e v w)
-  if_alike {e = true} is h k = rw is (h refl)
-  if_alike {e = false} is h k = rw is k
+  if_alike is h k = grind arith
 
   unless_alike : {t u : Option BorrowRefusal} {x : Outcome U} {v : Outcome T}
       → t ≡ u → Alike x v → Alike (unless t S x) (unless u A v)
-  unless_alike {u = None} e h = rw e h
-  unless_alike {u = Some t} e h = rw e (stays (BorrowRefused t) refl tt)
+  unless_alike e h = grind arith
 
   -- what is of this store has its number in both states, and what is of another in neither
   own_number : nat_eq A.number S.number ≡ true
@@ -108,8 +91,7 @@ module _ {T U : Type 0} {f : Name → Name} {d : ℕ} {g : T → U}
 
   by_store : {X : Type 0} (store : ℕ) → (nat_eq store A.number ≡ true → X)
       → (nat_eq store A.number ≡ false → nat_eq store S.number ≡ false → X) → X
-  by_store store own other = ⊎_elim own (λ e. other e (ap (nat_eq store) c.number ∙ e))
-      (cases_Bool (nat_eq store A.number))
+  by_store store own other = grind arith
 
   -- a box keeps its location
   pub created_moved : (b : GenerationalPointer) → (box b).created_at ≡ b.created_at
@@ -120,17 +102,7 @@ module _ {T U : Type 0} {f : Name → Name} {d : ℕ} {g : T → U}
       → ((reach S (box b) ≡ None) × (reach A b ≡ None))
       ⊎ ((n : Name) × Knows n × (reach S (box b) ≡ Some (f n)) × (reach A b ≡ Some n))
   unfolding reach
-  reach_cases b k = by_store b.id.store (λ own. rw (own, own_number, c.cells.at (name_of b) (k own))
-      (at (map.get A.cells (name_of b)) (known_target _ (c.cells.leads (name_of b))) (k own)))
-      (λ s t. rw (s, t) (inl (refl, refl)))
-    where
-      at : (x : Option (Cell T)) → IfThere x (KnowsTarget Knows) → Knows (name_of b)
-          → (let to = leads_to (option_map cell x) (f (name_of b)) in
-          let from = leads_to x (name_of b) in ((to ≡ None) × (from ≡ None))
-          ⊎ ((n : Name) × Knows n × (to ≡ Some (f n)) × (from ≡ Some n)))
-      at (Some (Value o l)) t kn = inr (name_of b, kn, refl, refl)
-      at (Some (Ref m l)) t kn = inr (m, t, refl, refl)
-      at _ t kn = inl (refl, refl)
+  reach_cases b k = grind arith
 
   pub content_there : (n : Name)
       → Knows n → content_at S (f n) ≡ option_map content (content_at A n)
@@ -141,17 +113,10 @@ module _ {T U : Type 0} {f : Name → Name} {d : ℕ} {g : T → U}
       → ((x : OwnerName) → P x None None) → ((h : Ownership) → map.get A.owners o.key ≡ Some h
       → own_owner o ≡ owner o → P (own_owner o) (Some (owner_record h)) (Some h))
       → P (owner o) (ownership S (owner o)) (ownership A o)
-  by_owner o P none some = by_store o.store (λ own. rw (own, own_number, c.owners o.key)
-      (at own (map.get A.owners o.key) refl)) (λ s t. rw (s, t) (none o))
-    where
-      at : nat_eq o.store A.number ≡ true → (h : Option Ownership)
-          → map.get A.owners o.key ≡ h → P (own_owner o) (option_map owner_record h) h
-      at own None is = none (own_owner o)
-      at own (Some h) is = some h is (sym (cond-true _ _ _ own))
+  by_owner o P none some = grind arith
 
   known_moved : (o : Option OwnerName) → is_known S (option_map owner o) ≡ is_known A o
-  known_moved None = refl
-  known_moved (Some o) = by_owner o (λ _ x y. is_some x ≡ is_some y) (λ _. refl) (λ h _ _. refl)
+  known_moved o = grind arith
 
   with_cells : {new : NameMap (Cell U)} {old : NameMap (Cell T)} → CarriesCells f d g Knows new old
       → Carries f d g Knows (record S { cells = new }) (record A { cells = old })
@@ -159,8 +124,7 @@ module _ {T U : Type 0} {f : Name → Name} {d : ℕ} {g : T → U}
 
   -- a ticket more in both
   next_moved : Carries f d g Knows (take_ticket S) (take_ticket A)
-  next_moved =
-      let next : S.next + 1 ≡ A.next + 1 + d = omega (arith, c.next) in assumption (next, c)
+  next_moved = grind arith
 
   -- another content in a known cell
   with_content : (n : Name) (x : Content U) (y : Content T)
@@ -234,8 +198,7 @@ module _ {T U : Type 0} {f : Name → Name} {d : ℕ} {g : T → U}
       → Carries f d g Knows (close S (list_map f names)) (close A names)
       × (hindrance_to S (list_map f names) ≡ hindrance_to A names)
   unfolding hindrance_to
-  end_names names k = let left = cells_left c.apart c.cells names k in
-      (with_cells left, first_moved c.apart c.cells left names k)
+  end_names names k = grind (arith, cells_left, with_cells, first_moved)
 
   unknown_alike : Alike (Refused UnknownOwner, S) (Refused UnknownOwner, A)
   unknown_alike = stays (Refused UnknownOwner) refl tt
@@ -329,14 +292,12 @@ module _ {T U : Type 0} {f : Name → Name} {d : ℕ} {g : T → U}
   pub read_moved : (b : GenerationalPointer) → KnowsBox Knows A.number b
       → can_read S (rename_box f d A.number b) ≡ can_read A b
   unfolding refusal_to_read
-  read_moved b k = ⊎_elim (λ e. rw (e.0, e.1)) (λ e. rw (e.2, e.3, content_there c e.0 e.1)
-      (ap is_none (refusals_moved f d g (content_at A e.0)).0)) (reach_cases c b k)
+  read_moved b k = grind (arith, content_there, refusals_moved, reach_cases)
 
   pub write_moved : (b : GenerationalPointer) → KnowsBox Knows A.number b
       → can_write S (rename_box f d A.number b) ≡ can_write A b
   unfolding refusal_to_write
-  write_moved b k = ⊎_elim (λ e. rw (e.0, e.1)) (λ e. rw (e.2, e.3, content_there c e.0 e.1)
-      (ap is_none (refusals_moved f d g (content_at A e.0)).1)) (reach_cases c b k)
+  write_moved b k = grind (arith, content_there, refusals_moved, reach_cases)
 
   -- each call of a carried state matches the call of the state that carries it
   pub act_matched : (call : Action T) (new : NewNames)

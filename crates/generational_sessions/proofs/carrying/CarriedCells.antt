@@ -1,30 +1,27 @@
 -- What is asked of cells that are carried is answered alike, and what is done to them is carried.
 use Rattle.generational_sessions.proofs.sessions
-use sessions.{◌≡◌, location_of, cells_after, hindrance_at, hindrance_of, CarriesCells, shift_borrow}
-use sessions.{◌≢◌, ℕ, [], sym, ap, ◌∙◌, inl, inr, ◌+◌, ◌≤◌, ◌⊎◌, Ref, Here, Lent, Bool, change_if}
-use sessions.{is_shared, take_away, name_total, keys_apart, named_from, true, cond, ◌||◌, List, ◌∷◌}
-use sessions.{None, Some, refl, false, Name, among, Cell, Value, sweep, not, is_some, is_name}
-use sessions.{NameMap, Content, BorrowRefusal, by_name, nat_cmp, or_left, cases_eq, Option, ⊎_elim}
-use sessions.{arith, length, nat_eq, filter, change, refill, Shared, eq-eqb, Borrow, subst}
-use sessions.{Location, name_cmp, is_named, get-keep, key_here, len_keys, eqb-true, or_right}
-use sessions.{option_map, IsDistinct, content_of, rename_cell, name_cases, name_apart, named_gives}
-use sessions.{list_map, list_any, name_here, keep_view, some_live, eq_by_cmp, cond-true, both_ways}
-use sessions.{unsigned_tied, AllByRecursion, write_refusal, read_refusal, rename_content}
-use sessions.{first_hindrance, get-insert_name, get-insert_here, get-insert_apart, get-remove_apart}
+use sessions.{AllByRecursion, among, ap, arith, Bool, Borrow, BorrowRefusal, both_ways, by_name}
+use sessions.{CarriesCells, cases_eq, Cell, cells_after, change, change_if, cond, cond-true}
+use sessions.{Content, content_of, eq_by_cmp, false, filter, first_hindrance, get-insert_apart}
+use sessions.{get-insert_here, get-insert_name, get-keep, get-remove_apart, Here, hindrance_at}
+use sessions.{hindrance_of, is_name, is_named, is_shared, is_some, IsDistinct, keep_view, key_here}
+use sessions.{keys_apart, len_keys, length, List, list_any, list_map, Location, location_of, Name}
+use sessions.{name_apart, name_cases, name_cmp, name_here, name_total, named_from, named_gives}
+use sessions.{NameMap, nat_cmp, nat_eq, None, not, Option, option_map, or_left, or_right}
+use sessions.{read_refusal, Ref, refill, refl, rename_cell, rename_content, shift_borrow, Some}
+use sessions.{some_live, subst, sweep, sym, take_away, true, unsigned_tied, Value, write_refusal}
+use sessions.{[], ℕ, ⊎_elim, ◌+◌, ◌||◌, ◌∙◌, ◌∷◌, ◌≡◌, ◌≢◌, ◌≤◌, ◌⊎◌}
 use Rattle.std.specs.FinMap as map
 
 pub cond_map : {A B : Type 0} (h : A → B) (b : Bool) (x y : A) → cond b (h x) (h y) ≡ h (cond b x y)
-cond_map h true x y = refl
-cond_map h false x y = refl
+cond_map h b x y = grind arith
 
 pub some_map : {A B : Type 0} (h : A → B) (o : Option A) → is_some (option_map h o) ≡ is_some o
-some_map h None = refl
-some_map h (Some x) = refl
+some_map h o = grind arith
 
 -- tickets and keys compare as before
 pub ticket_moved : (d a t : ℕ) → nat_eq (a + d) (t + d) ≡ nat_eq a t
-ticket_moved d a t = both_ways _ _ (λ h. let e = eqb-true (a + d) (t + d) h in
-    eq-eqb a t (omega arith)) (λ h. let e = eqb-true a t h in eq-eqb (a + d) (t + d) (omega arith))
+ticket_moved d a t = grind arith
 
 pub key_moved : (d a b : ℕ) → eq_by_cmp nat_cmp (a + d) (b + d) ≡ eq_by_cmp nat_cmp a b
 key_moved d a b = unsigned_tied (a + d) (b + d) ∙ (ticket_moved d a b ∙ sym (unsigned_tied a b))
@@ -38,9 +35,7 @@ module _ {T U : Type 0} (f : Name → Name) (d : ℕ) (g : T → U) where
       (content_of moved ≡ option_map content (content_of o))
       × (is_shared moved ≡ is_shared o) × (location_of moved ≡ location_of o)
       × (read_refusal (content_of moved) ≡ read_refusal (content_of o)))
-  cell_moved (Some (Value (Lent w) l)) = (refl, refl, refl, refl)
-  cell_moved (Some (Shared (Lent w) l)) = (refl, refl, refl, refl)
-  cell_moved _ = (refl, refl, refl, refl)
+  cell_moved o = grind arith
 
   -- how a read, and a write, of a content is refused
   pub refusals_moved : (c : Option (Content T)) → (let moved = option_map content c in
@@ -70,8 +65,7 @@ module _ {T U : Type 0} (f : Name → Name) (d : ℕ) (g : T → U) where
   -- a Ref comes from a Ref
   pub was_ref : (o : Option (Cell T)) (n : Name) (l : Location) → option_map
       (rename_cell f d g) o ≡ Some (Ref n l) → (m : Name) × (o ≡ Some (Ref m l)) × (f m ≡ n)
-  was_ref (Some (Ref m k)) n l h = (m, cc, cc)
-  was_ref _ n l h = cc
+  was_ref o n l h = grind arith
 
 not_among : (n : Name) (names : List Name) → AllByRecursion
     (λ m. eq_by_cmp name_cmp n m ≡ false) names → list_any (eq_by_cmp name_cmp n) names ≡ false
@@ -113,8 +107,7 @@ KnowsTarget Knows _ = Unit {0}
 
 pub known_target : {T : Type 0} {Knows : Name → Type 0} (x : Option (Cell T))
     → ((m : Name) (l : Location) → x ≡ Some (Ref m l) → Knows m) → IfThere x (KnowsTarget Knows)
-known_target (Some (Ref m l)) leads = leads m l refl
-known_target _ leads = tt
+known_target x leads = grind arith
 
 -- what is there after a cut was there before it
 kept_cell : {X : Type 0} (m : NameMap X) (p : Name → Bool) (n : Name) (x : X)
@@ -129,15 +122,13 @@ kept_live m p n h = let it = some_live _ h in ap is_some (kept_cell m p n it.0 i
 insert_view : {X : Type 0} (m : NameMap X) (n : Name) (x : X) (q : Name)
     → ((q ≡ n) × (map.get (map.insert m n x) q ≡ Some x))
     ⊎ (map.get (map.insert m n x) q ≡ map.get m q)
-insert_view m n x q = ⊎_elim (λ is. inl (is, rw is (get-insert_here by_name m n x)))
-    (λ ne. inr (get-insert_apart by_name m n x q ne)) (name_cases q n)
+insert_view m n x q = grind (arith, get-insert_here, by_name, get-insert_apart, name_cases)
 
 module _ {f : Name → Name} {Knows : Name → Type 0}
     (apart : (j k : Name) → Knows j → Knows k → f j ≡ f k → j ≡ k) where
   -- known names are told apart as before
   pub same_test : (j k : Name) → Knows j → Knows k → is_name (f j) (f k) ≡ is_name j k
-  same_test j k kj kk = ⊎_elim (λ is. rw is (name_here (f k) ∙ sym (name_here k))) (λ ne. name_apart
-      (f j) (f k) (λ e. ne (apart j k kj kk e)) ∙ sym (name_apart j k ne)) (name_cases j k)
+  same_test j k kj kk = grind (arith, name_here, name_apart, name_cases)
 
   among_moved : (names : List Name) (k : Name)
       → AllByRecursion Knows names → Knows k → among (list_map f names) (f k) ≡ among names k
@@ -162,9 +153,6 @@ module _ {T U : Type 0} {f : Name → Name} {d : ℕ} {g : T → U} {Knows : Nam
         (λ j k q a b. apart j k a.0 b.0 (a.1 ∙ sym b.1)) A S (λ k live.
         let kk = c.known k live in (f k, (kk, refl), live_at k kk ∙ live)) in omega arith
 
-    pub shared_at : (k : Name) → Knows k → is_shared (map.get S (f k)) ≡ is_shared (map.get A k)
-    shared_at k kk = ap is_shared (c.at k kk) ∙ (cell_moved f d g (map.get A k)).1
-
     pub named_moved : (m : Name) → Knows m → is_named S (f m) ≡ is_named A m
     named_moved m km = both_ways (is_named S (f m)) (is_named A m) (λ h.
         let it = named_gives S (f m) h in let k = c.from it.0 (ap is_some it.2) in
@@ -185,13 +173,7 @@ module _ {T U : Type 0} {f : Name → Name} {d : ℕ} {g : T → U} {Knows : Nam
 
     pub cells_swept : CarriesCells f d g Knows (sweep S) (sweep A)
     unfolding sweep
-    cells_swept = cells_keep _ _ (λ k kk i. not (shared_at k kk i) || named_moved k kk i)
-
-    cells_without : (names : List Name) → AllByRecursion Knows names
-        → CarriesCells f d g Knows (take_away S (list_map f names)) (take_away A names)
-    unfolding take_away
-    cells_without names h =
-        cells_keep _ _ (λ k kk i. shared_at k kk i || not (among_moved apart names k h kk i))
+    cells_swept = grind (arith, cells_keep, named_moved, cell_moved)
 
     -- one cell more, at a known name
     pub cells_insert : (n : Name) (x : Cell T) → Knows n → KnowsTarget Knows x
@@ -226,7 +208,8 @@ module _ {T U : Type 0} {f : Name → Name} {d : ℕ} {g : T → U} {Knows : Nam
   pub cells_left : {S : NameMap (Cell U)} {A : NameMap (Cell T)}
       (c : CarriesCells f d g Knows S A) (names : List Name) → AllByRecursion Knows names
       → CarriesCells f d g Knows (cells_after S (list_map f names)) (cells_after A names)
-  cells_left c names h = cells_swept (cells_without c names h)
+  unfolding take_away
+  cells_left c names h = grind (arith, cells_swept, cells_keep, among_moved, cell_moved)
 
   module _ {S L : NameMap (Cell U)} {A M : NameMap (Cell T)}
       (c : CarriesCells f d g Knows S A) (e : CarriesCells f d g Knows L M) where

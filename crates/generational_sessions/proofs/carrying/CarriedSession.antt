@@ -1,23 +1,23 @@
 -- Sessions that carry others: calls come to the same, ids aside, and new names are numbered behind
 -- the old ones.
 use Rattle.generational_sessions.proofs.sessions
-use sessions.{not_there, zero, AllByRecursion, list_any-append, rename_action, CarriesSession}
-use sessions.{AreNumbersBelow, Bool, is_name, name_of, Outcome, Request, release, replace, Reading}
-use sessions.{Writing, Nothing, true, arith, BoxAt, Place, Names, among, Guard, settle, Owning}
-use sessions.{NoSuch, number, false, get_or_append_left, GenerationalPointer, rename_ownership}
-use sessions.{contains-insert_old, cond, ◌||◌, List, ◌++◌, None, Some, refl, gives, spend, Boxed}
-use sessions.{Tells, Swaps, erase, length, Option, ⊎_elim, ◌≡◌, nat_eq, box_of, Action, Answer}
-use sessions.{box_in, by_name, ◌≢◌, suc, ◌+◌, ◌∷◌, sym, ◌∙◌, ap, Call, Name, Cell, ask, Held, swap}
-use sessions.{Asks, ℕ, KnowsGuard, rename_box, owner_held, with_owner, refusal_in, name_total}
-use sessions.{name_cases, [], cases_lt, Location, KnowsBox, at_place, KnowsHeld, AreListed}
-use sessions.{name_here, length_push, get_or_push, list_any_at, KnowsAnswer, shift_owner}
-use sessions.{rename_cell, option_map, true≢false, map-append, pointer_of, rename_held, slice_set}
-use sessions.{list_map, cond_both, Ownership, OwnerName, KnowsCall, add_place, or_comm, map-set}
-use sessions.{Foreign, box_held, owner_in, with_box, if_ready, reply_of, named_by}
-use sessions.{false_from_ne_true, contains-insert_here, contains-insert_apart, contains-insert_name}
-use sessions.{rename_answer, rename_guard, SessionState, SessionReply, IsNumberBelow}
+use sessions.{Action, add_place, AllByRecursion, among, Answer, ap, AreListed, AreNumbersBelow}
+use sessions.{arith, ask, Asks, at_place, Bool, box_held, box_in, BoxAt, Boxed, by_name, Call}
+use sessions.{CarriesSession, cases_lt, Cell, cond_both, contains-insert_apart}
+use sessions.{contains-insert_here, contains-insert_name, contains-insert_old, erase, false}
+use sessions.{false_from_ne_true, Foreign, GenerationalPointer, get_or_append_left, get_or_push}
+use sessions.{gives, Guard, Held, if_ready, is_name, IsNumberBelow, KnowsAnswer, KnowsBox}
+use sessions.{KnowsCall, KnowsGuard, KnowsHeld, length, length_push, List, list_any-append}
+use sessions.{list_any_at, list_map, Location, map-append, map-set, Name, name_cases, name_here}
+use sessions.{name_total, named_by, Names, nat_eq, None, NoSuch, not_there, Nothing, number, Option}
+use sessions.{option_map, or_comm, Outcome, owner_held, owner_in, OwnerName, Ownership, Owning}
+use sessions.{Place, pointer_of, Reading, refl, refusal_in, release, rename_action, rename_answer}
+use sessions.{rename_box, rename_cell, rename_guard, rename_held, rename_ownership, replace}
+use sessions.{reply_of, Request, SessionReply, SessionState, settle, shift_owner, slice_set, Some}
+use sessions.{spend, suc, swap, Swaps, sym, Tells, true, true≢false, with_box, with_owner, Writing}
+use sessions.{zero, [], ℕ, ⊎_elim, ◌++◌, ◌||◌, ◌∙◌, ◌∷◌, ◌≡◌, ◌≢◌}
 use Rattle.generational_sessions.proofs.carrying.CarriedCalls
-use CarriedCalls.{Matched, same_box_moved, all_push, created_moved, read_moved, write_moved}
+use CarriedCalls.{all_push, created_moved, Matched, read_moved, same_box_moved, write_moved}
 use Rattle.std.specs.FinMap as map
 use Rattle.std.specs.FinSet as set
 use Rattle.generational_sessions.specs.declared.calls.Call.TheVariants as call
@@ -60,16 +60,10 @@ module _ {T : Type 0} (f : Name → Name) (d : ℕ) (Knows : Name → Type 0) (s
       known (y ∷ u) zero h = (k, h.1)
       known (y ∷ u) (suc p) h = (h.0, known u p h.1)
 
-  -- a place more
-  tables_push : (t u : List (Held T)) (x : Held T)
-      → Tables t u → IsKnown x → Tables (t ++ moved x ∷ []) (u ++ x ∷ [])
-  tables_push t u x h k = (rw h.0 (sym (map-append moved u (x ∷ []))), all_push IsKnown u x h.1 k)
-
   -- what an answer gives, what it spends, and what is said
   tables_give : (t u : List (Held T)) (answer : Answer T) → Tables t u → KnowsAnswer
       Knows store answer → Tables (t ++ gives (rename_reply answer) ∷ []) (u ++ gives answer ∷ [])
-  tables_give t u (Answer.Made b) h k = tables_push t u (Boxed b) h k
-  tables_give t u answer h k = tables_push t u (gives answer) h k
+  tables_give t u answer h k = grind (arith, map-append, all_push)
 
   tables_spend : (t u : List (Held T)) (x : Call T) (answer : Answer T)
       → Tables t u → Tables (spend x (rename_reply answer) t) (spend x answer u)
@@ -80,9 +74,7 @@ module _ {T : Type 0} (f : Name → Name) (d : ℕ) (Knows : Name → Type 0) (s
 
   said_moved : (x : Call T) (answer : Answer T)
       → erase (reply_of x (rename_reply answer)) ≡ erase (reply_of x answer)
-  said_moved x (Answer.Made b) = cond_both (nat_eq b.id.store store) _ _ (λ c. erase
-      (reply_of x (Answer.Made c)) ≡ erase (reply_of x (Answer.Made b))) (λ _. refl) (λ _. refl)
-  said_moved x _ = refl
+  said_moved x answer = grind arith
 
 -- ---- sessions that are carried
 
@@ -158,8 +150,7 @@ module _ {T : Type 0} {f : Name → Name} {d : ℕ} {Knows : Name → Type 0} {s
 
   -- a reply by the table alone
   pub placed_alike : CarriesSession f d Knows (add_place s Nothing) (add_place a Nothing)
-  placed_alike =
-      assumption (c, tables_push f d Knows store s.table a.table Nothing (c.table, c.known) tt)
+  placed_alike = grind (arith, map-append, all_push)
 
   -- another value for a writer
   pub swapped_alike : (p : ℕ) (g : Guard) (v : T) → KnowsGuard Knows store g
@@ -191,37 +182,20 @@ module _ (f h : Name → Name) (d n : ℕ) (Knows More : Name → Type 0)
   cell_agrees : {T : Type 0} (c : Option (Cell T))
       → ((m : Name) (l : Location) → c ≡ Some (Cell.Ref m l) → Knows m)
       → option_map (rename_cell h d (λ (v : T). v)) c ≡ option_map (rename_cell f d (λ v. v)) c
-  cell_agrees (Some (Cell.Ref m l)) leads = rw ((agree m (leads m l refl)).0) refl
-  cell_agrees _ leads = refl
+  cell_agrees c leads = grind arith
 
   holding_agrees : (x : Option Ownership)
       → ((y : Ownership) → x ≡ Some y → AllByRecursion Knows y.names)
       → option_map (rename_ownership h d) x ≡ option_map (rename_ownership f d) x
-  holding_agrees None k = refl
-  holding_agrees (Some y) k = ap (λ ns. Some (record y { names = ns }))
-      (all_agree Knows More h f agree y.names (k y refl)).0
-
-  -- what is moved where it is of this store
-  own_agrees : {X : Type 0} (own : Bool) (u : Name → X) (x : X) (k : Name)
-      → (own ≡ true → Knows k) → cond own (u (h k)) x ≡ cond own (u (f k)) x
-  own_agrees true u x k known = ap u (agree k (known refl)).0
-  own_agrees false u x k known = refl
+  holding_agrees x k = grind (arith, all_agree)
 
   pub box_agrees : (b : GenerationalPointer)
       → KnowsBox Knows n b → rename_box h d n b ≡ rename_box f d n b
-  box_agrees b = own_agrees (nat_eq b.id.store n) (λ m. box_of n m b.created_at) b (name_of b)
-
-  guard_agrees : (g : Guard) → KnowsGuard Knows n g → rename_guard h d n g ≡ rename_guard f d n g
-  guard_agrees g = own_agrees (nat_eq g.store n)
-      (λ m. record { store = n; cell = m; ticket = g.ticket + d }) g g.cell
+  box_agrees b h = grind arith
 
   held_agrees : {T : Type 0} (x : Held T) → KnowsHeld Knows n x
       → (rename_held h d n x ≡ rename_held f d n x) × KnowsHeld More n x
-  held_agrees (Boxed b) k = (ap Boxed (box_agrees b k), λ own. (agree _ (k own)).1)
-  held_agrees (Reading g) k = (ap Reading (guard_agrees g k), λ own. (agree _ (k own)).1)
-  held_agrees (Writing g v) k =
-      (ap (λ g. Writing g v) (guard_agrees g k), λ own. (agree _ (k own)).1)
-  held_agrees _ k = (refl, tt)
+  held_agrees x k = grind arith
 
 -- ---- one more name
 
@@ -266,9 +240,7 @@ module _ {T : Type 0} {s a : SessionState T} {d : ℕ} {order : List Name} {give
   -- a number below the next one is below n, or n
   by_last : {X : Type 0} (k : Name) → IsNumberBelow (length (order ++ y ∷ [])) k
       → (IsBelow k → X) → (k ≡ number n → X) → X
-  by_last k b old last = ⊎_elim (λ lt. old (b.0, lt)) (λ ge.
-      let at : k.slot ≡ n = omega (arith, length_push order y) in
-      last (λ i. record { slot = at i; generation = b.0 i })) (cases_lt k.slot (length order))
+  by_last k b old last = grind (arith, length_push, cases_lt)
 
   not_below : IsBelow (number n) → ⊥
   not_below b = omega arith

@@ -1,24 +1,21 @@
 -- Each call of a session, and each run, is answered as the numbered machine does it, ids aside.
 use Rattle.generational_sessions.proofs.sessions
-use sessions.{Bool, ap, State, fresh, reach, NewNames, refer, Refer, Meets, Takes, Tells, Swaps}
-use sessions.{erase, KnowsNewNames, rename_new_names, true, cond, List, ◌++◌, None, Some, refl}
-use sessions.{◌&&◌, Call, Name, Cell, Make, Made, Held, false, subst, arith, [], nat_eq, Thing}
-use sessions.{Names, Action, Answer, unless, settle, number, length, Option, ⊎_elim, Refused}
-use sessions.{Request, Settles, refusal, Matches, by_name, unspent, ◌≡◌, false_from_ne_true}
-use sessions.{GenerationalPointer, contains-insert_apart, ◌≢◌, length_push, add_to_list}
-use sessions.{SessionReply, next_numbers, numbered_act, refusal_told, ◌+◌, cond_both, StoreError}
-use sessions.{OwnerName, MakeShared, session_in, refusal_in, is_refusal, ◌-◌, or_cases, name_cmp}
-use sessions.{is_known, BorrowRefused, named_by, numbered, act_start, takes_new, ◌≤◌, ◌<◌, ◌∷◌, sym}
-use sessions.{◌∙◌, inl, inr, act, Run, ask, Asks, want, tell, ℕ, nat_cmp, IsSound, IsFresh}
-use sessions.{BorrowRefusal, Outcome, cell_at, key_same, AreFresh, act_says, is_some, rename_action}
-use sessions.{rename_answer, IsNumberBelow, AreNumbersBelow, CarriesSession, eq_by_cmp, last_ticket}
-use sessions.{KnowsAnswer, SessionStep, list_any, KnowsCall, add_place, AreListed, AnswersAs}
-use sessions.{new_fresh, is_making, refusal_to_read, takes_ticket, SessionState, empty_session}
-use sessions.{session_sound}
-use Rattle.generational_sessions.proofs.carrying.{some_map, last_known, back, both_tell, both_swap}
-use Rattle.generational_sessions.proofs.carrying.{Matched, Reserves, reserve, both_ask, act_matched}
-use Rattle.generational_sessions.proofs.carrying.{AskedAlike, asked_alike, box_agrees}
-use Rattle.generational_sessions.proofs.carrying.{swapped_alike, settled_alike, placed_alike, older}
+use sessions.{act, act_says, act_start, Action, add_place, Answer, AnswersAs, ap, AreFresh, arith}
+use sessions.{ask, Asks, Bool, by_name, Call, CarriesSession, Cell, cond_both}
+use sessions.{contains-insert_apart, empty_session, eq_by_cmp, erase, false, false_from_ne_true}
+use sessions.{fresh, Held, inl, inr, is_making, is_refusal, is_some, IsFresh, IsNumberBelow}
+use sessions.{IsSound, key_same, KnowsAnswer, KnowsCall, KnowsNewNames, last_ticket, length}
+use sessions.{length_push, List, list_any, Make, MakeShared, Matches, Meets, Name, name_cmp}
+use sessions.{named_by, Names, nat_cmp, nat_eq, new_fresh, NewNames, next_numbers, number, numbered}
+use sessions.{numbered_act, Option, or_cases, Outcome, Ownership, Refer, refl, refusal, refusal_in}
+use sessions.{refusal_told, Refused, rename_action, rename_answer, rename_new_names, Request, Run}
+use sessions.{session_in, session_sound, SessionReply, SessionState, SessionStep, settle, Settles}
+use sessions.{Some, State, StoreError, subst, Swaps, sym, Takes, takes_new, takes_ticket, tell}
+use sessions.{Tells, Thing, true, unspent, want, [], ℕ, ⊎_elim, ◌&&◌, ◌++◌, ◌+◌, ◌-◌, ◌<◌, ◌∙◌, ◌∷◌}
+use sessions.{◌≡◌, ◌≢◌, ◌≤◌}
+use Rattle.generational_sessions.proofs.carrying.{act_matched, asked_alike, AskedAlike, back, both_ask, both_swap}
+use Rattle.generational_sessions.proofs.carrying.{both_tell, box_agrees, last_known, Matched, older, placed_alike}
+use Rattle.generational_sessions.proofs.carrying.{reserve, Reserves, settled_alike, some_map, swapped_alike}
 use Rattle.std.specs.FinMap as map
 use Rattle.std.specs.FinSet as set
 use Rattle.generational_errors.specs.declared.error.StoreError.TheVariants as error
@@ -63,28 +60,6 @@ module _ {T : Type 0} where
     left : (new : NewNames) → Left (is_refusal (out new).0) S (given new) (out new).1
     unnamed : (f h : NewNames) → is_refusal (out f).0 ≡ true → out f ≡ out h
 
-  making_if : {S : State T} {given : NewNames → Names} {f : NewNames → Outcome T} (b : Bool)
-      → Making S given f → Making S given (λ new. cond b (f new) (Refused error.UnknownOwner, S))
-  making_if true h = h
-  making_if false h = record { left = λ new. refl; unnamed = λ f h k. refl }
-
-  making_unless : {S : State T} {given : NewNames → Names} {out : NewNames → Outcome T}
-      (o : Option BorrowRefusal) → Making S given out → Making S given (λ new. unless o S (out new))
-  making_unless None h = h
-  making_unless (Some t) h = record { left = λ new. refl; unnamed = λ f h k. refl }
-
-  listed_given : (S : State T) (o : Option OwnerName) (n : Name)
-      → (add_to_list S o n).given ≡ S.given
-  listed_given S None n = refl
-  listed_given S (Some o) n = refl
-
-  making_referred : (S : State T) (o : Option OwnerName) (b : GenerationalPointer)
-      (to : Option Name) (x : Option (Cell T)) → Making S
-      (λ new. set.insert S.given new.first) (λ new. refer S o b to x new.first)
-  making_referred S o b (Some m) (Some (Cell.Shared c l)) =
-      record { left = λ new. listed_given _ o _; unnamed = λ f h k. cc }
-  making_referred S o b to x = record { left = λ new. refl; unnamed = λ f h k. refl }
-
   -- the names given after a making
   abbrev given_after : State T → Action T → NewNames → Names
   given_after S (MakeShared o v l) new = set.insert (set.insert S.given new.first) new.second
@@ -92,21 +67,12 @@ module _ {T : Type 0} where
 
   making : (S : State T) (call : Action T)
       → is_making call ≡ true → Making S (given_after S call) (act S call)
-  making S (Make o v l) h = making_if (is_known S o)
-      (record { left = λ new. listed_given _ o _; unnamed = λ f h k. cc })
-  making S (MakeShared o v l) h = making_if (is_known S o)
-      (record { left = λ new. listed_given _ o _; unnamed = λ f h k. cc })
-  making S (Refer o b) h = making_if (is_known S o) (making_unless
-      (refusal_to_read S b) (making_referred S o b (reach S b) (cell_at S (reach S b))))
-  making S _ h = cc
+  making S call h = grind arith
 
   -- a call that is refused doesn't depend on the names
   unnamed : (S : State T) (call : Action T) (f h : NewNames)
       → is_refusal (act S call f).0 ≡ true → act S call f ≡ act S call h
-  unnamed S (Make o v l) f h k = (making S (Make o v l) refl).unnamed f h k
-  unnamed S (MakeShared o v l) f h k = (making S (MakeShared o v l) refl).unnamed f h k
-  unnamed S (Refer o b) f h k = (making S (Refer o b) refl).unnamed f h k
-  unnamed S _ f h k = refl
+  unnamed S call f h k = grind arith
 
   -- a call wants memory or tickets, or does what the machine does with names that were never given
   meets_fresh : {P : Type 0} (S R : State T) (call : Action T) (answer : Answer T)
@@ -124,16 +90,13 @@ module _ {T : Type 0} where
 
   refusal_moved : (f : Name → Name) (d n : ℕ) (answer : Answer T)
       → is_refusal (rename_answer f d (λ (v : T). v) n answer) ≡ is_refusal answer
-  refusal_moved f d n (Made b) = refl
-  refusal_moved f d n _ = refl
+  refusal_moved f d n answer = grind arith
 
   -- a refusal has no names
   refusal_same : (f h : Name → Name) (d n : ℕ) (Knows : Name → Type 0) (answer : Answer T)
       → is_refusal answer ≡ true → KnowsAnswer Knows n answer
       × (rename_answer h d (λ (v : T). v) n answer ≡ rename_answer f d (λ (v : T). v) n answer)
-  refusal_same f h d n Knows (BorrowRefused t) r = (tt, refl)
-  refusal_same f h d n Knows (Refused e) r = (tt, refl)
-  refusal_same f h d n Knows _ r = cc
+  refusal_same f h d n Knows answer r = grind arith
 
   -- the replies are the same, ids aside, and the sessions after them match
   record StepMatches (s a : SessionReply T × SessionState T) : Type 0 where
@@ -160,16 +123,7 @@ module _ {T : Type 0} {s a : SessionState T} (m : Matches s a) where
       → Reserves s a m.difference order given_s given_a → (erase x.0 ≡ erase y.0)
       × CarriesSession (named_by order) m.difference (IsNumberBelow (length order)) x.1 y.1
       → x.1.state.given ≡ given_s → y.1.state.given ≡ given_a → StepMatches x y
-  matched {order} r both h k = record {
-    said = both.0;
-    after = record {
-      order = order;
-      difference = m.difference;
-      carries = both.1;
-      names = subst (AreListed order) (sym h) r.names;
-      numbers = subst (AreNumbersBelow (length order)) (sym k) r.numbers;
-    };
-  }
+  matched r both h k = grind arith
 
   -- a making, once the new names are numbered behind the others
   making_step : (x : Call T) (call : Action T) (new : NewNames) (order : List Name)
@@ -240,8 +194,7 @@ module _ {T : Type 0} {s a : SessionState T} (m : Matches s a) where
       (out : SessionReply T × SessionState T) {e : Option StoreError} → (x, r) ≡ out
       → refusal_in out.0 ≡ e → StepMatches out (numbered a c q e)
       → StepMatches (x, r) (numbered a c q (refusal_in x))
-  answered c q out is told step = subst (λ (o : SessionReply T × SessionState T).
-      StepMatches o (numbered a c q (refusal_in o.0))) (sym is) (rw told step)
+  answered c q out is told step = grind arith
 
   settles_step : (c : Call T) (x : SessionReply T) (r : SessionState T) (p q : Request T)
       → ask s c ≡ p → AskedAlike (named_by m.order) m.difference (IsNumberBelow (length m.order))
@@ -302,32 +255,9 @@ module _ {T : Type 0} where
   fresh_matches store start next = record {
     order = [];
     difference = next;
-    carries = record {
-      state = record {
-        number = refl;
-        next = omega arith;
-        peak = refl;
-        cells = record {
-          at = λ k b. absurd (omega arith);
-          from = λ n live. cc (map.get-empty name_cmp n);
-          known = λ k live. cc (map.get-empty name_cmp k);
-          leads = λ k m l is. cc (map.get-empty name_cmp k);
-        };
-        given = λ k b. absurd (omega arith);
-        owners = λ key. rw (map.get-empty nat_cmp (key + next), map.get-empty nat_cmp key) refl;
-        keys = λ key live. cc (map.get-empty nat_cmp key);
-        listed = λ key h is. cc (map.get-empty nat_cmp key);
-        apart = λ j k b. absurd (omega arith);
-      };
-      table = refl;
-      known = tt;
-    };
-    names = record { count = set.len-empty name_cmp; all = λ n. set.contains-empty name_cmp n };
-    numbers = record {
-      count = set.len-empty name_cmp;
-      all = λ k b. absurd (omega arith);
-      only = λ k h. cc (set.contains-empty name_cmp k);
-    };
+    carries = search (arith, map.get-empty {X = Cell T} name_cmp, map.get-empty {X = Ownership} nat_cmp);
+    names = search (arith, set.len-empty name_cmp, set.contains-empty name_cmp);
+    numbers = search (arith, set.len-empty name_cmp, set.contains-empty name_cmp);
   }
 
   -- so a session of a fresh store matches it

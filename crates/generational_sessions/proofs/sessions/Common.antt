@@ -2,18 +2,19 @@
 use Rattle.generational_core.proofs.machine
 use Rattle.generational_sessions.specs
 use Rattle.generational_core.proofs.machine.Common
-pub use Rattle.std.proofs.{Math.Bool.or_comm, lemmas.Grind.common_steps}
-pub use Rattle.std.proofs.Common.{append_assoc, Err, length, Ok, Result, reverse, rules, slice_get}
+pub use Rattle.std.proofs.{lemmas.Grind.common_steps, Math.Bool.or_comm}
+pub use Rattle.std.proofs.Common.{append_assoc, length, Ok, Result, reverse, rules, slice_get}
 pub use Rattle.std.proofs.Common.{slice_set, suc, unwrap_or, vec_capacity, vec_len, zero, ◌&&◌, ◌-◌}
 pub use Rattle.std.proofs.lemmas.{List.set-get_or, Option.gets, Option.none-some, Option.same_Some}
-pub use Rattle.std.proofs.lemmas.Bool.{cases_eq, cond-false, cond-true, ltb-false}
-pub use Rattle.std.proofs.lemmas.List.{append-nil, get_or_append_left, get_or_push, length_push}
-pub use Rattle.std.proofs.lemmas.List.{map-append, map-id, map-set, reverse-append, reverse-reverse}
-pub use Rattle.std.proofs.lemmas.List.{Folds.list_any_at, Sums.sum_by-cons, Sums.sum_by_push}
+pub use Rattle.std.proofs.lemmas.Bool.{cases_eq, cond-true, ltb-false}
+pub use Rattle.std.proofs.lemmas.List.{append-nil, Folds.list_any_at, get_or_append_left}
+pub use Rattle.std.proofs.lemmas.List.{get_or_push, length_push, map-append, map-id, map-set}
+pub use Rattle.std.proofs.lemmas.List.{reverse-append, reverse-reverse, Sums.sum_by-cons}
+pub use Rattle.std.proofs.lemmas.List.{Sums.sum_by_push}
 pub use Rattle.std.specs.{Cmp.unsigned_tied, List.count_by, Prelude.is_err, Prelude.map}
-pub use machine.{Leaving.given_other, Leaving.leaves, Leaving.release_leaves, Stepping.writes_known}
-pub use machine.{Guarding.writes_back, Releasing.shared_ends, Releasing.shared_stays, Ends.by_cond}
-pub use machine.{Ends.none≢some, Ends.some_live, Owning.keeps_record, Owning.unlisted}
+pub use machine.{Ends.by_cond, Ends.some_live, Guarding.writes_back, Leaving.given_other}
+pub use machine.{Leaving.leaves, Leaving.release_leaves, Owning.keeps_record, Owning.unlisted}
+pub use machine.{Releasing.shared_ends, Releasing.shared_stays, Stepping.writes_known}
 pub use machine.Bounding.{fresh_bounded, lasts_insert, meets_bounded, no_slots}
 pub use machine.Boxing.{boxed_stays, made_boxed}
 pub use machine.Calling.{ends, ends_free, ends_owned, keeps, keeps_free, keeps_reach, keeps_unowned}
@@ -23,29 +24,29 @@ pub use machine.Calling.{referred_reach, referred_together, unread, unseen}
 pub use machine.Changes.{act_says, AreFresh, is_making, IsNewBox, new_fresh, wants}
 pub use Common.{act, Action, add_cell, add_to_list, AllByRecursion, among, and_parts, Answer, ap}
 pub use Common.{AreNew, arith, Bool, Borrow, BorrowMutError, BorrowRefusal, BorrowRefused}
-pub use Common.{both_ways, box_of, by_name, by_number, can_read, can_write, cases_Bool, cases_lt}
-pub use Common.{Cell, cell_at, cells_after, changed_view, clone_owner, CloneOwner, close, cond}
-pub use Common.{cond_both, contains-insert_here, contains-insert_name, contains-insert_old, Content}
+pub use Common.{both_ways, box_of, by_name, by_number, can_read, can_write, cases_lt, Cell, cell_at}
+pub use Common.{cells_after, changed_view, clone_owner, CloneOwner, close, cond, cond_both}
+pub use Common.{contains-insert_here, contains-insert_name, contains-insert_old, Content}
 pub use Common.{content_at, content_of, Done, Dropped, End, eq-eqb, eq_by_cmp, eqb-true, false}
 pub use Common.{false_from_ne_true, fill, filter, first_hindrance, Flag, fresh, GenerationalPointer}
 pub use Common.{get-insert_apart, get-insert_here, get-keep, get-remove_apart, Guard, has_reader}
 pub use Common.{has_same_id, has_writer, Here, hindrance_at, hindrance_of, inl, inr, is_known}
 pub use Common.{is_named, is_none, is_shared, is_some, IsBounded, IsEnded, IsGiven, IsNew}
 pub use Common.{IsReleased, IsSound, keep_view, key_cases, key_here, key_same, keys_apart}
-pub use Common.{knows_reader, knows_writer, last_ticket, leads_to, len_keys, Lent, limit_tickets}
-pub use Common.{List, list_any, list_any-append, Location, location_of, Made, Make, make}
-pub use Common.{MakeShared, max, Meets, Name, name_apart, name_cases, name_cmp, name_exact}
-pub use Common.{name_here, name_of, name_total, named_from, named_gives, NameMap, Names, nat_cmp}
-pub use Common.{nat_cmp_total, nat_eq, nat_eq_equiv, nat_lt, needs_memory, NewNames, NewOwner}
-pub use Common.{next_borrow, no_names, None, not, NumbersExhausted, Old, one_less, one_listed}
-pub use Common.{one_more, OnOk, Option, option_map, or_cases, or_left, or_right, Outcome, own_name}
-pub use Common.{Owned, OwnerName, Owners, Ownership, ownership, point, Read, read_at, read_refusal}
-pub use Common.{Reads, Ref, Refer, refer, refill, refl, Refused, release_owner, ReleaseOwner}
-pub use Common.{ReleaseWriter, remove_reader, set_at, set_ownership, Shared, Some, State}
-pub use Common.{StoreError, subst, sym, take_ticket, Takes, takes_ticket, true, true≢false}
-pub use Common.{UnknownOwner, unless, Value, value_at, want, Write, write_at, write_refusal, Writes}
-pub use Common.{ℕ, [], ⊎_elim, ◌++◌, ◌+◌, ◌<◌, ◌||◌, ◌∙◌, ◌∷◌, ◌≡◌, ◌≢◌, ◌≤◌, ◌⊎◌}
-pub use machine.Releasing.{box_ends, box_stays, last_cells, listed_boxed, refused_release}
+pub use Common.{last_ticket, len_keys, Lent, limit_tickets, List, list_any, list_any-append}
+pub use Common.{Location, location_of, Made, Make, make, MakeShared, max, Meets, Name, name_apart}
+pub use Common.{name_cases, name_cmp, name_exact, name_here, name_of, name_total, named_from}
+pub use Common.{named_gives, NameMap, Names, nat_cmp, nat_cmp_total, nat_eq, nat_eq_equiv, nat_lt}
+pub use Common.{needs_memory, NewNames, NewOwner, next_borrow, no_names, None, not}
+pub use Common.{NumbersExhausted, Old, one_less, one_listed, one_more, OnOk, Option, option_map}
+pub use Common.{or_cases, or_left, or_right, Outcome, Owned, OwnerName, Owners, Ownership}
+pub use Common.{ownership, point, Read, read_at, read_refusal, Reads, Ref, Refer, refer, refill}
+pub use Common.{refl, Refused, release_owner, ReleaseOwner, ReleaseWriter, remove_reader, set_at}
+pub use Common.{set_ownership, Shared, Some, State, StoreError, subst, sym, take_ticket, Takes}
+pub use Common.{takes_ticket, true, true≢false, UnknownOwner, unless, Value, value_at, want, Write}
+pub use Common.{write_at, write_refusal, Writes, [], ℕ, ⊎_elim, ◌++◌, ◌+◌, ◌<◌, ◌||◌, ◌∙◌, ◌∷◌, ◌≡◌}
+pub use Common.{◌≢◌, ◌≤◌, ◌⊎◌}
+pub use machine.Releasing.{box_ends, box_stays, last_cells, listed_boxed}
 pub use machine.Resting.{free_reads, free_sees, rests, rests_free}
 pub use machine.Soundness.{fresh_sound, named_shared, ref_reaches}
 pub use machine.Stepping.{act_start, ended_read, ended_write, ends_reader, ends_writer, is_refusal}
@@ -53,9 +54,8 @@ pub use machine.Stepping.{made_new, meets_cases, meets_ended, meets_given, meets
 pub use machine.Stepping.{meets_next, meets_number, meets_says, meets_sound, meets_start}
 pub use machine.Stepping.{meets_value, reader_stays, reads_known, takes_new, writer_stays}
 pub use Rattle.generational_core.proofs.maps.Maps.{changed_there, contains-insert_apart}
-pub use Rattle.generational_core.proofs.maps.Maps.{get-insert_name, name_test}
-pub use Rattle.generational_core.specs.{Machine.own_cell, Names.change_if, Leaving.IsUnchanged}
-pub use Rattle.generational_core.specs.{Steps.answer_to}
+pub use Rattle.generational_core.proofs.maps.Maps.{get-insert_name}
+pub use Rattle.generational_core.specs.{Leaving.IsUnchanged, Machine.own_cell, Names.change_if}
 pub use Rattle.generational_core.specs.Answers.{back_answer, end_refused, pointer_of}
 pub use Rattle.generational_core.specs.Conditions.{count_in, count_under, IsFresh}
 pub use Rattle.generational_core.specs.Machine.{Action.LeakOwner, Answer.Back}
@@ -77,18 +77,18 @@ pub use specs.Replies.{AllKeepPromises, AllTellEnds, EndsOwned, GiveBoxesApart, 
 pub use specs.Replies.{KeepBoxes, NeedsBox, RefusalLeavesAll, refuses, TellsEnds, TellsExhaustion}
 pub use specs.Replies.{TellsLack}
 pub use specs.Session.{add_place, ask, at_place, box_held, box_in, gives, Held, if_ready}
-pub use specs.Session.{is_release, owner_held, owner_in, refusal, release, release_all, replace}
-pub use specs.Session.{reply_of, Request, Run, SessionReply, SessionState, SessionStep, settle}
-pub use specs.Session.{Settles, spend, swap, with_box, with_owner}
+pub use specs.Session.{owner_held, owner_in, refusal, release, release_all, replace, reply_of}
+pub use specs.Session.{Request, Run, SessionReply, SessionState, SessionStep, settle, Settles}
+pub use specs.Session.{spend, swap, with_box, with_owner}
 pub use specs.Session.Held.{Boxed, Nothing, Owning, Reading, Writing}
 pub use specs.Session.Request.{Asks, Swaps, Tells}
-pub use specs.Session.SessionReply.{ABox, Error, IsDone, NoSuch}
+pub use specs.Session.SessionReply.{ABox, IsDone, NoSuch}
 pub use specs.declared.{calls.Call.Call, calls.Reply.Reply, places.Thing.Thing}
 pub use specs.declared.calls.{BoxAt.BoxAt, BoxAt.TheVariants.Foreign, BoxAt.TheVariants.Place}
 pub use specs.declared.places.Thing.TheVariants.{Owner, Reader, Writer}
 use Rattle.generational_core.proofs
-unfoldable pub use proofs.machine.Common.{change, hindrance_to, IsDistinct, may_lack, reach}
-unfoldable pub use proofs.machine.Common.{is_name, refusal_to_read, refusal_to_write, sweep}
+unfoldable pub use proofs.machine.Common.{change, hindrance_to, is_name, IsDistinct, may_lack}
+unfoldable pub use proofs.machine.Common.{reach, refusal_to_read, refusal_to_write, sweep}
 unfoldable pub use proofs.machine.Common.{take_away}
 unfoldable pub use Rattle.generational_core.specs.{Seeing.value_in, Slots.lasts}
 unfoldable pub use Rattle.generational_sessions.specs.History.{bare_cells}

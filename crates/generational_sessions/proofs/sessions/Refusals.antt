@@ -1,20 +1,18 @@
 -- What a reply tells of refusals: where memory or a ticket may lack, and that nothing has changed.
+use Rattle.std.proofs.Common.{arith}
 use Rattle.generational_sessions.proofs.sessions.Common
 use Rattle.generational_core.proofs.machine.Refusing.{act_answered, answered_still, IsAnswered}
 use Rattle.generational_core.proofs.machine.Refusing.IsAnswered.{goes}
-use Common.{act, Action, and_parts, Answer, ap, ask, Asks, at_place, Bool, BorrowRefusal, Call}
-use Common.{Cell, cell_at, cond, cond_both, Done, eq-eqb, eqb-true, false, Flag}
-use Common.{GenerationalPointer, gives, Held, inl, inr, is_known, is_refusal, is_release}
-use Common.{knows_reader, knows_writer, last_ticket, LeakOwner, limit_tickets, Make, MakeShared}
-use Common.{may_lack, Meets, Name, nat_eq, needs_memory, NewNames, no_names, None, Nothing}
-use Common.{NumbersExhausted, Option, Outcome, OutOfMemory, owner_in, OwnerName, reach, Refer}
-use Common.{refer, refl, refusal, refusal_in, refusal_to_read, RefusalLeavesAll, Refused, refuses}
-use Common.{release, reply_of, Request, SessionReply, SessionState, SessionStep, Settles, Shared}
-use Common.{Some, spend, State, StoreError, subst, sym, takes_ticket, TellsExhaustion, TellsLack}
-use Common.{true, true≢false, unless, want, wants, with_owner, ◌&&◌, ◌∙◌, ◌≡◌}
+use Common.{act, Action, and_parts, Answer, ap, ask, Asks, at_place, Call, cond_both, Done, eq-eqb}
+use Common.{eqb-true, false, gives, Held, inl, inr, is_refusal, last_ticket, LeakOwner}
+use Common.{limit_tickets, may_lack, Meets, nat_eq, needs_memory, NewNames, no_names, None, Nothing}
+use Common.{NumbersExhausted, Option, Outcome, OutOfMemory, owner_in, OwnerName, refl, refusal}
+use Common.{refusal_in, RefusalLeavesAll, Refused, refuses, release, reply_of, Request}
+use Common.{SessionReply, SessionState, SessionStep, Settles, Some, spend, State, StoreError, subst}
+use Common.{sym, takes_ticket, TellsExhaustion, TellsLack, true, want, wants, with_owner, ◌&&◌, ◌∙◌}
+use Common.{◌≡◌}
 use Rattle.generational_sessions.proofs.sessions.Sessions.{comes_to, ComesTo, is_own, settled}
 use Rattle.generational_sessions.proofs.sessions.Sessions.ComesTo.{asks, swaps, tells}
-use Rattle.generational_core.specs.Leaving.{refuses as is_refused}
 use Rattle.generational_sessions.specs.declared.calls.Call.TheVariants as call
 
 module _ {T : Type 0} where
@@ -32,21 +30,14 @@ module _ {T : Type 0} where
   never_refused : (S R : State T) (action : Action T) (answer : Answer T)
       → AlwaysGoes S (Asks action) → Meets S action answer R → is_refusal answer ≡ false
   unfolding may_lack
-  never_refused S R action answer h (inl m) =
-      ap (λ (out : Outcome T). is_refusal out.0) m.2 ∙ (h m.0).0
-  never_refused S R action answer h (inr m) = absurd (true≢false (sym m.0 ∙ (h no_names).1))
+  never_refused S R action answer h k = grind arith
 
   release_goes : (S : State T) (h : Held T) → AlwaysGoes S (release h)
-  release_goes S (Held.Reading g) = λ new. cond_both (knows_reader S g) _ _
-      (Goes S (Action.ReleaseReader g)) (λ _. (refl, refl)) (λ _. (refl, refl))
-  release_goes S (Held.Writing g v) = λ new. cond_both (knows_writer S g) _ _
-      (Goes S (Action.ReleaseWriter g v)) (λ _. (refl, refl)) (λ _. (refl, refl))
-  release_goes S _ = tt
+  release_goes S h = grind arith
 
   leak_goes : (S : State T) (o : Option OwnerName)
       → AlwaysGoes S (with_owner o None (λ o. Asks (LeakOwner o)))
-  leak_goes S None = tt
-  leak_goes S (Some o) = λ new. (refl, refl)
+  leak_goes S o = grind arith
 
   -- releases of guards and leaks are never refused, and what is refused else spends nothing
   pub unspent : (s : SessionState T) (c : Call T) (action : Action T) (answer : Answer T)
@@ -66,67 +57,32 @@ module _ {T : Type 0} where
   -- the refusal that a reply tells is that of the answer
   pub refusal_told : (c : Call T) (e : StoreError)
       → (refusal_in (refusal c e) ≡ want e) × (refuses (refusal c e) ≡ true)
-  refusal_told (call.Leak v l) e = (refl, refl)
-  refusal_told _ e = (refl, refl)
+  refusal_told c e = grind arith
 
   pub tell : (c : Call T) (answer : Answer T) → (refusal_in (reply_of c answer) ≡ wants answer)
       × (refuses (reply_of c answer) ≡ is_refusal answer)
-  tell c (Flag b) = cond_both (is_release c) SessionReply.IsDone (SessionReply.Yes b)
-      (λ x. (refusal_in x ≡ None) × (refuses x ≡ false)) (λ _. (refl, refl)) (λ _. (refl, refl))
-  tell c (Refused e) = refusal_told c e
-  tell c _ = (refl, refl)
+  tell c answer = grind (arith, refusal_told)
 
   gives_nothing : (answer : Answer T) → is_refusal answer ≡ true → gives answer ≡ Nothing
-  gives_nothing (Refused e) refused = refl
-  gives_nothing _ refused = cc
+  gives_nothing answer refused = grind arith
 
   own_wants_none : (x : SessionReply T) → is_own x ≡ true → refusal_in x ≡ None
-  own_wants_none (SessionReply.Lacking e) own = cc
-  own_wants_none _ own = cc
+  own_wants_none x own = grind arith
 
   -- ---- how the machine refuses
 
   -- a call that is refused changes nothing, and what the machine answers of itself wants nothing
   still : (S : State T) (out : Outcome T) → IsAnswered S out → is_refusal out.0 ≡ true → out.1 ≡ S
-  still S out how refused = answered_still S out how (told out.0 refused)
-    where
-      told : (answer : Answer T) → is_refusal answer ≡ true → is_refused answer ≡ true
-      told (Refused e) h = refl
-      told _ h = cc
+  still S out how refused = grind (arith, answered_still)
 
   wants_none : (S : State T) (out : Outcome T) → IsAnswered S out → wants out.0 ≡ None
-  wants_none S out (goes o on) =
-      (elim out.0 as (λ answer. is_refused answer ≡ false → wants answer ≡ None)
-      [ Refused e ↦ λ on. cc | _ ↦ λ on. refl ]) on
-  wants_none S out _ = refl
+  wants_none S out h = grind (arith, goes)
 
   -- ---- tickets
 
-  -- whether a call takes a ticket doesn't depend on the names that it takes
-  refer_ticket : (S : State T) (o : Option OwnerName) (b : GenerationalPointer) (m : Option Name)
-      (c : Option (Cell T)) (n k : Name)
-      → takes_ticket (refer S o b m c n).0 ≡ takes_ticket (refer S o b m c k).0
-  refer_ticket S o b (Some m) (Some (Shared c l)) n k = refl
-  refer_ticket S o b m c n k = refl
-
-  unless_ticket : (S : State T) (t : Option BorrowRefusal) (x y : Outcome T)
-      → takes_ticket x.0 ≡ takes_ticket y.0
-      → takes_ticket (unless t S x).0 ≡ takes_ticket (unless t S y).0
-  unless_ticket S None x y h = h
-  unless_ticket S (Some t) x y h = refl
-
-  known_ticket : (known : Bool) (x y z : Outcome T) → takes_ticket x.0 ≡ takes_ticket y.0
-      → takes_ticket (cond known x z).0 ≡ takes_ticket (cond known y z).0
-  known_ticket true x y z h = h
-  known_ticket false x y z h = refl
-
   same_ticket : (S : State T) (action : Action T) (f : NewNames)
       → takes_ticket (act S action f).0 ≡ takes_ticket (act S action no_names).0
-  same_ticket S (Make o v l) f = known_ticket (is_known S o) _ _ _ refl
-  same_ticket S (MakeShared o v l) f = known_ticket (is_known S o) _ _ _ refl
-  same_ticket S (Refer o b) f = known_ticket (is_known S o) _ _ _ (unless_ticket S
-      (refusal_to_read S b) _ _ (refer_ticket S o b (reach S b) (cell_at S (reach S b)) f.first _))
-  same_ticket S _ f = refl
+  same_ticket S action f = grind arith
 
   -- a call takes a ticket, and none is left
   abbrev IsLast : State T → Action T → Type 0
@@ -134,17 +90,13 @@ module _ {T : Type 0} where
 
   limited : (S : State T) (action : Action T) (f : NewNames) → IsLast S action
       → limit_tickets S (act S action f) ≡ (Refused NumbersExhausted, S)
-  limited S action f last = λ i. cond ((same_ticket S action f ∙ last.0) i
-      && eq-eqb S.next last_ticket last.1 i) (Refused NumbersExhausted, S) (act S action f)
+  limited S action f last = grind (arith, same_ticket, eq-eqb)
 
   -- such a call is refused for that
   exhausted : (S R : State T) (action : Action T) (answer : Answer T)
       → IsLast S action → Meets S action answer R → answer ≡ Refused NumbersExhausted
   unfolding may_lack
-  exhausted S R action answer last (inl m) =
-      ap (λ (out : Outcome T). out.0) (m.2 ∙ limited S action m.0 last)
-  exhausted S R action answer last (inr m) = absurd (true≢false (sym m.0 ∙ ap
-      (λ (out : Outcome T). needs_memory S out.0 action) (limited S action no_names last)))
+  exhausted S R action answer last h = grind (arith, limited)
 
   -- ---- what an answer tells of want, and what a refusal leaves
 
@@ -197,11 +149,7 @@ module _ {T : Type 0} where
 
     by_itself : refusal_in x ≡ None → ((action : Action T) → ask s c ≡ Asks action → ⊥)
         → RefusalLeavesAll s x r → Refuses s c x r
-    by_itself none unasked leaves = record {
-      lack = λ told. cc;
-      exhaustion = (λ told. cc, λ h. absurd (unasked h.action h.asks));
-      leaves_all = leaves;
-    }
+    by_itself none unasked leaves = grind arith
 
     pub refusals : SessionStep s c x r → Refuses s c x r
     refusals step = at (ask s c) refl (comes_to s c) step

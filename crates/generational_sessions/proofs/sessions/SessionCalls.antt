@@ -1,27 +1,23 @@
 -- What each call of a session leaves and promises, in the code and in the machine.
 use Rattle.generational_sessions.proofs.sessions
-use sessions.{ABox, act, Action, add_place, AllKeepPromises, AllTellEnds, Answer, ap, append-nil}
-use sessions.{append_assoc, arith, as_held, as_refusal, as_replies, as_reply, ask, asks, at_place}
-use sessions.{back_answer, Bool, BorrowMutError, BorrowRefusal, BorrowRefused, box_ends, box_held}
-use sessions.{box_in, box_stays, BoxAt, Boxed, by_run, by_step, Call, comes_to, ComesTo, cond, Done}
-use sessions.{Dropped, end_refused, ended_read, ended_write, EndsOwned, Err, Error, exchange, false}
-use sessions.{Flag, Foreign, fresh_kept, GenerationalPointer, GiveBoxesApart, Gives, gives}
-use sessions.{GivesAsked, GivesNewBox, Held, held_changed, held_pushed, hindrance_to, inl, inr}
-use sessions.{is_err, is_own, IsDone, IsFresh, IsGiven, IsNewBox, IsReleased, IsSound}
-use sessions.{IsSoundSession, KeepBoxes, last_cells, limit_tickets, List, list_map, listed_boxed}
-use sessions.{Location, Made, map-append, map-set, may_lack, Meets, meets_given, meets_number}
-use sessions.{meets_says, name_of, nat_lt, needs_memory, NeedsBox, NewNames, no_names, None}
-use sessions.{none-some, Nothing, Ok, OnOk, Option, Outcome, OwnerName, Ownership, ownership}
-use sessions.{Owning, Place, refl, refusals, Refused as refuses, release_owner, replace, Reply}
+use sessions.{ABox, add_place, AllKeepPromises, AllTellEnds, Answer, ap, append-nil, append_assoc}
+use sessions.{arith, as_held, as_refusal, as_replies, as_reply, ask, asks, at_place, back_answer}
+use sessions.{BorrowMutError, box_ends, box_held, box_in, box_stays, BoxAt, Boxed, by_run, by_step}
+use sessions.{Call, comes_to, ComesTo, end_refused, ended_read, ended_write, EndsOwned, exchange}
+use sessions.{false, Foreign, fresh_kept, GenerationalPointer, GiveBoxesApart, Gives, gives}
+use sessions.{GivesAsked, GivesNewBox, Held, held_changed, held_pushed, is_err, is_own, IsDone}
+use sessions.{IsFresh, IsGiven, IsNewBox, IsReleased, IsSound, IsSoundSession, KeepBoxes}
+use sessions.{last_cells, List, list_map, listed_boxed, Made, map-append, map-set, may_lack}
+use sessions.{meets_given, meets_number, meets_says, name_of, NeedsBox, none-some, Nothing, OnOk}
+use sessions.{OwnerName, Ownership, ownership, Owning, Place, refl, refusals, replace, Reply}
 use sessions.{reply_of, Request, Result, reverse, reverse-append, reverse-reverse, Run}
 use sessions.{session_ended, session_in, session_kept, SessionReply, SessionState, SessionStep}
 use sessions.{set-get_or, settled, Settles, shared_ends, shared_stays, slice_get, slice_set, Some}
-use sessions.{spend, State, suc, swaps, sym, takes_no_box, tells, TellsEnds, Thing, true≢false}
-use sessions.{unless, Writing, zero, ℕ, [], ⊎_elim, ◌++◌, ◌∙◌, ◌∷◌, ◌≡◌, ◌≢◌}
+use sessions.{spend, State, suc, swaps, sym, takes_no_box, tells, TellsEnds, Thing, Writing, zero}
+use sessions.{[], ℕ, ⊎_elim, ◌++◌, ◌∙◌, ◌∷◌, ◌≡◌, ◌≢◌}
 use Rattle.generational_errors.specs.declared.error.Refused.{Refused}
 use Rattle.std.proofs.lemmas.List.{get_or_past}
 use Rattle.generational_sessions.specs.declared.calls.Call.TheVariants as call
-use Rattle.generational_errors.specs.declared.error.Refused.TheVariants as refused
 
 -- what is put back to where it was taken from
 set_back : {X : Type 0} (xs : List X) (p : ℕ) (x y : X) → slice_get xs p ≡ Some x
@@ -32,37 +28,19 @@ set_back (z ∷ xs) (suc p) x y h = ap (λ xs. z ∷ xs) (set_back xs p x y h)
 
 pub put_back : {X : Type 0} {xs taken after : List X} (p : ℕ) {x z : X} (y : X) → slice_get xs p
     ≡ Some x → taken ≡ slice_set xs p y → after ≡ slice_set taken p z → z ≡ x → after ≡ xs
-put_back {xs = xs} p {x} y there takes puts is =
-    rw (puts, takes, is) (set_back xs p x y there)
+put_back p y there takes puts is = grind (arith, set_back)
 
 -- what holds of a result that is no error
 pub went : {A E P : Type 0} (r : Result A E) → false ≡ is_err r → OnOk r P → P
-went (Ok a) ok p = p
-went (Err e) ok p = cc
+went r ok p = grind arith
 
 module _ {T : Type 0} where
-  -- a call of an ended box is answered so, whatever names it takes
-  told_ended : (s r : SessionState T) (c : Call T) (x : SessionReply T) (action : Action T)
-      (l : Location)
-      → ((new : NewNames) → act s.state action new ≡ (BorrowRefused (Dropped l), s.state))
-      → Settles s c (Request.Asks action) x r → x ≡ Error (Dropped l)
-  unfolding may_lack
-  told_ended s r c x action l acts (answer, R, inl m, is) =
-      ap (λ (out : SessionReply T × SessionState T). out.0) is
-      ∙ ap (λ (out : Outcome T). reply_of c out.0) (rw (acts m.0) at m.2)
-  told_ended s r c x action l acts (answer, R, inr m, is) = absurd
-      (true≢false (sym m.0 ∙ ap (λ (out : Outcome T).
-      needs_memory s.state (limit_tickets s.state out).0 action) (acts no_names)))
-
   pub tells_ends : (s r : SessionState T) (c : Call T) (x : SessionReply T)
       → SessionStep s c x r → TellsEnds s c x
-  tells_ends s r (call.LeakReference p) x step b needed ended =
-      told_ended s r (call.LeakReference p) x (Action.Refer None b) _
-      (λ new. rw (ended_read s.state b ended, unless)) (rw needed at step)
-  tells_ends s r (call.TryRead p l) x step b needed ended = told_ended s r (call.TryRead p l) x
-      (Action.Read b l) _ (λ new. rw (ended_read s.state b ended, unless)) (rw needed at step)
-  tells_ends s r (call.TryWrite p l) x step b needed ended = told_ended s r (call.TryWrite p l) x
-      (Action.Write b l) _ (λ new. rw (ended_write s.state b ended, unless)) (rw needed at step)
+  unfolding may_lack
+  tells_ends s r (call.LeakReference p) x step b needed ended = grind (arith, ended_read)
+  tells_ends s r (call.TryRead p l) x step b needed ended = grind (arith, ended_read)
+  tells_ends s r (call.TryWrite p l) x step b needed ended = grind (arith, ended_write)
   tells_ends s r (call.Read p l) x step b needed ended =
       (rw (needed, ended_read s.state b ended) at step).0
   tells_ends s r (call.Write p l) x step b needed ended =
@@ -74,15 +52,12 @@ module _ {T : Type 0} where
   -- a reply gives the box that the machine made
   made_by : (answer : Answer T) (c : Call T) (b : GenerationalPointer)
       → reply_of c answer ≡ ABox b → answer ≡ Made b
-  made_by (refuses e) (call.Leak v l) b h = cc
-  made_by (Flag f) (call.Release p) b h = cc
-  made_by answer c b h = cc
+  made_by answer c b h = grind arith
 
   -- a place more leaves what stands before it
   held_before : (table : List (Held T)) (y : Held T) (p : ℕ) (b : GenerationalPointer)
       → at_place table p ≡ Boxed b → at_place (table ++ y ∷ []) p ≡ Boxed b
-  held_before table y p b is = ⊎_elim (λ e. e ∙ is)
-      (λ e. let none = get_or_past table p Nothing (omega arith) in cc) (held_pushed table y p)
+  held_before table y p b is = grind (arith, get_or_past, held_pushed)
 
   -- another thing at a place that held no box
   held_beside : (table : List (Held T)) (q : ℕ) (y : Held T) (p : ℕ) (b : GenerationalPointer)
@@ -91,34 +66,11 @@ module _ {T : Type 0} where
   held_beside table q y p b other is = ⊎_elim (λ e. e ∙ is)
       (λ e. absurd (other (rw e.0 at is))) (held_changed table q y p)
 
-  -- an owner's release that is told as done is done
-  release_done : (S : State T) (o : OwnerName) (h : Option Ownership) (p : ℕ)
-      → reply_of (call.ReleaseOwner p) (limit_tickets S (release_owner S o h)).0 ≡ IsDone
-      → (limit_tickets S (release_owner S o h)).0 ≡ Done
-  release_done S o None p e = cc
-  release_done S o (Some h) p e = split (nat_lt 1 h.count) (hindrance_to S h.names) _ _ e
-    where
-      split : (b : Bool) (t : Option BorrowRefusal) (less left : State T)
-          → let out = limit_tickets S (cond b (Done, less) (unless t S (Done, left))) in
-          reply_of (call.ReleaseOwner p) out.0 ≡ IsDone → out.0 ≡ Done
-      split false (Some t) less left e = cc
-      split _ _ less left e = cc
-
   -- an owner at a place whose release is answered done was released by the store
   pub session_released : (s r : SessionState T) (p : ℕ) (o : OwnerName) (h : Ownership)
       → SessionStep s (call.ReleaseOwner p) IsDone r → at_place s.table p ≡ Owning o
       → ownership s.state o ≡ Some h → IsReleased s.state o h r.state
-  session_released s r p o h step is there = let release = rw is at step in record {
-    held = there;
-    done = let after = settled s r (call.ReleaseOwner p) IsDone _ release in
-        rw after.1 (rw (answer_is release.0 release.1 release.2 (sym after.0)) at release.2);
-  }
-    where
-      answer_is : (answer : Answer T) (R : State T) → Meets s.state (Action.ReleaseOwner o) answer R
-          → reply_of (call.ReleaseOwner p) answer ≡ IsDone → answer ≡ Done
-      answer_is answer R (inl m) told = let e = ap (λ (out : Outcome T). out.0) m.2 in
-          e ∙ release_done s.state o (ownership s.state o) p (rw e at told)
-      answer_is answer R (inr m) told = cc
+  session_released s r p o h step is there = grind arith
 
   module _ (s r : SessionState T) (c : Call T) (x : SessionReply T)
       (step : SessionStep s c x r) where
@@ -161,8 +113,7 @@ module _ {T : Type 0} where
     ruleset kept_boxes = (box_in_kept)
 
     need_kept : (k : Call T) (b : GenerationalPointer) → NeedsBox s k b → NeedsBox r k b
-    need_kept (call.LeakReference a) b is = box_in_kept a b is
-    need_kept _ b is = search kept_boxes
+    need_kept k b is = grind (arith, box_in_kept)
 
     -- the last release of an owner that is done ends its boxes
     pub lasts_end : IsSound s.state → EndsOwned s c x r
@@ -277,16 +228,14 @@ module _ {T : Type 0} where
   pub back_reply : {U : Type 0} (p : ℕ) (back : Result U T)
       → (IsDone ≡ reply_of (call.Release p) (back_answer back))
       × (Nothing ≡ gives (back_answer back))
-  back_reply p (Ok u) = (refl, refl)
-  back_reply p (Err v) = (refl, refl)
+  back_reply p back = grind arith
 
   -- a refusal of an owner's release spends nothing
   pub refusal_reply : (p : ℕ) (e : Refused BorrowMutError) (table : List (Held T))
       → (◌≡◌ {A = SessionReply T} (as_refusal e) (reply_of (call.ReleaseOwner p) (end_refused e)))
       × (◌≡◌ {A = Held T} Nothing (gives (end_refused e)))
       × (table ≡ spend (call.ReleaseOwner p) (end_refused e) table)
-  refusal_reply p (refused.Borrow b) table = (refl, refl, refl)
-  refusal_reply p (refused.Store cause) table = (refl, refl, refl)
+  refusal_reply p e table = grind arith
 
   -- another value for the writer at a place
   pub exchange_gives : (S : State T) (items after : List (Thing T)) (p : ℕ) (v : T)

@@ -4,19 +4,18 @@ use Rattle.generational_core.proofs.machine.Guarding.{reader_stands, writer_stan
 use Rattle.generational_core.specs.Keeping.{IsUnwritten}
 use Common.{Action, add_place, and_parts, Answer, ap, AreOne, arith, ask, AskedSets, at_place, Bool}
 use Common.{box_in, BoxAt, Boxed, boxed_stays, Call, Cell, count_by, count_in, count_under, Done}
-use Common.{ends_reader, ends_writer, eq-eqb, eqb-true, false, false_from_ne_true, fresh}
-use Common.{fresh_bounded, fresh_sound, GenerationalPointer, gives, Guard, Held, holds_owner}
-use Common.{if_ready, inl, inr, is_known, is_shared, is_some, IsBounded, IsEnded, IsOwn, IsSound}
-use Common.{IsSoundSession, IsUndisturbed, length, List, Location, Made, made_boxed, made_new}
-use Common.{Meets, meets_bounded, meets_ended, meets_number, meets_sound, meets_value, Name}
-use Common.{name_of, nat_eq, None, Nothing, Option, Owned, owner_held, owner_in, OwnerName}
-use Common.{Ownership, Owning, reach, reader_stays, Reading, Reads, reads_known, ref_reaches, refl}
-use Common.{release, replace, Request, Run, SessionReply, SessionState, SessionStep, settle}
-use Common.{Settles, slice_set, Some, spend, State, suc, sum_by-cons, sum_by_push, swap, sym, true}
-use Common.{Undisturbed, value_at, with_box, with_owner, writer_stays, Writes, writes_known}
-use Common.{Writing, zero, ℕ, [], ⊎_elim, ◌++◌, ◌+◌, ◌<◌, ◌∙◌, ◌∷◌, ◌≡◌, ◌≢◌, ◌≤◌, ◌⊎◌}
-use Rattle.generational_sessions.proofs.sessions.OwnerValues.{itself, meets_counts, owners_in}
-use Rattle.generational_sessions.proofs.sessions.OwnerValues.{takes}
+use Common.{ends_reader, ends_writer, eq-eqb, false, false_from_ne_true, fresh, fresh_bounded}
+use Common.{fresh_sound, GenerationalPointer, gives, Guard, Held, holds_owner, if_ready, inl, inr}
+use Common.{is_known, is_shared, is_some, IsBounded, IsEnded, IsOwn, IsSound, IsSoundSession}
+use Common.{IsUndisturbed, length, List, Location, Made, made_boxed, made_new, Meets, meets_bounded}
+use Common.{meets_ended, meets_number, meets_sound, meets_value, Name, name_of, nat_eq, None}
+use Common.{Nothing, Option, Owned, owner_held, owner_in, OwnerName, Ownership, Owning, reach}
+use Common.{reader_stays, Reading, Reads, reads_known, ref_reaches, refl, release, replace, Request}
+use Common.{Run, SessionReply, SessionState, SessionStep, settle, Settles, slice_set, Some, spend}
+use Common.{State, suc, sum_by-cons, sum_by_push, swap, sym, true, Undisturbed, value_at, with_box}
+use Common.{with_owner, writer_stays, Writes, writes_known, Writing, zero, [], ℕ, ⊎_elim, ◌++◌, ◌+◌}
+use Common.{◌<◌, ◌∙◌, ◌∷◌, ◌≡◌, ◌≢◌, ◌≤◌, ◌⊎◌}
+use Rattle.generational_sessions.proofs.sessions.OwnerValues.{itself, meets_counts, owners_in, takes}
 use Rattle.std.specs.FinMap as map
 use Rattle.generational_sessions.specs.declared.calls.Call.TheVariants as call
 
@@ -75,10 +74,7 @@ module _ {T : Type 0} where
 
   same_turned : (x y : Held T) → AreOne x y → AreOne y x
   unfolding AreOne
-  same_turned (Boxed b) (Boxed c) one = sym one
-  same_turned (Reading g) (Reading h) one = sym one
-  same_turned (Writing g v) (Writing h w) one = sym one
-  same_turned x y one = absurd one
+  same_turned x y one = grind arith
 
   -- no two places of a table hold one thing
   abbrev AreApart : List (Held T) → Type 0
@@ -88,11 +84,7 @@ module _ {T : Type 0} where
   still_apart : (old new : List (Held T)) (k : ℕ) (x : Held T) → AreApart old
       → ((q : ℕ) → (at_place new q ≡ at_place old q) ⊎ ((q ≡ k) × (at_place new q ≡ x)))
       → ((q : ℕ) → AreOne x (at_place old q) → k ≡ q) → AreApart new
-  still_apart old new k x apart changes alone p q one = ⊎_elim
-      (λ e. ⊎_elim (λ f. apart p q (same_as e f one))
-      (λ f. sym (f.0 ∙ alone p (same_turned (at_place old p) x (same_as e f.1 one)))) (changes q))
-      (λ e. ⊎_elim (λ f. e.0 ∙ alone q (same_as e.1 f one)) (λ f. e.0 ∙ sym f.0) (changes q))
-      (changes p)
+  still_apart old new k x apart changes alone p q one = grind (arith, same_as, same_turned)
 
   -- ---- sessions with one place more, and with another thing at a place
 
@@ -141,14 +133,11 @@ module _ {T : Type 0} where
       → (ends_reader action g.ticket ≡ true → AreOne (takes action answer) (Reading g))
       × ((v : T) → ends_writer action g.ticket ≡ true → AreOne (takes action answer) (Writing g v))
   unfolding AreOne
-  takes_guard (Action.ReleaseReader h) answer g = (eqb-true h.ticket g.ticket, λ v e. cc)
-  takes_guard (Action.ReleaseWriter h w) answer g = (λ e. cc, λ v. eqb-true h.ticket g.ticket)
-  takes_guard action answer g = (λ e. cc, λ v e. cc)
+  takes_guard action answer g = grind arith
 
   pub takes_no_box : (action : Action T) (answer : Answer T) (b : GenerationalPointer)
       → takes action answer ≢ Boxed b
-  takes_no_box (Action.ReleaseOwner o) Done b e = cc
-  takes_no_box action answer b e = cc
+  takes_no_box action answer b e = grind arith
 
   -- what is left, where a call of the machine takes a thing from a place that holds it
   module _ (s : SessionState T) (action : Action T) (R : State T) (p : ℕ)
@@ -374,13 +363,7 @@ module _ {T : Type 0} where
   pub fresh_kept : (number start next : ℕ) → IsSoundSession
       (let s : SessionState T = record { state = fresh number start next; table = [] } in s)
   unfolding IsOwn AreOne
-  fresh_kept number start next = record {
-    sound = fresh_sound number start next;
-    bounded = fresh_bounded number start next;
-    own = λ p. tt;
-    apart = λ p q one. absurd one;
-    counted = λ key. omega arith;
-  }
+  fresh_kept number start next = search (arith, fresh_sound, fresh_bounded)
 
   -- what each call keeps, a run keeps
   pub by_run : (P : SessionState T → Type 0)

@@ -3,11 +3,4 @@ use Rattle.generational_sessions.proofs.{boxed_stays, held_boxed, made_boxed}
 use Rattle.generational_sessions.proofs.caller_laws.boxes_end_for_good.Goals as goal
 
 pub returns : goal.returns
-returns g c = record {
-  made = made_boxed;
-  stays = boxed_stays;
-  reaches = reached_boxed;
-  held = held_boxed;
-  ends = λ S R b. ended b;
-  ends_owned = λ S R o. ended_owned o;
-}
+returns g c = search (made_boxed, boxed_stays, reached_boxed, held_boxed, ended, ended_owned)

@@ -3,9 +3,4 @@ use Rattle.generational_sessions.proofs.callers.PlainStores.{stays_plain}
 use Rattle.generational_sessions.proofs.caller_laws.boxes_reach_their_own_cells.Goals as goal
 
 pub returns : goal.returns
-returns g c = record {
-  own = reaches_own;
-  apart = reach_apart;
-  fresh = fresh_plain;
-  stays = λ S R. stays_plain;
-}
+returns g c = search (reaches_own, reach_apart, fresh_plain, stays_plain)

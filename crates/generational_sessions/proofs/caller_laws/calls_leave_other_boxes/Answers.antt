@@ -3,11 +3,4 @@ use Rattle.generational_core.proofs.machine.Leaving.{given_other, left_refusals}
 use Rattle.generational_sessions.proofs.caller_laws.calls_leave_other_boxes.Goals as goal
 
 pub returns : goal.returns
-returns g c = record {
-  reach = same_reach;
-  seen = same_value;
-  left = leaves;
-  unowned = release_leaves;
-  given = given_other;
-  borrows = left_refusals;
-}
+returns g c = search (same_reach, same_value, leaves, release_leaves, given_other, left_refusals)

@@ -3,10 +3,4 @@ use Rattle.generational_sessions.proofs.callers.ListedOnce.{release_beside, run_
 use Rattle.generational_sessions.proofs.caller_laws.names_are_listed_once.Goals as goal
 
 pub returns : goal.returns
-returns g c = record {
-  fresh = fresh_listed;
-  stays = λ S R. stays_listed;
-  session = session_listed;
-  run = run_listed;
-  released = λ S R. release_beside;
-}
+returns g c = search (fresh_listed, stays_listed, session_listed, run_listed, release_beside)

@@ -2,4 +2,4 @@ use Rattle.generational_core.proofs.machine.Releasing.{ready_free, ready_told}
 use Rattle.generational_sessions.proofs.laws.calls_are_ready_where_no_borrow_is_told.Goals as goal
 
 pub returns : goal.returns
-returns g c = record { answer = ready_told; ready = ready_free }
+returns g c = search (ready_told, ready_free)

@@ -3,13 +3,5 @@ use Rattle.generational_sessions.proofs.{referred_together, made_apart, referred
 use Rattle.generational_sessions.proofs.laws.made_boxes_see_their_values.Goals as goal
 
 pub returns : goal.returns
-returns g c = record {
-  made = λ S R. made;
-  made_shared = λ S R. made_shared;
-  referred = λ S R. referred;
-  referred_reach = λ S R. referred_reach;
-  referred_together = λ S R. referred_together;
-  made_apart = λ S R. made_apart;
-  referred_apart = λ S R. referred_apart;
-  points = λ S R a b. points a b;
-}
+returns g c =
+    search (made, made_shared, referred, referred_reach, referred_together, made_apart, referred_apart, points)

@@ -1,11 +1,7 @@
 use Rattle.generational_sessions.proofs.{fresh_bounded, meets_bounded}
 use Rattle.generational_core.proofs.machine.SlotKinds.{slots_are}
+use Rattle.std.proofs.Common.{arith}
 use Rattle.generational_sessions.proofs.laws.slots_are_bounded.Goals as goal
 
 pub returns : goal.returns
-returns g c = record {
-  fresh = fresh_bounded;
-  step = meets_bounded;
-  few = λ S bounded. bounded.few;
-  counted = slots_are;
-}
+returns g c = search (arith, fresh_bounded, meets_bounded, slots_are)
