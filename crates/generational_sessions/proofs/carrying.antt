@@ -1,9 +1,565 @@
 -- One state carries another: by other names, without values, and as numbers.
 pub mod CarriedCalls
 pub mod CarriedCells
-pub mod CarriedSession
-pub mod NumberedCalls
 pub mod Plain
 pub use CarriedCells.*
 pub use CarriedCalls.*
-pub use CarriedSession.*
+use Rattle.generational_sessions.proofs.sessions
+use sessions.{act, act_says, act_start, Action, add_place, AllByRecursion, Answer, AnswersAs, ap}
+use sessions.{AreFresh, AreListed, AreNumbersBelow, arith, ask, Asks, at_place, Bool, box_held}
+use sessions.{box_in, BoxAt, Boxed, by_name, Call, CarriesSession, Cell, cond_both}
+use sessions.{contains-insert_apart, contains-insert_here, contains-insert_name}
+use sessions.{contains-insert_old, empty_session, eq_by_cmp, erase, false, false_from_ne_true}
+use sessions.{Foreign, fresh, GenerationalPointer, get_or_append_left, get_or_push, gives, Guard}
+use sessions.{Held, if_ready, inl, inr, is_making, is_name, is_refusal, is_some, IsFresh}
+use sessions.{IsNumberBelow, IsSound, key_same, KnowsAnswer, KnowsBox, KnowsCall, KnowsGuard}
+use sessions.{KnowsHeld, KnowsNewNames, last_ticket, length, length_push, List, list_any}
+use sessions.{list_any-append, list_any_at, list_map, Location, Make, MakeShared, map-append}
+use sessions.{map-set, Matches, Meets, Name, name_cases, name_cmp, name_here, name_total, named_by}
+use sessions.{Names, nat_cmp, nat_eq, new_fresh, NewNames, next_numbers, None, NoSuch, not_there}
+use sessions.{Nothing, number, numbered, numbered_act, Option, option_map, or_cases, Outcome}
+use sessions.{owner_held, owner_in, OwnerName, Ownership, Owning, Place, pointer_of, Reading, Refer}
+use sessions.{refl, refusal, refusal_in, refusal_told, Refused, release, rename_action}
+use sessions.{rename_answer, rename_box, rename_cell, rename_guard, rename_held, rename_new_names}
+use sessions.{rename_ownership, replace, reply_of, Request, Run, session_in, session_sound}
+use sessions.{SessionReply, SessionState, SessionStep, settle, Settles, shift_owner, slice_set}
+use sessions.{Some, spend, State, StoreError, subst, suc, swap, Swaps, sym, Takes, takes_new}
+use sessions.{takes_ticket, tell, Tells, Thing, true, true≢false, unspent, want, with_box}
+use sessions.{with_owner, Writing, zero, [], ℕ, ⊎_elim, ◌&&◌, ◌++◌, ◌+◌, ◌-◌, ◌<◌, ◌∙◌, ◌∷◌, ◌≡◌}
+use sessions.{◌≢◌, ◌≤◌}
+use Rattle.std.specs.FinMap as map
+use Rattle.std.specs.FinSet as set
+use Rattle.generational_sessions.specs.declared.calls.Call.TheVariants as call
+use Rattle.generational_errors.specs.declared.error.StoreError.TheVariants as error
+
+-- ---- sessions that carry others: calls come to the same, ids aside, and new names are numbered
+-- behind the old ones
+
+-- what the calls of two sessions come to
+pub data AskedAlike {T : Type 0} (f : Name → Name)
+    (d : ℕ) (Knows : Name → Type 0) (number : ℕ) : Request T → Request T → Type 0 where
+  both_ask : {x : Action T} → KnowsCall Knows number x
+      → AskedAlike f d Knows number (Asks (rename_action f d (λ (v : T). v) number x)) (Asks x)
+  both_tell : (x y : SessionReply T)
+      → erase x ≡ erase y → refusal_in x ≡ None → AskedAlike f d Knows number (Tells x) (Tells y)
+  both_swap : (p : ℕ) (g : Guard) (v old : T) → KnowsGuard Knows number g
+      → AskedAlike f d Knows number (Swaps p (rename_guard f d number g) v old) (Swaps p g v old)
+
+-- ---- tables
+
+module _ {T : Type 0} (f : Name → Name) (d : ℕ) (Knows : Name → Type 0) (store : ℕ) where
+  abbrev moved : Held T → Held T
+  moved = rename_held f d store
+
+  abbrev rename_reply : Answer T → Answer T
+  rename_reply = rename_answer f d (λ (v : T). v) store
+
+  abbrev IsKnown : Held T → Type 0
+  IsKnown = KnowsHeld Knows store
+
+  -- a table is another one moved, of which all is known
+  abbrev Tables : List (Held T) → List (Held T) → Type 0
+  Tables t u = (t ≡ list_map moved u) × AllByRecursion IsKnown u
+
+  -- a place that holds something else
+  tables_set : (t u : List (Held T)) (p : ℕ) (x : Held T)
+      → Tables t u → IsKnown x → Tables (slice_set t p (moved x)) (slice_set u p x)
+  tables_set t u p x h k =
+      (ap (λ t. slice_set t p (moved x)) h.0 ∙ sym (map-set moved u p x), known u p h.1)
+    where
+      known : (u : List (Held T)) (p : ℕ)
+          → AllByRecursion IsKnown u → AllByRecursion IsKnown (slice_set u p x)
+      known (y ∷ u) (suc p) h = (h.0, known u p h.1)
+      known u p h = grind arith
+
+  -- what an answer gives, what it spends, and what is said
+  tables_give : (t u : List (Held T)) (answer : Answer T) → Tables t u → KnowsAnswer
+      Knows store answer → Tables (t ++ gives (rename_reply answer) ∷ []) (u ++ gives answer ∷ [])
+  tables_give t u answer h k = grind (arith, map-append, all_push)
+
+  tables_spend : (t u : List (Held T)) (x : Call T) (answer : Answer T)
+      → Tables t u → Tables (spend x (rename_reply answer) t) (spend x answer u)
+  tables_spend t u (call.Release p) answer h = tables_set t u p Nothing h tt
+  tables_spend t u (call.ReleaseOwner p) Answer.Done h = tables_set t u p Nothing h tt
+  tables_spend t u (call.LeakOwner p) answer h = tables_set t u p Nothing h tt
+  tables_spend t u x answer h = h
+
+  said_moved : (x : Call T) (answer : Answer T)
+      → erase (reply_of x (rename_reply answer)) ≡ erase (reply_of x answer)
+  said_moved x answer = grind arith
+
+-- ---- sessions that are carried
+
+module _ {T : Type 0} {f : Name → Name} {d : ℕ} {Knows : Name → Type 0} {s a : SessionState T}
+    (c : CarriesSession f d Knows s a) where
+  abbrev store : ℕ
+  store = a.state.number
+
+  abbrev Alike : Request T → Request T → Type 0
+  Alike x y = AskedAlike f d Knows store x y
+
+  no_such : (back : Option T) → Alike (Tells (NoSuch back)) (Tells (NoSuch back))
+  no_such back = both_tell _ _ refl refl
+
+  -- what depends on what a place holds
+  place_alike : (x y : Held T → Request T) → ((h : Held T)
+      → KnowsHeld Knows store h → Alike (x (rename_held f d store h)) (y h))
+      → (p : ℕ) → Alike (x (at_place s.table p)) (y (at_place a.table p))
+  place_alike x y alike p = rw c.table (at a.table p c.known)
+    where
+      at : (u : List (Held T)) (p : ℕ) → AllByRecursion (KnowsHeld Knows store) u
+          → Alike (x (at_place (list_map (rename_held f d store) u) p)) (y (at_place u p))
+      at [] p k = alike Nothing tt
+      at (h ∷ u) zero k = alike h k.0
+      at (h ∷ u) (suc p) k = at u p k.1
+
+  -- a call of a box
+  with_box_alike : (b : BoxAt T) (back : Option T) (x y : GenerationalPointer → Request T)
+      → ((b : GenerationalPointer) → KnowsBox Knows store b
+      → Alike (x (rename_box f d store b)) (y b))
+      → Alike (with_box (box_in s b) back x) (with_box (box_in a b) back y)
+  with_box_alike (Place p) back x y alike = place_alike
+      (λ h. with_box (box_held h) back x) (λ h. with_box (box_held h) back y)
+      (elim [ Boxed b ↦ alike b | _ ↦ λ k. no_such back ]) p
+  with_box_alike (Foreign foreign) back x y alike =
+      let b = pointer_of foreign in let own = nat_eq b.id.store store in
+      rw c.state.number (cond_both own None (Some b)
+      (λ o. Alike (with_box o back x) (with_box o back y)) (λ _. no_such back)
+      (λ e. rw e at (alike b (λ k. cc))))
+
+  -- a call of an owner
+  with_owner_alike : (p : ℕ) (back : Option T) (x y : OwnerName → Request T)
+      → ((o : OwnerName) → Alike (x (shift_owner f d store o)) (y o))
+      → Alike (with_owner (owner_in s p) back x) (with_owner (owner_in a p) back y)
+  with_owner_alike p back x y alike = place_alike
+      (λ h. with_owner (owner_held h) back x) (λ h. with_owner (owner_held h) back y)
+      (elim [ Owning o ↦ λ k. alike o | _ ↦ λ k. no_such back ]) p
+
+  -- a call with a condition, where it holds in both or in none
+  ready_alike : {p q : Bool} (back : Option T) (x y : Request T)
+      → p ≡ q → Alike x y → Alike (if_ready p back x) (if_ready q back y)
+  ready_alike {q = true} back x y same alike = rw same alike
+  ready_alike {q = false} back x y same alike = rw same (both_tell _ _ refl refl)
+
+  asks_alike : {x y : Action T} → y ≡ rename_action f d (λ (v : T). v) store x
+      → KnowsCall Knows store x → Alike (Asks y) (Asks x)
+  asks_alike same k = rw same (both_ask k)
+
+  -- what is asked of a box is answered as before, so calls come to the same
+  ruleset moves = (read_moved, write_moved, created_moved, same_box_moved)
+
+  ruleset alike = (with_box_alike, with_owner_alike, ready_alike, asks_alike, both_tell, moves)
+
+  -- each call comes to the same
+  pub asked_alike : (x : Call T) → Alike (ask s x) (ask a x)
+  asked_alike (call.Replace p v) = place_alike (λ h. replace p h v) (λ h. replace p h v)
+      (elim [ Writing g old ↦ both_swap p g v old | _ ↦ λ k. no_such (Some v) ]) p
+  asked_alike (call.Release p) = place_alike release release
+      (elim [ Reading g ↦ both_ask | Writing g v ↦ both_ask | _ ↦ λ k. no_such None ]) p
+  asked_alike _ = search alike
+
+  -- ---- after a call
+
+  -- a reply by the table alone
+  pub placed_alike : CarriesSession f d Knows (add_place s Nothing) (add_place a Nothing)
+  placed_alike = grind (arith, map-append, all_push)
+
+  -- another value for a writer
+  pub swapped_alike : (p : ℕ) (g : Guard) (v : T) → KnowsGuard Knows store g
+      → CarriesSession f d Knows (swap s p (rename_guard f d store g) v) (swap a p g v)
+  swapped_alike p g v k =
+      assumption (c, tables_set f d Knows store _ _ p (Writing g v) (c.table, c.known) k)
+
+  -- an answer of the machine
+  pub settled_alike : (x : Call T) (out was : Outcome T) → Matched f d
+      (λ (v : T). v) Knows store out was → (erase (reply_of x out.0) ≡ erase (reply_of x was.0))
+      × CarriesSession f d Knows (settle s x out).1 (settle a x was).1
+  settled_alike x out was m =
+      let t = tables_give f d Knows store _ _ was.0
+      (tables_spend f d Knows store s.table a.table x was.0 (c.table, c.known)) m.known in (
+        rw m.answer (said_moved f d Knows store x was.0),
+        record { state = m.state; table = rw (m.same, m.answer) t.0; known = rw m.same t.1 },
+      )
+
+-- ---- a renaming that agrees with another one on the names known, where more are known
+
+all_agree : {X Y : Type 0} (P Q : X → Type 0) (u w : X → Y) → ((x : X) → P x → (u x ≡ w x) × Q x)
+    → (xs : List X) → AllByRecursion P xs → (list_map u xs ≡ list_map w xs) × AllByRecursion Q xs
+all_agree P Q u w same [] k = (refl, tt)
+all_agree P Q u w same (x ∷ xs) k = let here = same x k.0 in
+    let rest = all_agree P Q u w same xs k.1 in (λ i. here.0 i ∷ rest.0 i, (here.1, rest.1))
+
+module _ (f h : Name → Name) (d n : ℕ) (Knows More : Name → Type 0)
+    (agree : (k : Name) → Knows k → (h k ≡ f k) × More k) where
+  cell_agrees : {T : Type 0} (c : Option (Cell T))
+      → ((m : Name) (l : Location) → c ≡ Some (Cell.Ref m l) → Knows m)
+      → option_map (rename_cell h d (λ (v : T). v)) c ≡ option_map (rename_cell f d (λ v. v)) c
+  cell_agrees c leads = grind arith
+
+  holding_agrees : (x : Option Ownership)
+      → ((y : Ownership) → x ≡ Some y → AllByRecursion Knows y.names)
+      → option_map (rename_ownership h d) x ≡ option_map (rename_ownership f d) x
+  holding_agrees x k = grind (arith, all_agree)
+
+  pub box_agrees : (b : GenerationalPointer)
+      → KnowsBox Knows n b → rename_box h d n b ≡ rename_box f d n b
+  box_agrees b h = grind arith
+
+  held_agrees : {T : Type 0} (x : Held T) → KnowsHeld Knows n x
+      → (rename_held h d n x ≡ rename_held f d n x) × KnowsHeld More n x
+  held_agrees x k = grind arith
+
+-- ---- one more name
+
+module _ (order : List Name) (y : Name) {n : ℕ} (is : n ≡ length order) where
+  -- the names before keep their numbers, and the last number stands for the new name
+  pub older : (k : Name) → IsNumberBelow (length order) k
+      → (named_by (order ++ y ∷ []) k ≡ named_by order k)
+      × IsNumberBelow (length (order ++ y ∷ [])) k
+  older k b =
+      (get_or_append_left order (y ∷ []) k k.slot b.1, (b.0, omega (arith, length_push order y)))
+
+  pub back : named_by (order ++ y ∷ []) (number n) ≡ y
+  back = get_or_push order y (number n) n (sym is)
+
+  pub last_known : IsNumberBelow (length (order ++ y ∷ [])) (number n)
+  last_known = (refl, omega (arith, length_push order y))
+
+-- a list carries one session into another; its names are those given, and some not given yet
+pub record Reserves {T : Type 0} (s a : SessionState T)
+    (d : ℕ) (order : List Name) (given_s given_a : Names) : Type 0 where
+  pub carries : CarriesSession (named_by order) d (IsNumberBelow (length order)) s a
+  pub names : AreListed order given_s
+  pub numbers : AreNumbersBelow (length order) given_a
+  pub more_s : (n : Name) → set.contains s.state.given n ≡ true → set.contains given_s n ≡ true
+  pub more_a : (n : Name) → set.contains a.state.given n ≡ true → set.contains given_a n ≡ true
+
+module _ {T : Type 0} {s a : SessionState T} {d : ℕ} {order : List Name} {given_s given_a : Names}
+    (r : Reserves s a d order given_s given_a) (y : Name) (new : set.contains given_s y ≡ false)
+    {n : ℕ} (is : n ≡ length order) where
+  abbrev renamed : Name → Name
+  renamed = named_by (order ++ y ∷ [])
+
+  abbrev IsBelow : Name → Type 0
+  IsBelow = IsNumberBelow (length order)
+
+  -- no number below stands for the new name, since the names of the list were given
+  other : (k : Name) → IsBelow k → named_by order k ≢ y
+  other k b e = true≢false (sym (r.names.all (named_by order k)
+      ∙ list_any_at (is_name (named_by order k)) order k.slot k b.1 (name_here (named_by order k)))
+      ∙ (ap (set.contains given_s) e ∙ new))
+
+  -- a number below the next one is below n, or n
+  by_last : {X : Type 0} (k : Name) → IsNumberBelow (length (order ++ y ∷ [])) k
+      → (IsBelow k → X) → (k ≡ number n → X) → X
+  by_last k b old last = grind (arith, length_push)
+
+  not_below : IsBelow (number n) → ⊥
+  not_below b = omega arith
+
+  -- a name more, which was never given, at the end of the list
+  pub reserve : Reserves s a d
+      (order ++ y ∷ []) (set.insert given_s y) (set.insert given_a (number n))
+  reserve =
+      let c = r.carries.state in
+      let old = older order y is in
+      let last = back order y is in
+      let held = all_agree (KnowsHeld IsBelow a.state.number) _ _ _ (held_agrees (named_by order)
+      renamed d a.state.number IsBelow _ old) a.table r.carries.known in
+      let moved = option_map (rename_cell renamed d (λ (v : T). v)) in
+      let unborn_s = not_there (map.get s.state.cells y)
+      (λ live. let it = c.cells.from y live in other it.0 it.1 it.2) in
+      let unborn_a = not_there (map.get a.state.cells (number n))
+      (λ live. not_below (c.cells.known (number n) live)) in
+      let fresh_a = false_from_ne_true (set.contains given_a (number n))
+      (λ e. not_below (r.numbers.only (number n) e)) in
+      record {
+        carries = record {
+          state = record {
+            number = c.number;
+            next = c.next;
+            peak = c.peak;
+            cells = record {
+              at = λ k b. by_last k b (λ lt. rw ((old k lt).0, c.cells.at k lt)
+                  (sym (cell_agrees (named_by order) renamed d n IsBelow _ old
+                  (map.get a.state.cells k) (c.cells.leads k))))
+                  (λ e. rw (e, last, unborn_s, unborn_a));
+              from = λ m e. let it = c.cells.from m e in
+                  (it.0, (old it.0 it.1).1, (old it.0 it.1).0 ∙ it.2);
+              known = λ k e. (old k (c.cells.known k e)).1;
+              leads = λ k m l e. (old m (c.cells.leads k m l e)).1;
+            };
+            given = λ k b. by_last k b (λ lt. rw (old k lt).0 (c.given k lt))
+                (λ e. rw (e, last) (false_from_ne_true _ (λ e. let more = r.more_s y e in cc)
+                ∙ sym (false_from_ne_true _
+                (λ e. not_below (r.numbers.only (number n) (r.more_a (number n) e))))));
+            owners = λ key. c.owners key ∙ sym (holding_agrees (named_by order) renamed d n
+                IsBelow _ old (map.get a.state.owners key) (c.listed key));
+            keys = c.keys;
+            listed = λ key x e. (all_agree IsBelow _ renamed (named_by order)
+                old x.names (c.listed key x e)).1;
+            apart = λ j k bj bk e. by_last j bj (λ lj. by_last k bk
+                (λ lk. c.apart j k lj lk (rw ((old j lj).0, (old k lk).0) at e))
+                (λ at. absurd (other j lj (cc (last, (old j lj).0))))) (λ here. by_last k bk
+                (λ lk. absurd (other k lk (cc (last, (old k lk).0)))) (λ at. here ∙ sym at));
+          };
+          table = r.carries.table ∙ sym held.0;
+          known = held.1;
+        };
+        names = record {
+          count = rw (set.len-insert name_total given_s y, new, r.names.count)
+              (sym (length_push order y));
+          all = λ m. let behind = list_any-append (is_name m) order (y ∷ []) in
+              grind (arith, contains-insert_name given_s y m, r.names.all m, behind);
+        };
+        numbers = record {
+          count = rw (set.len-insert name_total given_a (number n), fresh_a, r.numbers.count)
+              (sym (length_push order y));
+          all = λ k b. by_last k b
+              (λ lt. contains-insert_old by_name given_a (number n) k (r.numbers.all k lt))
+              (λ e. rw e (contains-insert_here by_name given_a (number n)));
+          only = λ k e. ⊎_elim (λ at. rw at (last_known order y is)) (λ ne. (old k (r.numbers.only k
+              (rw (contains-insert_apart by_name given_a (number n) k ne) at e))).1)
+              (name_cases k (number n));
+        };
+        more_s = λ m e. contains-insert_old by_name given_s y m (r.more_s m e);
+        more_a = λ m e. contains-insert_old by_name given_a (number n) m (r.more_a m e);
+      }
+
+-- ---- each call of a session, and each run, is answered as the numbered machine does it, ids aside
+
+-- a slot behind those of all names in a list
+slot_behind : (names : List Name)
+    → (s : ℕ) × ((n : Name) → list_any (eq_by_cmp name_cmp n) names ≡ true → n.slot < s)
+slot_behind [] = (0, λ n h. cc)
+slot_behind (m ∷ names) =
+    let rest = slot_behind names in
+    (m.slot + rest.0 + 1, λ n h. grind (arith, rest.1 n, key_same by_name n m, or_cases))
+
+module _ {T : Type 0} where
+  -- there are always names that were never given
+  fresh_names : (S : State T) (call : Action T) → (new : NewNames) × AreFresh S call new
+  fresh_names S call =
+      let behind = slot_behind (set.items S.given) in
+      let new : (n : Name) → behind.0 ≤ n.slot → set.contains S.given n ≡ false =
+      λ n from. false_from_ne_true _
+      (λ h. omega (arith, behind.1 n (sym (set.contains-items S.given n) ∙ h))) in
+      let both : NewNames = record { first = number behind.0; second = number (behind.0 + 1) } in
+      let one = new both.first (omega arith) in let two = new both.second (omega arith) in
+      (both, grind arith)
+
+  -- nothing changes, or names were given
+  abbrev Left : Bool → State T → Names → State T → Type 0
+  Left true S given R = R ≡ S
+  Left false S given R = R.given ≡ given
+
+  -- a making is refused whichever names it takes, or takes its names
+  record Making (S : State T) (given : NewNames → Names) (out : NewNames → Outcome T) : Type 0 where
+    left : (new : NewNames) → Left (is_refusal (out new).0) S (given new) (out new).1
+    unnamed : (f h : NewNames) → is_refusal (out f).0 ≡ true → out f ≡ out h
+
+  -- the names given after a making
+  abbrev given_after : State T → Action T → NewNames → Names
+  given_after S (MakeShared o v l) new = set.insert (set.insert S.given new.first) new.second
+  given_after S _ new = set.insert S.given new.first
+
+  making : (S : State T) (call : Action T)
+      → is_making call ≡ true → Making S (given_after S call) (act S call)
+  making S call h = grind arith
+
+  -- a call that is refused doesn't depend on the names
+  unnamed : (S : State T) (call : Action T) (f h : NewNames)
+      → is_refusal (act S call f).0 ≡ true → act S call f ≡ act S call h
+  unnamed S call f h k = grind arith
+
+  -- a call wants memory or tickets, or does what the machine does with names that were never given
+  meets_fresh : {P : Type 0} (S R : State T) (call : Action T) (answer : Answer T)
+      → ((e : StoreError) → want e ≡ Some e → ◌≡◌ {A = Outcome T} (answer, R) (Refused e, S) → P)
+      → ((new : NewNames) → AreFresh S call new → (answer, R) ≡ act S call new → P)
+      → Meets S call answer R → P
+  meets_fresh {P} S R call answer wanting acting (inl m) = cond_both (takes_ticket
+      (act S call m.0).0 && nat_eq S.next last_ticket) (Refused error.NumbersExhausted, S)
+      (act S call m.0) (λ out. (answer, R) ≡ out → P) (λ _. wanting error.NumbersExhausted refl)
+      (λ _ e. ⊎_elim (λ new. acting m.0 (new_fresh S call m.0 new) e) (λ same. let
+      other = fresh_names S call in acting other.0 other.1 (e ∙ unnamed S call m.0 other.0 same.0))
+      (takes_new S call m.0 (subst (λ (o : Outcome T). Takes S call o.0 m.0) e m.1))) m.2
+  meets_fresh S R call answer wanting acting (inr m) =
+      wanting error.OutOfMemory refl (λ i. (m.1 i, m.2 i))
+
+  refusal_moved : (f : Name → Name) (d n : ℕ) (answer : Answer T)
+      → is_refusal (rename_answer f d (λ (v : T). v) n answer) ≡ is_refusal answer
+  refusal_moved f d n answer = grind arith
+
+  -- a refusal has no names
+  refusal_same : (f h : Name → Name) (d n : ℕ) (Knows : Name → Type 0) (answer : Answer T)
+      → is_refusal answer ≡ true → KnowsAnswer Knows n answer
+      × (rename_answer h d (λ (v : T). v) n answer ≡ rename_answer f d (λ (v : T). v) n answer)
+  refusal_same f h d n Knows answer r = grind arith
+
+  -- the replies are the same, ids aside, and the sessions after them match
+  record StepMatches (s a : SessionReply T × SessionState T) : Type 0 where
+    pub said : erase s.0 ≡ erase a.0
+    pub after : Matches s.1 a.1
+
+module _ {T : Type 0} {s a : SessionState T} (m : Matches s a) where
+  abbrev mine : Action T → Action T
+  mine action = rename_action (named_by m.order) m.difference (λ (v : T). v) a.state.number action
+
+  -- two outcomes, carried by a list
+  abbrev CarriedBy : List Name → Outcome T → Outcome T → Type 0
+  CarriedBy order = Matched (named_by order)
+      m.difference (λ (v : T). v) (IsNumberBelow (length order)) a.state.number
+
+  abbrev Settled : Call T → Outcome T → Outcome T → Type 0
+  Settled x out was = StepMatches (settle s x out) (settle a x was)
+
+  start : Reserves s a m.difference m.order s.state.given a.state.given
+  start = assumption m
+
+  -- sessions that are carried match where the names of the list are those given
+  matched : {order : List Name} {given_s given_a : Names} {x y : SessionReply T × SessionState T}
+      → Reserves s a m.difference order given_s given_a → (erase x.0 ≡ erase y.0)
+      × CarriesSession (named_by order) m.difference (IsNumberBelow (length order)) x.1 y.1
+      → x.1.state.given ≡ given_s → y.1.state.given ≡ given_a → StepMatches x y
+  matched r both h k = grind arith
+
+  -- a making, once the new names are numbered behind the others
+  making_step : (x : Call T) (call : Action T) (new : NewNames) (order : List Name)
+      → is_making call ≡ true → is_making (mine call) ≡ true
+      → Reserves s a m.difference order (given_after s.state (mine call) new)
+      (given_after a.state call (next_numbers a))
+      → KnowsCall (IsNumberBelow (length order)) a.state.number call
+      → KnowsNewNames (IsNumberBelow (length order)) call (next_numbers a)
+      → act s.state (rename_action (named_by order) m.difference (λ (v : T). v) a.state.number call)
+      (rename_new_names (named_by order) (next_numbers a)) ≡ act s.state (mine call) new
+      → Settled x (act s.state (mine call) new) (act a.state call (next_numbers a))
+  making_step x call new order makes made r k kn e = at (is_refusal was.0) refl
+      (rw (ap is_refusal h.answer
+      ∙ refusal_moved (named_by order) m.difference a.state.number was.0)
+      at ((making s.state (mine call) made).left new)) ((making a.state call makes).left _)
+    where
+      out : Outcome T
+      out = act s.state (mine call) new
+
+      was : Outcome T
+      was = act a.state call (next_numbers a)
+
+      h : CarriedBy order out was
+      h = rw e at (act_matched r.carries.state call (next_numbers a) k kn)
+
+      at : (b : Bool) → is_refusal was.0 ≡ b
+          → Left b s.state (given_after s.state (mine call) new) out.1
+          → Left b a.state (given_after a.state call (next_numbers a)) was.1 → Settled x out was
+      at false is kept_s kept_a = matched r (settled_alike r.carries x out was h) kept_s kept_a
+      at true is kept_s kept_a =
+          let same = refusal_same (named_by m.order)
+          (named_by order) m.difference a.state.number (IsNumberBelow (length m.order)) was.0 is in
+          matched start (settled_alike m.carries x out was (record {
+            answer = h.answer ∙ same.1;
+            state = rw (kept_s, kept_a) m.carries.state;
+            same = h.same;
+            known = same.0;
+          })) (rw kept_s refl) (rw kept_a refl)
+
+  asks_step : (x : Call T) (action : Action T) (new : NewNames) → KnowsCall
+      (IsNumberBelow (length m.order)) a.state.number action → AreFresh s.state (mine action) new
+      → Settled x (act s.state (mine action) new) (act a.state action (next_numbers a))
+  asks_step x (Make o v l) new k unused = let is = m.numbers.count in
+      making_step x (Make o v l) new _ refl refl (reserve start new.first unused is) tt
+      (last_known m.order new.first is) (rw (back m.order new.first is))
+  asks_step x (Refer o b) new k unused =
+      let is = m.numbers.count in let old = older m.order new.first is in
+      let same = box_agrees (named_by m.order) _ m.difference a.state.number _ _ old b k in
+      making_step x (Refer o b) new _ refl refl (reserve start new.first unused is)
+      (λ own. (old _ (k own)).1) (last_known m.order new.first is)
+      (rw (same, back m.order new.first is))
+  asks_step x (MakeShared o v l) new k unused =
+      let is = m.numbers.count in
+      let one = m.order ++ new.first ∷ [] in
+      let two : set.len a.state.given + 1 ≡ length one =
+      omega (arith, length_push m.order new.first) in
+      let r = reserve (reserve start new.first unused.0 is) new.second
+      (contains-insert_apart by_name s.state.given new.first new.second
+      (λ e. unused.2 (sym e)) ∙ unused.1) two in
+      let old = older one new.second two _ (last_known m.order new.first is) in
+      making_step x (MakeShared o v l) new _ refl refl r tt (old.1, last_known one new.second two)
+      (rw (old.0, back m.order new.first is, back one new.second two))
+  asks_step x action new k unused = matched start (settled_alike m.carries x _ _
+      (act_matched m.carries.state action (next_numbers a) k tt)) ((act_start s.state
+      (mine action) new).given refl) ((act_start a.state action (next_numbers a)).given refl)
+
+  answered : (c : Call T) (q : Request T) {x : SessionReply T} {r : SessionState T}
+      (out : SessionReply T × SessionState T) {e : Option StoreError} → (x, r) ≡ out
+      → refusal_in out.0 ≡ e → StepMatches out (numbered a c q e)
+      → StepMatches (x, r) (numbered a c q (refusal_in x))
+  answered c q out is told step = grind arith
+
+  settles_step : (c : Call T) (x : SessionReply T) (r : SessionState T) (p q : Request T)
+      → ask s c ≡ p → AskedAlike (named_by m.order) m.difference (IsNumberBelow (length m.order))
+      a.state.number p q → Settles s c p x r → StepMatches (x, r) (numbered a c q (refusal_in x))
+  settles_step c x r p q asked (both_ask {x = action} k) step =
+      meets_fresh s.state step.1 (mine action) step.0 (λ e is same.
+      let after : List (Held T) → SessionReply T × SessionState T =
+      λ table. (refusal c e, add_place (record s { table = table }) Held.Nothing) in
+      let met : Meets s.state (mine action) (Refused e) s.state =
+      subst (λ (o : Outcome T). Meets s.state (mine action) o.0 o.1) same step.2 in
+      answered c (Asks action) (after s.table) (step.3 ∙ (ap (settle s c) same
+      ∙ ap after (unspent s c (mine action) (Refused e) s.state asked met refl))) ((refusal_told c e).0 ∙ is)
+      (matched start (refl, placed_alike m.carries) refl refl)) (λ new unused is.
+      let out = act s.state (mine action) new in
+      answered c (Asks action) (settle s c out) (step.3 ∙ ap (settle s c) is)
+      ((tell c out.0).0 ∙ (act_says s.state (mine action) new unused).able)
+      (asks_step c action new k unused)) step.2
+  settles_step c x r p q asked (both_tell y z e able) step =
+      answered c (Tells z) _ (λ i. (step.0 i, step.1 i)) able
+      (matched start (e, placed_alike m.carries) refl refl)
+  settles_step c x r p q asked (both_swap place g v old known) step =
+      answered c (Swaps place g v old) _ (λ i. (step.0 i, step.1 i)) refl
+      (matched start (refl, placed_alike (swapped_alike m.carries place g v known)) refl refl)
+
+module _ {T : Type 0} where
+  -- so a run is answered as by the numbered machine, ids aside, and the sessions left match
+  pub run_answers : (calls : List (Call T)) (replies : List (SessionReply T))
+      (s r a : SessionState T)
+      → Matches s a → IsSound s.state → Run s calls replies r → AnswersAs a calls replies r
+  run_answers [] [] s r a m sound run = record { same = refl; matches = rw run m }
+  run_answers (c ∷ calls) (x ∷ replies) s r a m sound run =
+      let one = settles_step m c x run.0 _ _ refl (asked_alike m.carries c) run.1 in
+      let rest = run_answers calls replies run.0 r (numbered_act a c (refusal_in x)).1
+      one.after (session_sound s run.0 c x sound run.1) run.2 in
+      record { same = λ i. one.said i ∷ rest.same i; matches = rest.matches }
+  run_answers _ _ s r a m sound run = absurd run
+
+  -- and one call is a run
+  pub call_answers : (c : Call T) (x : SessionReply T) (s r a : SessionState T) → Matches s a
+      → IsSound s.state → SessionStep s c x r → AnswersAs a (c ∷ []) (x ∷ []) r
+  call_answers c x s r a m sound step = run_answers (c ∷ []) (x ∷ []) s r a m sound (r, step, refl)
+
+  -- an owner of a session that matches is the other's
+  pub owner_matched : {s a : SessionState T} (m : Matches s a) (key : ℕ)
+      → is_some (map.get s.state.owners key) ≡ true → (k : ℕ)
+      × (key + a.state.next ≡ k + s.state.next) × (is_some (map.get a.state.owners k) ≡ true)
+  owner_matched {s} {a} m key live =
+      let low = m.carries.state.keys key live in
+      let next = m.carries.state.next in
+      let k = key - m.difference in
+      let same : key ≡ k + m.difference = omega arith in
+      (k, omega arith, rw (same, m.carries.state.owners k, some_map) at live)
+
+  -- a fresh store matches the numbered machine where nothing was called
+  pub fresh_matches : (store start next : ℕ)
+      → (let s : SessionState T = record { state = fresh store start next; table = [] } in
+      Matches s (empty_session store))
+  fresh_matches store start next = record {
+    order = [];
+    difference = next;
+    carries =
+        search (arith, map.get-empty {X = Cell T} name_cmp, map.get-empty {X = Ownership} nat_cmp);
+    names = search (arith, set.len-empty name_cmp, set.contains-empty name_cmp);
+    numbers = search (arith, set.len-empty name_cmp, set.contains-empty name_cmp);
+  }
+
+  -- so a session of a fresh store matches it
+  pub new_matches : (S : State T) (items : List (Thing T))
+      → IsFresh S → items ≡ [] → Matches (session_in S items) (empty_session S.number)
+  new_matches S items f none = rw (none, f) (fresh_matches S.number S.start S.next)

@@ -2,14 +2,14 @@
 -- that leaves each box of another name leaves each of another id.
 use Rattle.std.proofs.Common.{arith}
 use Rattle.generational_sessions.proofs
-use proofs.{Action, Answer, ap, eqb-true, GenerationalPointer, is_some, IsSound, Meets}
-use proofs.{meets_number, Name, name_cases, name_of, None, none-some, reach, same_Some, Some}
-use proofs.{some_live, State, sym, true, unseen, value_in, ⊎_elim, ◌∙◌, ◌≡◌, ◌≢◌}
+use proofs.{Action, Answer, ap, GenerationalPointer, is_some, IsSound, Meets, meets_number, Name}
+use proofs.{name_cases, name_of, None, reach, Some, some_live, State, sym, true, unseen, value_in}
+use proofs.{⊎_elim, ◌∙◌, ◌≡◌, ◌≢◌}
 use Rattle.std.specs.FinMap as map
 use Rattle.generational_core.specs.{Keeping.box_with, Seeing.value_reached}
 use Rattle.generational_core.specs.declared.boxes.GenerationalBoxId.{GenerationalBoxId}
 use Rattle.generational_core.proofs.{machine.Boxing.reached_boxed, machine.Calling.seen_reached}
-use Rattle.generational_core.proofs.machine.Seeing.{led_box, reaches}
+use Rattle.generational_core.proofs.machine.Seeing.{reaches}
 
 module _ {T : Type 0} where
   -- what a box sees lies at what it reaches
@@ -25,7 +25,7 @@ module _ {T : Type 0} where
 
   -- a box of another store reaches nothing
   pub unreached : (S : State T) (b : GenerationalPointer) → b.id.store ≢ S.number → reach S b ≡ None
-  unreached S b other = grind (arith, eqb-true, reaches)
+  unreached S b other = grind (arith, reaches)
 
   pub same_id_sees : (S : State T) (a b : GenerationalPointer) → a.id ≡ b.id
       → value_in S a ≡ value_in S b
@@ -34,7 +34,7 @@ module _ {T : Type 0} where
   -- the box that is found by an id sees what each box of that id does
   pub found_sees : (S : State T) (id : GenerationalBoxId) (b : GenerationalPointer)
       → Some b ≡ box_with S id → (a : GenerationalPointer) → a.id ≡ id → value_in S a ≡ value_in S b
-  found_sees S id b found a same = grind (arith, same_id_sees, none-some, same_Some)
+  found_sees S id b found a same = grind (arith, same_id_sees)
 
   -- ---- boxes that see values
 
@@ -47,7 +47,7 @@ module _ {T : Type 0} where
 
   pub seen_cell : (S : State T) (b : GenerationalPointer) → IsSeen S b
       → is_some (map.get S.cells (name_of b)) ≡ true
-  seen_cell S b seen = grind (arith, seen_reach, led_box, reaches)
+  seen_cell S b seen = grind (arith, seen_reach, reaches)
 
   pub seen_store : (S : State T) (b : GenerationalPointer) → IsSound S → IsSeen S b
       → b.id.store ≡ S.number

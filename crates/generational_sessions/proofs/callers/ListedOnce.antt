@@ -14,10 +14,10 @@ use proofs.{fresh, GenerationalPointer, get-insert_here, hindrance_to, is_known,
 use proofs.{IsDistinct, IsSound, IsSoundSession, IsUnchanged, keeps_record, List, list_any-append}
 use proofs.{Make, MakeShared, Meets, meets_cases, meets_sound, Name, name_apart, name_of}
 use proofs.{name_total, nat_cmp, nat_eq, nat_lt, new_fresh, NewNames, NewOwner, None, one_less}
-use proofs.{one_listed, one_more, Option, or_cases, Outcome, OwnerName, Owners, Ownership}
-use proofs.{ownership, reach, Refer, refer, refl, refusal_to_read, release_leaves, release_owner}
-use proofs.{ReleaseOwner, Run, session_kept, SessionReply, SessionState, SessionStep, Shared, Some}
-use proofs.{State, subst, sym, true, unless, unlisted, [], ℕ, ⊎_elim, ◌++◌, ◌∙◌, ◌∷◌, ◌≡◌, ◌≢◌, ◌⊎◌}
+use proofs.{one_listed, one_more, Option, Outcome, OwnerName, Owners, Ownership, ownership, reach}
+use proofs.{Refer, refer, refl, refusal_to_read, release_leaves, release_owner, ReleaseOwner, Run}
+use proofs.{session_kept, SessionReply, SessionState, SessionStep, Shared, Some, State, subst, sym}
+use proofs.{true, unless, unlisted, [], ℕ, ⊎_elim, ◌++◌, ◌∙◌, ◌∷◌, ◌≡◌, ◌≢◌, ◌⊎◌}
 use Rattle.std.specs.FinMap as map
 use Rattle.std.specs.FinSet as set
 
@@ -38,7 +38,7 @@ apart_pushed names m n before ne = grind (arith, list_any-append, name_apart)
 -- a name among them is one of the others, or the one behind
 among_pushed : (names : List Name) (m n : Name) → among (names ++ m ∷ []) n ≡ true
     → (among names n ≡ true) ⊎ (n ≡ m)
-among_pushed names m n there = grind (arith, name_same, or_cases, list_any-append)
+among_pushed names m n there = grind (arith, name_same, list_any-append)
 
 module _ {T : Type 0} where
   -- the names of an owner's list: none where the store doesn't know the owner

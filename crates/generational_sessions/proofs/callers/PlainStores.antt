@@ -3,10 +3,10 @@ use Rattle.std.proofs.Common.{arith}
 use Rattle.generational_sessions.proofs
 use Rattle.generational_core.proofs.machine.{Changes.new_content, Seeing.reaches}
 use Rattle.generational_core.proofs.machine.{Soundness.keep_each, Stepping.meets_follows}
-use proofs.{act_start, Action, Answer, ap, by_cond, by_name, Cell, Content, false, fresh}
+use proofs.{act_start, Action, Answer, ap, by_name, Cell, Content, false, fresh}
 use proofs.{GenerationalPointer, get-insert_apart, get-insert_here, is_making, Location, Make}
-use proofs.{MakeShared, Meets, meets_cases, Name, name_cases, name_cmp, name_of, Option, Outcome}
-use proofs.{OwnerName, reach, Ref, Refer, refill, refl, Some, State, ℕ, ⊎_elim, ◌∙◌, ◌≡◌}
+use proofs.{MakeShared, Meets, meets_cases, Name, name_cmp, name_of, Option, Outcome, OwnerName}
+use proofs.{reach, Ref, Refer, refill, refl, Some, State, ℕ, ⊎_elim, ◌∙◌, ◌≡◌}
 use Rattle.generational_sessions.specs.PlainStores.{IsPlain, MakesNoReference}
 use Rattle.std.specs.FinMap as map
 use Rattle.std.specs.FinSet as set
@@ -33,8 +33,7 @@ module _ {T : Type 0} where
 
   made_plain : {S R : State T} (o : Option OwnerName) (v : T) (l : Location) (answer : Answer T)
       → Meets S (Make o v l) answer R → IsPlain S → IsPlain R
-  made_plain o v l answer m plain =
-      grind (arith, by_cond, meets_cases, get-insert_here, by_name, get-insert_apart, name_cases)
+  made_plain o v l answer m plain = grind (arith, get-insert_here, by_name, get-insert_apart)
 
   refilled : (d : Content T) (c : Cell T) (m : Name) (l : Location)
       → IsNoRef (Some c) → Some (refill d c) ≡ Some (Ref m l) → ⊥

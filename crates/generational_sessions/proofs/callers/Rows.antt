@@ -4,8 +4,8 @@ use Rattle.std.specs.Prelude.{slice_index_or}
 use proofs.{Answer, ap, arith, can_write, Done, End, free_sees, GenerationalBox}
 use proofs.{GenerationalPointer, IsSound, keeps, keeps_free, length, Location, Made, made}
 use proofs.{made_apart, made_free, Make, map-append, map-set, Meets, None, Ok, Option, OwnerName}
-use proofs.{pointer_of, reach, refl, refusal_to_write, same_Some, slice_set, Some, State, subst}
-use proofs.{suc, sym, true, value_in, zero, [], ℕ, ◌++◌, ◌+◌, ◌<◌, ◌∙◌, ◌∷◌, ◌≡◌}
+use proofs.{pointer_of, reach, refl, refusal_to_write, slice_set, Some, State, subst, suc, sym}
+use proofs.{true, value_in, zero, [], ℕ, ◌++◌, ◌+◌, ◌<◌, ◌∙◌, ◌∷◌, ◌≡◌}
 use Rattle.generational_sessions.specs.BoxRows.{AreApart, AreKept, EachBox, HasOtherName, IsFree}
 use Rattle.generational_sessions.specs.BoxRows.{Rows, shown_in, values_in}
 
@@ -15,66 +15,45 @@ module _ {T : Type 0} where
   pub each_so : {P Q : GenerationalPointer → Type 0} (rows : Rows T)
       → ((b : GenerationalPointer) → P b → Q b) → EachBox P rows → EachBox Q rows
   each_so [] h all = tt
-  each_so {P} {Q} (None ∷ rows) h all = each_so {P = P} {Q = Q} rows h all
-  each_so {P} {Q} (Some b ∷ rows) h all =
-      (h (pointer_of b) all.0, each_so {P = P} {Q = Q} rows h all.1)
+  each_so {P} {Q} (r ∷ rows) h all = grind (arith, each_so {P = P} {Q = Q} rows h)
 
   each_pushed : (P : GenerationalPointer → Type 0) (rows : Rows T) (a : GenerationalBox T)
       → EachBox P rows → P (pointer_of a) → EachBox P (rows ++ Some a ∷ [])
   each_pushed P [] a all new = (new, tt)
-  each_pushed P (None ∷ rows) a all new = each_pushed P rows a all new
-  each_pushed P (Some b ∷ rows) a all new = (all.0, each_pushed P rows a all.1 new)
+  each_pushed P (r ∷ rows) a all new = grind (arith, each_pushed P rows a)
 
   each_emptied : (P : GenerationalPointer → Type 0) (rows : Rows T) (row : ℕ)
       → EachBox P rows → EachBox P (slice_set rows row None)
   each_emptied P [] row all = tt
-  each_emptied P (None ∷ rows) zero all = all
-  each_emptied P (Some b ∷ rows) zero all = all.1
-  each_emptied P (None ∷ rows) (suc row) all = each_emptied P rows row all
-  each_emptied P (Some b ∷ rows) (suc row) all =
-      (all.0, each_emptied P rows row all.1)
+  each_emptied P (r ∷ rows) zero all = grind arith
+  each_emptied P (r ∷ rows) (suc row) all = grind (arith, each_emptied P rows row)
 
   pub each_at : (P : GenerationalPointer → Type 0) (rows : Rows T) (row : ℕ) (a : GenerationalBox T)
       → EachBox P rows → slice_index_or rows row None ≡ Some a → P (pointer_of a)
-  each_at P (Some b ∷ rows) zero a all is = rw (same_Some b a is) at all.0
-  each_at P (None ∷ rows) (suc row) a all is = each_at P rows row a all is
-  each_at P (Some b ∷ rows) (suc row) a all is = each_at P rows row a all.1 is
-  each_at P rows row a all is = cc
+  each_at P [] row a all is = cc
+  each_at P (r ∷ rows) zero a all is = grind arith
+  each_at P (r ∷ rows) (suc row) a all is = grind (arith, each_at P rows row a)
 
   -- ---- names
 
   apart_pushed : (rows : Rows T) (a : GenerationalBox T) → AreApart rows
       → EachBox (HasOtherName (pointer_of a)) rows → AreApart (rows ++ Some a ∷ [])
   apart_pushed [] a apart new = (tt, tt)
-  apart_pushed (None ∷ rows) a apart new = apart_pushed rows a apart new
-  apart_pushed (Some b ∷ rows) a apart new = (
-    each_pushed (HasOtherName (pointer_of b)) rows a apart.0 (λ e. new.0 (sym e)),
-    apart_pushed rows a apart.1 new.1,
-  )
+  apart_pushed (r ∷ rows) a apart new = grind (arith, apart_pushed rows a, each_pushed)
 
   apart_emptied : (rows : Rows T) (row : ℕ) → AreApart rows
       → AreApart (slice_set rows row None)
   apart_emptied [] row apart = tt
-  apart_emptied (None ∷ rows) zero apart = apart
-  apart_emptied (Some b ∷ rows) zero apart = apart.1
-  apart_emptied (None ∷ rows) (suc row) apart = apart_emptied rows row apart
-  apart_emptied (Some b ∷ rows) (suc row) apart = (
-    each_emptied (HasOtherName (pointer_of b)) rows row apart.0,
-    apart_emptied rows row apart.1,
-  )
+  apart_emptied (r ∷ rows) zero apart = grind arith
+  apart_emptied (r ∷ rows) (suc row) apart = grind (arith, apart_emptied rows row, each_emptied)
 
   -- once a row is emptied, all that are left have other names than its box
   others : (rows : Rows T) (row : ℕ) (a : GenerationalBox T) → AreApart rows
       → slice_index_or rows row None ≡ Some a
       → EachBox (HasOtherName (pointer_of a)) (slice_set rows row None)
   others [] row a apart is = tt
-  others (None ∷ rows) zero a apart is = cc
-  others (Some b ∷ rows) zero a apart is = rw (same_Some b a is) at apart.0
-  others (None ∷ rows) (suc row) a apart is = others rows row a apart is
-  others (Some b ∷ rows) (suc row) a apart is = (
-    λ e. each_at (HasOtherName (pointer_of b)) rows row a apart.0 is (sym e),
-    others rows row a apart.1 is,
-  )
+  others (r ∷ rows) zero a apart is = grind arith
+  others (r ∷ rows) (suc row) a apart is = grind (arith, others rows row a, each_at)
 
   -- ---- values
 
@@ -88,9 +67,8 @@ module _ {T : Type 0} where
   pub empty_again : (S : State T) (rows : Rows T) (row : ℕ) → slice_index_or rows row None ≡ None
       → slice_set (values_in S rows) row None ≡ values_in S rows
   empty_again S [] row is = refl
-  empty_again S (r ∷ rows) zero is = ap (λ x. x ∷ values_in S rows) (sym (ap (shown_in S) is))
-  empty_again S (r ∷ rows) (suc row) is =
-      ap (λ xs. shown_in S r ∷ xs) (empty_again S rows row is)
+  empty_again S (r ∷ rows) zero is = grind arith
+  empty_again S (r ∷ rows) (suc row) is = cc (empty_again S rows row is)
 
   -- the row of a box is one of the rows
   pub within : (rows : Rows T) (row : ℕ) (a : GenerationalBox T)
@@ -114,19 +92,12 @@ module _ {T : Type 0} where
   values_kept : (S R : State T) (rows : Rows T) → IsSound S → EachBox (IsFree S) rows
       → EachBox (Keeps S R) rows → values_in R rows ≡ values_in S rows
   values_kept S R [] s free all = refl
-  values_kept S R (None ∷ rows) s free all =
-      ap (λ xs. None ∷ xs) (values_kept S R rows s free all)
-  values_kept S R (Some b ∷ rows) s free all =
-      let saw = free_sees S (pointer_of b) s free.0 in
-      ap (λ x. x ∷ values_in R rows) (all.0.seen saw.0 saw.1 ∙ sym saw.1)
-      ∙ ap (λ xs. value_in S (pointer_of b) ∷ xs) (values_kept S R rows s free.1 all.1)
+  values_kept S R (r ∷ rows) s free all = grind (arith, values_kept S R rows s, free_sees)
 
   still_free : (S R : State T) (rows : Rows T)
       → EachBox (IsFree S) rows → EachBox (Keeps S R) rows → EachBox (IsFree R) rows
   still_free S R [] free all = tt
-  still_free S R (None ∷ rows) free all = still_free S R rows free all
-  still_free S R (Some b ∷ rows) free all =
-      (all.0.free free.0, still_free S R rows free.1 all.1)
+  still_free S R (r ∷ rows) free all = grind (arith, still_free S R rows)
 
   -- ---- rows after a call of their store
 

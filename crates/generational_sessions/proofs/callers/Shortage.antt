@@ -6,7 +6,7 @@ use Rattle.generational_core.proofs.maps.Maps.{kept_key, len_within}
 use Rattle.generational_core.specs.{Answers.read_refused, Slots.last_generation}
 use Rattle.generational_errors.specs.declared.error.BorrowError.{BorrowError}
 use proofs.{add_cell, Answer, ap, arith, Bool, BorrowMutError, box_of, by_cond, by_name, by_number}
-use proofs.{can_read, can_write, Cell, end_refused, eqb-true, false, free, GenerationalBox}
+use proofs.{can_read, can_write, Cell, end_refused, false, free, GenerationalBox}
 use proofs.{GenerationalPointer, get-insert_apart, get-insert_here, given_other, Here, is_free}
 use proofs.{is_none, is_some, IsGiven, IsSound, keep_view, keeps_free, key_cases, last_name}
 use proofs.{last_ticket, lasts_insert, leaves, limit_tickets, Location, Made, Make, MakeShared}
@@ -156,7 +156,7 @@ module _ {T : Type 0} where
       → Meets S (Refer None b) (read_refused e) R
       → (e ≡ refused.Store OutOfMemory) × (free S ≡ 0)
   unfolding may_lack
-  refer_short b e s r can h = grind (arith, limited, eqb-true, ref_reaches, none_there)
+  refer_short b e s r can h = grind (arith, ref_reaches)
 
   -- ---- borrows that nothing hinders
 

@@ -198,7 +198,7 @@ module _ {T U : Type 0} {f : Name → Name} {d : ℕ} {g : T → U}
       → Carries f d g Knows (close S (list_map f names)) (close A names)
       × (hindrance_to S (list_map f names) ≡ hindrance_to A names)
   unfolding hindrance_to
-  end_names names k = grind (arith, cells_left, with_cells, first_moved)
+  end_names names k = grind (arith, cells_left, first_moved)
 
   unknown_alike : Alike (Refused UnknownOwner, S) (Refused UnknownOwner, A)
   unknown_alike = stays (Refused UnknownOwner) refl tt
@@ -292,12 +292,12 @@ module _ {T U : Type 0} {f : Name → Name} {d : ℕ} {g : T → U}
   pub read_moved : (b : GenerationalPointer) → KnowsBox Knows A.number b
       → can_read S (rename_box f d A.number b) ≡ can_read A b
   unfolding refusal_to_read
-  read_moved b k = grind (arith, content_there, refusals_moved, reach_cases)
+  read_moved b k = grind (arith, reach_cases)
 
   pub write_moved : (b : GenerationalPointer) → KnowsBox Knows A.number b
       → can_write S (rename_box f d A.number b) ≡ can_write A b
   unfolding refusal_to_write
-  write_moved b k = grind (arith, content_there, refusals_moved, reach_cases)
+  write_moved b k = grind (arith, reach_cases)
 
   -- each call of a carried state matches the call of the state that carries it
   pub act_matched : (call : Action T) (new : NewNames)

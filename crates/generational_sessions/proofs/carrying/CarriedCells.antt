@@ -4,13 +4,13 @@ use sessions.{AllByRecursion, among, ap, arith, Bool, Borrow, BorrowRefusal, bot
 use sessions.{CarriesCells, cases_eq, Cell, cells_after, change, change_if, cond, cond-true}
 use sessions.{Content, content_of, eq_by_cmp, false, filter, first_hindrance, get-insert_apart}
 use sessions.{get-insert_here, get-insert_name, get-keep, get-remove_apart, Here, hindrance_at}
-use sessions.{hindrance_of, is_name, is_named, is_shared, is_some, IsDistinct, keep_view, key_here}
-use sessions.{keys_apart, len_keys, length, List, list_any, list_map, Location, location_of, Name}
-use sessions.{name_apart, name_cases, name_cmp, name_here, name_total, named_from, named_gives}
-use sessions.{NameMap, nat_cmp, nat_eq, None, not, Option, option_map, or_left, or_right}
-use sessions.{read_refusal, Ref, refill, refl, rename_cell, rename_content, shift_borrow, Some}
-use sessions.{some_live, subst, sweep, sym, take_away, true, unsigned_tied, Value, write_refusal}
-use sessions.{[], ℕ, ⊎_elim, ◌+◌, ◌||◌, ◌∙◌, ◌∷◌, ◌≡◌, ◌≢◌, ◌≤◌, ◌⊎◌}
+use sessions.{is_name, is_named, is_shared, is_some, IsDistinct, keep_view, key_here, keys_apart}
+use sessions.{len_keys, length, List, list_any, list_map, Location, location_of, Name, name_apart}
+use sessions.{name_cmp, name_here, name_total, named_from, named_gives, NameMap, nat_cmp, nat_eq}
+use sessions.{None, not, Option, option_map, or_left, or_right, read_refusal, Ref, refill, refl}
+use sessions.{rename_cell, rename_content, shift_borrow, Some, some_live, subst, sweep, sym}
+use sessions.{take_away, true, unsigned_tied, Value, write_refusal, [], ℕ, ⊎_elim, ◌+◌, ◌||◌, ◌∙◌}
+use sessions.{◌∷◌, ◌≡◌, ◌≢◌, ◌≤◌, ◌⊎◌}
 use Rattle.std.specs.FinMap as map
 
 pub cond_map : {A B : Type 0} (h : A → B) (b : Bool) (x y : A) → cond b (h x) (h y) ≡ h (cond b x y)
@@ -122,13 +122,13 @@ kept_live m p n h = let it = some_live _ h in ap is_some (kept_cell m p n it.0 i
 insert_view : {X : Type 0} (m : NameMap X) (n : Name) (x : X) (q : Name)
     → ((q ≡ n) × (map.get (map.insert m n x) q ≡ Some x))
     ⊎ (map.get (map.insert m n x) q ≡ map.get m q)
-insert_view m n x q = grind (arith, get-insert_here, by_name, get-insert_apart, name_cases)
+insert_view m n x q = grind (arith, get-insert_here, by_name, get-insert_apart)
 
 module _ {f : Name → Name} {Knows : Name → Type 0}
     (apart : (j k : Name) → Knows j → Knows k → f j ≡ f k → j ≡ k) where
   -- known names are told apart as before
   pub same_test : (j k : Name) → Knows j → Knows k → is_name (f j) (f k) ≡ is_name j k
-  same_test j k kj kk = grind (arith, name_here, name_apart, name_cases)
+  same_test j k kj kk = grind (arith, name_here, name_apart)
 
   among_moved : (names : List Name) (k : Name)
       → AllByRecursion Knows names → Knows k → among (list_map f names) (f k) ≡ among names k
@@ -173,7 +173,7 @@ module _ {T U : Type 0} {f : Name → Name} {d : ℕ} {g : T → U} {Knows : Nam
 
     pub cells_swept : CarriesCells f d g Knows (sweep S) (sweep A)
     unfolding sweep
-    cells_swept = grind (arith, cells_keep, named_moved, cell_moved)
+    cells_swept = grind (arith, cells_keep, named_moved)
 
     -- one cell more, at a known name
     pub cells_insert : (n : Name) (x : Cell T) → Knows n → KnowsTarget Knows x
@@ -209,7 +209,7 @@ module _ {T U : Type 0} {f : Name → Name} {d : ℕ} {g : T → U} {Knows : Nam
       (c : CarriesCells f d g Knows S A) (names : List Name) → AllByRecursion Knows names
       → CarriesCells f d g Knows (cells_after S (list_map f names)) (cells_after A names)
   unfolding take_away
-  cells_left c names h = grind (arith, cells_swept, cells_keep, among_moved, cell_moved)
+  cells_left c names h = grind (arith, cells_swept, cells_keep, among_moved)
 
   module _ {S L : NameMap (Cell U)} {A M : NameMap (Cell T)}
       (c : CarriesCells f d g Knows S A) (e : CarriesCells f d g Knows L M) where
@@ -221,11 +221,5 @@ module _ {T U : Type 0} {f : Name → Name} {d : ℕ} {g : T → U} {Knows : Nam
     pub first_moved : (names : List Name) → AllByRecursion Knows names
         → first_hindrance S L (list_map f names) ≡ first_hindrance A M names
     first_moved [] h = refl
-    first_moved (n ∷ names) h = let own = of (map.get A n) (known_target _ (c.leads n)) in
-        rw (c.at n h.0, own, first_moved names h.1) refl
-      where
-        of : (x : Option (Cell T)) → IfThere x (KnowsTarget Knows)
-            → hindrance_of S L (option_map (rename_cell f d g) x) (f n) ≡ hindrance_of A M x n
-        of (Some (Value o l)) k = hindrance_at_moved n h.0
-        of (Some (Ref m l)) k = hindrance_at_moved m k
-        of _ k = refl
+    first_moved (n ∷ names) h =
+        grind (arith, first_moved names h.1, c.at n h.0, hindrance_at_moved, known_target, c.leads)

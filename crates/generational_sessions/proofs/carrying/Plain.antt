@@ -1,8 +1,9 @@
 -- A call does the same to a state without its values, and is answered the same without values.
 use Rattle.generational_sessions.proofs.sessions.Common
 use Rattle.generational_core.proofs.machine.Rows.{get_bare_cell}
-use Rattle.generational_sessions.proofs.carrying.CarriedCalls.{act_matched, content_there, reach_cases, with_born}
-use Rattle.generational_sessions.proofs.carrying.CarriedCells.{cond_map, refusals_moved, some_map}
+use Rattle.generational_sessions.proofs.carrying.CarriedCalls.{act_matched, content_there}
+use Rattle.generational_sessions.proofs.carrying.CarriedCalls.{reach_cases, with_born}
+use Rattle.generational_sessions.proofs.carrying.CarriedCells.{refusals_moved}
 use Common.{act, act_start, Action, add_cell, AllByRecursion, Answer, ap, AreNew, arith, bare}
 use Common.{bare_cells, Borrow, Carries, Cell, cell_at, Content, content_at, content_of, free}
 use Common.{fresh, GenerationalPointer, is_some, IsNew, KnowsCall, KnowsNewNames, limit_tickets}
@@ -45,10 +46,10 @@ same_borrows (b ∷ bs) = λ i. same_borrow b i ∷ same_borrows bs i
 module _ {T : Type 0} where
   pub get_bare : (cells : NameMap (Cell T)) (n : Name)
       → map.get (bare_cells cells) n ≡ option_map (rename_cell same_name 0 bare) (map.get cells n)
-  get_bare cells n = grind (arith, get_bare_cell, same_borrows, same_borrow)
+  get_bare cells n = grind (arith, get_bare_cell, same_borrows)
 
   carries_plain : (S : State T) → Carries same_name 0 bare Any (plain S) S
-  carries_plain S = search (arith, get_bare, add-zero, same_ownership, any_listed)
+  carries_plain S = search (arith, get_bare, same_ownership, any_listed)
 
   -- what carries a state and has its first generation is the state without values
   plain_from : (P : State (Unit {0})) (S : State T)
@@ -91,26 +92,24 @@ module _ {T : Type 0} where
 
   plain_limited : (S : State T) (call : Action T) (new : NewNames) → limit_tickets
       (plain S) (act (plain S) (plain_call call) new) ≡ plain_out (limit_tickets S (act S call new))
-  plain_limited S call new = grind (arith, plain_act, cond_map)
+  plain_limited S call new = grind (arith, plain_act)
 
   -- ---- the names that fit
 
   plain_free : (S : State T) → free (plain S) ≡ free S
-  plain_free S = grind (arith, get_bare, some_map)
+  plain_free S = grind (arith, get_bare)
 
   plain_new : (S : State T) (n : Name) → IsNew S n → IsNew (plain S) n
-  plain_new S n new = grind (arith, plain_free, get_bare, some_map)
+  plain_new S n new = grind (arith, plain_free, get_bare)
 
   plain_are_new : (S : State T) (call : Action T) (f : NewNames)
       → AreNew S call f → AreNew (plain S) (plain_call call) f
-  plain_are_new S (Action.Make o v l) f new = plain_new S f.first new
   plain_are_new S (Action.MakeShared o v l) f new =
       let cell : Cell T = Cell.Shared (Content.Here v []) l in
       let born = plain_from (add_cell (plain S) f.first (rename_cell same_name 0 bare cell))
       (add_cell S f.first cell) (with_born (carries_plain S) f.first cell tt tt) refl in
       (plain_new S f.first new.0, rw born (plain_new (add_cell S f.first cell) f.second new.1))
-  plain_are_new S (Action.Refer o b) f new = plain_new S f.first new
-  plain_are_new S _ f new = tt
+  plain_are_new S call f new = grind (arith, plain_new)
 
   -- ---- want of memory
 

@@ -2,22 +2,115 @@
 use Rattle.generational_sessions.proofs.sessions.Common
 use Rattle.generational_core.proofs.machine.Guarding.{reader_stands, writer_stands}
 use Rattle.generational_core.specs.Keeping.{IsUnwritten}
-use Common.{Action, add_place, and_parts, Answer, ap, AreOne, arith, ask, AskedSets, at_place, Bool}
-use Common.{box_in, BoxAt, Boxed, boxed_stays, Call, Cell, count_by, count_in, count_under, Done}
-use Common.{ends_reader, ends_writer, eq-eqb, false, false_from_ne_true, fresh, fresh_bounded}
-use Common.{fresh_sound, GenerationalPointer, gives, Guard, Held, holds_owner, if_ready, inl, inr}
+use Common.{act, Action, add_place, add_to_list, and_parts, Answer, ap, AreOne, arith, ask}
+use Common.{AskedSets, at_place, Bool, BorrowRefusal, box_in, BoxAt, Boxed, boxed_stays, by_cond}
+use Common.{by_number, Call, Cell, cell_at, changed_view, clone_owner, cond, count_by, count_in}
+use Common.{count_under, Done, ends_reader, ends_writer, eqb-true, false, false_from_ne_true, fresh}
+use Common.{fresh_bounded, fresh_sound, GenerationalPointer, get-insert_apart, get-insert_here}
+use Common.{get-remove_apart, gives, Guard, has_same_id, Held, holds_owner, if_ready, inl, inr}
 use Common.{is_known, is_shared, is_some, IsBounded, IsEnded, IsOwn, IsSound, IsSoundSession}
-use Common.{IsUndisturbed, length, List, Location, Made, made_boxed, made_new, Meets, meets_bounded}
-use Common.{meets_ended, meets_number, meets_sound, meets_value, Name, name_of, nat_eq, None}
-use Common.{Nothing, Option, Owned, owner_held, owner_in, OwnerName, Ownership, Owning, reach}
-use Common.{reader_stays, Reading, Reads, reads_known, ref_reaches, refl, release, replace, Request}
-use Common.{Run, SessionReply, SessionState, SessionStep, settle, Settles, slice_set, Some, spend}
-use Common.{State, suc, sum_by-cons, sum_by_push, swap, sym, true, Undisturbed, value_at, with_box}
-use Common.{with_owner, writer_stays, Writes, writes_known, Writing, zero, [], ℕ, ⊎_elim, ◌++◌, ◌+◌}
-use Common.{◌<◌, ◌∙◌, ◌∷◌, ◌≡◌, ◌≢◌, ◌≤◌, ◌⊎◌}
-use Rattle.generational_sessions.proofs.sessions.OwnerValues.{itself, meets_counts, owners_in, takes}
+use Common.{IsUndisturbed, key_cases, length, List, Location, Made, made_boxed, made_new, Meets}
+use Common.{meets_bounded, meets_ended, meets_number, meets_sound, meets_value, Name, name_of}
+use Common.{nat_eq, nat_eq_equiv, NewNames, None, Nothing, Option, Outcome, own_cell, Owned}
+use Common.{owner_held, owner_in, OwnerName, Ownership, ownership, Owning, point, reach}
+use Common.{reader_stays, Reading, Reads, reads_known, ref_reaches, refl, release, release_owner}
+use Common.{replace, Request, Run, SessionReply, SessionState, SessionStep, settle, Settles}
+use Common.{slice_set, Some, spend, State, suc, sum_by-cons, sum_by_push, swap, sym, true}
+use Common.{Undisturbed, unless, value_at, with_box, with_owner, writer_stays, Writes, writes_known}
+use Common.{Writing, zero, [], ℕ, ⊎_elim, ◌++◌, ◌+◌, ◌<◌, ◌∙◌, ◌∷◌, ◌≡◌, ◌≢◌, ◌≤◌, ◌⊎◌}
 use Rattle.std.specs.FinMap as map
 use Rattle.generational_sessions.specs.declared.calls.Call.TheVariants as call
+use Rattle.generational_core.proofs.machine.Stepping.{meets_each}
+
+-- ---- how many owner values each call of a store gives and spends, beside what the records count
+
+-- what a test lets through, if anything
+through : {X : Type 0} (b : Bool) (o : Option X) (x : X) → cond b o None ≡ Some x
+    → (b ≡ true) × (o ≡ Some x)
+through b o x e = grind arith
+
+-- nothing is there where something would be absurd
+pub not_there : {X : Type 0} (o : Option X) → (is_some o ≡ true → ⊥) → o ≡ None
+not_there o h = grind arith
+
+-- a key is itself
+pub itself : (key : ℕ) → cond {A = ℕ} (nat_eq key key) 1 0 ≡ 1
+itself key = ap (λ (b : Bool). cond {A = ℕ} b 1 0) (nat_eq_equiv.refl key)
+
+module _ {T : Type 0} where
+  -- what a call that is answered so takes from a place
+  abbrev pub takes : Action T → Answer T → Held T
+  takes (Action.ReleaseReader g) answer = Held.Reading g
+  takes (Action.ReleaseWriter g v) answer = Held.Writing g v
+  takes (Action.ReleaseOwner o) Done = Held.Owning o
+  takes (Action.LeakOwner o) answer = Held.Owning o
+  takes action answer = Held.Nothing
+
+  -- how many owner values of a record a thing is
+  abbrev pub owners_in : ℕ → Held T → ℕ
+  owners_in key x = cond (holds_owner key x) 1 0
+
+  -- The records count what a call gives, and no more is taken off than it takes. An owner that is
+  -- given is of the store.
+  pub record Counts (S : State T) (call : Action T) (out : Outcome T) : Type 0 where
+    pub counted : (key : ℕ) → count_under S.owners key + owners_in key
+        (gives out.0) ≤ count_under out.1.owners key + owners_in key (takes call out.0)
+    pub own : (o : OwnerName) → out.0 ≡ Owned o → o.store ≡ S.number
+
+  -- a name more in a list changes no count
+  listed_counts : (S : State T) (o : Option OwnerName) (n : Name) (key : ℕ)
+      → count_under (add_to_list S o n).owners key ≡ count_under S.owners key
+  listed_counts S o n key = grind (arith, changed_view, by_number)
+
+  -- one record changes, as the answer says
+  record_counts : (S R : State T) (call : Action T) (answer : Answer T) (k : ℕ)
+      → ((o : OwnerName) → answer ≡ Owned o → o.store ≡ S.number)
+      → ((key : ℕ) → owners_in key (gives answer) ≤ cond (nat_eq k key) 1 0)
+      → ((key : ℕ) → key ≢ k → map.get R.owners key ≡ map.get S.owners key)
+      → count_under S.owners k + owners_in k (gives answer) ≤
+      count_under R.owners k + owners_in k (takes call answer) → Counts S call (answer, R)
+  record_counts S R call answer k own one others here = record {
+    counted = λ key. ⊎_elim (λ e. rw e here) (λ ne.
+        let none = rw (false_from_ne_true _ (λ t. ne (sym (eqb-true k key t)))) at (one key) in
+        omega (arith, ap count_in (others key ne))) (key_cases by_number key k);
+    own = own;
+  }
+
+  counts_new : (S : State T) (f : NewNames) → IsSound S
+      → Counts S Action.NewOwner (act S Action.NewOwner f)
+  counts_new S f sound =
+      grind (arith, not_there, sound.keys, itself, get-insert_here, get-insert_apart, by_number)
+
+  counts_cloned : (S : State T) (o : OwnerName) (h : Option Ownership) → ownership S o ≡ h
+      → Counts S (Action.CloneOwner o) (clone_owner S o h)
+  counts_cloned S o h is = grind (arith, get-insert_here, by_number, get-insert_apart)
+
+  counts_released : (S : State T) (o : OwnerName) (h : Option Ownership) → ownership S o ≡ h
+      → Counts S (Action.ReleaseOwner o) (release_owner S o h)
+  counts_released S o h is =
+      grind (arith, get-insert_apart, by_number, get-insert_here, get-remove_apart)
+
+  counts_point : (S : State T) (a b : GenerationalPointer) (t : Option BorrowRefusal)
+      (c : Option (Cell T)) (m : Option Name) (d : Option (Cell T))
+      → Counts S (Action.Point a b) (unless t S (point S a b c m d))
+  counts_point S a b t (Some (Cell.Ref old l)) (Some new) (Some (Cell.Shared c k)) = grind arith
+  counts_point S a b t c m d = grind arith
+
+  act_counts : (S : State T) (call : Action T) (f : NewNames) → IsSound S
+      → Counts S call (act S call f)
+  act_counts S Action.NewOwner f sound = counts_new S f sound
+  act_counts S (Action.Point a b) f sound =
+      by_cond (Counts S (Action.Point a b)) (has_same_id a b) (λ _. grind arith)
+      (λ _. counts_point S a b _ (own_cell S a.id) (reach S b) (cell_at S (reach S b)))
+  act_counts S call f sound = grind (arith, listed_counts, counts_cloned, counts_released)
+
+  -- so does each call of a store, whichever names it takes and whatever memory lacks
+  pub meets_counts : (S R : State T) (call : Action T) (answer : Answer T) → IsSound S
+      → Meets S call answer R → Counts S call (answer, R)
+  meets_counts S R call answer sound = meets_each S R call answer (Counts S call)
+      (λ refused. grind arith) (λ f _. act_counts S call f sound)
+
+-- ---- sessions
 
 module _ {T : Type 0} where
   -- ---- places of a table
@@ -26,29 +119,25 @@ module _ {T : Type 0} where
   pub held_pushed : (table : List (Held T)) (x : Held T) (p : ℕ)
       → (at_place (table ++ x ∷ []) p ≡ at_place table p)
       ⊎ ((p ≡ length table) × (at_place (table ++ x ∷ []) p ≡ x))
-  held_pushed [] x zero = inr (refl, refl)
   held_pushed (h ∷ table) x (suc p) =
       ⊎_elim inl (λ e. inr (ap suc e.0, e.1)) (held_pushed table x p)
-  held_pushed table x p = inl refl
+  held_pushed table x p = grind arith
 
   -- a place that holds another thing, and the others
   pub held_changed : (table : List (Held T)) (p : ℕ) (x : Held T) (q : ℕ)
       → (at_place (slice_set table p x) q ≡ at_place table q)
       ⊎ ((q ≡ p) × (at_place (slice_set table p x) q ≡ x))
-  held_changed (h ∷ table) zero x zero = inr (refl, refl)
   held_changed (h ∷ table) (suc p) x (suc q) =
       ⊎_elim inl (λ e. inr (ap suc e.0, e.1)) (held_changed table p x q)
-  held_changed table p x q = inl refl
+  held_changed table p x q = grind arith
 
   -- a place that was emptied, and the others
   held_emptied : (table : List (Held T)) (p q : ℕ)
       → (at_place (slice_set table p Nothing) q ≡ Nothing)
       ⊎ ((at_place (slice_set table p Nothing) q ≡ at_place table q) × (q ≢ p))
-  held_emptied (h ∷ table) zero (suc q) = inr (refl, λ e. cc)
-  held_emptied (h ∷ table) (suc p) zero = inr (refl, λ e. cc)
   held_emptied (h ∷ table) (suc p) (suc q) =
       ⊎_elim inl (λ e. inr (e.0, λ same. e.1 cc)) (held_emptied table p q)
-  held_emptied table p q = inl refl
+  held_emptied table p q = grind arith
 
   -- a place that isn't given yet is empty already
   beyond : (table : List (Held T))
@@ -84,7 +173,7 @@ module _ {T : Type 0} where
   still_apart : (old new : List (Held T)) (k : ℕ) (x : Held T) → AreApart old
       → ((q : ℕ) → (at_place new q ≡ at_place old q) ⊎ ((q ≡ k) × (at_place new q ≡ x)))
       → ((q : ℕ) → AreOne x (at_place old q) → k ≡ q) → AreApart new
-  still_apart old new k x apart changes alone p q one = grind (arith, same_as, same_turned)
+  still_apart old new k x apart changes alone p q one = grind (arith, same_turned)
 
   -- ---- sessions with one place more, and with another thing at a place
 
@@ -118,13 +207,9 @@ module _ {T : Type 0} where
         (held_changed s.table p (Writing g v) q);
     apart = still_apart s.table (swap s p g v).table p (Writing g v) kept.apart
         (held_changed s.table p (Writing g v))
-        (λ q one. kept.apart p q (rw there (writer (at_place s.table q) one)));
+        (λ q one. kept.apart p q (rw there (grind arith)));
     counted = λ key. omega (arith, count_changed key s.table p (Writing g v), kept.counted key);
   }
-    where
-      writer : (y : Held T) → AreOne (Writing g v) y → AreOne (Writing g old) y
-      writer (Writing h w) one = one
-      writer y one = one
 
   -- ---- what a call of the machine leaves
 
@@ -334,15 +419,9 @@ module _ {T : Type 0} where
   pub owner_known : (s : SessionState T) (p : ℕ) (o : OwnerName) → IsSoundSession s
       → at_place s.table p ≡ Owning o → is_known s.state (Some o) ≡ true
   unfolding IsOwn
-  owner_known s p o kept is = rw (eq-eqb o.store s.state.number (rw is at (kept.own p)))
-      (recorded (map.get s.state.owners o.key) refl)
-    where
-      recorded : (h : Option Ownership) → map.get s.state.owners o.key ≡ h → is_some h ≡ true
-      recorded None e =
-          let none = ap count_in e in let without = count_changed o.key s.table p Nothing in
-          let here = ap (owners_in o.key) is ∙ itself o.key in
-          let counted = kept.counted o.key in absurd (omega arith)
-      recorded (Some h) e = refl
+  owner_known s p o kept is =
+      let own = kept.own p in let counted = kept.counted o.key in
+      grind (arith, is, own, counted, count_changed o.key s.table p Nothing, itself o.key)
 
   -- a box that a place holds, and whose cell is a Ref, reaches a live Shared cell
   pub held_reaches : (s : SessionState T) (p : ℕ) (b : GenerationalPointer) (m : Name)
@@ -370,10 +449,9 @@ module _ {T : Type 0} where
       → ((s r : SessionState T) (c : Call T) (x : SessionReply T) → P s → SessionStep s c x r → P r)
       → (calls : List (Call T)) (replies : List (SessionReply T)) (s r : SessionState T)
       → P s → Run s calls replies r → P r
-  by_run P each [] [] s r h run = rw run h
   by_run P each (c ∷ calls) (x ∷ replies) s r h run =
       by_run P each calls replies run.0 r (each s run.0 c x h run.1) run.2
-  by_run P each calls replies s r h run = absurd run
+  by_run P each calls replies s r h run = grind arith
 
   pub run_kept : (calls : List (Call T)) (replies : List (SessionReply T)) (s r : SessionState T)
       → IsSoundSession s → Run s calls replies r → IsSoundSession r
@@ -389,7 +467,6 @@ module _ {T : Type 0} where
   pub run_value : (calls : List (Call T)) (replies : List (SessionReply T)) (s r : SessionState T)
       (b : GenerationalPointer) (m : Name) → IsSound s.state → (run : Run s calls replies r)
       → Undisturbed b m s calls replies r run → value_at r.state m ≡ value_at s.state m
-  run_value [] [] s r b m sound run u = rw run refl
   run_value (c ∷ calls) (x ∷ replies) s r b m sound run u =
       run_value calls replies run.0 r b m (session_sound s run.0 c x sound run.1) run.2 u.2
       ∙ session_value s run.0 c x b m sound run.1
@@ -401,4 +478,4 @@ module _ {T : Type 0} where
       first [] [] s run u = u
       first (c ∷ calls) (x ∷ replies) s run u = u.0
       first calls replies s run u = absurd u
-  run_value calls replies s r b m sound run u = absurd u
+  run_value calls replies s r b m sound run u = grind arith

@@ -4,6 +4,9 @@ use proofs.machine.Refusing.{refused_make, refused_owner, refused_read, refused_
 use proofs.machine.Refusing.{refused_release, refused_stays, refused_write, unknown_reader}
 use Rattle.generational_sessions.proofs.caller_laws.refused_calls_change_nothing.Goals as goal
 
+ruleset refused = (refused_make, refused_refer, refused_read, refused_write, refused_owner)
+
+ruleset released = (refused_back, refused_end, refused_release, unknown_reader)
+
 pub returns : goal.returns
-returns g c =
-    search (refused_stays, refused_make, refused_refer, refused_read, refused_write, refused_free_read, refused_free_write, refused_back, refused_end, refused_owner, refused_release, unknown_reader)
+returns g c = search (refused_stays, refused, refused_free_read, refused_free_write, released)

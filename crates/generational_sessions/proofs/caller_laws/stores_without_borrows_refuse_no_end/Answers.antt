@@ -3,6 +3,8 @@ use machine.Unborrowed.{frees_owned, quiet_ends, quiet_free, quiet_fresh, quiet_
 use machine.Unborrowed.{quiet_releases, quiet_sees, quiet_set, quiet_stays, test_sees}
 use Rattle.generational_sessions.proofs.caller_laws.stores_without_borrows_refuse_no_end.Goals as goal
 
+ruleset tests = (test_sees, quiet_sees, quiet_free, quiet_gone, quiet_fresh)
+
 pub returns : goal.returns
 returns g c =
-    search (test_sees, quiet_sees, quiet_free, quiet_gone, quiet_fresh, quiet_stays, quiet_read, quiet_set, quiet_ends, quiet_releases, frees_owned)
+    search (tests, quiet_stays, quiet_read, quiet_set, quiet_ends, quiet_releases, frees_owned)

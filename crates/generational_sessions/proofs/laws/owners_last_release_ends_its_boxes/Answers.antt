@@ -6,6 +6,9 @@ use Releasing.{refused_release, leak_changes_nothing}
 use Rattle.std.proofs.Common.{arith}
 use Rattle.generational_sessions.proofs.laws.owners_last_release_ends_its_boxes.Goals as goal
 
+ruleset cells = (last_cells, box_ends, listed_boxed, box_stays, shared_ends, shared_stays)
+
+ruleset records = (last_record, earlier_cells, earlier_record, other_records, rest_stays)
+
 pub returns : goal.returns
-returns g c =
-    grind (arith, last_cells, box_ends, listed_boxed, box_stays, shared_ends, shared_stays, last_record, earlier_cells, earlier_record, other_records, rest_stays, refused_release, leak_changes_nothing, session_released)
+returns g c = grind (arith, cells, records, refused_release, leak_changes_nothing, session_released)
