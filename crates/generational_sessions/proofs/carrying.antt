@@ -318,9 +318,8 @@ module _ {T : Type 0} {s a : SessionState T} {d : ℕ} {order : List Name} {give
           all = λ k b. by_last k b
               (λ lt. contains-insert_old by_name given_a (number n) k (r.numbers.all k lt))
               (λ e. rw e (contains-insert_here by_name given_a (number n)));
-          only = λ k e. ⊎_elim (λ at. rw at (last_known order y is)) (λ ne. (old k (r.numbers.only k
-              (rw (contains-insert_apart by_name given_a (number n) k ne) at e))).1)
-              (name_cases k (number n));
+          only = λ k e. let known = last_known order y is in let was = r.numbers.only k in
+              grind (arith, old k, contains-insert_apart by_name given_a (number n) k, name_cases);
         };
         more_s = λ m e. contains-insert_old by_name given_s y m (r.more_s m e);
         more_a = λ m e. contains-insert_old by_name given_a (number n) m (r.more_a m e);

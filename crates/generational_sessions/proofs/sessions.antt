@@ -179,12 +179,9 @@ module _ {T : Type 0} where
   tells_ends s r (call.LeakReference p) x step b needed ended = grind (arith, ended_read)
   tells_ends s r (call.TryRead p l) x step b needed ended = grind (arith, ended_read)
   tells_ends s r (call.TryWrite p l) x step b needed ended = grind (arith, ended_write)
-  tells_ends s r (call.Read p l) x step b needed ended =
-      (rw (needed, ended_read s.state b ended) at step).0
-  tells_ends s r (call.Write p l) x step b needed ended =
-      (rw (needed, ended_write s.state b ended) at step).0
-  tells_ends s r (call.Set p v) x step b needed ended =
-      (rw (needed, ended_write s.state b ended) at step).0
+  tells_ends s r (call.Read p l) x step b needed ended = grind (arith, ended_read)
+  tells_ends s r (call.Write p l) x step b needed ended = grind (arith, ended_write)
+  tells_ends s r (call.Set p v) x step b needed ended = grind (arith, ended_write)
   tells_ends s r c x step b needed ended = absurd needed
 
   -- a reply gives the box that the machine made
@@ -306,17 +303,9 @@ module _ {T : Type 0} where
       → AllKeepPromises s calls replies r run
   all_keep_promises (c ∷ calls) (x ∷ replies) s r kept run =
       let after = session_kept s run.0 c x kept run.1 in
-      let told = refusals s run.0 c x run.1 in (
-        record {
-          tells_ends = tells_ends s run.0 c x run.1;
-          new_box = gives_new_box s run.0 c x run.1;
-          ends_owned = lasts_end s run.0 c x run.1 kept.sound;
-          tells_lack = told.lack;
-          tells_exhaustion = told.exhaustion;
-          refusal_leaves_all = told.leaves_all;
-          kept = after;
-          bounded = after.bounded.few;
-        },
+      let ends = tells_ends s run.0 c x run.1 in let new = gives_new_box s run.0 c x run.1 in
+      let owned = lasts_end s run.0 c x run.1 kept.sound in (
+        assumption (refusals s run.0 c x run.1, ends, new, owned, after, after.bounded.few),
         all_keep_promises calls replies run.0 r after run.2,
       )
   all_keep_promises calls replies s r kept run = grind arith

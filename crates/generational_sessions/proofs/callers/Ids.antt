@@ -1,10 +1,9 @@
 -- What a box reaches and sees depends on its id alone; a box of another store sees nothing. So a call
 -- that leaves each box of another name leaves each of another id.
-use Rattle.std.proofs.Common.{arith}
 use Rattle.generational_sessions.proofs
-use proofs.{Action, Answer, ap, GenerationalPointer, is_some, IsSound, Meets, meets_number, Name}
-use proofs.{name_cases, name_of, None, reach, Some, some_live, State, sym, true, unseen, value_in}
-use proofs.{⊎_elim, ◌∙◌, ◌≡◌, ◌≢◌}
+use proofs.{Action, Answer, ap, arith, GenerationalPointer, is_some, IsSound, Meets, meets_number}
+use proofs.{Name, name_cases, name_of, None, reach, Some, some_live, State, sym, true, unseen}
+use proofs.{value_in, ⊎_elim, ◌∙◌, ◌≡◌, ◌≢◌}
 use Rattle.std.specs.FinMap as map
 use Rattle.generational_core.specs.{Keeping.box_with, Seeing.value_reached}
 use Rattle.generational_core.specs.declared.boxes.GenerationalBoxId.{GenerationalBoxId}

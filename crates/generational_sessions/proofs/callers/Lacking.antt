@@ -1,9 +1,9 @@
 -- What a store lacks where it refuses a call by itself, and what such a call leaves.
-use Rattle.std.proofs.Common.{arith}
 use Rattle.generational_sessions.proofs
-use proofs.{Answer, can_write, End, false, GenerationalPointer, is_known, last_ticket, Location}
-use proofs.{Make, may_lack, Meets, NewOwner, None, NumbersExhausted, Option, OutOfMemory, OwnerName}
-use proofs.{Read, refusal_to_read, refusal_to_write, Refused, State, StoreError, true, Write, ◌≡◌}
+use proofs.{Answer, arith, can_write, End, false, GenerationalPointer, is_known, last_ticket}
+use proofs.{Location, Make, may_lack, Meets, NewOwner, None, NumbersExhausted, Option, OutOfMemory}
+use proofs.{OwnerName, Read, refusal_to_read, refusal_to_write, Refused, State, StoreError, true}
+use proofs.{Write, ◌≡◌}
 use Rattle.generational_sessions.specs.Lacking.{Lacks}
 
 module _ {T : Type 0} where

@@ -1,13 +1,12 @@
 -- What calls leave: one that changed nothing, one after another, and a write that was released.
-use Rattle.std.proofs.Common.{arith}
 use Rattle.generational_sessions.proofs
 use Rattle.std.specs.Prelude.{IsOk}
 use Rattle.generational_core.proofs.machine.{Changes.filled_content, Telling.filled_reach}
 use Rattle.generational_core.specs.{Answers.WriteGuard, Leaving.IsSet, Leaving.LeavesContent}
-use proofs.{Action, Answer, ap, back_answer, can_write, fill, GenerationalPointer, given_other}
-use proofs.{Here, IsGiven, IsSound, IsUnchanged, leaves, Location, Meets, name_of, reach, refl}
-use proofs.{ReleaseWriter, rests_free, Result, State, take_ticket, true, value_in, Write}
-use proofs.{write_refusal, Writes, writes_back, [], ◌∙◌, ◌≡◌}
+use proofs.{Action, Answer, ap, arith, back_answer, can_write, fill, GenerationalPointer}
+use proofs.{given_other, Here, IsGiven, IsSound, IsUnchanged, leaves, Location, Meets, name_of}
+use proofs.{reach, refl, ReleaseWriter, rests_free, Result, State, take_ticket, true, value_in}
+use proofs.{Write, write_refusal, Writes, writes_back, [], ◌∙◌, ◌≡◌}
 use proofs.callers.Rows.{ticket_keeps}
 
 module _ {T : Type 0} where

@@ -1,5 +1,5 @@
 -- Owners' lists: no name stands twice in one, nor in two of them, and each call leaves them so.
-use Rattle.std.proofs.{Common.arith, lemmas.Cmp.eq_by_cmp_equiv, lemmas.Map.Keys.IsDistinct-push}
+use Rattle.std.proofs.{lemmas.Cmp.eq_by_cmp_equiv, lemmas.Map.Keys.IsDistinct-push}
 use Rattle.generational_sessions.proofs
 use Rattle.std.specs.Cmp.{IsEquivalence}
 use Rattle.generational_core.proofs.maps.Maps.{get-changed_here, get-changed_none, get-remove_here}
@@ -8,9 +8,9 @@ use Rattle.generational_core.specs.{Conditions.names_in, Leaving.GivesOtherOwner
 use Rattle.generational_core.specs.Leaving.{IsOtherOwner, LeavesOwner}
 use Rattle.generational_sessions.proofs.callers.Lefts.{left_still}
 use Rattle.generational_sessions.specs.ListedOnce.{AreListedOnce}
-use proofs.{act, Action, among, Answer, ap, AreNew, Bool, BorrowRefusal, by_cond, by_number, by_run}
-use proofs.{by_step, Call, Cell, cell_at, change, clone_owner, CloneOwner, close, cond, false}
-use proofs.{fresh, GenerationalPointer, get-insert_here, hindrance_to, is_known, is_name}
+use proofs.{act, Action, among, Answer, ap, AreNew, arith, Bool, BorrowRefusal, by_cond, by_number}
+use proofs.{by_run, by_step, Call, Cell, cell_at, change, clone_owner, CloneOwner, close, cond}
+use proofs.{false, fresh, GenerationalPointer, get-insert_here, hindrance_to, is_known, is_name}
 use proofs.{IsDistinct, IsSound, IsSoundSession, IsUnchanged, keeps_record, List, list_any-append}
 use proofs.{Make, MakeShared, Meets, meets_cases, meets_sound, Name, name_apart, name_of}
 use proofs.{name_total, nat_cmp, nat_eq, nat_lt, new_fresh, NewNames, NewOwner, None, one_less}
@@ -132,34 +132,22 @@ module _ {T : Type 0} where
     module _ (o : OwnerName) where
       once_after : Becomes S (names_of S o) (names_of R o) → IsDistinct is_name (names_of R o)
       unfolding IsDistinct
-      once_after (same is) = rw is (a.once o)
-      once_after (none is) = rw is tt
-      once_after (more n new is) =
-          rw is (IsDistinct-push name_equal (names_of S o) n (a.once o) (unlisted_by S s o n new))
+      once_after h = grind (arith, a.once o, IsDistinct-push name_equal, unlisted_by)
 
       -- a name of this list, after the call, was in no other; and a name of another isn't in it then
       apart_from : (p : OwnerName) (n : Name) → o ≢ p → Becomes S (names_of S o) (names_of R o)
           → among (names_of R o) n ≡ true → among (names_of S p) n ≡ false
-      apart_from p n ne (same is) there = a.apart o p n ne (rw is at there)
-      apart_from p n ne (none is) there = let none = rw is at there in cc
-      apart_from p n ne (more m new is) there = ⊎_elim (a.apart o p n ne)
-          (λ behind. rw behind (unlisted_by S s p m new))
-          (among_pushed (names_of S o) m n (rw is at there))
+      apart_from p n ne h there = grind (arith, a.apart o p n, unlisted_by, among_pushed)
 
       apart_after : (p : OwnerName) (n : Name) → o ≢ p → Becomes S (names_of S o) (names_of R o)
           → among (names_of S p) n ≡ true → among (names_of R o) n ≡ false
-      apart_after p n ne (same is) there = rw is (a.apart p o n (λ e. ne (sym e)) there)
-      apart_after p n ne (none is) there = rw is
-      apart_after p n ne (more m new is) there = rw is (apart_pushed (names_of S o) m n
-          (a.apart p o n (λ e. ne (sym e)) there)
-          (λ e. let out = unlisted_by S s p m new in let among = rw e at there in cc))
+      apart_after p n ne h there = grind (arith, a.apart p o n, apart_pushed, unlisted_by)
 
       -- where the other lists are what they were
       keeps_apart : ((p : OwnerName) → o ≢ p → names_of R p ≡ names_of S p)
           → Becomes S (names_of S o) (names_of R o) → AreApart R
       keeps_apart others own = record {
-        once = λ p. ⊎_elim (λ e. rw (← e) (once_after own)) (λ ne. rw (others p ne) (a.once p))
-            (owner_cases o p);
+        once = λ p. grind (arith, owner_cases o p, others p, a.once p, once_after own);
         apart = λ p q n ne there. ⊎_elim
             (λ e. let other : o ≢ q = λ is. ne (sym e ∙ is) in
             rw (others q other) (apart_from q n other own (rw e there)))

@@ -1,15 +1,15 @@
 -- Stores without references: a box reaches its own cell, and which calls leave a store so.
-use Rattle.std.proofs.Common.{arith}
 use Rattle.generational_sessions.proofs
 use Rattle.generational_core.proofs.machine.{Changes.new_content, Seeing.reaches}
 use Rattle.generational_core.proofs.machine.{Soundness.keep_each, Stepping.meets_follows}
-use proofs.{act_start, Action, Answer, ap, by_name, Cell, Content, false, fresh}
+use proofs.{act_start, Action, Answer, ap, arith, by_name, Cell, Content, false, fresh}
 use proofs.{GenerationalPointer, get-insert_apart, get-insert_here, is_making, Location, Make}
-use proofs.{MakeShared, Meets, meets_cases, Name, name_cmp, name_of, Option, Outcome, OwnerName}
-use proofs.{reach, Ref, Refer, refill, refl, Some, State, ℕ, ⊎_elim, ◌∙◌, ◌≡◌}
+use proofs.{MakeShared, Meets, Name, name_cmp, name_of, Option, OwnerName, reach, Ref, Refer}
+use proofs.{refill, refl, Some, State, ℕ, ◌≡◌}
 use Rattle.generational_sessions.specs.PlainStores.{IsPlain, MakesNoReference}
 use Rattle.std.specs.FinMap as map
 use Rattle.std.specs.FinSet as set
+use Rattle.generational_core.proofs.machine.Stepping.{meets_each}
 
 module _ {T : Type 0} where
   -- ---- what a box reaches
@@ -50,10 +50,8 @@ module _ {T : Type 0} where
   }
     where
       given : R.given ≡ S.given
-      given = ⊎_elim (λ refused. ap (λ (X : State T). X.given) refused.1)
-          (λ acts. ap (λ (out : Outcome T). out.1.given) acts.2
-          ∙ (act_start S call acts.0).given other)
-          (meets_cases S R call answer meets)
+      given = meets_each S R call answer (λ out. out.1.given ≡ S.given) (λ _. refl)
+          (λ f new. (act_start S call f).given other) meets
 
   pub stays_plain : {S R : State T} (call : Action T) (answer : Answer T) → Meets S call answer R
       → MakesNoReference call → IsPlain S → IsPlain R

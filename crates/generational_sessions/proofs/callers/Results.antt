@@ -1,8 +1,7 @@
 -- What clauses on results and options say of the value with which a caller goes on.
-use Rattle.std.proofs.Common.{arith}
 use Rattle.std.specs.Result.{IsErrAnd, result_ok}
 use Rattle.std.specs.Prelude.{IfErr, IfNone, IfOk, IfSome, OnErr}
-use Rattle.generational_sessions.proofs.{OnOk, Option, Result, Some, ◌≡◌}
+use Rattle.generational_sessions.proofs.{arith, OnOk, Option, Result, Some, ◌≡◌}
 
 module _ {X : Type 0} where
   -- where `?` goes on, what holds of an Ok result holds

@@ -1,11 +1,11 @@
 -- Rows of boxes: one more, one emptied, and a state in which they show what they showed.
 use Rattle.generational_sessions.proofs
 use Rattle.std.specs.Prelude.{slice_index_or}
-use proofs.{Answer, ap, arith, can_write, Done, End, free_sees, GenerationalBox}
-use proofs.{GenerationalPointer, IsSound, keeps, keeps_free, length, Location, Made, made}
-use proofs.{made_apart, made_free, Make, map-append, map-set, Meets, None, Ok, Option, OwnerName}
-use proofs.{pointer_of, reach, refl, refusal_to_write, slice_set, Some, State, subst, suc, sym}
-use proofs.{true, value_in, zero, [], ℕ, ◌++◌, ◌+◌, ◌<◌, ◌∙◌, ◌∷◌, ◌≡◌}
+use proofs.{Answer, arith, can_write, Done, End, free_sees, GenerationalBox, GenerationalPointer}
+use proofs.{IsSound, keeps, keeps_free, length, Location, Made, made, made_apart, made_free, Make}
+use proofs.{map-append, map-set, Meets, None, Ok, Option, OwnerName, pointer_of, reach, refl}
+use proofs.{refusal_to_write, slice_set, Some, State, subst, suc, sym, true, value_in, zero, [], ℕ}
+use proofs.{◌++◌, ◌+◌, ◌<◌, ◌∙◌, ◌∷◌, ◌≡◌}
 use Rattle.generational_sessions.specs.BoxRows.{AreApart, AreKept, EachBox, HasOtherName, IsFree}
 use Rattle.generational_sessions.specs.BoxRows.{Rows, shown_in, values_in}
 
@@ -105,14 +105,10 @@ module _ {T : Type 0} where
     -- rows whose boxes are all kept
     rows_kept : ((b : GenerationalPointer) → Keeps S R b)
         → AreKept R rows × (values_in R rows ≡ values_in S rows)
-    rows_kept keeps = (
-      record {
-        free = each_so {P = IsFree S} {Q = IsFree R} rows (λ b. (keeps b).free) k.free;
-        apart = k.apart;
-      },
-      values_kept S R rows s k.free
-          (each_so {P = IsFree S} {Q = Keeps S R} rows (λ b _. keeps b) k.free),
-    )
+    rows_kept keeps =
+        let free = each_so {P = IsFree S} {Q = IsFree R} rows (λ b. (keeps b).free) k.free in
+        let all = each_so {P = IsFree S} {Q = Keeps S R} rows (λ b _. keeps b) k.free in
+        (assumption (free, k.apart), values_kept S R rows s k.free all)
 
     -- a making, refused or not, leaves the rows
     pub made_beside : (o : Option OwnerName) (v : T) (l : Location) (answer : Answer T)
@@ -127,15 +123,10 @@ module _ {T : Type 0} where
         let kept = made_beside o v l (Made (pointer_of a)) m in
         let apart = made_apart o v l (Ok a) s m in
         let other = each_so {P = IsFree S} {Q = HasOtherName (pointer_of a)} rows
-        (λ b can. let saw = free_sees S b s can in apart b saw.0 saw.1) k.free in (
-          record {
-            free = each_pushed (IsFree R) rows a kept.0.free (made_free o v l (Ok a) m);
-            apart = apart_pushed rows a k.apart other;
-          },
-          map-append (shown_in R) rows (Some a ∷ [])
-              ∙ (ap (λ xs. xs ++ value_in R (pointer_of a) ∷ []) kept.1
-              ∙ ap (λ x. values_in S rows ++ x ∷ []) (made o v l (Ok a) m)),
-        )
+        (λ b can. let saw = free_sees S b s can in apart b saw.0 saw.1) k.free in
+        let free = each_pushed (IsFree R) rows a kept.0.free (made_free o v l (Ok a) m) in
+        let shown = map-append (shown_in R) rows (Some a ∷ []) in let sees = made o v l (Ok a) m in
+        (assumption (free, apart_pushed rows a k.apart other), cc (shown, kept.1, sees))
 
     -- a read that was released leaves the rows
     pub read_beside : R ≡ record S { next = S.next + 1 }
@@ -153,10 +144,6 @@ module _ {T : Type 0} where
         (λ b other. record {
           free = keeps_free (End (pointer_of a)) Done s m b other;
           seen = λ w. keeps (End (pointer_of a)) Done s m b w other;
-        }) (others rows row a k.apart is) in (
-          record {
-            free = still_free S R left free kept;
-            apart = apart_emptied rows row k.apart;
-          },
-          values_kept S R left s free kept ∙ map-set (shown_in S) rows row None,
-        )
+        }) (others rows row a k.apart is) in
+        let still = still_free S R left free kept in let apart = apart_emptied rows row k.apart in
+        (assumption (still, apart), values_kept S R left s free kept ∙ map-set (shown_in S) rows row None)

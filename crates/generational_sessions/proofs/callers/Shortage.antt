@@ -3,19 +3,18 @@
 use Rattle.generational_sessions.proofs
 use Rattle.generational_core.proofs.machine.{Seeing.reached_live}
 use Rattle.generational_core.proofs.maps.Maps.{kept_key, len_within}
-use Rattle.generational_core.specs.{Answers.read_refused, Slots.last_generation}
+use Rattle.generational_core.specs.{Answers.read_refused}
 use Rattle.generational_errors.specs.declared.error.BorrowError.{BorrowError}
-use proofs.{add_cell, Answer, ap, arith, Bool, BorrowMutError, box_of, by_cond, by_name, by_number}
+use proofs.{add_cell, Answer, arith, Bool, BorrowMutError, box_of, by_cond, by_name, by_number}
 use proofs.{can_read, can_write, Cell, end_refused, false, free, GenerationalBox}
 use proofs.{GenerationalPointer, get-insert_apart, get-insert_here, given_other, Here, is_free}
-use proofs.{is_none, is_some, IsGiven, IsSound, keep_view, keeps_free, key_cases, last_name}
-use proofs.{last_ticket, lasts_insert, leaves, limit_tickets, Location, Made, Make, MakeShared}
-use proofs.{may_lack, Meets, meets_cases, meets_sound, Name, name_of, nat_cmp, nat_cmp_total}
-use proofs.{nat_lt, new_fresh, None, not, NumbersExhausted, Ok, Option, Outcome, OutOfMemory}
-use proofs.{OwnerName, pointer_of, reach, Read, Reads, Ref, ref_reaches, Refer, referred_together}
-use proofs.{refl, refusal_to_read, refusal_to_write, Refused, rests, rests_free, Shared, slots_of}
-use proofs.{State, StoreError, subst, sym, true, true≢false, unwrap_or, Write, Writes, [], ℕ}
-use proofs.{⊎_elim, ◌&&◌, ◌+◌, ◌<◌, ◌∙◌, ◌≡◌, ◌≢◌, ◌≤◌}
+use proofs.{is_none, IsGiven, IsSound, keep_view, keeps_free, key_cases, last_ticket, lasts_insert}
+use proofs.{leaves, limit_tickets, Location, Made, Make, MakeShared, may_lack, Meets, meets_cases}
+use proofs.{meets_sound, Name, name_of, nat_cmp, nat_cmp_total, new_fresh, None, NumbersExhausted}
+use proofs.{Ok, Option, Outcome, OutOfMemory, OwnerName, pointer_of, reach, Read, Reads, Ref}
+use proofs.{ref_reaches, Refer, referred_together, refl, refusal_to_read, refusal_to_write, Refused}
+use proofs.{rests, rests_free, Shared, slots_of, State, StoreError, subst, sym, true, true≢false}
+use proofs.{Write, Writes, [], ℕ, ⊎_elim, ◌+◌, ◌<◌, ◌∙◌, ◌≡◌, ◌≢◌, ◌≤◌}
 use Rattle.generational_sessions.specs.Lacking.{IsReference, IsShort, IsShortage}
 use Rattle.std.specs.FinMap as map
 use Rattle.std.specs.FinSet as set
@@ -50,27 +49,12 @@ module _ {T : Type 0} where
 
       here : (s : ℕ) → map.contains_key (map.retain_keys (slots_of S) (is_free S)) s ≡ true
           → s ≡ n.slot → map.contains_key (map.insert left n.slot 0) s ≡ true
-      here s h is = ap (map.contains_key (map.insert left n.slot 0)) is
-          ∙ ap is_some (get-insert_here by_number left n.slot 0)
+      here s h is = grind (arith, get-insert_here, by_number)
 
       apart : (s : ℕ) → map.contains_key (map.retain_keys (slots_of S) (is_free S)) s ≡ true
           → s ≢ n.slot → map.contains_key (map.insert left n.slot 0) s ≡ true
-      apart s h ne = ⊎_elim (λ kept.
-          let slot : map.get (slots_of R) s ≡ map.get (slots_of S) s =
-          ap (λ m. map.get m s) (lasts_insert S.given n)
-          ∙ get-insert_apart by_number (slots_of S) n.slot _ s ne in
-          let name : last_name R s ≡ last_name S s = ap
-          (λ o. let n : Name = record { slot = s; generation = unwrap_or o 0 } in n) slot in
-          let still : is_free R s ≡ is_free S s =
-          ap (λ (m : Name). not (is_some (map.get R.cells m)) && nat_lt m.generation last_generation)
-          name ∙ ap (λ x. not (is_some x) && nat_lt (last_name S s).generation last_generation)
-          (get-insert_apart by_name S.cells n c (last_name S s)
-          (λ e. ne (ap (λ (m : Name). m.slot) e))) in
-          ap is_some (get-insert_apart by_number left n.slot 0 s ne)
-          ∙ kept_key by_number (slots_of R) (is_free R) s
-          (ap is_some slot ∙ (sym (ap is_some kept.0) ∙ h)) (still ∙ kept.1))
-          (λ gone. cc (ap is_some gone.0))
-          (keep_view by_number (slots_of S) (is_free S) s)
+      apart s h ne = let kept = keep_view by_number (slots_of S) (is_free S) s in
+          grind (arith, lasts_insert, get-insert_apart, kept_key, by_number, by_name)
 
   -- ---- makings by no owner
 

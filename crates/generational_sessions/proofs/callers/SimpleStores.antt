@@ -1,11 +1,10 @@
 -- What a table or a tree keeps of its store, after each of its calls: no borrow, no reference, and
 -- slots that are bounded.
-use Rattle.std.proofs.Common.{arith}
 use Rattle.generational_sessions.proofs
-use proofs.{Action, add_cell, Answer, ap, Bool, can_write, false, free_sees, fresh, fresh_bounded}
-use proofs.{GenerationalPointer, Here, is_some, IsSound, Location, Made, Make, Meets, meets_bounded}
-use proofs.{meets_sound, name_of, None, Old, Option, reach, refl, Some, State, sym, true}
-use proofs.{true≢false, unseen, Value, value_in, [], ℕ, ◌∙◌, ◌≡◌}
+use proofs.{Action, add_cell, Answer, ap, arith, Bool, can_write, false, free_sees, fresh}
+use proofs.{fresh_bounded, GenerationalPointer, Here, is_some, IsSound, Location, Made, Make, Meets}
+use proofs.{meets_bounded, meets_sound, name_of, None, Old, Option, reach, refl, Some, State, sym}
+use proofs.{true, true≢false, unseen, Value, value_in, [], ℕ, ◌∙◌, ◌≡◌}
 use Rattle.std.specs.FinMap as map
 use Rattle.generational_core.specs.Leaving.{BeginsNoBorrow, HasNoBorrows}
 use Rattle.generational_core.specs.{Machine.Action.SetValue, Slots.Fits}

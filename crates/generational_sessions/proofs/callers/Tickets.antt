@@ -1,7 +1,6 @@
 -- Which ticket comes next: a new owner uses one, and the other calls of owners and sets use none.
-use Rattle.std.proofs.Common.{arith}
 use Rattle.generational_sessions.proofs
-use proofs.{Answer, GenerationalPointer, Location, Make, Meets, NewOwner, Owned, OwnerName}
+use proofs.{Answer, arith, GenerationalPointer, Location, Make, Meets, NewOwner, Owned, OwnerName}
 use proofs.{ReleaseOwner, Some, State, ◌+◌, ◌≡◌}
 use Rattle.generational_core.specs.Machine.Action.{SetValue}
 

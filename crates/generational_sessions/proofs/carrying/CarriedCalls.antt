@@ -2,19 +2,19 @@
 use Rattle.generational_sessions.proofs.sessions
 use sessions.{act, Action, add_cell, add_to_list, AllByRecursion, Answer, ap, arith, Back, Bool}
 use sessions.{BorrowRefusal, BorrowRefused, box_of, by_number, can_read, can_write, Carries}
-use sessions.{CarriesCells, Cell, changed_there, clone_owner, close, cond, cond_both}
-use sessions.{contains-insert_name, Content, content_at, content_of, Done, Dropped, eq-eqb}
-use sessions.{eq_by_cmp, false, fill, filter, Flag, GenerationalPointer, has_reader, has_same_id}
-use sessions.{has_writer, Here, hindrance_to, is_known, is_some, key_same, KnowsAnswer, KnowsBox}
-use sessions.{KnowsCall, KnowsNewNames, Lent, List, list_map, Location, location_of, make}
-use sessions.{map-append, max, Name, name_of, NameMap, nat_cmp, nat_cmp_total, nat_eq, nat_eq_equiv}
-use sessions.{nat_lt, NewNames, next_borrow, None, not, one_listed, Option, option_map, Outcome}
-use sessions.{own_cell, Owned, OwnerName, Owners, Ownership, ownership, point, reach, read_at, Ref}
-use sessions.{refer, refl, refusal_to_read, refusal_to_write, Refused, release_owner, remove_reader}
+use sessions.{CarriesCells, Cell, changed_there, clone_owner, close, cond, contains-insert_name}
+use sessions.{Content, content_at, content_of, Done, Dropped, eq-eqb, eq_by_cmp, false, fill}
+use sessions.{filter, Flag, GenerationalPointer, has_reader, has_same_id, has_writer, Here}
+use sessions.{hindrance_to, is_known, is_some, key_same, KnowsAnswer, KnowsBox, KnowsCall}
+use sessions.{KnowsNewNames, Lent, List, list_map, Location, location_of, make, map-append, max}
+use sessions.{Name, name_of, NameMap, nat_cmp, nat_cmp_total, nat_eq, nat_eq_equiv, nat_lt}
+use sessions.{NewNames, next_borrow, None, not, one_listed, Option, option_map, Outcome, own_cell}
+use sessions.{Owned, OwnerName, Owners, Ownership, ownership, point, reach, read_at, Ref, refer}
+use sessions.{refl, refusal_to_read, refusal_to_write, Refused, release_owner, remove_reader}
 use sessions.{rename_action, rename_answer, rename_box, rename_cell, rename_content}
 use sessions.{rename_new_names, rename_ownership, set_at, set_ownership, Shared, shift_borrow}
-use sessions.{shift_owner, Some, State, subst, sym, take_ticket, true, UnknownOwner, unless}
-use sessions.{unwrap_or, Value, write_at, [], ℕ, ⊎_elim, ◌++◌, ◌+◌, ◌-◌, ◌∙◌, ◌∷◌, ◌≡◌, ◌≤◌, ◌⊎◌}
+use sessions.{shift_owner, Some, State, sym, take_ticket, true, UnknownOwner, unless, unwrap_or}
+use sessions.{Value, write_at, [], ℕ, ⊎_elim, ◌++◌, ◌+◌, ◌-◌, ◌∙◌, ◌∷◌, ◌≡◌, ◌≤◌, ◌⊎◌}
 use Rattle.generational_sessions.proofs.carrying.CarriedCells
 use CarriedCells.{cell_moved, cells_insert, cells_left, cells_refilled, cells_swept, cond_map}
 use CarriedCells.{first_moved, hindrance_at_moved, IfThere, key_moved, known_target, KnowsTarget}
@@ -154,23 +154,15 @@ module _ {T U : Type 0} {f : Name → Name} {d : ℕ} {g : T → U}
       ≡ cond (eq_by_cmp nat_cmp q (key + d)) (option_map owner_record h) (map.get S.owners q))
       → ((q : ℕ) → map.get held q ≡ cond (eq_by_cmp nat_cmp q key) h (map.get A.owners q))
       → Carries f d g Knows (record S { owners = owners }) (record A { owners = held })
-  with_record key h k owners held s a = record {
-    number = c.number;
-    next = c.next;
-    peak = c.peak;
-    cells = c.cells;
-    given = c.given;
-    apart = c.apart;
-    owners = λ q. rw (s (q + d), a q, key_moved d q key, c.owners q)
-        (cond_map (option_map owner_record) (eq_by_cmp nat_cmp q key) h (map.get A.owners q));
-    keys = λ q live. cond_both (eq_by_cmp nat_cmp q (key + d)) _ _ (λ o. is_some o ≡ true → d ≤ q)
-        (λ e _. let is = key_same by_number q (key + d) e in omega arith) (λ _. c.keys q)
-        (rw (s q) at live);
-    listed = λ q x is. cond_both (eq_by_cmp nat_cmp q key) h (map.get A.owners q)
-        (λ o. o ≡ Some x → AllByRecursion Knows x.names)
-        (λ _ e. subst (λ o. IfThere o (λ (h : Ownership). AllByRecursion Knows h.names)) e k)
-        (λ _. c.listed q x) (rw (a q) at is);
-  }
+  with_record key h k owners held s a =
+      let moved : (q : ℕ) → map.get owners (q + d) ≡ option_map owner_record (map.get held q) =
+      λ q. rw (s (q + d), a q, key_moved d q key, c.owners q)
+      (cond_map (option_map owner_record) (eq_by_cmp nat_cmp q key) h (map.get A.owners q)) in
+      let low : (q : ℕ) → is_some (map.get owners q) ≡ true → d ≤ q =
+      λ q live. grind (arith, s q, c.keys q, key_same by_number q (key + d)) in
+      let known : (q : ℕ) (x : Ownership) → map.get held q ≡ Some x → AllByRecursion Knows x.names =
+      λ q x is. grind (arith, a q, c.listed q x) in
+      assumption (moved, low, known, c)
 
   record_put : (key : ℕ) (h : Ownership) → AllByRecursion Knows h.names
       → Carries f d g Knows (set_ownership S (key + d) (owner_record h)) (set_ownership A key h)

@@ -8,9 +8,9 @@ use sessions.{is_name, is_named, is_shared, is_some, IsDistinct, keep_view, key_
 use sessions.{len_keys, length, List, list_any, list_map, Location, location_of, Name, name_apart}
 use sessions.{name_cmp, name_here, name_total, named_from, named_gives, NameMap, nat_cmp, nat_eq}
 use sessions.{None, not, Option, option_map, or_left, or_right, read_refusal, Ref, refill, refl}
-use sessions.{rename_cell, rename_content, shift_borrow, Some, some_live, subst, sweep, sym}
-use sessions.{take_away, true, unsigned_tied, Value, write_refusal, [], ℕ, ⊎_elim, ◌+◌, ◌||◌, ◌∙◌}
-use sessions.{◌∷◌, ◌≡◌, ◌≢◌, ◌≤◌, ◌⊎◌}
+use sessions.{rename_cell, rename_content, shift_borrow, Some, some_live, sweep, sym, take_away}
+use sessions.{true, unsigned_tied, Value, write_refusal, [], ℕ, ⊎_elim, ◌+◌, ◌||◌, ◌∙◌, ◌∷◌, ◌≡◌}
+use sessions.{◌≢◌, ◌≤◌, ◌⊎◌}
 use Rattle.std.specs.FinMap as map
 
 pub cond_map : {A B : Type 0} (h : A → B) (b : Bool) (x y : A) → cond b (h x) (h y) ≡ h (cond b x y)
@@ -182,13 +182,9 @@ module _ {T U : Type 0} {f : Name → Name} {d : ℕ} {g : T → U} {Knows : Nam
       at = λ k kk. let after = get-insert_name S (f n) (cell x) (f k) in
           rw (after, get-insert_name A n x k, same_test apart k n kk kn, c.at k kk)
           (cond_map (option_map cell) (is_name k n) (Some x) (map.get A k));
-      from = λ q h. ⊎_elim
-          (λ e. (n, kn, sym e.0)) (λ e. c.from q (rw e at h)) (insert_view S (f n) (cell x) q);
-      known = λ k h. ⊎_elim
-          (λ e. rw e.0 kn) (λ e. c.known k (rw e at h)) (insert_view A n x k);
-      leads = λ k m l h. ⊎_elim
-          (λ e. subst (λ o. IfThere o (KnowsTarget Knows)) (sym e.1 ∙ h) target)
-          (λ e. c.leads k m l (rw e at h)) (insert_view A n x k);
+      from = λ q h. grind (arith, insert_view S (f n) (cell x) q, c.from q);
+      known = λ k h. grind (arith, insert_view A n x k, c.known k);
+      leads = λ k m l h. grind (arith, insert_view A n x k, c.leads k m l);
     }
 
     -- another content in a known cell

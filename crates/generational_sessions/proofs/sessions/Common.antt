@@ -58,7 +58,7 @@ pub use Rattle.generational_core.specs.{Leaving.IsUnchanged, Machine.own_cell, N
 pub use Rattle.generational_core.specs.Answers.{back_answer, end_refused, pointer_of}
 pub use Rattle.generational_core.specs.Conditions.{count_in, count_under, IsFresh}
 pub use Rattle.generational_core.specs.Machine.{Action.LeakOwner, Answer.Back}
-pub use Rattle.generational_core.specs.Slots.{free, is_free, last_name, slots_of}
+pub use Rattle.generational_core.specs.Slots.{free, is_free, slots_of}
 pub use Rattle.generational_core.specs.declared.boxes.GenerationalBox.{GenerationalBox}
 pub use Rattle.generational_errors.specs.declared.error.StoreError.TheVariants.{OutOfMemory}
 pub use specs.{Places.session_in, SoundSession.holds_owner, SoundSession.IsSoundSession}

@@ -282,9 +282,8 @@ module _ {T : Type 0} where
       left_kept = record {
         sound = meets_sound s.state R action answer kept.sound meets;
         bounded = meets_bounded s.state R action answer kept.sound kept.bounded meets;
-        own = λ q. ⊎_elim (λ e. rw e tt) (λ e. rw e.0 (stays_own (at_place s.table q)
-            (λ one. e.1 (sym (kept.apart p q (rw there one)))) (kept.own q)))
-            (held_emptied s.table p q);
+        own = λ q. let was = kept.own q in let apart = kept.apart p q in
+            grind (arith, held_emptied s.table p q, stays_own (at_place s.table q));
         apart = still_apart s.table left.table p Nothing kept.apart
             (held_changed s.table p Nothing) (λ q one. absurd one);
         counted = λ key. omega (arith, room key);
@@ -475,7 +474,6 @@ module _ {T : Type 0} where
       first : (calls : List (Call T)) (replies : List (SessionReply T)) (s : SessionState T)
           (run : Run s calls replies r) → Undisturbed b m s calls replies r run
           → IsUnwritten b m s.state
-      first [] [] s run u = u
       first (c ∷ calls) (x ∷ replies) s run u = u.0
-      first calls replies s run u = absurd u
+      first calls replies s run u = grind arith
   run_value calls replies s r b m sound run u = grind arith

@@ -1,5 +1,4 @@
-use Rattle.generational_sessions.proofs.{session_bounded, run_kept}
-use Rattle.std.proofs.Common.{arith}
+use Rattle.generational_sessions.proofs.{arith, session_bounded, run_kept}
 use Rattle.generational_sessions.proofs.laws.sessions_are_bounded.Goals as goal
 
 pub returns : goal.returns
