@@ -75,6 +75,7 @@ module _ {T : Type 0} where
 
   -- ---- tickets
 
+  -- whether a call takes a ticket doesn't depend on the names that it takes
   same_ticket : (S : State T) (action : Action T) (f : NewNames)
       → takes_ticket (act S action f).0 ≡ takes_ticket (act S action no_names).0
   same_ticket S action f = grind arith
@@ -173,6 +174,7 @@ pub went : {A E P : Type 0} (r : Result A E) → false ≡ is_err r → OnOk r P
 went r ok p = grind arith
 
 module _ {T : Type 0} where
+  -- a call of an ended box is answered so, whatever names it takes
   pub tells_ends : (s r : SessionState T) (c : Call T) (x : SessionReply T)
       → SessionStep s c x r → TellsEnds s c x
   unfolding may_lack

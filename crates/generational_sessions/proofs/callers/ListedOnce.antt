@@ -35,11 +35,6 @@ apart_pushed : (names : List Name) (m n : Name) → among names n ≡ false → 
     → among (names ++ m ∷ []) n ≡ false
 apart_pushed names m n before ne = grind (arith, list_any-append, name_apart)
 
--- a name among them is one of the others, or the one behind
-among_pushed : (names : List Name) (m n : Name) → among (names ++ m ∷ []) n ≡ true
-    → (among names n ≡ true) ⊎ (n ≡ m)
-among_pushed names m n there = grind (arith, name_same, list_any-append)
-
 module _ {T : Type 0} where
   -- the names of an owner's list: none where the store doesn't know the owner
   abbrev names_of : State T → OwnerName → List Name
@@ -137,7 +132,7 @@ module _ {T : Type 0} where
       -- a name of this list, after the call, was in no other; and a name of another isn't in it then
       apart_from : (p : OwnerName) (n : Name) → o ≢ p → Becomes S (names_of S o) (names_of R o)
           → among (names_of R o) n ≡ true → among (names_of S p) n ≡ false
-      apart_from p n ne h there = grind (arith, a.apart o p n, unlisted_by, among_pushed)
+      apart_from p n ne h there = grind (arith, unlisted_by, name_same, list_any-append)
 
       apart_after : (p : OwnerName) (n : Name) → o ≢ p → Becomes S (names_of S o) (names_of R o)
           → among (names_of S p) n ≡ true → among (names_of R o) n ≡ false

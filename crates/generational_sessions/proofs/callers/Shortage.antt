@@ -8,21 +8,18 @@ use Rattle.generational_errors.specs.declared.error.BorrowError.{BorrowError}
 use proofs.{add_cell, Answer, arith, Bool, BorrowMutError, box_of, by_cond, by_name, by_number}
 use proofs.{can_read, can_write, Cell, end_refused, false, free, GenerationalBox}
 use proofs.{GenerationalPointer, get-insert_apart, get-insert_here, given_other, Here, is_free}
-use proofs.{is_none, IsGiven, IsSound, keep_view, keeps_free, key_cases, last_ticket, lasts_insert}
-use proofs.{leaves, limit_tickets, Location, Made, Make, MakeShared, may_lack, Meets, meets_cases}
+use proofs.{IsGiven, IsSound, keep_view, keeps_free, key_cases, last_ticket, lasts_insert, leaves}
+use proofs.{limit_tickets, Location, Made, Make, MakeShared, may_lack, Meets, meets_cases}
 use proofs.{meets_sound, Name, name_of, nat_cmp, nat_cmp_total, new_fresh, None, NumbersExhausted}
-use proofs.{Ok, Option, Outcome, OutOfMemory, OwnerName, pointer_of, reach, Read, Reads, Ref}
-use proofs.{ref_reaches, Refer, referred_together, refl, refusal_to_read, refusal_to_write, Refused}
-use proofs.{rests, rests_free, Shared, slots_of, State, StoreError, subst, sym, true, true≢false}
-use proofs.{Write, Writes, [], ℕ, ⊎_elim, ◌+◌, ◌<◌, ◌∙◌, ◌≡◌, ◌≢◌, ◌≤◌}
+use proofs.{Ok, Option, Outcome, OutOfMemory, OwnerName, pointer_of, reach, Read, Ref, ref_reaches}
+use proofs.{Refer, referred_together, refl, refusal_to_read, refusal_to_write, Refused, rests}
+use proofs.{rests_free, Shared, slots_of, State, StoreError, subst, sym, true, true≢false, Write}
+use proofs.{[], ℕ, ⊎_elim, ◌+◌, ◌<◌, ◌∙◌, ◌≡◌, ◌≢◌, ◌≤◌}
 use Rattle.generational_sessions.specs.Lacking.{IsReference, IsShort, IsShortage}
 use Rattle.std.specs.FinMap as map
 use Rattle.std.specs.FinSet as set
 use Rattle.generational_errors.specs.declared.error.Refused as error
 use Rattle.generational_errors.specs.declared.error.Refused.TheVariants as refused
-
-none_there : {A : Type 0} (o : Option A) → is_none o ≡ true → o ≡ None
-none_there o h = grind arith
 
 -- a map with one more entry, or another one, has one key more at most
 one_longer : {X : Type 0} (m : map.FinMap nat_cmp X) (k : ℕ) (v : X)
@@ -58,15 +55,10 @@ module _ {T : Type 0} where
 
   -- ---- makings by no owner
 
-  -- whether an answer gives a box, and whether it begins a borrow
+  -- whether an answer gives a box
   abbrev is_box : Answer T → Bool
   is_box (Made b) = true
   is_box _ = false
-
-  abbrev is_loan : Answer T → Bool
-  is_loan (Reads g) = true
-  is_loan (Writes g v) = true
-  is_loan _ = false
 
   abbrev box_in : GenerationalPointer → Answer T → GenerationalPointer
   box_in b (Made c) = c
@@ -146,6 +138,7 @@ module _ {T : Type 0} where
 
   module _ {S R : State T} (b : GenerationalPointer) (l : Location) (s : IsSound S)
       (alone : can_write S b ≡ true) where
+    -- it is refused only where all tickets were given
     pub write_short : (e : error.Refused BorrowMutError) → Meets S (Write b l) (end_refused e) R
         → (e ≡ refused.Store NumbersExhausted) × (S.next ≡ last_ticket)
     unfolding may_lack

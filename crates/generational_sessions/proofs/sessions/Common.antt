@@ -30,7 +30,7 @@ pub use Common.{contains-insert_here, contains-insert_name, contains-insert_old,
 pub use Common.{content_at, content_of, Done, Dropped, End, eq-eqb, eq_by_cmp, eqb-true, false}
 pub use Common.{false_from_ne_true, fill, filter, first_hindrance, Flag, fresh, GenerationalPointer}
 pub use Common.{get-insert_apart, get-insert_here, get-keep, get-remove_apart, Guard, has_reader}
-pub use Common.{has_same_id, has_writer, Here, hindrance_at, inl, inr, is_known, is_named, is_none}
+pub use Common.{has_same_id, has_writer, Here, hindrance_at, inl, inr, is_known, is_named}
 pub use Common.{is_shared, is_some, IsBounded, IsEnded, IsGiven, IsNew, IsReleased, IsSound}
 pub use Common.{keep_view, key_cases, key_here, key_same, keys_apart, last_ticket, len_keys, Lent}
 pub use Common.{limit_tickets, List, list_any, list_any-append, Location, location_of, Made, Make}
@@ -56,7 +56,7 @@ pub use Rattle.generational_core.proofs.maps.Maps.{changed_there, contains-inser
 pub use Rattle.generational_core.proofs.maps.Maps.{get-insert_name}
 pub use Rattle.generational_core.specs.{Leaving.IsUnchanged, Machine.own_cell, Names.change_if}
 pub use Rattle.generational_core.specs.Answers.{back_answer, end_refused, pointer_of}
-pub use Rattle.generational_core.specs.Conditions.{count_in, count_under, IsFresh}
+pub use Rattle.generational_core.specs.Conditions.{count_under, IsFresh}
 pub use Rattle.generational_core.specs.Machine.{Action.LeakOwner, Answer.Back}
 pub use Rattle.generational_core.specs.Slots.{free, is_free, slots_of}
 pub use Rattle.generational_core.specs.declared.boxes.GenerationalBox.{GenerationalBox}

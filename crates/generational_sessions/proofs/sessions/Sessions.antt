@@ -4,20 +4,20 @@ use Rattle.generational_core.proofs.machine.Guarding.{reader_stands, writer_stan
 use Rattle.generational_core.specs.Keeping.{IsUnwritten}
 use Common.{act, Action, add_place, add_to_list, and_parts, Answer, ap, AreOne, arith, ask}
 use Common.{AskedSets, at_place, Bool, BorrowRefusal, box_in, BoxAt, Boxed, boxed_stays, by_cond}
-use Common.{by_number, Call, Cell, cell_at, changed_view, clone_owner, cond, count_by, count_in}
-use Common.{count_under, Done, ends_reader, ends_writer, eqb-true, false, false_from_ne_true, fresh}
-use Common.{fresh_bounded, fresh_sound, GenerationalPointer, get-insert_apart, get-insert_here}
-use Common.{get-remove_apart, gives, Guard, has_same_id, Held, holds_owner, if_ready, inl, inr}
-use Common.{is_known, is_shared, is_some, IsBounded, IsEnded, IsOwn, IsSound, IsSoundSession}
-use Common.{IsUndisturbed, key_cases, length, List, Location, Made, made_boxed, made_new, Meets}
-use Common.{meets_bounded, meets_ended, meets_number, meets_sound, meets_value, Name, name_of}
-use Common.{nat_eq, nat_eq_equiv, NewNames, None, Nothing, Option, Outcome, own_cell, Owned}
-use Common.{owner_held, owner_in, OwnerName, Ownership, ownership, Owning, point, reach}
-use Common.{reader_stays, Reading, Reads, reads_known, ref_reaches, refl, release, release_owner}
-use Common.{replace, Request, Run, SessionReply, SessionState, SessionStep, settle, Settles}
-use Common.{slice_set, Some, spend, State, suc, sum_by-cons, sum_by_push, swap, sym, true}
-use Common.{Undisturbed, unless, value_at, with_box, with_owner, writer_stays, Writes, writes_known}
-use Common.{Writing, zero, [], ℕ, ⊎_elim, ◌++◌, ◌+◌, ◌<◌, ◌∙◌, ◌∷◌, ◌≡◌, ◌≢◌, ◌≤◌, ◌⊎◌}
+use Common.{by_number, Call, Cell, cell_at, changed_view, clone_owner, cond, count_by, count_under}
+use Common.{Done, ends_reader, ends_writer, false, false_from_ne_true, fresh, fresh_bounded}
+use Common.{fresh_sound, GenerationalPointer, get-insert_apart, get-insert_here, get-remove_apart}
+use Common.{gives, Guard, has_same_id, Held, holds_owner, if_ready, inl, inr, is_known, is_shared}
+use Common.{is_some, IsBounded, IsEnded, IsOwn, IsSound, IsSoundSession, IsUndisturbed, length}
+use Common.{List, Location, Made, made_boxed, made_new, Meets, meets_bounded, meets_ended}
+use Common.{meets_number, meets_sound, meets_value, Name, name_of, nat_eq, nat_eq_equiv, NewNames}
+use Common.{None, Nothing, Option, Outcome, own_cell, Owned, owner_held, owner_in, OwnerName}
+use Common.{Ownership, ownership, Owning, point, reach, reader_stays, Reading, Reads, reads_known}
+use Common.{ref_reaches, refl, release, release_owner, replace, Request, Run, SessionReply}
+use Common.{SessionState, SessionStep, settle, Settles, slice_set, Some, spend, State, suc}
+use Common.{sum_by-cons, sum_by_push, swap, sym, true, Undisturbed, unless, value_at, with_box}
+use Common.{with_owner, writer_stays, Writes, writes_known, Writing, zero, [], ℕ, ⊎_elim, ◌++◌, ◌+◌}
+use Common.{◌<◌, ◌∙◌, ◌∷◌, ◌≡◌, ◌≢◌, ◌≤◌, ◌⊎◌}
 use Rattle.std.specs.FinMap as map
 use Rattle.generational_sessions.specs.declared.calls.Call.TheVariants as call
 use Rattle.generational_core.proofs.machine.Stepping.{meets_each}
@@ -61,20 +61,6 @@ module _ {T : Type 0} where
   listed_counts : (S : State T) (o : Option OwnerName) (n : Name) (key : ℕ)
       → count_under (add_to_list S o n).owners key ≡ count_under S.owners key
   listed_counts S o n key = grind (arith, changed_view, by_number)
-
-  -- one record changes, as the answer says
-  record_counts : (S R : State T) (call : Action T) (answer : Answer T) (k : ℕ)
-      → ((o : OwnerName) → answer ≡ Owned o → o.store ≡ S.number)
-      → ((key : ℕ) → owners_in key (gives answer) ≤ cond (nat_eq k key) 1 0)
-      → ((key : ℕ) → key ≢ k → map.get R.owners key ≡ map.get S.owners key)
-      → count_under S.owners k + owners_in k (gives answer) ≤
-      count_under R.owners k + owners_in k (takes call answer) → Counts S call (answer, R)
-  record_counts S R call answer k own one others here = record {
-    counted = λ key. ⊎_elim (λ e. rw e here) (λ ne.
-        let none = rw (false_from_ne_true _ (λ t. ne (sym (eqb-true k key t)))) at (one key) in
-        omega (arith, ap count_in (others key ne))) (key_cases by_number key k);
-    own = own;
-  }
 
   counts_new : (S : State T) (f : NewNames) → IsSound S
       → Counts S Action.NewOwner (act S Action.NewOwner f)
@@ -157,9 +143,6 @@ module _ {T : Type 0} where
       omega (arith, new, sum_by-cons (owners_in key) h table, count_changed key table i x)
 
   -- ---- things that are one
-
-  same_as : {a b x y : Held T} → a ≡ x → b ≡ y → AreOne a b → AreOne x y
-  same_as e k one = rw (← e) (rw k at one)
 
   same_turned : (x y : Held T) → AreOne x y → AreOne y x
   unfolding AreOne
