@@ -212,7 +212,7 @@ impl<T: Drop, P: SlotPool> Store<T, P> {
     }
 
     /// Packs the slots from one on, up to another, ahead of the rest, into the place of rows that were
-    /// packed in an earlier state. So a call of `pack_rows` needn't write those of them that don't change until
+    /// packed in an earlier state. So `pack_rows` needn't write those of them that don't change until
     /// then. The answer is such rows too.
     pub fn pack_ahead(
         &self,

@@ -227,9 +227,9 @@ impl<T: Drop + Send, const NUMBER: u64, M: Count, L: Count, C: Count, R: Count> 
     /// the history. The answer is how many steps were ever trimmed. It isn't a step, and raises no
     /// count. All slots are packed ahead first, few at a time, with other calls in between. Then no
     /// other call goes on while the slots that have changed meanwhile are packed, and whatever is
-    /// borrowed, refers or belongs to an owner. The rows stand in the memory of those of the base before
-    /// the last; where that hasn't room for an eighth more slots than there are, room for twice as many is
-    /// reserved. The steps are let go once the lock is open.
+    /// borrowed, is a reference, or is on an owner's list. The rows stand in the memory of those of the
+    /// base before the last; where that hasn't room for half as many slots more than there are, room for
+    /// twice as many is reserved. The steps are let go once the lock is open.
     ///
     /// Refused, in this order: `NumbersExhausted`, where the steps that were trimmed and those of
     /// the history together would be more than fit into 64 bits; `OutOfMemory`. A refusal changes

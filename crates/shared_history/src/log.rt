@@ -231,11 +231,11 @@ impl<const NUMBER: u64, M: Count, L: Count, C: Count, R: Count> Log<NUMBER, M, L
     }
 
     // For how many rows room is wanted before these are packed: for twice as many slots, since more may
-    // come meanwhile. None where there is room for an eighth more slots.
+    // come meanwhile. None where there is room for half as many more.
     pub fn wanted_rows(&self, now: RowCounts) -> Option<RowCounts> {
         let mut counts = now;
         counts.whole = self.base.whole_rows();
-        counts.slots = now.slots.saturating_add(now.slots / 8);
+        counts.slots = now.slots.saturating_add(now.slots / 2);
         if self.past.has_room(counts) {
             return None;
         }
