@@ -1,13 +1,9 @@
 -- Chains after a write to links.
-use Rattle.std.proofs.Common.{◌≡◌, ◌≢◌, ◌<◌, ◌≤◌, ℕ, zero, suc, List, [], ◌∷◌, ◌++◌, length, Option, None, Some}
-use Rattle.std.proofs.Common.{refl, sym, ap, ◌∙◌, arith}
-use Rattle.std.specs.Prelude.{slice_get, slice_index_or, slice_set}
-use Rattle.std.proofs.lemmas.Option.{none-some, same_Some, slice_get-get_or}
-use Rattle.scene_tree.specs.declared.links.Link.{Link}
-use Rattle.scene_tree.specs.declared.node.Node.{Node}
-use Rattle.scene_tree.specs.Chains.{IsChain, IsHeld, after_put, after_tied, before_put, chain, changed, first_of, head_or, last_of, last_or, node_tied, tie_of}
-use Rattle.scene_tree.specs.Families.{count_at}
-use Rattle.scene_tree.specs.Nodes.{slot_in}
+use Rattle.scene_tree.proofs.Common.{after_put, after_tied, ap, arith, before_put, chain, changed, count_at, first_of}
+use Rattle.scene_tree.proofs.Common.{head_or, IsChain, IsHeld, last_of, last_or, length, Link, List, Node, node_tied}
+use Rattle.scene_tree.proofs.Common.{None, none-some, Option, refl, same_Some, slice_get, slice_get-get_or}
+use Rattle.scene_tree.proofs.Common.{slice_index_or, slice_set, slot_in, Some, suc, sym, tie_of, zero, [], ℕ, ◌++◌}
+use Rattle.scene_tree.proofs.Common.{◌<◌, ◌∙◌, ◌∷◌, ◌≡◌, ◌≢◌, ◌≤◌}
 use Rattle.scene_tree.proofs.Counting.{count_here, count_more}
 
 module _ {T : Type 0} where

@@ -1,20 +1,12 @@
 -- How many nodes of a list live at a slot.
-use Rattle.std.proofs.Common.{◌≡◌, ◌≢◌, ◌<◌, ◌≤◌, ◌+◌, ℕ, zero, suc, true, false, cond, List, [], ◌∷◌, ◌++◌}
-use Rattle.std.proofs.Common.{Some, refl, sym, ap, subst, ◌∙◌, ⊎_elim, arith, not, take, drop, get_or, length, inl, inr}
-use Rattle.std.specs.Prelude.{◌⊎◌, slice_get, nat_eq, map}
-use Rattle.std.specs.List.{IsDistinct, AllByRecursion, insert}
-use Rattle.std.proofs.lemmas.Bool.{and_from, and_parts, cases_Bool, cases_eq, eq-eqb, eqb-true, true≢false}
-use Rattle.std.proofs.lemmas.Bool.Decides.{eqb_tells}
-use Rattle.std.proofs.lemmas.List.Sums.{sum_by-append, sum_by-cons, sum_by-take-drop, sum_by-take-le}
-use Rattle.std.proofs.lemmas.List.{take_more}
-use Rattle.std.proofs.lemmas.Option.{none-some, same_Some}
-use Rattle.generational_sessions.proofs.callers.Elements.{get_pushed}
-use Rattle.scene_tree.specs.declared.node.Node.{Node}
-use Rattle.scene_tree.specs.declared.spot.Spot.{Spot}
 use Rattle.scene_tree.specs.declared.spot.Spot.TheVariants as spot
-use Rattle.scene_tree.specs.Families.{Family, IsCleared, alone, count_at, family_at}
-use Rattle.scene_tree.specs.Nodes.{IsSame, is_same, times, slot_in, without}
-use Rattle.scene_tree.specs.Spots.{place_of, placed}
+use Rattle.scene_tree.proofs.Common.{AllByRecursion, alone, and_from, and_parts, ap, arith, cases_Bool, cases_eq, cond}
+use Rattle.scene_tree.proofs.Common.{count_at, drop, eq-eqb, eqb-true, eqb_tells, false, Family, family_at, get_or}
+use Rattle.scene_tree.proofs.Common.{get_pushed, inl, inr, insert, is_same, IsCleared, IsDistinct, IsSame, length}
+use Rattle.scene_tree.proofs.Common.{List, map, nat_eq, Node, none-some, not, place_of, placed, refl, same_Some}
+use Rattle.scene_tree.proofs.Common.{slice_get, slot_in, Some, Spot, subst, suc, sum_by-append, sum_by-cons}
+use Rattle.scene_tree.proofs.Common.{sum_by-take-drop, sum_by-take-le, sym, take, take_more, times, true, true≢false}
+use Rattle.scene_tree.proofs.Common.{without, zero, [], ℕ, ⊎_elim, ◌++◌, ◌+◌, ◌<◌, ◌∙◌, ◌∷◌, ◌≡◌, ◌≢◌, ◌≤◌, ◌⊎◌}
 
 module _ {T : Type 0} where
   -- with a node more before the others

@@ -1,16 +1,9 @@
 -- A tree from which a node was removed with all below it.
-use Rattle.std.proofs.Common.{◌≡◌, ◌≢◌, ◌<◌, ℕ, zero, suc, List, Some, sym, ap, subst, ◌∙◌, ⊎_elim, arith}
-use Rattle.std.proofs.Common.{length}
-use Rattle.std.specs.Prelude.{is_some}
-use Rattle.std.proofs.lemmas.Bool.{cases_eq, cases_lt}
-use Rattle.std.proofs.lemmas.Option.{none-some, same_Some}
-use Rattle.generational_core.specs.Seeing.{value_in}
-use Rattle.generational_core.specs.State.{State, IsSound}
-use Rattle.scene_tree.specs.declared.node.Node.{Node}
-use Rattle.scene_tree.specs.Families.{Family, IsCleared, IsDetached, IsInLevels, IsUnder, above, children_at, count_at, family_at}
-use Rattle.scene_tree.specs.Families.{parent_at, slot_of}
-use Rattle.scene_tree.specs.Keeping.{HasLost, IsKept, IsLiveIn}
-use Rattle.scene_tree.specs.Nodes.{IsOther, pointer_in, slot_in, times, without}
+use Rattle.scene_tree.proofs.Common.{above, ap, arith, cases_eq, cases_lt, children_at, count_at, Family, family_at}
+use Rattle.scene_tree.proofs.Common.{HasLost, is_some, IsCleared, IsDetached, IsInLevels, IsKept, IsLiveIn, IsOther}
+use Rattle.scene_tree.proofs.Common.{IsSound, IsUnder, length, List, Node, none-some, parent_at, pointer_in, same_Some}
+use Rattle.scene_tree.proofs.Common.{slot_in, slot_of, Some, State, subst, suc, sym, times, value_in, without, zero, ℕ}
+use Rattle.scene_tree.proofs.Common.{⊎_elim, ◌<◌, ◌∙◌, ◌≡◌, ◌≢◌}
 use Rattle.scene_tree.proofs.Forests.{above_parent}
 use Rattle.scene_tree.proofs.Gathering.{all_listed, listed_below, part_whole}
 use Rattle.scene_tree.proofs.Keeping.{kept_cleared, kept_detached}

@@ -1,15 +1,10 @@
 -- Forests after a change.
-use Rattle.std.proofs.Common.{◌≡◌, ◌≢◌, ◌<◌, ℕ, zero, suc, true, List, ◌∷◌}
-use Rattle.std.proofs.Common.{Option, None, Some, refl, sym, ap, ◌∙◌, ⊎_elim, arith, inl, inr}
-use Rattle.std.specs.Prelude.{◌⊎◌, slice_get}
-use Rattle.std.proofs.lemmas.Bool.{cases_eq, cases_lt}
-use Rattle.std.proofs.lemmas.Option.{none-some, same_Some}
-use Rattle.scene_tree.specs.declared.node.Node.{Node}
-use Rattle.scene_tree.specs.declared.spot.Spot.{Spot}
-use Rattle.scene_tree.specs.Families.{Family, IsAttached, IsCleared, IsDetached, IsForest, IsRooted, IsUnder, above, alone, children_at, count_at, family_at, parent_at}
-use Rattle.scene_tree.specs.Families.{slot_of}
-use Rattle.scene_tree.specs.Nodes.{is_same, slot_in}
-use Rattle.scene_tree.proofs.Counting.{counts, count_apart, count_here, count_placed, count_without, none_without}
+use Rattle.scene_tree.proofs.Common.{above, alone, ap, arith, cases_eq, cases_lt, children_at, count_at, Family}
+use Rattle.scene_tree.proofs.Common.{family_at, inl, inr, is_same, IsAttached, IsCleared, IsDetached, IsForest}
+use Rattle.scene_tree.proofs.Common.{IsRooted, IsUnder, List, Node, None, none-some, Option, parent_at, refl}
+use Rattle.scene_tree.proofs.Common.{same_Some, slice_get, slot_in, slot_of, Some, Spot, suc, sym, true, zero, ℕ}
+use Rattle.scene_tree.proofs.Common.{⊎_elim, ◌<◌, ◌∙◌, ◌∷◌, ◌≡◌, ◌≢◌, ◌⊎◌}
+use Rattle.scene_tree.proofs.Counting.{count_apart, count_here, count_placed, count_without, counts, none_without}
 use Rattle.scene_tree.proofs.Paths.{step_under}
 
 pub slot_cases : (o : Option ℕ) (up : ℕ) → (o ≡ Some up) ⊎ (o ≢ Some up)

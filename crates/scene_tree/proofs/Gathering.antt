@@ -1,18 +1,11 @@
 -- Lists of a node and the nodes below it, level by level.
-use Rattle.std.proofs.Common.{◌≡◌, ◌<◌, ◌≤◌, ◌+◌, ℕ, zero, suc, List, [], ◌∷◌, ◌++◌, None, Some}
-use Rattle.std.proofs.Common.{refl, sym, ap, subst, ◌∙◌, ⊎_elim, arith, length, take, get_or}
-use Rattle.std.specs.Prelude.{nat_eq, map}
-use Rattle.std.specs.List.{flat_map, list_any}
-use Rattle.std.proofs.Math.ListN.{get_or-eq_default}
-use Rattle.std.proofs.Common.{true, length-append, take_all}
-use Rattle.std.proofs.lemmas.Bool.{cases_eq, cases_lt, eqb-true, or_cases, true≢false}
-use Rattle.std.proofs.lemmas.List.{flat_map_more, length-map, take-append-le, take_more}
-use Rattle.std.proofs.lemmas.Map.Steps.{length-le_from_distinct_below}
-use Rattle.std.proofs.lemmas.Option.{none-some, same_Some}
-use Rattle.scene_tree.specs.declared.node.Node.{Node}
-use Rattle.scene_tree.specs.Families.{Family, IsForest, IsInLevels, IsRooted, IsUnder, above, alone, children_at, count_at, family_at}
-use Rattle.scene_tree.specs.Families.{slot_of}
-use Rattle.scene_tree.specs.Nodes.{slot_in}
+use Rattle.scene_tree.proofs.Common.{above, alone, ap, arith, cases_eq, cases_lt, children_at, count_at, eqb-true}
+use Rattle.scene_tree.proofs.Common.{Family, family_at, flat_map, flat_map_more, get_or, get_or-eq_default, IsForest}
+use Rattle.scene_tree.proofs.Common.{IsInLevels, IsRooted, IsUnder, length, length-append}
+use Rattle.scene_tree.proofs.Common.{length-le_from_distinct_below, length-map, List, list_any, map, nat_eq, Node}
+use Rattle.scene_tree.proofs.Common.{None, none-some, or_cases, refl, same_Some, slot_in, slot_of, Some, subst, suc}
+use Rattle.scene_tree.proofs.Common.{sym, take, take-append-le, take_all, take_more, true, true≢false, zero, [], ℕ}
+use Rattle.scene_tree.proofs.Common.{⊎_elim, ◌++◌, ◌+◌, ◌<◌, ◌∙◌, ◌∷◌, ◌≡◌, ◌≤◌}
 use Rattle.scene_tree.proofs.Counting.{count_apart, count_both, count_here, count_more, count_take, distinct}
 use Rattle.scene_tree.proofs.Paths.{no_cycle}
 
@@ -33,8 +26,8 @@ short {T} list n once within =
         (or_cases _ _ any)
 
 module _ {T : Type 0} (fs : List (Family T)) where
-  abbrev pub children_of : List (Node T) → List (Node T)
-  children_of list = flat_map (λ n. children_at fs (slot_in n)) list
+  abbrev pub all_children : List (Node T) → List (Node T)
+  all_children list = flat_map (λ n. children_at fs (slot_in n)) list
 
   -- a slot past the others is alone
   pub past : (s : ℕ) → length fs ≤ s → family_at fs s ≡ alone
@@ -49,10 +42,10 @@ module _ {T : Type 0} (fs : List (Family T)) where
     -- the children of the first nodes of a list are listed
     pub record IsPart (list : List (Node T)) (next : ℕ) : Type 0 where
       pub within : next ≤ length list
-      pub level : list ≡ top ∷ children_of (take next list)
+      pub level : list ≡ top ∷ all_children (take next list)
 
-    abbrev pub IsBelow : ℕ → Type 0
-    IsBelow s = (e : ℕ) × IsUnder fs (slot_in top) e s
+    abbrev pub IsUnderTop : ℕ → Type 0
+    IsUnderTop s = (e : ℕ) × IsUnder fs (slot_in top) e s
 
   module _ (f : IsForest fs) where
     pub above_within : (s up : ℕ) → above fs s ≡ Some up → up < length fs
@@ -63,18 +56,18 @@ module _ {T : Type 0} (fs : List (Family T)) where
 
     -- how many children of the nodes of a list live at a slot
     pub children_none : (s : ℕ) → above fs s ≡ None → (list : List (Node T))
-        → count_at s (children_of list) ≡ 0
+        → count_at s (all_children list) ≡ 0
     children_none s root [] = refl
     children_none s root (n ∷ list) =
-        let both = count_both s (children_at fs (slot_in n)) (children_of list) in
+        let both = count_both s (children_at fs (slot_in n)) (all_children list) in
         let none = f.only s (slot_in n) (λ is. none-some (slot_in n) (sym root ∙ is)) in
         let rest = children_none s root list in omega (arith, both, none, rest)
 
     pub children_some : (s up : ℕ) → above fs s ≡ Some up → (list : List (Node T))
-        → count_at s (children_of list) ≡ count_at up list
+        → count_at s (all_children list) ≡ count_at up list
     children_some s up is [] = refl
     children_some s up is (n ∷ list) =
-        let both = count_both s (children_at fs (slot_in n)) (children_of list) in
+        let both = count_both s (children_at fs (slot_in n)) (all_children list) in
         let rest = children_some s up is list in
         ⊎_elim
         (λ here. let one = f.once s (slot_in n) (is ∙ ap Some (sym here)) in
@@ -92,7 +85,7 @@ module _ {T : Type 0} (fs : List (Family T)) where
             omega (arith, lt, len);
         level = after ∙ (ap (λ xs. xs ++ children_at fs (slot_in n)) p.level
             ∙ (flat_map_more (λ m. children_at fs (slot_in m)) (top ∷ []) (take next list) n
-            ∙ ap (λ xs. top ∷ children_of xs) (sym taken)));
+            ∙ ap (λ xs. top ∷ all_children xs) (sym taken)));
       }
         where
           taken : take (next + 1) more ≡ take next list ++ n ∷ []
@@ -101,12 +94,12 @@ module _ {T : Type 0} (fs : List (Family T)) where
               ∙ (take_more list next d lt ∙ ap (λ m. take next list ++ m ∷ []) (sym is)))
 
       module _ (list : List (Node T)) (next : ℕ) (p : IsPart top list next) where
-        whole : (s : ℕ) → count_at s list ≡ count_at s (top ∷ children_of (take next list))
+        whole : (s : ℕ) → count_at s list ≡ count_at s (top ∷ all_children (take next list))
         whole s = ap (count_at s) p.level
 
         -- a slot above the first node's isn't there, where what is there is below
         unlisted : (d s : ℕ) (r : IsRooted fs (suc d) s) → slot_in top ≡ s
-            → (0 < count_at r.0 list → IsBelow top r.0) → count_at r.0 list ≤ 0
+            → (0 < count_at r.0 list → IsUnderTop top r.0) → count_at r.0 list ≤ 0
         unlisted d s r here below = ⊎_elim
             (λ lt. let under = below lt in absurd (no_cycle fs (suc d) s r.0 under.0 r r.1
             (subst (λ t. IsUnder fs t under.0 r.0) here under.1)))
@@ -114,14 +107,14 @@ module _ {T : Type 0} (fs : List (Family T)) where
 
         -- each stands there once, and is below
         listed : (d s : ℕ) → IsRooted fs d s
-            → (count_at s list ≤ 1) × (0 < count_at s list → IsBelow top s)
+            → (count_at s list ≤ 1) × (0 < count_at s list → IsUnderTop top s)
         listed zero s r =
             let all = whole s in
             let none = children_none s r (take next list) in
             ⊎_elim
-            (λ here. let one = count_here s top (children_of (take next list)) here in
+            (λ here. let one = count_here s top (all_children (take next list)) here in
             (omega (arith, all, none, one), λ _. (0, sym here)))
-            (λ apart. let same = count_apart s top (children_of (take next list)) apart in
+            (λ apart. let same = count_apart s top (all_children (take next list)) apart in
             (omega (arith, all, none, same), λ lt. absurd (omega (arith, lt, all, none, same))))
             (cases_eq (slot_in top) s)
         listed (suc d) s r =
@@ -131,10 +124,10 @@ module _ {T : Type 0} (fs : List (Family T)) where
             let above = listed d r.0 r.2 in
             let few = above.0 in
             ⊎_elim
-            (λ here. let one = count_here s top (children_of (take next list)) here in
+            (λ here. let one = count_here s top (all_children (take next list)) here in
             let none = unlisted d s r here above.1 in
             (omega (arith, all, some, part, one, none), λ _. (0, sym here)))
-            (λ apart. let same = count_apart s top (children_of (take next list)) apart in (
+            (λ apart. let same = count_apart s top (all_children (take next list)) apart in (
               omega (arith, all, some, part, few, same),
               λ lt. let up = above.1 (omega (arith, lt, all, some, part, same)) in
                   (suc up.0, (r.0, r.1, up.1)),
@@ -144,10 +137,10 @@ module _ {T : Type 0} (fs : List (Family T)) where
         pub listed_once : (s : ℕ) → count_at s list ≤ 1
         listed_once s = let r = f.rooted s in (listed r.0 s r.1).0
 
-        pub listed_below : (s : ℕ) → 0 < count_at s list → IsBelow top s
+        pub listed_below : (s : ℕ) → 0 < count_at s list → IsUnderTop top s
         listed_below s = let r = f.rooted s in (listed r.0 s r.1).1
 
-        pub below_within : slot_in top < length fs → (s : ℕ) → IsBelow top s → s < length fs
+        pub below_within : slot_in top < length fs → (s : ℕ) → IsUnderTop top s → s < length fs
         below_within lt s (zero, is) = subst (λ i. i < length fs) (sym is) lt
         below_within lt s (suc e, under) = slot_within s under.0 under.1
 
@@ -160,10 +153,10 @@ module _ {T : Type 0} (fs : List (Family T)) where
           → IsUnder fs (slot_in top) e s → 0 < count_at s list
       all_listed list level zero s is =
           let whole = ap (count_at s) level in
-          let one = count_here s top (children_of list) (sym is) in omega (arith, whole, one)
+          let one = count_here s top (all_children list) (sym is) in omega (arith, whole, one)
       all_listed list level (suc e) s under =
           let whole = ap (count_at s) level in
-          let more = count_more s top (children_of list) in
+          let more = count_more s top (all_children list) in
           let some = children_some s under.0 under.1 list in
           let rest = all_listed list level e under.0 under.2 in
           omega (arith, whole, more, some, rest)
@@ -172,5 +165,5 @@ module _ {T : Type 0} (fs : List (Family T)) where
       pub part_whole : (list : List (Node T)) → IsInLevels fs top list → IsPart top list (length list)
       part_whole list level = record {
         within = omega arith;
-        level = level ∙ ap (λ xs. top ∷ children_of xs) (sym (take_all (length list) list (omega arith)));
+        level = level ∙ ap (λ xs. top ∷ all_children xs) (sym (take_all (length list) list (omega arith)));
       }

@@ -1,39 +1,18 @@
 -- A tree's store and families after each of its calls.
-use Rattle.std.specs.FinMap as map
-use Rattle.std.proofs.Common.{◌≡◌, ◌≢◌, ◌<◌, ℕ, zero, suc, Bool, true, cond, List, [], ◌∷◌}
-use Rattle.std.proofs.Common.{Ok, Option, None, Some, refl, sym, ap, subst, ◌∙◌, ⊎_elim, arith, length}
-use Rattle.std.specs.Ordering.{nat_cmp}
-use Rattle.std.specs.Prelude.{is_some, slice_get, filter}
-use Rattle.std.proofs.lemmas.Bool.{cases_Bool, cases_eq, cases_lt}
-use Rattle.std.proofs.lemmas.List.{length-map}
-use Rattle.std.proofs.lemmas.Option.{none-some, same_Some}
-use Rattle.generational_core.specs.Conditions.{fresh}
-use Rattle.generational_core.specs.Slots.{slots}
-use Rattle.generational_core.specs.State.{State, IsSound}
-use Rattle.generational_core.specs.Machine.Action.{Make}
-use Rattle.generational_core.specs.Machine.Answer.{Made}
-use Rattle.generational_core.specs.Seeing.{value_in}
-use Rattle.generational_core.specs.Steps.{Meets}
-use Rattle.generational_core.specs.declared.boxes.GenerationalPointer.{GenerationalPointer}
-use Rattle.generational_errors.specs.declared.error.Location.{Location}
-use Rattle.generational_core.proofs.machine.Bounding.{no_slots}
-use Rattle.generational_core.proofs.machine.Calling.{made}
-use Rattle.generational_core.proofs.machine.Leaving.{same_value}
-use Rattle.generational_sessions.specs.PlainStores.{IsSimple}
-use Rattle.generational_sessions.proofs.callers.SimpleStores.{fresh_simple, made_simple}
-use Rattle.scene_tree.specs.declared.node.Node.{Node}
-use Rattle.scene_tree.specs.declared.spot.Spot.{Spot}
 use Rattle.scene_tree.specs.declared.spot.Spot.TheVariants as spot
-use Rattle.scene_tree.specs.Families.{IsAmong, IsSpotIn}
-use Rattle.scene_tree.specs.Trees.{parent_for, parent_of}
-use Rattle.scene_tree.specs.Families.{Family, IsAttached, IsCleared, IsDetached, IsOpened, IsUnder, above, alone, children_at, count_at, family_at, parent_at}
-use Rattle.scene_tree.specs.Families.{families, family_in, slot_of}
-use Rattle.scene_tree.specs.declared.links.Link.{Link}
-use Rattle.scene_tree.specs.Keeping.{IsKept, IsLiveIn}
-use Rattle.scene_tree.specs.Nodes.{is_same, pointer_in, slot_in}
-use Rattle.scene_tree.specs.Spots.{placed}
+use Rattle.std.specs.FinMap as map
+use Rattle.scene_tree.proofs.Common.{above, alone, ap, arith, Bool, cases_Bool, cases_eq, cases_lt, children_at, cond}
+use Rattle.scene_tree.proofs.Common.{count_at, families, Family, family_at, family_in, filter, fresh, fresh_simple}
+use Rattle.scene_tree.proofs.Common.{GenerationalPointer, is_same, is_some, IsAmong, IsAttached, IsCleared, IsDetached}
+use Rattle.scene_tree.proofs.Common.{IsKept, IsLiveIn, IsOpened, IsSimple, IsSound, IsSpotIn, IsUnder, length}
+use Rattle.scene_tree.proofs.Common.{length-map, Link, List, Location, Made, made, made_simple, Make, Meets, nat_cmp}
+use Rattle.scene_tree.proofs.Common.{no_slots, Node, None, none-some, Ok, Option, parent_at, parent_for, parent_of}
+use Rattle.scene_tree.proofs.Common.{placed, pointer_in, refl, same_Some, same_value, slice_get, slot_in, slot_of}
+use Rattle.scene_tree.proofs.Common.{slots, Some, Spot, State, subst, suc, sym, true, value_in, zero, [], ℕ, ⊎_elim}
+use Rattle.scene_tree.proofs.Common.{◌<◌, ◌∙◌, ◌∷◌, ◌≡◌, ◌≢◌}
 use Rattle.scene_tree.proofs.Counting.{counted, placed_from, same_id}
-use Rattle.scene_tree.proofs.Forests.{above_parent, attached, cleared, detached, parent_is, same_forest, slot_cases, under_alone}
+use Rattle.scene_tree.proofs.Forests.{above_parent, attached, cleared, detached, parent_is, same_forest, slot_cases}
+use Rattle.scene_tree.proofs.Forests.{under_alone}
 use Rattle.scene_tree.proofs.Linked.{among}
 use Rattle.scene_tree.proofs.Stores.{live_within, made_beside, made_slots, one_live}
 use Rattle.scene_tree.proofs.Trees.{has_parent}

@@ -1,4 +1,5 @@
 pub mod Chains
+pub mod Common
 pub mod Counting
 pub mod Cutting
 pub mod Forests
@@ -16,3 +17,22 @@ pub mod Stores
 pub mod Trees
 pub mod Walking
 pub mod Writes
+unfoldable pub use Chains.*
+unfoldable pub use Common.*
+unfoldable pub use Counting.*
+unfoldable pub use Cutting.*
+unfoldable pub use Forests.*
+unfoldable pub use Gathering.*
+unfoldable pub use Keeping.*
+unfoldable pub use Linked.*
+unfoldable pub use Linking.*
+unfoldable pub use Losing.*
+unfoldable pub use Meeting.*
+unfoldable pub use Moving.*
+unfoldable pub use Noting.*
+unfoldable pub use Paths.*
+unfoldable pub use Rows.*
+unfoldable pub use Stores.*
+unfoldable pub use Trees.*
+unfoldable pub use Walking.*
+unfoldable pub use Writes.*

@@ -1,28 +1,22 @@
 -- Links whose children are linked: what they hold, and after a child comes or goes.
-use Rattle.std.proofs.Common.{◌≡◌, ◌≢◌, ◌<◌, ◌≤◌, ◌+◌, ℕ, zero, suc, true, List, [], ◌∷◌, ◌++◌, length, length-append, Option, None, Some, cond, not}
-use Rattle.std.proofs.Common.{refl, sym, ap, subst, ◌∙◌, ⊎_elim, arith, inl, inr}
-use Rattle.std.specs.Prelude.{◌⊎◌, map, nat_eq, slice_get, slice_index_or}
-use Rattle.std.specs.List.{insert}
-use Rattle.std.proofs.lemmas.Bool.{cases_Bool, cases_eq, eq-eqb, true≢false}
-use Rattle.std.proofs.lemmas.Bool.Decides.{eqb_tells}
-use Rattle.std.proofs.lemmas.List.{length-map}
-use Rattle.std.proofs.lemmas.Option.{none-some, same_Some, slice_get-get_or, slice_get_within}
-use Rattle.scene_tree.specs.declared.links.Link.{Link}
-use Rattle.scene_tree.specs.declared.node.Node.{Node}
-use Rattle.scene_tree.specs.declared.spot.Spot.{Spot}
 use Rattle.scene_tree.specs.declared.spot.Spot.TheVariants as spot
-use Rattle.scene_tree.specs.Chains.{IsChain, IsHeld, after_put, before_put, chain, changed, first_of, head_or, last_of, last_or, tie_of}
-use Rattle.scene_tree.specs.Families.{Family, IsAttached, IsDetached, IsAmong, IsForest, IsGap, IsLinked, IsOpened, above, alone, children_at, count_at, families, family_at, family_in, parent_at, slot_of}
-use Rattle.scene_tree.specs.Nodes.{is_same, slot_in, without}
-use Rattle.scene_tree.specs.Spots.{place_of}
-use Rattle.scene_tree.specs.Walking.{IsRest}
-use Rattle.scene_tree.proofs.Chains.{after_kept, after_length, before_kept, before_length, chain_is, chain_none, chain_short, changed_apart, changed_here, changed_kept, changed_length, held_is, last_both, pushed_kept}
-use Rattle.generational_sessions.proofs.callers.Elements.{pushed_old}
+use Rattle.scene_tree.proofs.Common.{above, after_put, alone, ap, arith, before_put, cases_Bool, cases_eq, chain}
+use Rattle.scene_tree.proofs.Common.{changed, children_at, cond, count_at, eq-eqb, eqb_tells, families, Family}
+use Rattle.scene_tree.proofs.Common.{family_at, family_in, first_of, head_or, inl, inr, insert, is_same, IsAmong}
+use Rattle.scene_tree.proofs.Common.{IsAttached, IsChain, IsDetached, IsForest, IsGap, IsHeld, IsLinked, IsOpened}
+use Rattle.scene_tree.proofs.Common.{IsRest, last_of, last_or, length, length-append, length-map, Link, List, map}
+use Rattle.scene_tree.proofs.Common.{nat_eq, Node, None, none-some, not, Option, parent_at, place_of, pushed_old, refl}
+use Rattle.scene_tree.proofs.Common.{same_Some, slice_get, slice_get-get_or, slice_get_within, slice_index_or, slot_in}
+use Rattle.scene_tree.proofs.Common.{slot_of, Some, Spot, subst, suc, sym, tie_of, true, true≢false, without, zero, []}
+use Rattle.scene_tree.proofs.Common.{ℕ, ⊎_elim, ◌++◌, ◌+◌, ◌<◌, ◌∙◌, ◌∷◌, ◌≡◌, ◌≢◌, ◌≤◌, ◌⊎◌}
+use Rattle.scene_tree.proofs.Chains.{after_kept, after_length, before_kept, before_length, chain_is, chain_none}
+use Rattle.scene_tree.proofs.Chains.{chain_short, changed_apart, changed_here, changed_kept, changed_length, held_is}
+use Rattle.scene_tree.proofs.Chains.{last_both, pushed_kept}
 use Rattle.scene_tree.proofs.Counting.{count_apart, count_both, count_here, count_more, same_slot, same_without}
 use Rattle.scene_tree.proofs.Forests.{slot_cases}
 use Rattle.scene_tree.proofs.Gathering.{above_within, short, slot_within}
-use Rattle.scene_tree.proofs.Writes.{same_length}
 use Rattle.scene_tree.proofs.Linking.{back_of, held_kept, joined, joined_held, linked_in, linked_out}
+use Rattle.scene_tree.proofs.Writes.{same_length}
 
 module _ {T : Type 0} where
   -- ---- what links say
@@ -613,7 +607,7 @@ module _ {T : Type 0} where
     pub one : count_at (slot_in node) (children_at old top) ≡ 1
     one = f.once (slot_in node) top (ap slot_of has)
 
-    abbrev pub part : IsAmong (children_at old top) node
+    abbrev part : IsAmong (children_at old top) node
     part = among node (children_at old top) (omega (arith, one)) (alike top)
 
     abbrev freed : List (Link T)

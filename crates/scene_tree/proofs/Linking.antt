@@ -1,16 +1,11 @@
 -- A child that is linked among its siblings, and one that is taken out.
-use Rattle.std.proofs.Common.{◌≡◌, ◌≢◌, ◌<◌, ◌≤◌, ◌+◌, ℕ, List, [], ◌∷◌, ◌++◌, Option, None, Some}
-use Rattle.std.proofs.Common.{refl, sym, ap, subst, ◌∙◌, ⊎_elim, arith}
-use Rattle.std.specs.Prelude.{slice_get}
-use Rattle.std.proofs.lemmas.Bool.{cases_eq}
-use Rattle.std.proofs.lemmas.Option.{none-some, same_Some}
-use Rattle.scene_tree.specs.declared.links.Link.{Link}
-use Rattle.scene_tree.specs.declared.node.Node.{Node}
-use Rattle.scene_tree.specs.Chains.{IsChain, IsHeld, after_put, before_put, changed, first_of, head_or, last_of, last_or, tie_of}
-use Rattle.scene_tree.specs.Families.{count_at}
-use Rattle.scene_tree.specs.Nodes.{slot_in}
-use Rattle.scene_tree.proofs.Chains.{after_first, after_last, after_ties, before_first, before_last, before_ties, changed_apart, changed_here, changed_kept, chain_join, chain_split, head_apart, last_apart}
-use Rattle.scene_tree.proofs.Chains.{head_both, last_both}
+use Rattle.scene_tree.proofs.Common.{after_put, ap, arith, before_put, cases_eq, changed, count_at, first_of, head_or}
+use Rattle.scene_tree.proofs.Common.{IsChain, IsHeld, last_of, last_or, Link, List, Node, None, none-some, Option}
+use Rattle.scene_tree.proofs.Common.{refl, same_Some, slice_get, slot_in, Some, subst, sym, tie_of, [], ℕ, ⊎_elim}
+use Rattle.scene_tree.proofs.Common.{◌++◌, ◌+◌, ◌<◌, ◌∙◌, ◌∷◌, ◌≡◌, ◌≢◌, ◌≤◌}
+use Rattle.scene_tree.proofs.Chains.{after_first, after_last, after_ties, before_first, before_last, before_ties}
+use Rattle.scene_tree.proofs.Chains.{chain_join, chain_split, changed_apart, changed_here, changed_kept, head_apart}
+use Rattle.scene_tree.proofs.Chains.{head_both, last_apart, last_both}
 use Rattle.scene_tree.proofs.Counting.{count_both, count_here, count_more}
 
 module _ {T : Type 0} where
@@ -185,10 +180,10 @@ module _ {T : Type 0} where
 
   -- what stands on one side isn't on the other, where each slot is counted once
   module _ (xs ys : List (Node T)) (once : (s : ℕ) → count_at s xs + count_at s ys ≤ 1) where
-    pub behind : (s : ℕ) → 0 < count_at s ys → last_or None xs ≢ Some s
+    behind : (s : ℕ) → 0 < count_at s ys → last_or None xs ≢ Some s
     behind s lt = last_apart None xs s (let le = once s in omega (arith, le, lt)) (λ is. none-some s is)
 
-    pub ahead : (s : ℕ) → 0 < count_at s xs → head_or ys None ≢ Some s
+    ahead : (s : ℕ) → 0 < count_at s xs → head_or ys None ≢ Some s
     ahead s lt = head_apart ys s (let le = once s in omega (arith, le, lt))
 
   -- both sides are linked anew to what is to come between them

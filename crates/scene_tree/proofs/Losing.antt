@@ -1,24 +1,10 @@
 -- A store after the values of nodes have ended.
-use Rattle.std.proofs.Common.{◌≡◌, ◌<◌, ◌+◌, ℕ, List, [], ◌∷◌, ◌++◌, Some, Ok, refl, sym}
-use Rattle.std.proofs.Common.{ap, subst, ◌∙◌, ⊎_elim, arith, cond, get_or, length, length-append, take, ◌≤◌}
-use Rattle.std.proofs.lemmas.List.Sums.{sum_by-take-le}
-use Rattle.std.proofs.lemmas.Bool.{cases_Bool, cases_lt}
-use Rattle.std.specs.Prelude.{is_some, slice_get}
-use Rattle.std.proofs.lemmas.List.{take_more}
-use Rattle.std.proofs.lemmas.Option.{slice_get-get_or}
-use Rattle.generational_core.specs.Machine.Action.{End}
-use Rattle.generational_core.specs.Machine.Answer.{Done}
-use Rattle.generational_core.specs.State.{State, IsSound}
-use Rattle.generational_core.specs.Steps.{Meets}
-use Rattle.generational_core.proofs.machine.Calling.{ends, unseen}
-use Rattle.generational_core.proofs.machine.Leaving.{same_value}
-use Rattle.generational_core.proofs.machine.Stepping.{meets_given, meets_number}
-use Rattle.generational_sessions.specs.PlainStores.{IsSimple}
-use Rattle.generational_sessions.proofs.callers.Ids.{others_left, seen_store}
-use Rattle.generational_sessions.proofs.callers.SimpleStores.{simple_still}
-use Rattle.scene_tree.specs.declared.node.Node.{Node}
-use Rattle.scene_tree.specs.Keeping.{HasLost, IsLiveIn}
-use Rattle.scene_tree.specs.Nodes.{is_same, pointer_in, times}
+use Rattle.scene_tree.proofs.Common.{ap, arith, cases_Bool, cases_lt, cond, Done, End, ends, get_or, HasLost, is_same}
+use Rattle.scene_tree.proofs.Common.{is_some, IsLiveIn, IsSimple, IsSound, length, length-append, List, Meets}
+use Rattle.scene_tree.proofs.Common.{meets_given, meets_number, Node, Ok, others_left, pointer_in, refl, same_value}
+use Rattle.scene_tree.proofs.Common.{seen_store, simple_still, slice_get, slice_get-get_or, Some, State, subst}
+use Rattle.scene_tree.proofs.Common.{sum_by-take-le, sym, take, take_more, times, unseen, [], ℕ, ⊎_elim, ◌++◌, ◌+◌}
+use Rattle.scene_tree.proofs.Common.{◌<◌, ◌∙◌, ◌∷◌, ◌≡◌, ◌≤◌}
 use Rattle.scene_tree.proofs.Counting.{is_id, same_id, times_apart, times_both, times_more}
 use Rattle.scene_tree.proofs.Stores.{ended_count, same_slots}
 use Rattle.scene_tree.proofs.Trees.{same_shown}

@@ -1,20 +1,10 @@
 -- What a walk over the nodes of all slots meets.
-use Rattle.std.proofs.Common.{◌≡◌, ◌<◌, ◌≤◌, ◌+◌, ℕ, zero, suc, Bool, true, false, cond, List, [], ◌∷◌}
-use Rattle.std.proofs.Common.{Option, None, Some, refl, sym, ap, subst, ◌∙◌, ⊎_elim, arith, not}
-use Rattle.std.specs.Prelude.{is_some, slice_get}
-use Rattle.std.proofs.lemmas.Bool.{and_from, and_parts, cases_Bool, true≢false}
-use Rattle.std.proofs.lemmas.Option.{none-some, same_Some}
-use Rattle.generational_core.specs.Seeing.{value_in}
-use Rattle.generational_core.specs.State.{State, IsSound}
-use Rattle.generational_sessions.proofs.callers.Ids.{same_id_sees}
-use Rattle.scene_tree.specs.declared.links.Link.{Link}
-use Rattle.scene_tree.specs.declared.node.Node.{Node}
-use Rattle.scene_tree.specs.Chains.{node_in, noted}
-use Rattle.scene_tree.specs.Families.{families}
-use Rattle.scene_tree.specs.Keeping.{AreNoted, IsKept, IsLiveIn}
-use Rattle.scene_tree.specs.Meeting.{is_met, met}
-use Rattle.scene_tree.specs.Nodes.{IsSame, is_same, pointer_in, slot_in, times}
-use Rattle.scene_tree.specs.Trees.{AreAll, AreRoots, TreeState, parent_of}
+use Rattle.scene_tree.proofs.Common.{and_from, and_parts, ap, AreAll, AreNoted, AreRoots, arith, Bool, cases_Bool}
+use Rattle.scene_tree.proofs.Common.{cond, false, families, is_met, is_same, is_some, IsKept, IsLiveIn, IsSame}
+use Rattle.scene_tree.proofs.Common.{IsSound, Link, List, met, Node, node_in, None, none-some, not, noted, Option}
+use Rattle.scene_tree.proofs.Common.{parent_of, pointer_in, refl, same_id_sees, same_Some, slice_get, slot_in, Some}
+use Rattle.scene_tree.proofs.Common.{State, subst, suc, sym, times, TreeState, true, true≢false, value_in, zero, [], ℕ}
+use Rattle.scene_tree.proofs.Common.{⊎_elim, ◌+◌, ◌<◌, ◌∙◌, ◌∷◌, ◌≡◌, ◌≤◌}
 use Rattle.scene_tree.proofs.Counting.{is_id, same_id, same_slot, times_apart, times_more}
 use Rattle.scene_tree.proofs.Linked.{parent_from, upper}
 use Rattle.scene_tree.proofs.Trees.{live_parent}

@@ -1,17 +1,10 @@
 -- A tree in which a node was moved, or was made a root.
-use Rattle.std.proofs.Common.{◌≡◌, ◌≢◌, ℕ, zero, suc, List, Some, true, sym, ap, subst, ◌∙◌, ⊎_elim, arith}
-use Rattle.std.specs.Prelude.{IfOk, OnOk, Result, Ok, Err}
-use Rattle.std.proofs.lemmas.Bool.{cases_eq}
-use Rattle.std.proofs.lemmas.Option.{none-some, same_Some}
-use Rattle.generational_core.specs.State.{State, IsSound}
-use Rattle.scene_tree.specs.declared.node.Node.{Node}
-use Rattle.scene_tree.specs.declared.spot.Spot.{Spot}
 use Rattle.scene_tree.specs.declared.spot.Spot.TheVariants as spot
-use Rattle.scene_tree.specs.Families.{Family, IsAmong, IsSpotIn, IsAttached, IsDetached, IsUnder, above, children_at, parent_at, slot_of}
-use Rattle.scene_tree.specs.Keeping.{IsKept, IsLiveIn}
-use Rattle.scene_tree.specs.Nodes.{IsOther, slot_in, without}
-use Rattle.scene_tree.specs.Spots.{named, placed}
-use Rattle.scene_tree.specs.Trees.{CanMove, IsBelow, TreeState, is_live, parent_for, parent_of}
+use Rattle.scene_tree.proofs.Common.{above, ap, arith, CanMove, cases_eq, children_at, Err, Family, IfOk, is_live}
+use Rattle.scene_tree.proofs.Common.{IsAmong, IsAttached, IsBelow, IsDetached, IsKept, IsLiveIn, IsOther, IsSound}
+use Rattle.scene_tree.proofs.Common.{IsSpotIn, IsUnder, List, named, Node, none-some, Ok, OnOk, parent_at, parent_for}
+use Rattle.scene_tree.proofs.Common.{parent_of, placed, Result, same_Some, slot_in, slot_of, Some, Spot, State, subst}
+use Rattle.scene_tree.proofs.Common.{suc, sym, TreeState, true, without, zero, ℕ, ⊎_elim, ◌∙◌, ◌≡◌, ◌≢◌}
 use Rattle.scene_tree.proofs.Counting.{same_without}
 use Rattle.scene_tree.proofs.Forests.{above_parent, slot_cases}
 use Rattle.scene_tree.proofs.Keeping.{alike, kept_attached, kept_detached}

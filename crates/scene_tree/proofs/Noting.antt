@@ -1,25 +1,13 @@
 -- Which node is noted at each slot, after each write to the links.
-use Rattle.std.proofs.Common.{◌≡◌, ◌≢◌, ◌<◌, ◌≤◌, ℕ, zero, suc, List, [], ◌∷◌, ◌++◌, length}
-use Rattle.std.proofs.Common.{Option, None, Some, refl, sym, ap, ◌∙◌, ⊎_elim, arith}
-use Rattle.std.specs.Prelude.{is_some}
-use Rattle.std.proofs.lemmas.Bool.{cases_eq, cases_lt, true≢false}
-use Rattle.std.proofs.lemmas.List.{length-map}
-use Rattle.std.proofs.lemmas.Option.{none-some, same_Some}
-use Rattle.generational_core.specs.Machine.Action.{Make}
-use Rattle.generational_core.specs.Machine.Answer.{Made}
-use Rattle.generational_core.specs.Seeing.{value_in}
-use Rattle.generational_core.specs.State.{State, IsSound}
-use Rattle.generational_core.specs.Steps.{Meets}
-use Rattle.generational_errors.specs.declared.error.Location.{Location}
-use Rattle.generational_core.proofs.machine.Leaving.{same_value}
-use Rattle.generational_sessions.specs.PlainStores.{IsSimple}
-use Rattle.scene_tree.specs.declared.links.Link.{Link}
-use Rattle.scene_tree.specs.declared.node.Node.{Node}
-use Rattle.scene_tree.specs.Chains.{IsHeld, after_put, before_put, changed, first_of, last_of, node_in, noted, tie_of}
-use Rattle.scene_tree.specs.Families.{IsForest, IsLinked, IsOpened, above, children_at, count_at, families, family_in}
-use Rattle.scene_tree.specs.Keeping.{AreNoted, HasLost, IsLiveIn}
-use Rattle.scene_tree.specs.Nodes.{IsSame, pointer_in, slot_in, times}
-use Rattle.scene_tree.proofs.Chains.{after_kept, before_kept, changed_apart, changed_here, changed_kept, changed_length}
+use Rattle.scene_tree.proofs.Common.{above, after_put, ap, AreNoted, arith, before_put, cases_eq, cases_lt, changed}
+use Rattle.scene_tree.proofs.Common.{children_at, count_at, families, family_in, first_of, HasLost, is_some, IsForest}
+use Rattle.scene_tree.proofs.Common.{IsHeld, IsLinked, IsLiveIn, IsOpened, IsSame, IsSimple, IsSound, last_of, length}
+use Rattle.scene_tree.proofs.Common.{length-map, Link, List, Location, Made, Make, Meets, Node, node_in, None}
+use Rattle.scene_tree.proofs.Common.{none-some, noted, Option, pointer_in, refl, same_Some, same_value, slot_in, Some}
+use Rattle.scene_tree.proofs.Common.{State, suc, sym, tie_of, times, true≢false, value_in, zero, [], ℕ, ⊎_elim, ◌++◌}
+use Rattle.scene_tree.proofs.Common.{◌<◌, ◌∙◌, ◌∷◌, ◌≡◌, ◌≢◌, ◌≤◌}
+use Rattle.scene_tree.proofs.Chains.{after_kept, before_kept, changed_apart, changed_here, changed_kept}
+use Rattle.scene_tree.proofs.Chains.{changed_length}
 use Rattle.scene_tree.proofs.Linked.{children_held, children_short, link_there, linked_with, parent_from, upper}
 use Rattle.scene_tree.proofs.Linking.{held_kept}
 use Rattle.scene_tree.proofs.Stores.{one_live}

@@ -1,13 +1,9 @@
 -- Ways from parent to parent: how long they are, and that none leads back.
-use Rattle.std.proofs.Common.{◌≡◌, ◌≢◌, ◌<◌, ◌≤◌, ◌+◌, ℕ, zero, suc, true, false, List, [], ◌∷◌}
-use Rattle.std.proofs.Common.{None, Some, refl, sym, ap, subst, ◌∙◌, ⊎_elim, arith, length}
-use Rattle.std.specs.Prelude.{nat_eq}
-use Rattle.std.specs.List.{IsDistinct, AllByRecursion, list_any}
-use Rattle.std.proofs.lemmas.Bool.{eq-eqb, eqb-true, or_cases, or_left, or_right, true≢false}
-use Rattle.std.proofs.lemmas.Bool.Decides.{eqb_tells}
-use Rattle.std.proofs.lemmas.Map.Steps.{length-le_from_distinct_below}
-use Rattle.std.proofs.lemmas.Option.{none-some, same_Some}
-use Rattle.scene_tree.specs.Families.{Family, above, IsRooted, IsUnder}
+use Rattle.scene_tree.proofs.Common.{above, AllByRecursion, ap, arith, eq-eqb, eqb-true, eqb_tells, false, Family}
+use Rattle.scene_tree.proofs.Common.{IsDistinct, IsRooted, IsUnder, length, length-le_from_distinct_below, List}
+use Rattle.scene_tree.proofs.Common.{list_any, nat_eq, None, none-some, or_cases, or_left, or_right, refl, same_Some}
+use Rattle.scene_tree.proofs.Common.{Some, subst, suc, sym, true, true≢false, zero, [], ℕ, ⊎_elim, ◌+◌, ◌<◌, ◌∙◌, ◌∷◌}
+use Rattle.scene_tree.proofs.Common.{◌≡◌, ◌≢◌, ◌≤◌}
 
 module _ {T : Type 0} (fs : List (Family T)) where
   -- there is one way to a root

@@ -1,25 +1,17 @@
 -- Rows of an outline: what follows each, and that they are those of the tree.
-use Rattle.std.proofs.Common.{◌≡◌, ◌≢◌, ◌<◌, ◌≤◌, ◌+◌, ℕ, zero, suc, List, [], ◌∷◌, ◌++◌, length, length-append, Option, None, Some}
-use Rattle.std.proofs.Common.{refl, sym, ap, subst, ◌∙◌, ⊎_elim, arith}
-use Rattle.std.specs.Prelude.{◌-◌, slice_get, slice_index_or}
-use Rattle.std.proofs.lemmas.Bool.{cases_eq}
-use Rattle.std.proofs.lemmas.Option.{none-some, same_Some, slice_get-get_or, slice_get_within}
-use Rattle.std.proofs.lemmas.List.{length-map}
-use Rattle.generational_core.specs.State.{State, IsSound}
-use Rattle.scene_tree.specs.declared.links.Link.{Link}
-use Rattle.scene_tree.specs.declared.node.Node.{Node}
-use Rattle.scene_tree.specs.Chains.{IsChain, IsHeld, after_tied, chain, first_of, head_or, tie_of}
-use Rattle.scene_tree.specs.Families.{Family, IsForest, IsLinked, IsUnder, above, children_at, count_at, families, family_in}
-use Rattle.scene_tree.specs.Keeping.{IsKept, IsLiveIn}
-use Rattle.scene_tree.specs.Nodes.{slot_in}
-use Rattle.scene_tree.specs.Rows.{IsPlaced, behind, rows, rows_at, waiting}
-use Rattle.scene_tree.specs.Trees.{TreeState, outline_of}
+use Rattle.scene_tree.proofs.Common.{above, after_tied, ap, arith, behind, cases_eq, chain, children_at, count_at}
+use Rattle.scene_tree.proofs.Common.{families, Family, family_in, first_of, head_or, IsChain, IsForest, IsHeld, IsKept}
+use Rattle.scene_tree.proofs.Common.{IsLinked, IsLiveIn, IsPlaced, IsSound, IsUnder, length, length-append, length-map}
+use Rattle.scene_tree.proofs.Common.{Link, List, Node, None, none-some, Option, outline_of, refl, rows, rows_at}
+use Rattle.scene_tree.proofs.Common.{same_Some, slice_get, slice_get-get_or, slice_get_within, slice_index_or, slot_in}
+use Rattle.scene_tree.proofs.Common.{Some, State, subst, suc, sym, tie_of, TreeState, waiting, zero, [], ℕ, ⊎_elim}
+use Rattle.scene_tree.proofs.Common.{◌++◌, ◌+◌, ◌-◌, ◌<◌, ◌∙◌, ◌∷◌, ◌≡◌, ◌≢◌, ◌≤◌}
 use Rattle.scene_tree.proofs.Chains.{chain_is, chain_none}
 use Rattle.scene_tree.proofs.Counting.{count_apart, counts}
 use Rattle.scene_tree.proofs.Gathering.{above_within}
-use Rattle.scene_tree.proofs.Paths.{depth_within, rooted_under}
 use Rattle.scene_tree.proofs.Linked.{between, child_above, child_within, children_short}
 use Rattle.scene_tree.proofs.Linking.{back_of}
+use Rattle.scene_tree.proofs.Paths.{depth_within, rooted_under}
 use Rattle.scene_tree.proofs.Trees.{get_both, live_children}
 
 pub one_deeper : (d : ℕ) → d + 1 ≡ suc d
@@ -49,10 +41,10 @@ module _ {T : Type 0} where
 
     -- what follows a child among its siblings
     module _ (s up : ℕ) (is : above fs s ≡ Some up) where
-      pub one : count_at s (children_at fs up) ≡ 1
+      one : count_at s (children_at fs up) ≡ 1
       one = f.once s up is
 
-      abbrev pub part : (xs : List (Node T)) × (c : Node T) × (ys : List (Node T))
+      abbrev part : (xs : List (Node T)) × (c : Node T) × (ys : List (Node T))
           × (children_at fs up ≡ xs ++ c ∷ ys) × (slot_in c ≡ s)
       part = parted s (children_at fs up) (omega (arith, one))
 
@@ -68,7 +60,7 @@ module _ {T : Type 0} where
           let le = children_short links up in
           let all = ap length part.3 ∙ length-append part.0 (part.1 ∷ part.2) in omega (arith, le, all)
 
-      pub left_is : chain links (length links) (after_at s) ≡ part.2
+      left_is : chain links (length links) (after_at s) ≡ part.2
       left_is = ap (chain links (length links)) after_is
           ∙ chain_is links (Some (slot_in part.1)) part.2 (length links) lies short
 

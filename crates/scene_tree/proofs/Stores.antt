@@ -1,45 +1,16 @@
 -- A tree's store: its live nodes and its slots.
 use Rattle.std.specs.FinMap as map
-use Rattle.std.proofs.Common.{◌≡◌, ◌≢◌, ◌<◌, ◌+◌, true, false, cond, Option, None, Some, refl, sym, ap}
-use Rattle.std.proofs.Common.{◌∙◌, ⊎_elim, arith, inl, inr}
-use Rattle.std.specs.Cmp.{nat_cmp_total}
-use Rattle.std.specs.Prelude.{◌⊎◌, ◌-◌, is_some}
-use Rattle.std.proofs.lemmas.Bool.{false_from_ne_true}
-use Rattle.std.proofs.Common.{[], ◌∷◌, eq-eqb, true≢false}
-use Rattle.std.proofs.lemmas.Bool.{cases_lt}
-use Rattle.std.proofs.lemmas.Option.{none-some}
-use Rattle.generational_core.specs.Borrowing.{fill, leads_to, reach}
-use Rattle.generational_core.specs.Boxes.{name_of}
-use Rattle.generational_core.specs.Cells.{Cell, Content, content_of, refill}
-use Rattle.generational_core.specs.Cells.Content.{Here, Lent}
-use Rattle.generational_core.specs.Cells.Cell.{Ref, Shared, Value}
-use Rattle.generational_core.specs.Ending.{cells_after, close, hindrance_to}
-use Rattle.generational_core.specs.Machine.{Action, Answer, Outcome, cell_at, own_name, set_at}
-use Rattle.generational_core.specs.Machine.Action.{End, Make, SetValue}
-use Rattle.generational_core.specs.Machine.Answer.{Done, Made, Old}
-use Rattle.generational_core.specs.Names.{Name, NameMap, change, change_if, name_cmp}
-use Rattle.generational_core.specs.Seeing.{value_in}
-use Rattle.generational_core.specs.Slots.{last_name, slots, slots_of}
-use Rattle.generational_core.specs.State.{State, IsSound}
-use Rattle.generational_core.specs.Steps.{Meets}
-use Rattle.generational_core.specs.declared.boxes.GenerationalPointer.{GenerationalPointer}
-use Rattle.generational_errors.specs.declared.error.Location.{Location}
-use Rattle.generational_core.proofs.machine.Bounding.{lasts_insert, slot_apart, slot_made}
-use Rattle.generational_core.proofs.machine.Calling.{seen_reached}
-use Rattle.generational_core.proofs.machine.Changes.{is_making}
-use Rattle.generational_core.proofs.machine.Closing.{close_one}
-use Rattle.generational_core.proofs.machine.Linking.{sound_linked}
-use Rattle.generational_core.proofs.machine.Releasing.{done_only}
-use Rattle.generational_core.proofs.maps.Maps.{name_total}
-use Rattle.generational_core.proofs.machine.Ends.{some_live}
-use Rattle.generational_core.proofs.machine.Seeing.{reaches}
-use Rattle.generational_core.proofs.machine.Stepping.{act_start, made_new, meets_cases}
-use Rattle.generational_sessions.specs.PlainStores.{IsSimple}
-use Rattle.generational_sessions.proofs.callers.Ids.{seen_cell, seen_store}
-use Rattle.generational_sessions.proofs.callers.SimpleStores.{making}
-use Rattle.scene_tree.specs.declared.node.Node.{Node}
-use Rattle.scene_tree.specs.Keeping.{IsLiveIn}
-use Rattle.scene_tree.specs.Nodes.{IsSame, pointer_in, slot_in}
+use Rattle.scene_tree.proofs.Common.{act_start, Action, Answer, ap, arith, cases_lt, Cell, cell_at, cells_after}
+use Rattle.scene_tree.proofs.Common.{change, change_if, close, close_one, cond, Content, content_of, Done, done_only}
+use Rattle.scene_tree.proofs.Common.{End, eq-eqb, false, false_from_ne_true, fill, GenerationalPointer, Here}
+use Rattle.scene_tree.proofs.Common.{hindrance_to, inl, inr, is_making, is_some, IsLiveIn, IsSame, IsSimple, IsSound}
+use Rattle.scene_tree.proofs.Common.{last_name, lasts_insert, leads_to, Lent, Location, Made, made_new, Make, making}
+use Rattle.scene_tree.proofs.Common.{Meets, meets_cases, Name, name_cmp, name_of, name_total, NameMap, nat_cmp_total}
+use Rattle.scene_tree.proofs.Common.{Node, None, none-some, Old, Option, Outcome, own_name, pointer_in, reach, reaches}
+use Rattle.scene_tree.proofs.Common.{Ref, refill, refl, seen_cell, seen_reached, seen_store, set_at, SetValue, Shared}
+use Rattle.scene_tree.proofs.Common.{slot_apart, slot_in, slot_made, slots, slots_of, Some, some_live, sound_linked}
+use Rattle.scene_tree.proofs.Common.{State, sym, true, true≢false, Value, value_in, [], ⊎_elim, ◌+◌, ◌-◌, ◌<◌, ◌∙◌}
+use Rattle.scene_tree.proofs.Common.{◌∷◌, ◌≡◌, ◌≢◌, ◌⊎◌}
 
 module _ {T : Type 0} where
   -- a live node has a live cell

@@ -1,22 +1,13 @@
 -- What a tree shows of its nodes.
 use Rattle.std.specs.FinMap as map
-use Rattle.std.proofs.Common.{◌≡◌, ◌<◌, ℕ, zero, suc, true, false, cond, List, [], ◌∷◌, ◌++◌, length}
-use Rattle.std.proofs.Common.{Option, None, Some, refl, sym, ap, subst, ◌∙◌, ⊎_elim, inl, inr, arith}
-use Rattle.std.specs.List.{flat_map}
-use Rattle.std.specs.Prelude.{◌⊎◌, is_some, nat_eq, slice_get}
-use Rattle.std.proofs.lemmas.Bool.{cases_Bool, true≢false}
-use Rattle.std.proofs.lemmas.Option.{none-some, same_Some}
-use Rattle.generational_core.specs.Borrowing.{leads_to, reach}
-use Rattle.generational_core.specs.Boxes.{name_in}
-use Rattle.generational_core.specs.Seeing.{value_in, value_reached}
-use Rattle.generational_core.specs.State.{State, IsSound}
-use Rattle.generational_core.specs.declared.boxes.GenerationalBoxId.{GenerationalBoxId}
-use Rattle.scene_tree.specs.declared.node.Node.{Node}
-use Rattle.scene_tree.specs.Families.{Family, IsInLevels, IsRooted, IsUnder, alone, children_at, count_at, family_at, parent_at, slot_of}
-use Rattle.scene_tree.specs.Keeping.{IsKept, IsLiveIn}
-use Rattle.scene_tree.specs.Nodes.{IsSame, is_same, pointer_in, slot_in, times}
-use Rattle.scene_tree.specs.Trees.{NodeIsUnchanged, IsRootedIn, IsStepsBelow, IsSubtree, IsTree, TreeState, children_of, family_of, is_live}
-use Rattle.scene_tree.specs.Trees.{parent_of, value_of}
+use Rattle.scene_tree.proofs.Common.{alone, ap, arith, cases_Bool, children_at, children_of, cond, count_at, false}
+use Rattle.scene_tree.proofs.Common.{Family, family_at, family_of, flat_map, GenerationalBoxId, inl, inr, is_live}
+use Rattle.scene_tree.proofs.Common.{is_same, is_some, IsInLevels, IsKept, IsLiveIn, IsRooted, IsRootedIn, IsSame}
+use Rattle.scene_tree.proofs.Common.{IsSound, IsStepsBelow, IsSubtree, IsTree, IsUnder, leads_to, length, List}
+use Rattle.scene_tree.proofs.Common.{name_in, nat_eq, Node, NodeIsUnchanged, None, none-some, Option, parent_at}
+use Rattle.scene_tree.proofs.Common.{parent_of, pointer_in, reach, refl, same_Some, slice_get, slot_in, slot_of, Some}
+use Rattle.scene_tree.proofs.Common.{State, subst, suc, sym, times, TreeState, true, true≢false, value_in, value_of}
+use Rattle.scene_tree.proofs.Common.{value_reached, zero, [], ℕ, ⊎_elim, ◌++◌, ◌<◌, ◌∙◌, ◌∷◌, ◌≡◌, ◌⊎◌}
 use Rattle.scene_tree.proofs.Counting.{is_id, same_id, times_at, times_none}
 use Rattle.scene_tree.proofs.Forests.{above_parent}
 use Rattle.scene_tree.proofs.Gathering.{all_listed, listed_below, listed_once, part_whole}

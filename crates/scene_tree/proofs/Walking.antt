@@ -1,13 +1,7 @@
 -- Walks from parent to parent: each ends at a root, before its steps run out.
-use Rattle.std.proofs.Common.{◌≡◌, ◌<◌, ◌≤◌, ℕ, zero, suc, Option, None, Some, List, [], ◌∷◌}
-use Rattle.std.proofs.Common.{refl, sym, ap, ◌∙◌, arith, length}
-use Rattle.generational_core.specs.State.{State, IsSound}
-use Rattle.scene_tree.specs.declared.node.Node.{Node}
-use Rattle.scene_tree.specs.Families.{Family, IsForest, IsRooted, parent_at, slot_of}
-use Rattle.scene_tree.specs.Keeping.{IsKept, IsLiveIn}
-use Rattle.scene_tree.specs.Nodes.{slot_in}
-use Rattle.scene_tree.specs.Trees.{AreAncestors, TreeState}
-use Rattle.scene_tree.specs.Walking.{IsWithin, way_up}
+use Rattle.scene_tree.proofs.Common.{ap, AreAncestors, arith, Family, IsForest, IsKept, IsLiveIn, IsRooted, IsSound}
+use Rattle.scene_tree.proofs.Common.{IsWithin, length, List, Node, None, Option, parent_at, refl, slot_in, slot_of}
+use Rattle.scene_tree.proofs.Common.{Some, State, suc, sym, TreeState, way_up, zero, [], ℕ, ◌<◌, ◌∙◌, ◌∷◌, ◌≡◌, ◌≤◌}
 use Rattle.scene_tree.proofs.Gathering.{above_within}
 use Rattle.scene_tree.proofs.Paths.{depth_within, rooted_up}
 use Rattle.scene_tree.proofs.Trees.{live_parent}

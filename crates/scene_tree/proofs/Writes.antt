@@ -1,8 +1,6 @@
 -- The families of links that were opened, or are read elsewhere.
-use Rattle.std.proofs.Common.{◌≡◌, ◌∙◌, ℕ, List, sym, subst, length}
-use Rattle.std.proofs.lemmas.List.{length-map}
-use Rattle.scene_tree.specs.declared.links.Link.{Link}
-use Rattle.scene_tree.specs.Families.{Family, IsOpened, families, family_in}
+use Rattle.scene_tree.proofs.Common.{families, Family, family_in, IsOpened, length, length-map, Link, List, subst, sym}
+use Rattle.scene_tree.proofs.Common.{ℕ, ◌∙◌, ◌≡◌}
 
 -- what was opened, where the families are read elsewhere
 pub opened_from : {T : Type 0} {here old : List (Family T)} {slot : ℕ} {gs : List (Family T)}

@@ -1,9 +1,5 @@
-use Rattle.std.proofs.Common.{Some, ap, inl, inr, arith, length, refl, ◌∙◌}
-use Rattle.scene_tree.specs.Chains.{after_put, before_put, noted}
-use Rattle.scene_tree.proofs.Chains.{after_length, changed_length}
-use Rattle.scene_tree.proofs.Linked.{attached_by, gap_within}
-use Rattle.scene_tree.proofs.Noting.{noted_apart, noted_here, noted_joined}
-use Rattle.scene_tree.specs.Nodes.{slot_in}
+use Rattle.scene_tree.proofs.{after_length, after_put, ap, arith, attached_by, before_put, changed_length, gap_within}
+use Rattle.scene_tree.proofs.{inl, inr, length, noted, noted_apart, noted_here, noted_joined, refl, slot_in, Some, ◌∙◌}
 use Rattle.scene_tree.proofs.links.attach.Goals as goal
 
 pub put_after-requires-clause-within : goal.put_after-requires-clause-within

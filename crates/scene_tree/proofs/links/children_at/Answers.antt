@@ -1,7 +1,4 @@
-use Rattle.std.proofs.Common.{Some, sym, ap, length, ◌∙◌}
-use Rattle.std.proofs.lemmas.Option.{slice_get-get_or}
-use Rattle.scene_tree.specs.Chains.{chain, first_of}
-use Rattle.scene_tree.proofs.Linked.{children_from, rest_first}
+use Rattle.scene_tree.proofs.{ap, chain, children_from, first_of, length, rest_first, slice_get-get_or, Some, sym, ◌∙◌}
 use Rattle.scene_tree.proofs.links.children_at.Goals as goal
 
 pub new-requires : goal.new-requires

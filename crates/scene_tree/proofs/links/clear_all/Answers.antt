@@ -1,11 +1,6 @@
-use Rattle.std.proofs.Common.{arith, refl, subst, sym, ap, length, ◌<◌, ◌∙◌}
-use Rattle.std.proofs.lemmas.Option.{slice_get-get_or}
-use Rattle.scene_tree.specs.Chains.{noted}
-use Rattle.scene_tree.specs.Families.{IsLinked, count_at, families, family_at}
-use Rattle.scene_tree.proofs.Chains.{changed_length}
-use Rattle.scene_tree.proofs.Counting.{clear_more, counts}
-use Rattle.scene_tree.proofs.Linked.{bared_alone, bared_linked, bared_others}
-use Rattle.scene_tree.proofs.Noting.{noted_kept}
+use Rattle.scene_tree.proofs.{ap, arith, bared_alone, bared_linked, bared_others, changed_length, clear_more, count_at}
+use Rattle.scene_tree.proofs.{counts, families, family_at, IsLinked, length, noted, noted_kept, refl, slice_get-get_or}
+use Rattle.scene_tree.proofs.{subst, sym, ◌<◌, ◌∙◌}
 use Rattle.scene_tree.proofs.links.clear_all.Goals as goal
 
 pub clear-requires : goal.clear-requires

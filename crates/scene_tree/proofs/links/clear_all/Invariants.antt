@@ -1,6 +1,4 @@
-use Rattle.std.proofs.Common.{◌≡◌, ℕ, length, take}
-use Rattle.scene_tree.specs.Chains.{noted}
-use Rattle.scene_tree.specs.Families.{families, IsCleared, IsLinked}
+use Rattle.scene_tree.proofs.{families, IsCleared, IsLinked, length, noted, take, ℕ, ◌≡◌}
 use Rattle.scene_tree.proofs.links.clear_all.Given as goal
 
 abbrev pub invariant-loop-node : goal.invariant-loop-node

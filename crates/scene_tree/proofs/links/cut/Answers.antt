@@ -1,8 +1,5 @@
-use Rattle.std.proofs.Common.{arith, length, ◌∙◌}
-use Rattle.std.proofs.lemmas.List.{length-map}
-use Rattle.scene_tree.specs.Families.{families, family_in}
-use Rattle.scene_tree.proofs.Gathering.{below_within, listed_below, part_whole}
-use Rattle.scene_tree.proofs.Writes.{same_length}
+use Rattle.scene_tree.proofs.{arith, below_within, families, family_in, length, length-map, listed_below, part_whole}
+use Rattle.scene_tree.proofs.{same_length, ◌∙◌}
 use Rattle.scene_tree.proofs.links.cut.Goals as goal
 
 pub clear_all-requires-clause-within : goal.clear_all-requires-clause-within

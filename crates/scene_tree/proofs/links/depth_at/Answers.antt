@@ -1,8 +1,5 @@
-use Rattle.std.proofs.Common.{arith, ap, sym, subst, ◌<◌, ◌≡◌, ◌∙◌, Some, length, suc}
-use Rattle.std.proofs.lemmas.List.{length-map}
-use Rattle.scene_tree.specs.Families.{IsRooted, above, families, family_in, slot_of}
-use Rattle.scene_tree.proofs.Gathering.{above_within}
-use Rattle.scene_tree.proofs.Paths.{depth_within, rooted_up}
+use Rattle.scene_tree.proofs.{above, above_within, ap, arith, depth_within, families, family_in, IsRooted, length}
+use Rattle.scene_tree.proofs.{length-map, rooted_up, slot_of, Some, subst, suc, sym, ◌<◌, ◌∙◌, ◌≡◌}
 use Rattle.scene_tree.proofs.links.depth_at.Goals as goal
 
 pub loop-steps-init : goal.loop-steps-init

@@ -1,5 +1,4 @@
-use Rattle.std.proofs.Common.{◌<◌, ◌+◌, ℕ, length}
-use Rattle.scene_tree.specs.Families.{families, IsRooted}
+use Rattle.scene_tree.proofs.{families, IsRooted, length, ℕ, ◌+◌, ◌<◌}
 use Rattle.scene_tree.proofs.links.depth_at.Given as goal
 
 abbrev pub invariant-loop-steps : goal.invariant-loop-steps

@@ -1,8 +1,5 @@
-use Rattle.std.proofs.Common.{ap, sym, inl, inr, arith, length, refl, ◌∙◌}
-use Rattle.scene_tree.specs.Chains.{after_put, before_put, noted}
-use Rattle.scene_tree.proofs.Chains.{after_length, changed_length}
-use Rattle.scene_tree.proofs.Linked.{detached_by, side_within, top_within}
-use Rattle.scene_tree.proofs.Noting.{noted_joined, noted_kept}
+use Rattle.scene_tree.proofs.{after_length, after_put, ap, arith, before_put, changed_length, detached_by, inl, inr}
+use Rattle.scene_tree.proofs.{length, noted, noted_joined, noted_kept, refl, side_within, sym, top_within, ◌∙◌}
 use Rattle.scene_tree.proofs.links.detach.Goals as goal
 
 pub put_after-requires-clause-within : goal.put_after-requires-clause-within

@@ -1,10 +1,7 @@
-use Rattle.std.proofs.Common.{None, Some, sym, ap, subst, arith, ◌∙◌}
-use Rattle.std.proofs.lemmas.Option.{slice_get-get_or}
-use Rattle.scene_tree.specs.Chains.{tie_of}
+use Rattle.scene_tree.proofs.{among_within, ap, arith, children_at, families, gap_after, gap_before, gap_first}
+use Rattle.scene_tree.proofs.{gap_last, IsGap, IsSpotIn, None, slice_get, slice_get-get_or, Some, subst, sym, tie_of}
+use Rattle.scene_tree.proofs.{◌∙◌}
 use Rattle.scene_tree.specs.declared.spot.Spot.TheVariants as spot
-use Rattle.std.specs.Prelude.{slice_get}
-use Rattle.scene_tree.specs.Families.{IsGap, IsSpotIn, children_at, families}
-use Rattle.scene_tree.proofs.Linked.{among_within, gap_after, gap_before, gap_first, gap_last}
 use Rattle.scene_tree.proofs.links.gap_at.Goals as goal
 
 pub sides_at-requires : goal.sides_at-requires

@@ -1,10 +1,5 @@
-use Rattle.std.proofs.Common.{rules, arith, refl, ◌<◌, length, get_or}
-use Rattle.std.proofs.lemmas.List.{length-map}
-use Rattle.std.proofs.lemmas.Option.{slice_get-get_or}
-use Rattle.scene_tree.specs.Families.{families, family_in}
-use Rattle.scene_tree.specs.Nodes.{slot_in}
-use Rattle.scene_tree.proofs.Counting.{counts}
-use Rattle.scene_tree.proofs.Gathering.{below_within, list_short, listed_below, part_more}
+use Rattle.scene_tree.proofs.{arith, below_within, counts, families, family_in, get_or, length, length-map, list_short}
+use Rattle.scene_tree.proofs.{listed_below, part_more, refl, rules, slice_get-get_or, slot_in, ◌<◌}
 use Rattle.scene_tree.proofs.links.gather.Goals as goal
 
 pub push_children-requires-clause-within : goal.push_children-requires-clause-within

@@ -1,7 +1,4 @@
-use Rattle.std.proofs.Common.{length}
-use Rattle.std.specs.Prelude.{◌-◌}
-use Rattle.scene_tree.specs.Families.{families}
-use Rattle.scene_tree.proofs.Gathering.{IsPart}
+use Rattle.scene_tree.proofs.{families, IsPart, length, ◌-◌}
 use Rattle.scene_tree.proofs.links.gather.Given as goal
 
 abbrev pub invariant-loop-next : goal.invariant-loop-next

@@ -1,9 +1,6 @@
-use Rattle.std.proofs.Common.{arith, ap, sym, ◌<◌, ◌≡◌, ◌∙◌, Some, length, suc}
-use Rattle.std.proofs.lemmas.Bool.{true≢false}
-use Rattle.std.proofs.lemmas.List.{length-map}
-use Rattle.scene_tree.specs.Families.{above, families, family_in, slot_of}
-use Rattle.scene_tree.proofs.Gathering.{above_within}
-use Rattle.scene_tree.proofs.Paths.{depth_within, no_cycle, root_under, rooted_up, step_under, under_up}
+use Rattle.scene_tree.proofs.{above, above_within, ap, arith, depth_within, families, family_in, length, length-map}
+use Rattle.scene_tree.proofs.{no_cycle, root_under, rooted_up, slot_of, Some, step_under, suc, sym, true≢false}
+use Rattle.scene_tree.proofs.{under_up, ◌<◌, ◌∙◌, ◌≡◌}
 use Rattle.scene_tree.proofs.links.is_under.Goals as goal
 
 pub loop-init : goal.loop-init

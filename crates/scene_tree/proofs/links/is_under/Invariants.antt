@@ -1,6 +1,4 @@
-use Rattle.std.proofs.Common.{◌<◌, ◌+◌, ℕ, length}
-use Rattle.std.specs.Prelude.{◌↔◌}
-use Rattle.scene_tree.specs.Families.{families, IsRooted, IsUnder}
+use Rattle.scene_tree.proofs.{families, IsRooted, IsUnder, length, ℕ, ◌+◌, ◌<◌, ◌↔◌}
 use Rattle.scene_tree.proofs.links.is_under.Given as goal
 
 abbrev pub invariant-loop : goal.invariant-loop

@@ -1,8 +1,5 @@
-use Rattle.std.proofs.Common.{rules, arith, ◌∙◌, Some, ap, sym, subst}
-use Rattle.std.proofs.lemmas.Option.{slice_get-get_or}
-use Rattle.scene_tree.specs.Families.{IsUnder, families}
-use Rattle.scene_tree.specs.Nodes.{slot_in}
-use Rattle.scene_tree.proofs.Rows.{first_row, first_within, no_row, one_deeper, placed_short}
+use Rattle.scene_tree.proofs.{ap, arith, families, first_row, first_within, IsUnder, no_row, one_deeper, placed_short}
+use Rattle.scene_tree.proofs.{rules, slice_get-get_or, slot_in, Some, subst, sym, ◌∙◌}
 use Rattle.scene_tree.proofs.links.next_row.Goals as goal
 
 pub overflow_add-result : goal.overflow_add-result

@@ -1,10 +1,6 @@
-use Rattle.std.proofs.Common.{rules, Some, sym, ap, arith, length, refl, subst, ◌∙◌, ◌<◌}
-use Rattle.scene_tree.specs.Chains.{noted}
-use Rattle.scene_tree.specs.Families.{IsLinked, IsOpened, families}
-use Rattle.scene_tree.specs.Nodes.{slot_in}
-use Rattle.scene_tree.proofs.Chains.{changed_length}
-use Rattle.scene_tree.proofs.Linked.{opened_is, opened_linked}
-use Rattle.scene_tree.proofs.Noting.{noted_apart, noted_before, noted_here, noted_last, renoted_linked, renoted_opened}
+use Rattle.scene_tree.proofs.{ap, arith, changed_length, families, IsLinked, IsOpened, length, noted, noted_apart}
+use Rattle.scene_tree.proofs.{noted_before, noted_here, noted_last, opened_is, opened_linked, refl, renoted_linked}
+use Rattle.scene_tree.proofs.{renoted_opened, rules, slot_in, Some, subst, sym, ◌<◌, ◌∙◌}
 use Rattle.scene_tree.proofs.links.open_slot.Goals as goal
 
 pub returns-then-slot-len-clause-linked : goal.returns-then-slot-len-clause-linked

@@ -1,6 +1,4 @@
-use Rattle.std.proofs.Common.{Some, ap, arith, ◌∙◌}
-use Rattle.scene_tree.specs.Chains.{changed}
-use Rattle.scene_tree.proofs.Chains.{written}
+use Rattle.scene_tree.proofs.{ap, arith, changed, Some, written, ◌∙◌}
 use Rattle.scene_tree.proofs.links.place.Goals as goal
 
 pub returns : goal.returns

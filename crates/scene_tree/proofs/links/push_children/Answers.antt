@@ -1,9 +1,5 @@
-use Rattle.std.proofs.Common.{◌++◌, Some, sym, ap, ◌∙◌}
-use Rattle.std.proofs.lemmas.Iterator.Consumers.{YieldsList-from_first, YieldsList-end}
-use Rattle.std.proofs.lemmas.List.{map-id}
-use Rattle.std.proofs.lemmas.Option.{same_Some, slice_get-get_or}
-use Rattle.scene_tree.specs.Families.{children_at, families}
-use Rattle.scene_tree.specs.Nodes.{slot_in}
+use Rattle.scene_tree.proofs.{ap, children_at, families, map-id, same_Some, slice_get-get_or, slot_in, Some, sym}
+use Rattle.scene_tree.proofs.{YieldsList-end, YieldsList-from_first, ◌++◌, ◌∙◌}
 use Rattle.scene_tree.proofs.links.push_children.Goals as goal
 
 pub returns : goal.returns

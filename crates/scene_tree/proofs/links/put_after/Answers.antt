@@ -1,6 +1,4 @@
-use Rattle.std.proofs.Common.{sym, ap, ◌∙◌}
-use Rattle.scene_tree.specs.Chains.{after_put}
-use Rattle.scene_tree.proofs.Chains.{written}
+use Rattle.scene_tree.proofs.{after_put, ap, sym, written, ◌∙◌}
 use Rattle.scene_tree.proofs.links.put_after.Goals as goal
 
 pub returns-in-Some : goal.returns-in-Some

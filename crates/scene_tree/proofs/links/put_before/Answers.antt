@@ -1,6 +1,4 @@
-use Rattle.std.proofs.Common.{sym, ap, ◌∙◌}
-use Rattle.scene_tree.specs.Chains.{before_put}
-use Rattle.scene_tree.proofs.Chains.{written}
+use Rattle.scene_tree.proofs.{ap, before_put, sym, written, ◌∙◌}
 use Rattle.scene_tree.proofs.links.put_before.Goals as goal
 
 pub returns-in-Some : goal.returns-in-Some

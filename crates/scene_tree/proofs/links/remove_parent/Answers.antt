@@ -1,5 +1,4 @@
-use Rattle.std.proofs.Common.{None}
-use Rattle.scene_tree.proofs.Chains.{written}
+use Rattle.scene_tree.proofs.{None, written}
 use Rattle.scene_tree.proofs.links.remove_parent.Goals as goal
 
 pub returns : goal.returns

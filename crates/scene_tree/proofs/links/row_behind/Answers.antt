@@ -1,8 +1,5 @@
-use Rattle.std.proofs.Common.{arith, ◌∙◌, Some, ap, sym}
-use Rattle.std.proofs.lemmas.Option.{slice_get-get_or}
-use Rattle.scene_tree.specs.Chains.{after_tied, tie_of}
-use Rattle.scene_tree.specs.Families.{families, slot_of}
-use Rattle.scene_tree.proofs.Rows.{after_within, behind_up, sibling_row, under_has}
+use Rattle.scene_tree.proofs.{after_tied, after_within, ap, arith, behind_up, families, sibling_row, slice_get-get_or}
+use Rattle.scene_tree.proofs.{slot_of, Some, sym, tie_of, under_has, ◌∙◌}
 use Rattle.scene_tree.proofs.links.row_behind.Goals as goal
 
 pub index-requires-in-Some : goal.index-requires-in-Some

@@ -1,5 +1,4 @@
-use Rattle.std.proofs.Common.{◌≡◌, Some}
-use Rattle.scene_tree.specs.Rows.{IsPlaced, behind}
+use Rattle.scene_tree.proofs.{behind, IsPlaced, Some, ◌≡◌}
 use Rattle.scene_tree.proofs.links.row_behind.Given as goal
 
 abbrev pub invariant-loop-steps : goal.invariant-loop-steps

@@ -1,6 +1,4 @@
-use Rattle.std.proofs.Common.{Some, sym, ap, ◌∙◌}
-use Rattle.std.proofs.lemmas.Option.{slice_get-get_or}
-use Rattle.scene_tree.specs.Chains.{tie_of}
+use Rattle.scene_tree.proofs.{ap, slice_get-get_or, Some, sym, tie_of, ◌∙◌}
 use Rattle.scene_tree.proofs.links.sides_at.Goals as goal
 
 pub returns : goal.returns

@@ -1,5 +1,4 @@
-use Rattle.std.proofs.Common.{◌≡◌, ◌-◌, drop, length}
-use Rattle.scene_tree.specs.Meeting.{met}
+use Rattle.scene_tree.proofs.{drop, length, met, ◌-◌, ◌≡◌}
 use Rattle.scene_tree.proofs.nodes.next_met.Given as goal
 
 abbrev pub invariant-loop-slot : goal.invariant-loop-slot

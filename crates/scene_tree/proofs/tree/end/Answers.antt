@@ -1,7 +1,4 @@
-use Rattle.std.proofs.Common.{Err, sym}
-use Rattle.std.proofs.lemmas.Bool.{true≢false}
-use Rattle.generational_core.proofs.machine.Unborrowed.{quiet_ends}
-use Rattle.scene_tree.proofs.Losing.{lost_one}
+use Rattle.scene_tree.proofs.{Err, lost_one, quiet_ends, sym, true≢false}
 use Rattle.scene_tree.proofs.tree.end.Goals as goal
 
 pub unreachable-requires : goal.unreachable-requires

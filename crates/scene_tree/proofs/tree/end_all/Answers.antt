@@ -1,5 +1,4 @@
-use Rattle.std.proofs.Common.{refl}
-use Rattle.scene_tree.proofs.Losing.{lost_more, lost_none, still_live}
+use Rattle.scene_tree.proofs.{lost_more, lost_none, refl, still_live}
 use Rattle.scene_tree.proofs.tree.end_all.Goals as goal
 
 pub loop-node-init : goal.loop-node-init

@@ -1,5 +1,4 @@
-use Rattle.std.proofs.Common.{take}
-use Rattle.scene_tree.specs.Keeping.{HasLost}
+use Rattle.scene_tree.proofs.{HasLost, take}
 use Rattle.scene_tree.proofs.tree.end_all.Given as goal
 
 abbrev pub invariant-loop-node : goal.invariant-loop-node

@@ -1,10 +1,6 @@
-use Rattle.std.proofs.Common.{ap, arith, rules, refl, sym, subst, ◌∙◌, ◌≡◌, ◌<◌, ◌≤◌, length, Some}
-use Rattle.std.proofs.lemmas.List.{take_all}
-use Rattle.std.proofs.lemmas.Option.{get_or_from_slice_get, slice_get-get_or}
-use Rattle.generational_core.specs.Seeing.{value_in}
-use Rattle.scene_tree.specs.Keeping.{HasLost, IsLiveIn}
-use Rattle.scene_tree.specs.Nodes.{pointer_in}
-use Rattle.scene_tree.proofs.Losing.{lost_more, lost_none, still_live}
+use Rattle.scene_tree.proofs.{ap, arith, get_or_from_slice_get, HasLost, IsLiveIn, length, lost_more, lost_none}
+use Rattle.scene_tree.proofs.{pointer_in, refl, rules, slice_get-get_or, Some, still_live, subst, sym, take_all}
+use Rattle.scene_tree.proofs.{value_in, ◌<◌, ◌∙◌, ◌≡◌, ◌≤◌}
 use Rattle.scene_tree.proofs.tree.take_first.Goals as goal
 
 pub take_value-value-requires-clause-live : goal.take_value-value-requires-clause-live

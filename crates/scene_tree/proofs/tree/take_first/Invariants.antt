@@ -1,6 +1,4 @@
-use Rattle.std.proofs.Common.{take, ◌≤◌, length}
-use Rattle.std.specs.Prelude.{◌-◌}
-use Rattle.scene_tree.specs.Keeping.{HasLost}
+use Rattle.scene_tree.proofs.{HasLost, length, take, ◌-◌, ◌≤◌}
 use Rattle.scene_tree.proofs.tree.take_first.Given as goal
 
 abbrev pub invariant-rest : goal.invariant-rest

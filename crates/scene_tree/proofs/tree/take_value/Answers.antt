@@ -1,8 +1,4 @@
-use Rattle.std.proofs.Common.{None, sym, ap, ◌∙◌}
-use Rattle.std.specs.Prelude.{is_some}
-use Rattle.std.proofs.lemmas.Bool.{true≢false}
-use Rattle.generational_sessions.proofs.callers.Taking.{simple_taken, taken_seen}
-use Rattle.scene_tree.proofs.Losing.{lost_one}
+use Rattle.scene_tree.proofs.{ap, is_some, lost_one, None, simple_taken, sym, taken_seen, true≢false, ◌∙◌}
 use Rattle.scene_tree.proofs.tree.take_value.Goals as goal
 
 pub unreachable-requires : goal.unreachable-requires

@@ -1,24 +1,10 @@
-use Rattle.std.proofs.Common.{None, Ok, arith, length, sym, subst, ap, true, ◌∙◌, [], ◌≡◌, ⊎_elim}
-use Rattle.scene_tree.specs.Trees.{TreeState, is_live, parent_for}
-use Rattle.std.specs.Prelude.{is_some}
-use Rattle.generational_core.specs.Answers.{pointer_of}
-use Rattle.generational_core.proofs.machine.Calling.{made}
-use Rattle.generational_core.proofs.machine.Leaving.{same_value}
-use Rattle.generational_core.proofs.machine.Stepping.{made_new, meets_given}
-use Rattle.generational_sessions.proofs.callers.Ids.{others_left}
-use Rattle.generational_sessions.proofs.callers.SimpleStores.{made_simple}
-use Rattle.std.proofs.lemmas.List.{length-map}
-use Rattle.std.proofs.lemmas.Option.{same_Some}
-use Rattle.scene_tree.specs.declared.node.Node.{Node}
-use Rattle.scene_tree.specs.Chains.{noted}
-use Rattle.scene_tree.specs.Families.{Family, IsForest, IsLinked, IsSpotIn, above, families, family_in, slot_of}
-use Rattle.scene_tree.specs.Nodes.{pointer_in, slot_in}
-use Rattle.scene_tree.specs.Spots.{placed}
-use Rattle.scene_tree.proofs.Keeping.{added_beside, added_child, added_left, added_parent, kept_added, kept_opened, live_slot, lone, opened_alone, opened_within, spot_in}
-use Rattle.scene_tree.proofs.Noting.{noted_made}
-use Rattle.scene_tree.proofs.Stores.{made_count, made_beside, made_slots, one_live}
-use Rattle.scene_tree.proofs.Trees.{left_with, live_family}
-use Rattle.scene_tree.proofs.Writes.{opened_from}
+use Rattle.scene_tree.proofs.{above, added_beside, added_child, added_left, added_parent, ap, arith, families, Family}
+use Rattle.scene_tree.proofs.{family_in, is_live, is_some, IsForest, IsLinked, IsSpotIn, kept_added, kept_opened}
+use Rattle.scene_tree.proofs.{left_with, length, length-map, live_family, live_slot, lone, made, made_beside}
+use Rattle.scene_tree.proofs.{made_count, made_new, made_simple, made_slots, meets_given, Node, None, noted}
+use Rattle.scene_tree.proofs.{noted_made, Ok, one_live, opened_alone, opened_from, opened_within, others_left}
+use Rattle.scene_tree.proofs.{parent_for, placed, pointer_in, pointer_of, same_Some, same_value, slot_in, slot_of}
+use Rattle.scene_tree.proofs.{spot_in, subst, sym, TreeState, true, [], ⊎_elim, ◌∙◌, ◌≡◌}
 use Rattle.scene_tree.proofs.tree.SceneTree.add_at.Goals as goal
 
 pub open_slot-requires-clause-linked : goal.open_slot-requires-clause-linked

@@ -1,21 +1,8 @@
-use Rattle.std.proofs.Common.{None, Ok, arith, length, sym, subst, ap, ◌∙◌, ⊎_elim}
-use Rattle.std.proofs.lemmas.List.{length-map}
-use Rattle.std.specs.Prelude.{is_some}
-use Rattle.generational_core.specs.Answers.{pointer_of}
-use Rattle.generational_core.proofs.machine.Calling.{made}
-use Rattle.generational_core.proofs.machine.Leaving.{given_other, same_value}
-use Rattle.generational_core.proofs.machine.Stepping.{made_new, meets_given}
-use Rattle.generational_sessions.proofs.callers.Ids.{others_left}
-use Rattle.generational_sessions.proofs.callers.SimpleStores.{made_simple}
-use Rattle.scene_tree.specs.Chains.{noted}
-use Rattle.scene_tree.specs.Families.{IsForest, IsLinked, above, families, family_in, slot_of}
-use Rattle.scene_tree.specs.Nodes.{pointer_in, slot_in}
-use Rattle.scene_tree.specs.Trees.{TreeState, WasMade}
-use Rattle.scene_tree.proofs.Keeping.{kept_opened, lone, opened_alone, opened_same}
-use Rattle.scene_tree.proofs.Noting.{noted_made}
-use Rattle.scene_tree.proofs.Stores.{made_beside, made_count, made_slots}
-use Rattle.scene_tree.proofs.Trees.{left_with, live_family}
-use Rattle.scene_tree.proofs.Writes.{opened_from}
+use Rattle.scene_tree.proofs.{above, ap, arith, families, family_in, given_other, is_some, IsForest, IsLinked}
+use Rattle.scene_tree.proofs.{kept_opened, left_with, length, length-map, live_family, lone, made, made_beside}
+use Rattle.scene_tree.proofs.{made_count, made_new, made_simple, made_slots, meets_given, None, noted, noted_made, Ok}
+use Rattle.scene_tree.proofs.{opened_alone, opened_from, opened_same, others_left, pointer_in, pointer_of, same_value}
+use Rattle.scene_tree.proofs.{slot_in, slot_of, subst, sym, TreeState, WasMade, ⊎_elim, ◌∙◌}
 use Rattle.scene_tree.proofs.tree.SceneTree.add_root.Goals as goal
 
 pub open_slot-requires-clause-linked : goal.open_slot-requires-clause-linked

@@ -1,10 +1,5 @@
-use Rattle.std.proofs.Common.{arith, sym, subst, true, ◌≡◌, ◌∙◌}
-use Rattle.std.proofs.lemmas.List.{length-map}
-use Rattle.scene_tree.specs.Families.{families, family_in}
-use Rattle.scene_tree.specs.Trees.{TreeState, is_live}
-use Rattle.scene_tree.specs.Walking.{IsWithin}
-use Rattle.scene_tree.proofs.Keeping.{live_slot}
-use Rattle.scene_tree.proofs.Walking.{ancestors_of, next_within}
+use Rattle.scene_tree.proofs.{ancestors_of, arith, families, family_in, is_live, IsWithin, length-map, live_slot}
+use Rattle.scene_tree.proofs.{next_within, subst, sym, TreeState, true, ◌∙◌, ◌≡◌}
 use Rattle.scene_tree.proofs.tree.SceneTree.ancestors.Goals as goal
 
 pub new-requires : goal.new-requires

@@ -1,8 +1,5 @@
-use Rattle.std.proofs.Common.{arith, sym, ap, subst, true, ◌∙◌, ◌≡◌}
-use Rattle.scene_tree.specs.Families.{children_at, families}
-use Rattle.scene_tree.specs.Trees.{IsTree, TreeState, is_live}
-use Rattle.scene_tree.proofs.Keeping.{live_slot}
-use Rattle.scene_tree.proofs.Trees.{kept_tree, live_children}
+use Rattle.scene_tree.proofs.{ap, arith, children_at, families, is_live, IsTree, kept_tree, live_children, live_slot}
+use Rattle.scene_tree.proofs.{subst, sym, TreeState, true, ◌∙◌, ◌≡◌}
 use Rattle.scene_tree.proofs.tree.SceneTree.children.Goals as goal
 
 pub children_at-requires-clause-within : goal.children_at-requires-clause-within

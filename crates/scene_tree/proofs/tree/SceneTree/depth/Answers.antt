@@ -1,8 +1,5 @@
-use Rattle.std.proofs.Common.{arith, sym, subst, true, ◌≡◌, ◌∙◌}
-use Rattle.scene_tree.specs.Families.{IsRooted, families}
-use Rattle.scene_tree.specs.Trees.{TreeState, is_live}
-use Rattle.scene_tree.proofs.Keeping.{live_slot}
-use Rattle.scene_tree.proofs.Trees.{rooted_in}
+use Rattle.scene_tree.proofs.{arith, families, is_live, IsRooted, live_slot, rooted_in, subst, sym, TreeState, true}
+use Rattle.scene_tree.proofs.{◌∙◌, ◌≡◌}
 use Rattle.scene_tree.proofs.tree.SceneTree.depth.Goals as goal
 
 pub depth_at-requires-clause-within : goal.depth_at-requires-clause-within

@@ -1,11 +1,6 @@
-use Rattle.std.proofs.Common.{refl, sym, subst, ap, true, ◌∙◌, ◌≡◌}
-use Rattle.scene_tree.specs.Families.{slot_of}
-use Rattle.scene_tree.specs.Nodes.{slot_in, without}
-use Rattle.scene_tree.specs.Trees.{TreeState, is_live}
-use Rattle.scene_tree.proofs.Keeping.{alike, kept_detached, live_slot}
-use Rattle.scene_tree.proofs.Moving.{freed_others, freed_parents}
-use Rattle.scene_tree.proofs.Trees.{live_children, live_family, live_parent, part_with}
-use Rattle.scene_tree.proofs.Noting.{noted_left}
+use Rattle.scene_tree.proofs.{alike, ap, freed_others, freed_parents, is_live, kept_detached, live_children}
+use Rattle.scene_tree.proofs.{live_family, live_parent, live_slot, noted_left, part_with, refl, slot_in, slot_of}
+use Rattle.scene_tree.proofs.{subst, sym, TreeState, true, without, ◌∙◌, ◌≡◌}
 use Rattle.scene_tree.proofs.tree.SceneTree.detach.Goals as goal
 
 pub detach-requires-clause-node : goal.detach-requires-clause-node

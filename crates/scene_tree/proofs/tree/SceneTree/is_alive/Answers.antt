@@ -1,5 +1,4 @@
-use Rattle.std.proofs.Common.{◌∙◌}
-use Rattle.generational_core.proofs.machine.Unborrowed.{test_sees}
+use Rattle.scene_tree.proofs.{test_sees, ◌∙◌}
 use Rattle.scene_tree.proofs.tree.SceneTree.is_alive.Goals as goal
 
 pub returns : goal.returns

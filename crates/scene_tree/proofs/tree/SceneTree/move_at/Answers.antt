@@ -1,15 +1,8 @@
-use Rattle.std.proofs.Common.{arith, refl, sym, subst, ap, ◌∙◌}
-use Rattle.std.proofs.lemmas.List.{length-map}
-use Rattle.std.proofs.lemmas.Option.{same_Some}
-use Rattle.scene_tree.specs.Families.{family_in, slot_of}
-use Rattle.scene_tree.specs.Nodes.{slot_in, without}
-use Rattle.scene_tree.specs.Spots.{named, placed}
-use Rattle.scene_tree.specs.Trees.{CanMove, IsBelow, TreeState, parent_for}
-use Rattle.scene_tree.proofs.Keeping.{alike, kept_detached, live_slot}
-use Rattle.scene_tree.proofs.Moving.{kept_moved, moved_lost, moved_others, moved_parents, moved_placed, spot_left}
-use Rattle.scene_tree.proofs.Trees.{live_children, live_family, live_parent, part_with, under_below}
-use Rattle.scene_tree.proofs.Noting.{noted_put}
-use Rattle.scene_tree.proofs.Stores.{one_live}
+use Rattle.scene_tree.proofs.{alike, ap, arith, CanMove, family_in, IsBelow, kept_detached, kept_moved, length-map}
+use Rattle.scene_tree.proofs.{live_children, live_family, live_parent, live_slot, moved_lost, moved_others}
+use Rattle.scene_tree.proofs.{moved_parents, moved_placed, named, noted_put, one_live, parent_for, part_with, placed}
+use Rattle.scene_tree.proofs.{refl, same_Some, slot_in, slot_of, spot_left, subst, sym, TreeState, under_below}
+use Rattle.scene_tree.proofs.{without, ◌∙◌}
 use Rattle.scene_tree.proofs.tree.SceneTree.move_at.Goals as goal
 
 pub detach-requires-clause-node : goal.detach-requires-clause-node

@@ -1,7 +1,4 @@
-use Rattle.std.proofs.Common.{subst}
-use Rattle.std.proofs.lemmas.Option.{same_Some}
-use Rattle.scene_tree.specs.Nodes.{IsOther}
-use Rattle.scene_tree.proofs.Moving.{ok_map}
+use Rattle.scene_tree.proofs.{IsOther, ok_map, same_Some, subst}
 use Rattle.scene_tree.proofs.tree.SceneTree.move_to.Goals as goal
 
 pub returns-clause-lost : goal.returns-clause-lost

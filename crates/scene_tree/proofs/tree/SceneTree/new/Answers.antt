@@ -1,12 +1,5 @@
-use Rattle.std.proofs.Common.{[], refl, sym, subst, ap, ◌∙◌}
-use Rattle.std.specs.Prelude.{is_some}
-use Rattle.std.proofs.lemmas.Bool.{true≢false}
-use Rattle.generational_core.specs.Seeing.{value_in}
-use Rattle.generational_sessions.proofs.callers.SimpleStores.{fresh_sees}
-use Rattle.scene_tree.specs.Keeping.{IsKept}
-use Rattle.scene_tree.specs.Nodes.{pointer_in}
-use Rattle.scene_tree.proofs.Keeping.{fresh_kept}
-use Rattle.scene_tree.proofs.Noting.{none_noted}
+use Rattle.scene_tree.proofs.{ap, fresh_kept, fresh_sees, is_some, IsKept, none_noted, pointer_in, refl, subst, sym}
+use Rattle.scene_tree.proofs.{true≢false, value_in, [], ◌∙◌}
 use Rattle.scene_tree.proofs.tree.SceneTree.new.Goals as goal
 
 pub invariant_of-result : goal.invariant_of-result

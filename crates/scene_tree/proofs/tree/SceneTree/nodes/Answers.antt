@@ -1,6 +1,4 @@
-use Rattle.std.proofs.Common.{sym, subst}
-use Rattle.scene_tree.specs.Trees.{AreAll, TreeState}
-use Rattle.scene_tree.proofs.Meeting.{all_met}
+use Rattle.scene_tree.proofs.{all_met, AreAll, subst, sym, TreeState}
 use Rattle.scene_tree.proofs.tree.SceneTree.nodes.Goals as goal
 
 pub returns : goal.returns

@@ -1,7 +1,4 @@
-use Rattle.std.proofs.Common.{sym, subst, true, ◌∙◌, ◌≡◌}
-use Rattle.scene_tree.specs.Trees.{TreeState, is_live}
-use Rattle.scene_tree.proofs.Keeping.{live_slot}
-use Rattle.scene_tree.proofs.Rows.{outline_from}
+use Rattle.scene_tree.proofs.{is_live, live_slot, outline_from, subst, sym, TreeState, true, ◌∙◌, ◌≡◌}
 use Rattle.scene_tree.proofs.tree.SceneTree.outline.Goals as goal
 
 pub new-requires-clause-within : goal.new-requires-clause-within

@@ -1,7 +1,4 @@
-use Rattle.std.proofs.Common.{sym, ap, subst, true, ◌∙◌, ◌≡◌}
-use Rattle.scene_tree.specs.Families.{families, parent_at}
-use Rattle.scene_tree.specs.Trees.{TreeState, is_live}
-use Rattle.scene_tree.proofs.Trees.{live_parent}
+use Rattle.scene_tree.proofs.{ap, families, is_live, live_parent, parent_at, subst, sym, TreeState, true, ◌∙◌, ◌≡◌}
 use Rattle.scene_tree.proofs.tree.SceneTree.parent.Goals as goal
 
 pub returns-clause-parent : goal.returns-clause-parent

@@ -1,6 +1,4 @@
-use Rattle.std.proofs.Common.{subst}
-use Rattle.scene_tree.specs.Trees.{CanMove}
-use Rattle.scene_tree.proofs.Moving.{move_within, ok_always, ok_both}
+use Rattle.scene_tree.proofs.{CanMove, move_within, ok_always, ok_both, subst}
 use Rattle.scene_tree.proofs.tree.SceneTree.parent_moved.Goals as goal
 
 pub returns-clause-may : goal.returns-clause-may

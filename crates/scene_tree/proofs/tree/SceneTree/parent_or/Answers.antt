@@ -1,7 +1,5 @@
-use Rattle.std.proofs.Common.{inr, sym, ap, subst, true, ◌∙◌, ◌≡◌}
-use Rattle.scene_tree.specs.Families.{families, parent_at}
-use Rattle.scene_tree.specs.Trees.{TreeState, is_live}
-use Rattle.scene_tree.proofs.Trees.{live_parent}
+use Rattle.scene_tree.proofs.{ap, families, inr, is_live, live_parent, parent_at, subst, sym, TreeState, true, ◌∙◌}
+use Rattle.scene_tree.proofs.{◌≡◌}
 use Rattle.scene_tree.proofs.tree.SceneTree.parent_or.Goals as goal
 
 pub returns-in-Some-clause-parent : goal.returns-in-Some-clause-parent

@@ -1,13 +1,7 @@
-use Rattle.std.proofs.Common.{sym, subst, ap, ◌∙◌, ◌≡◌, true}
-use Rattle.std.specs.Prelude.{is_some}
-use Rattle.scene_tree.specs.Families.{Family, IsLinked, families}
-use Rattle.scene_tree.specs.Keeping.{AreNoted, IsKept}
-use Rattle.scene_tree.specs.Nodes.{slot_in, without}
-use Rattle.scene_tree.proofs.Cutting.{kept_cut, other_family, parent_family, parent_left}
-use Rattle.scene_tree.proofs.Keeping.{alike, live_slot}
-use Rattle.scene_tree.proofs.Trees.{left_with, list_live, live_family, live_parent, subtree}
-use Rattle.scene_tree.specs.Trees.{IsSubtree, TreeState, is_live}
-use Rattle.scene_tree.proofs.Noting.{noted_lost}
+use Rattle.scene_tree.proofs.{alike, ap, AreNoted, families, Family, is_live, is_some, IsKept, IsLinked, IsSubtree}
+use Rattle.scene_tree.proofs.{kept_cut, left_with, list_live, live_family, live_parent, live_slot, noted_lost}
+use Rattle.scene_tree.proofs.{other_family, parent_family, parent_left, slot_in, subst, subtree, sym, TreeState, true}
+use Rattle.scene_tree.proofs.{without, ◌∙◌, ◌≡◌}
 use Rattle.scene_tree.proofs.tree.SceneTree.remove_subtree.Goals as goal
 
 pub cut-requires-clause-within : goal.cut-requires-clause-within

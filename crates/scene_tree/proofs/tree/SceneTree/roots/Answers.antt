@@ -1,6 +1,4 @@
-use Rattle.std.proofs.Common.{sym, subst}
-use Rattle.scene_tree.specs.Trees.{AreRoots, TreeState}
-use Rattle.scene_tree.proofs.Meeting.{roots_met}
+use Rattle.scene_tree.proofs.{AreRoots, roots_met, subst, sym, TreeState}
 use Rattle.scene_tree.proofs.tree.SceneTree.roots.Goals as goal
 
 pub returns : goal.returns

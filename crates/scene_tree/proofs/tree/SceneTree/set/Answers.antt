@@ -1,17 +1,7 @@
-use Rattle.std.proofs.Common.{sym, ap, refl, subst, true, ◌∙◌, ◌≡◌}
-use Rattle.scene_tree.specs.Trees.{TreeState, is_live}
-use Rattle.generational_core.proofs.machine.Unborrowed.{quiet_sees}
-use Rattle.std.specs.Prelude.{is_some}
-use Rattle.generational_core.proofs.machine.Calling.{seen_reached, sets}
-use Rattle.generational_core.proofs.machine.Leaving.{same_value}
-use Rattle.generational_sessions.proofs.callers.PlainStores.{reach_apart}
-use Rattle.generational_sessions.proofs.callers.Ids.{others_left, seen_store}
-use Rattle.generational_sessions.proofs.callers.SimpleStores.{set_seen, simple_still}
-use Rattle.scene_tree.specs.Nodes.{pointer_in}
-use Rattle.scene_tree.proofs.Keeping.{kept_still}
-use Rattle.scene_tree.proofs.Stores.{same_slots, set_count}
-use Rattle.scene_tree.proofs.Trees.{left_with, live_family}
-use Rattle.scene_tree.proofs.Noting.{noted_left}
+use Rattle.scene_tree.proofs.{ap, is_live, is_some, kept_still, left_with, live_family, noted_left, others_left}
+use Rattle.scene_tree.proofs.{pointer_in, quiet_sees, reach_apart, refl, same_slots, same_value, seen_reached}
+use Rattle.scene_tree.proofs.{seen_store, set_count, set_seen, sets, simple_still, subst, sym, TreeState, true, ◌∙◌}
+use Rattle.scene_tree.proofs.{◌≡◌}
 use Rattle.scene_tree.proofs.tree.SceneTree.set.Goals as goal
 
 pub set-requires : goal.set-requires

@@ -1,7 +1,4 @@
-use Rattle.std.proofs.Common.{sym, subst, true, ◌∙◌, ◌≡◌}
-use Rattle.scene_tree.specs.Trees.{IsSubtree, TreeState, is_live}
-use Rattle.scene_tree.proofs.Keeping.{live_slot}
-use Rattle.scene_tree.proofs.Trees.{subtree}
+use Rattle.scene_tree.proofs.{is_live, IsSubtree, live_slot, subst, subtree, sym, TreeState, true, ◌∙◌, ◌≡◌}
 use Rattle.scene_tree.proofs.tree.SceneTree.subtree.Goals as goal
 
 pub gather-requires-clause-within : goal.gather-requires-clause-within

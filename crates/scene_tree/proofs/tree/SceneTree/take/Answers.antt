@@ -1,14 +1,7 @@
-use Rattle.std.proofs.Common.{arith, length, ⊎_elim, sym, subst, ap, ◌∙◌, ◌≡◌, true}
-use Rattle.std.specs.Prelude.{is_some, slice_get}
-use Rattle.std.proofs.lemmas.Bool.{cases_lt}
-use Rattle.scene_tree.specs.Families.{Family, IsLinked, families}
-use Rattle.scene_tree.specs.Keeping.{AreNoted, IsKept}
-use Rattle.scene_tree.specs.Nodes.{slot_in, times, without}
-use Rattle.scene_tree.proofs.Cutting.{kept_cut, other_family, parent_family, parent_left}
-use Rattle.scene_tree.proofs.Keeping.{alike, live_slot}
-use Rattle.scene_tree.proofs.Trees.{left_with, list_live, live_family, live_parent, subtree}
-use Rattle.scene_tree.specs.Trees.{TreeState, is_live}
-use Rattle.scene_tree.proofs.Noting.{noted_lost}
+use Rattle.scene_tree.proofs.{alike, ap, AreNoted, arith, cases_lt, families, Family, is_live, is_some, IsKept}
+use Rattle.scene_tree.proofs.{IsLinked, kept_cut, left_with, length, list_live, live_family, live_parent, live_slot}
+use Rattle.scene_tree.proofs.{noted_lost, other_family, parent_family, parent_left, slice_get, slot_in, subst, subtree}
+use Rattle.scene_tree.proofs.{sym, times, TreeState, true, without, ⊎_elim, ◌∙◌, ◌≡◌}
 use Rattle.scene_tree.proofs.tree.SceneTree.take.Goals as goal
 
 pub cut-requires-clause-within : goal.cut-requires-clause-within

@@ -1,10 +1,5 @@
-use Rattle.std.proofs.Common.{arith, inr, sym, subst, true, ◌∙◌, ◌≡◌}
-use Rattle.std.proofs.lemmas.Bool.{true≢false}
-use Rattle.scene_tree.specs.Families.{families}
-use Rattle.scene_tree.specs.Trees.{TreeState, is_live}
-use Rattle.scene_tree.proofs.Keeping.{live_slot}
-use Rattle.scene_tree.proofs.Paths.{under_at}
-use Rattle.scene_tree.proofs.Trees.{below_live, below_under, under_below}
+use Rattle.scene_tree.proofs.{arith, below_live, below_under, families, inr, is_live, live_slot, subst, sym, TreeState}
+use Rattle.scene_tree.proofs.{true, true≢false, under_at, under_below, ◌∙◌, ◌≡◌}
 use Rattle.scene_tree.proofs.tree.SceneTree.test_move.Goals as goal
 
 pub returns-then-not-is_alive-2-clause-cycle : goal.returns-then-not-is_alive-2-clause-cycle

@@ -1,19 +1,7 @@
-use Rattle.std.proofs.Common.{sym, ap, refl, ◌∙◌}
-use Rattle.std.specs.Prelude.{is_some}
-use Rattle.std.proofs.lemmas.Bool.{true≢false}
-use Rattle.std.proofs.lemmas.Option.{none-some}
-use Rattle.generational_core.proofs.machine.Calling.{seen_reached, sets}
-use Rattle.generational_core.proofs.machine.Leaving.{same_value}
-use Rattle.generational_core.proofs.machine.Stepping.{meets_given}
-use Rattle.generational_core.proofs.machine.Unborrowed.{quiet_sees}
-use Rattle.generational_sessions.proofs.callers.PlainStores.{reach_apart}
-use Rattle.generational_sessions.proofs.callers.Ids.{others_left, seen_store}
-use Rattle.generational_sessions.proofs.callers.SimpleStores.{set_seen, simple_still}
-use Rattle.scene_tree.specs.Nodes.{pointer_in}
-use Rattle.scene_tree.proofs.Keeping.{kept_still}
-use Rattle.scene_tree.proofs.Stores.{same_slots, set_count}
-use Rattle.scene_tree.proofs.Trees.{left_with, live_family, missing}
-use Rattle.scene_tree.proofs.Noting.{noted_left}
+use Rattle.scene_tree.proofs.{ap, is_some, kept_still, left_with, live_family, meets_given, missing, none-some}
+use Rattle.scene_tree.proofs.{noted_left, others_left, pointer_in, quiet_sees, reach_apart, refl, same_slots}
+use Rattle.scene_tree.proofs.{same_value, seen_reached, seen_store, set_count, set_seen, sets, simple_still, sym}
+use Rattle.scene_tree.proofs.{true≢false, ◌∙◌}
 use Rattle.scene_tree.proofs.tree.SceneTree.update.Goals as goal
 
 pub invariant_of-self-2 : goal.invariant_of-self-2

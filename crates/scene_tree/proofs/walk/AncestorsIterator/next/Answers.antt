@@ -1,7 +1,5 @@
-use Rattle.std.proofs.Common.{◌∷◌, arith, length, sym, ap, subst, ◌∙◌}
-use Rattle.scene_tree.specs.Families.{families, parent_at}
-use Rattle.scene_tree.specs.Walking.{IsWithin, way_up}
-use Rattle.scene_tree.proofs.Walking.{next_within, way_next}
+use Rattle.scene_tree.proofs.{ap, arith, families, IsWithin, length, next_within, parent_at, subst, sym, way_next}
+use Rattle.scene_tree.proofs.{way_up, ◌∙◌, ◌∷◌}
 use Rattle.scene_tree.proofs.walk.AncestorsIterator.next.Goals as goal
 
 pub invariant_of-self : goal.invariant_of-self

@@ -1,5 +1,4 @@
-use Rattle.std.proofs.Common.{arith, length, sym, ap, ◌∙◌}
-use Rattle.scene_tree.proofs.Linked.{rest_read}
+use Rattle.scene_tree.proofs.{ap, arith, length, rest_read, sym, ◌∙◌}
 use Rattle.scene_tree.proofs.walk.ChildrenIterator.next.Goals as goal
 
 pub invariant_of-self : goal.invariant_of-self

@@ -1,8 +1,5 @@
-use Rattle.std.proofs.Common.{arith, length, sym, ap, subst, ◌∙◌}
-use Rattle.std.specs.Iterator.{YieldsFirst}
-use Rattle.scene_tree.specs.Families.{families}
-use Rattle.scene_tree.specs.Rows.{rows, waiting}
-use Rattle.scene_tree.proofs.Rows.{rows_end, rows_more, rows_none}
+use Rattle.scene_tree.proofs.{ap, arith, families, length, rows, rows_end, rows_more, rows_none, subst, sym, waiting}
+use Rattle.scene_tree.proofs.{YieldsFirst, ◌∙◌}
 use Rattle.scene_tree.proofs.walk.OutlineIterator.next.Goals as goal
 
 pub returns-then-self-eq0-clause-steps : goal.returns-then-self-eq0-clause-steps
