@@ -2,8 +2,8 @@
 use Rattle.scene_tree.proofs.Common.{after_put, after_tied, ap, arith, before_put, chain, changed, count_at, first_of}
 use Rattle.scene_tree.proofs.Common.{head_or, IsChain, IsHeld, last_of, last_or, length, Link, List, Node, node_tied}
 use Rattle.scene_tree.proofs.Common.{None, none-some, Option, refl, same_Some, slice_get, slice_get-get_or}
-use Rattle.scene_tree.proofs.Common.{slice_index_or, slice_set, slot_in, Some, suc, sym, tie_of, zero, [], ℕ, ◌++◌}
-use Rattle.scene_tree.proofs.Common.{◌<◌, ◌∙◌, ◌∷◌, ◌≡◌, ◌≢◌, ◌≤◌}
+use Rattle.scene_tree.proofs.Common.{slice_index_or, slice_set, slot_in, Some, suc, sym, tie_of, zero, [], ℕ, ◌++◌, ◌<◌}
+use Rattle.scene_tree.proofs.Common.{◌∙◌, ◌∷◌, ◌≡◌, ◌≢◌, ◌≤◌}
 use Rattle.scene_tree.proofs.Counting.{count_here, count_more}
 
 module _ {T : Type 0} where

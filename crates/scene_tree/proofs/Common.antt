@@ -11,8 +11,8 @@ pub use Rattle.generational_sessions.proofs.callers.SimpleStores.{set_seen, simp
 pub use Rattle.scene_tree.specs.Chains.{after_put, after_tied, before_put, chain, changed, first_of, head_or, IsChain}
 pub use Rattle.scene_tree.specs.Chains.{IsHeld, last_of, last_or, node_in, node_tied, noted, tie_of}
 pub use Rattle.scene_tree.specs.Families.{above, alone, children_at, count_at, families, Family, family_at, family_in}
-pub use Rattle.scene_tree.specs.Families.{IsAmong, IsAttached, IsCleared, IsDetached, IsForest, IsGap, IsInLevels}
-pub use Rattle.scene_tree.specs.Families.{IsLinked, IsOpened, IsRooted, IsSpotIn, IsUnder, parent_at, slot_of}
+pub use Rattle.scene_tree.specs.Families.{IsAmong, IsAttached, IsCleared, IsCut, IsDetached, IsForest, IsGap}
+pub use Rattle.scene_tree.specs.Families.{IsInLevels, IsLinked, IsOpened, IsRooted, IsSpotIn, IsUnder, parent_at, slot_of}
 pub use Rattle.scene_tree.specs.Keeping.{AreNoted, HasLost, IsKept, IsLiveIn}
 pub use Rattle.scene_tree.specs.Nodes.{is_same, IsOther, IsSame, pointer_in, slot_in, times, without}
 pub use Rattle.scene_tree.specs.Rows.{behind, IsPlaced, rows_at, waiting}

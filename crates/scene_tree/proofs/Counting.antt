@@ -2,11 +2,11 @@
 use Rattle.scene_tree.specs.declared.spot.Spot.TheVariants as spot
 use Rattle.scene_tree.proofs.Common.{AllByRecursion, alone, and_from, and_parts, ap, arith, cases_Bool, cases_eq, cond}
 use Rattle.scene_tree.proofs.Common.{count_at, drop, eq-eqb, eqb-true, eqb_tells, false, Family, family_at, get_or}
-use Rattle.scene_tree.proofs.Common.{get_pushed, inl, inr, insert, is_same, IsCleared, IsDistinct, IsSame, length}
-use Rattle.scene_tree.proofs.Common.{List, map, nat_eq, Node, none-some, not, place_of, placed, refl, same_Some}
-use Rattle.scene_tree.proofs.Common.{slice_get, slot_in, Some, Spot, subst, suc, sum_by-append, sum_by-cons}
-use Rattle.scene_tree.proofs.Common.{sum_by-take-drop, sum_by-take-le, sym, take, take_more, times, true, true≢false}
-use Rattle.scene_tree.proofs.Common.{without, zero, [], ℕ, ⊎_elim, ◌++◌, ◌+◌, ◌<◌, ◌∙◌, ◌∷◌, ◌≡◌, ◌≢◌, ◌≤◌, ◌⊎◌}
+use Rattle.scene_tree.proofs.Common.{get_pushed, inl, inr, insert, is_same, IsCleared, IsDistinct, IsSame, length, List}
+use Rattle.scene_tree.proofs.Common.{map, nat_eq, Node, none-some, not, place_of, placed, refl, same_Some, slice_get}
+use Rattle.scene_tree.proofs.Common.{slot_in, Some, Spot, subst, suc, sum_by-append, sum_by-cons, sum_by-take-drop}
+use Rattle.scene_tree.proofs.Common.{sum_by-take-le, sym, take, take_more, times, true, true≢false, without, zero, []}
+use Rattle.scene_tree.proofs.Common.{ℕ, ⊎_elim, ◌++◌, ◌+◌, ◌<◌, ◌∙◌, ◌∷◌, ◌≡◌, ◌≢◌, ◌≤◌, ◌⊎◌}
 
 module _ {T : Type 0} where
   -- with a node more before the others

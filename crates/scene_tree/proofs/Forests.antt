@@ -1,9 +1,9 @@
 -- Forests after a change.
 use Rattle.scene_tree.proofs.Common.{above, alone, ap, arith, cases_eq, cases_lt, children_at, count_at, Family}
 use Rattle.scene_tree.proofs.Common.{family_at, inl, inr, is_same, IsAttached, IsCleared, IsDetached, IsForest}
-use Rattle.scene_tree.proofs.Common.{IsRooted, IsUnder, List, Node, None, none-some, Option, parent_at, refl}
-use Rattle.scene_tree.proofs.Common.{same_Some, slice_get, slot_in, slot_of, Some, Spot, suc, sym, true, zero, ℕ}
-use Rattle.scene_tree.proofs.Common.{⊎_elim, ◌<◌, ◌∙◌, ◌∷◌, ◌≡◌, ◌≢◌, ◌⊎◌}
+use Rattle.scene_tree.proofs.Common.{IsRooted, IsUnder, List, Node, None, none-some, Option, parent_at, refl, same_Some}
+use Rattle.scene_tree.proofs.Common.{slice_get, slot_in, slot_of, Some, Spot, suc, sym, true, zero, ℕ, ⊎_elim, ◌<◌, ◌∙◌}
+use Rattle.scene_tree.proofs.Common.{◌∷◌, ◌≡◌, ◌≢◌, ◌⊎◌}
 use Rattle.scene_tree.proofs.Counting.{count_apart, count_here, count_placed, count_without, counts, none_without}
 use Rattle.scene_tree.proofs.Paths.{step_under}
 

@@ -2,10 +2,10 @@
 use Rattle.scene_tree.proofs.Common.{above, alone, ap, arith, cases_eq, cases_lt, children_at, count_at, eqb-true}
 use Rattle.scene_tree.proofs.Common.{Family, family_at, flat_map, flat_map_more, get_or, get_or-eq_default, IsForest}
 use Rattle.scene_tree.proofs.Common.{IsInLevels, IsRooted, IsUnder, length, length-append}
-use Rattle.scene_tree.proofs.Common.{length-le_from_distinct_below, length-map, List, list_any, map, nat_eq, Node}
-use Rattle.scene_tree.proofs.Common.{None, none-some, or_cases, refl, same_Some, slot_in, slot_of, Some, subst, suc}
-use Rattle.scene_tree.proofs.Common.{sym, take, take-append-le, take_all, take_more, true, true≢false, zero, [], ℕ}
-use Rattle.scene_tree.proofs.Common.{⊎_elim, ◌++◌, ◌+◌, ◌<◌, ◌∙◌, ◌∷◌, ◌≡◌, ◌≤◌}
+use Rattle.scene_tree.proofs.Common.{length-le_from_distinct_below, length-map, List, list_any, map, nat_eq, Node, None}
+use Rattle.scene_tree.proofs.Common.{none-some, or_cases, refl, same_Some, slot_in, slot_of, Some, subst, suc, sym}
+use Rattle.scene_tree.proofs.Common.{take, take-append-le, take_all, take_more, true, true≢false, zero, [], ℕ, ⊎_elim}
+use Rattle.scene_tree.proofs.Common.{◌++◌, ◌+◌, ◌<◌, ◌∙◌, ◌∷◌, ◌≡◌, ◌≤◌}
 use Rattle.scene_tree.proofs.Counting.{count_apart, count_both, count_here, count_more, count_take, distinct}
 use Rattle.scene_tree.proofs.Paths.{no_cycle}
 

@@ -1,21 +1,22 @@
 -- A tree's store and families after each of its calls.
+use Rattle.scene_tree.proofs.Common.{above, alone, ap, arith, Bool, cases_Bool, cases_eq, cases_lt, children_at}
+use Rattle.scene_tree.proofs.Common.{children_of, cond, count_at, families, Family, family_at, family_in, family_of}
+use Rattle.scene_tree.proofs.Common.{filter, fresh, fresh_simple, GenerationalPointer, is_same, is_some, IsAmong}
+use Rattle.scene_tree.proofs.Common.{IsAttached, IsCleared, IsDetached, IsKept, IsLiveIn, IsOpened, IsOther, IsSimple}
+use Rattle.scene_tree.proofs.Common.{IsSound, IsSpotIn, IsUnder, length, length-map, Link, List, Location, Made, made}
+use Rattle.scene_tree.proofs.Common.{made_new, made_simple, Make, Meets, nat_cmp, no_slots, Node, NodeIsUnchanged, None}
+use Rattle.scene_tree.proofs.Common.{none-some, Ok, Option, others_left, parent_at, parent_for, parent_of, placed}
+use Rattle.scene_tree.proofs.Common.{pointer_in, refl, same_Some, same_value, slice_get, slot_in, slot_of, slots, Some}
+use Rattle.scene_tree.proofs.Common.{Spot, State, subst, suc, sym, TreeState, true, value_in, value_of, zero, [], ℕ}
+use Rattle.scene_tree.proofs.Common.{⊎_elim, ◌<◌, ◌∙◌, ◌∷◌, ◌≡◌, ◌≢◌, ◌≤◌}
+use Rattle.scene_tree.proofs.Trees.{has_parent, left_with, live_children, live_family, live_parent}
 use Rattle.scene_tree.specs.declared.spot.Spot.TheVariants as spot
 use Rattle.std.specs.FinMap as map
-use Rattle.scene_tree.proofs.Common.{above, alone, ap, arith, Bool, cases_Bool, cases_eq, cases_lt, children_at, cond}
-use Rattle.scene_tree.proofs.Common.{count_at, families, Family, family_at, family_in, filter, fresh, fresh_simple}
-use Rattle.scene_tree.proofs.Common.{GenerationalPointer, is_same, is_some, IsAmong, IsAttached, IsCleared, IsDetached}
-use Rattle.scene_tree.proofs.Common.{IsKept, IsLiveIn, IsOpened, IsSimple, IsSound, IsSpotIn, IsUnder, length}
-use Rattle.scene_tree.proofs.Common.{length-map, Link, List, Location, Made, made, made_simple, Make, Meets, nat_cmp}
-use Rattle.scene_tree.proofs.Common.{no_slots, Node, None, none-some, Ok, Option, parent_at, parent_for, parent_of}
-use Rattle.scene_tree.proofs.Common.{placed, pointer_in, refl, same_Some, same_value, slice_get, slot_in, slot_of}
-use Rattle.scene_tree.proofs.Common.{slots, Some, Spot, State, subst, suc, sym, true, value_in, zero, [], ℕ, ⊎_elim}
-use Rattle.scene_tree.proofs.Common.{◌<◌, ◌∙◌, ◌∷◌, ◌≡◌, ◌≢◌}
 use Rattle.scene_tree.proofs.Counting.{counted, placed_from, same_id}
 use Rattle.scene_tree.proofs.Forests.{above_parent, attached, cleared, detached, parent_is, same_forest, slot_cases}
 use Rattle.scene_tree.proofs.Forests.{under_alone}
 use Rattle.scene_tree.proofs.Linked.{among}
 use Rattle.scene_tree.proofs.Stores.{live_within, made_beside, made_slots, one_live}
-use Rattle.scene_tree.proofs.Trees.{has_parent}
 
 -- what a filter leaves stood there before
 filtered_from : {X : Type 0} (test : X → Bool) (xs : List X) (k : ℕ) (x : X)
@@ -204,60 +205,82 @@ module _ {T : Type 0} where
             omega (arith, some, none))) (k.children s i x was);
       }
 
-  -- a live node is left by a making
-  pub added_left : {S R : State T} {fs : List (Family T)} → IsKept S fs → (sound : IsSound S) (v : T)
-      (l : Location) (child : Node T) → Meets S (Make None v l) (Made (pointer_in child)) R
-      → (n : Node T) → IsLiveIn S n → value_in R (pointer_in n) ≡ value_in S (pointer_in n)
-  added_left {S} {R} k sound v l child m n live =
-      same_value S R (Make None v l) (Made (pointer_in child)) sound m (pointer_in n) tt
-      (λ is. made_beside sound k.simple v l (pointer_in child) m n live (sym (ap (λ n. n.slot) is)))
-
   -- both: a new child
-  module _ {S R : State T} {fs : List (Family T)} (k : IsKept S fs) (sound : IsSound S) (v : T) (l : Location) (parent child : Node T) (spot : Spot T)
-      (m : Meets S (Make None v l) (Made (pointer_in child)) R) (live : IsLiveIn S parent)
-      (gs hs : List (Family T)) (o : IsOpened fs (slot_in child) gs) (a : IsAttached gs parent spot child hs) where
-    apart : slot_in parent ≢ slot_in child
-    apart = made_beside sound k.simple v l (pointer_in child) m parent live
-
-    same : (s : ℕ) → family_at gs s ≡ family_at fs s
-    same = opened_same k sound v l (pointer_in child) m gs o
+  module _ {S R : State T} {fs : List (Family T)} (k : IsKept S fs) (sound : IsSound S) (v : T) (l : Location)
+      (parent child : Node T) (spot : Spot T) (m : Meets S (Make None v l) (Made (pointer_in child)) R)
+      (live : IsLiveIn S parent) (gs hs : List (Family T)) (o : IsOpened fs (slot_in child) gs)
+      (a : IsAttached gs parent spot child hs) where
+    apart : (n : Node T) → IsLiveIn S n → slot_in n ≢ slot_in child
+    apart = made_beside sound k.simple v l (pointer_in child) m
 
     lone_child : family_at gs (slot_in child) ≡ alone
     lone_child = opened_alone k sound v l (pointer_in child) m gs o
 
+    -- a live node is left
+    left : (n : Node T) → IsLiveIn S n → value_in R (pointer_in n) ≡ value_in S (pointer_in n)
+    left n lives = same_value S R (Make None v l) (Made (pointer_in child)) sound m (pointer_in n) tt
+        (λ is. apart n lives (sym (ap (λ n. n.slot) is)))
+
+    shown : IsLiveIn R child
+    shown = ap is_some (made None v l (Ok child.raw) m)
+
     pub kept_added : IsKept R hs
-    kept_added = kept_attached (kept_opened k sound v l (pointer_in child) m gs o) hs parent child spot
-        (ap is_some (added_left k sound v l child m parent live) ∙ live)
-        (ap is_some (made None v l (Ok child.raw) m)) (ap (λ x. slot_of x.parent) lone_child)
-        (λ e under. apart (under_alone gs
-        (kept_opened k sound v l (pointer_in child) m gs o).forest (slot_in child) e (slot_in parent)
-        lone_child under)) a
+    kept_added =
+        let opened = kept_opened k sound v l (pointer_in child) m gs o in
+        kept_attached opened hs parent child spot (ap is_some (left parent live) ∙ live) shown
+        (ap (λ x. slot_of x.parent) lone_child) (λ e under. apart parent live
+        (under_alone gs opened.forest (slot_in child) e (slot_in parent) lone_child under)) a
 
-    pub added_child : family_at hs (slot_in child) ≡ record { parent = Some parent; children = [] }
-    added_child = λ i. record {
+    abbrev old : TreeState T
+    old = record { state = S; families = fs }
+
+    abbrev new : TreeState T
+    new = record { state = R; families = hs }
+
+    pub added_child : family_of new child ≡ record { parent = Some parent; children = [] }
+    added_child = live_family new child shown ∙ λ i. record {
       parent = a.here i;
-      children = (a.others (slot_in child) (λ is. apart (sym is)) ∙ ap (λ x. x.children) lone_child) i;
+      children = (a.others (slot_in child) (λ is. apart parent live (sym is)) ∙ ap (λ x. x.children) lone_child) i;
     }
 
-    pub added_parent : family_at hs (slot_in parent) ≡ record {
-      parent = parent_at fs (slot_in parent);
-      children = placed spot child (children_at fs (slot_in parent));
-    }
-    added_parent = λ i. record {
-      parent = (a.parents (slot_in parent) apart ∙ ap (λ x. x.parent) (same (slot_in parent))) i;
-      children = (a.listed ∙ ap (λ x. placed spot child x.children) (same (slot_in parent))) i;
-    }
+    pub added_parent : (value_of new parent ≡ value_of old parent) × (family_of new parent ≡ record {
+      parent = parent_of old parent;
+      children = placed spot child (children_of old parent);
+    })
+    added_parent = (
+      left parent live,
+      live_family new parent (ap is_some (left parent live) ∙ live) ∙ λ i. record {
+        parent = (a.parents (slot_in parent) (apart parent live)
+            ∙ (ap (λ x. x.parent) (o.same (slot_in parent)) ∙ sym (live_parent sound k parent live))) i;
+        children = (a.listed ∙ ap (placed spot child) (ap (λ x. x.children) (o.same (slot_in parent))
+            ∙ sym (live_children sound k parent live))) i;
+      },
+    )
 
-    pub added_beside : (s : ℕ) → s ≢ slot_in child → s ≢ slot_in parent
-        → family_at hs s ≡ family_at fs s
-    added_beside s ne other = λ i. record {
-      parent = (a.parents s ne ∙ ap (λ x. x.parent) (same s)) i;
-      children = (a.others s other ∙ ap (λ x. x.children) (same s)) i;
-    }
+    pub added_others : (n : Node T) → IsOther child n → IsOther parent n → NodeIsUnchanged old n new
+    added_others n other beside = left_with old new n (others_left _ _ m (pointer_in child) (pointer_in n)
+        (made_new _ _ _ _ m).0 (same_value _ _ _ _ sound m _ tt) other)
+        (λ lives. λ i. record {
+          parent = (a.parents (slot_in n) (apart n lives) ∙ ap (λ x. x.parent) (o.same (slot_in n))) i;
+          children = (a.others (slot_in n) (λ is. beside (one_live S parent n sound k.simple live lives (sym is)))
+              ∙ ap (λ x. x.children) (o.same (slot_in n))) i;
+        })
 
-  -- a live node's slot has links
-  pub live_slot : {S : State T} (links : List (Link T)) → IsSound S → IsKept S (families links)
-      → (n : Node T) → IsLiveIn S n → slot_in n < length links
-  live_slot {S} links sound k n live =
-      let lt = live_within S n sound k.simple live in
-      let long = length-map links (family_in links) in omega (arith, lt, long, k.whole)
+  module _ {S : State T} (links : List (Link T)) (sound : IsSound S) (k : IsKept S (families links)) where
+    -- a live node's slot has links
+    pub live_slot : (n : Node T) → IsLiveIn S n → slot_in n < length links
+    live_slot n live =
+        let lt = live_within S n sound k.simple live in
+        let long = length-map links (family_in links) in omega (arith, lt, long, k.whole)
+
+    -- a new node's has, or is the next one, and has no parent
+    module _ {R : State T} (v : T) (l : Location) (b : GenerationalPointer)
+        (m : Meets S (Make None v l) (Made b) R) where
+      pub next_slot : b.id.slot ≤ length links
+      next_slot =
+          let long = length-map links (family_in links) in
+          ⊎_elim (λ old. omega (arith, old.0, long, k.whole)) (λ next. omega (arith, next.0, long, k.whole))
+          (made_slots sound k.simple v l b m)
+
+      pub next_root : above (families links) b.id.slot ≡ None
+      next_root = ap (λ f. slot_of f.parent) (lone k b.id.slot (made_beside sound k.simple v l b m))

@@ -13,6 +13,7 @@ pub mod Moving
 pub mod Noting
 pub mod Paths
 pub mod Rows
+pub mod Setting
 pub mod Stores
 pub mod Trees
 pub mod Walking
@@ -32,6 +33,7 @@ unfoldable pub use Moving.*
 unfoldable pub use Noting.*
 unfoldable pub use Paths.*
 unfoldable pub use Rows.*
+unfoldable pub use Setting.*
 unfoldable pub use Stores.*
 unfoldable pub use Trees.*
 unfoldable pub use Walking.*

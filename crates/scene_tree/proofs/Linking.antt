@@ -1,8 +1,8 @@
 -- A child that is linked among its siblings, and one that is taken out.
 use Rattle.scene_tree.proofs.Common.{after_put, ap, arith, before_put, cases_eq, changed, count_at, first_of, head_or}
-use Rattle.scene_tree.proofs.Common.{IsChain, IsHeld, last_of, last_or, Link, List, Node, None, none-some, Option}
-use Rattle.scene_tree.proofs.Common.{refl, same_Some, slice_get, slot_in, Some, subst, sym, tie_of, [], ℕ, ⊎_elim}
-use Rattle.scene_tree.proofs.Common.{◌++◌, ◌+◌, ◌<◌, ◌∙◌, ◌∷◌, ◌≡◌, ◌≢◌, ◌≤◌}
+use Rattle.scene_tree.proofs.Common.{IsChain, IsHeld, last_of, last_or, Link, List, Node, None, none-some, Option, refl}
+use Rattle.scene_tree.proofs.Common.{same_Some, slice_get, slot_in, Some, subst, sym, tie_of, [], ℕ, ⊎_elim, ◌++◌, ◌+◌}
+use Rattle.scene_tree.proofs.Common.{◌<◌, ◌∙◌, ◌∷◌, ◌≡◌, ◌≢◌, ◌≤◌}
 use Rattle.scene_tree.proofs.Chains.{after_first, after_last, after_ties, before_first, before_last, before_ties}
 use Rattle.scene_tree.proofs.Chains.{chain_join, chain_split, changed_apart, changed_here, changed_kept, head_apart}
 use Rattle.scene_tree.proofs.Chains.{head_both, last_apart, last_both}

@@ -3,8 +3,8 @@ use Rattle.scene_tree.proofs.Common.{ap, arith, cases_Bool, cases_lt, cond, Done
 use Rattle.scene_tree.proofs.Common.{is_some, IsLiveIn, IsSimple, IsSound, length, length-append, List, Meets}
 use Rattle.scene_tree.proofs.Common.{meets_given, meets_number, Node, Ok, others_left, pointer_in, refl, same_value}
 use Rattle.scene_tree.proofs.Common.{seen_store, simple_still, slice_get, slice_get-get_or, Some, State, subst}
-use Rattle.scene_tree.proofs.Common.{sum_by-take-le, sym, take, take_more, times, unseen, [], ℕ, ⊎_elim, ◌++◌, ◌+◌}
-use Rattle.scene_tree.proofs.Common.{◌<◌, ◌∙◌, ◌∷◌, ◌≡◌, ◌≤◌}
+use Rattle.scene_tree.proofs.Common.{sum_by-take-le, sym, take, take_more, times, unseen, [], ℕ, ⊎_elim, ◌++◌, ◌+◌, ◌<◌}
+use Rattle.scene_tree.proofs.Common.{◌∙◌, ◌∷◌, ◌≡◌, ◌≤◌}
 use Rattle.scene_tree.proofs.Counting.{is_id, same_id, times_apart, times_both, times_more}
 use Rattle.scene_tree.proofs.Stores.{ended_count, same_slots}
 use Rattle.scene_tree.proofs.Trees.{same_shown}

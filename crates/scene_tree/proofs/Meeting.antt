@@ -1,10 +1,10 @@
 -- What a walk over the nodes of all slots meets.
-use Rattle.scene_tree.proofs.Common.{and_from, and_parts, ap, AreAll, AreNoted, AreRoots, arith, Bool, cases_Bool}
-use Rattle.scene_tree.proofs.Common.{cond, false, families, is_met, is_same, is_some, IsKept, IsLiveIn, IsSame}
-use Rattle.scene_tree.proofs.Common.{IsSound, Link, List, met, Node, node_in, None, none-some, not, noted, Option}
-use Rattle.scene_tree.proofs.Common.{parent_of, pointer_in, refl, same_id_sees, same_Some, slice_get, slot_in, Some}
-use Rattle.scene_tree.proofs.Common.{State, subst, suc, sym, times, TreeState, true, true≢false, value_in, zero, [], ℕ}
-use Rattle.scene_tree.proofs.Common.{⊎_elim, ◌+◌, ◌<◌, ◌∙◌, ◌∷◌, ◌≡◌, ◌≤◌}
+use Rattle.scene_tree.proofs.Common.{and_from, and_parts, ap, AreAll, AreNoted, AreRoots, arith, Bool, cases_Bool, cond}
+use Rattle.scene_tree.proofs.Common.{false, families, is_met, is_same, is_some, IsKept, IsLiveIn, IsSame, IsSound, Link}
+use Rattle.scene_tree.proofs.Common.{List, met, Node, node_in, None, none-some, not, noted, Option, parent_of}
+use Rattle.scene_tree.proofs.Common.{pointer_in, refl, same_id_sees, same_Some, slice_get, slot_in, Some, State, subst}
+use Rattle.scene_tree.proofs.Common.{suc, sym, times, TreeState, true, true≢false, value_in, zero, [], ℕ, ⊎_elim, ◌+◌}
+use Rattle.scene_tree.proofs.Common.{◌<◌, ◌∙◌, ◌∷◌, ◌≡◌, ◌≤◌}
 use Rattle.scene_tree.proofs.Counting.{is_id, same_id, same_slot, times_apart, times_more}
 use Rattle.scene_tree.proofs.Linked.{parent_from, upper}
 use Rattle.scene_tree.proofs.Trees.{live_parent}

@@ -6,8 +6,7 @@ use Rattle.scene_tree.proofs.Common.{length-map, Link, List, Location, Made, Mak
 use Rattle.scene_tree.proofs.Common.{none-some, noted, Option, pointer_in, refl, same_Some, same_value, slot_in, Some}
 use Rattle.scene_tree.proofs.Common.{State, suc, sym, tie_of, times, true≢false, value_in, zero, [], ℕ, ⊎_elim, ◌++◌}
 use Rattle.scene_tree.proofs.Common.{◌<◌, ◌∙◌, ◌∷◌, ◌≡◌, ◌≢◌, ◌≤◌}
-use Rattle.scene_tree.proofs.Chains.{after_kept, before_kept, changed_apart, changed_here, changed_kept}
-use Rattle.scene_tree.proofs.Chains.{changed_length}
+use Rattle.scene_tree.proofs.Chains.{after_kept, before_kept, changed_apart, changed_here, changed_kept, changed_length}
 use Rattle.scene_tree.proofs.Linked.{children_held, children_short, link_there, linked_with, parent_from, upper}
 use Rattle.scene_tree.proofs.Linking.{held_kept}
 use Rattle.scene_tree.proofs.Stores.{one_live}

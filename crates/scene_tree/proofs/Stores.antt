@@ -1,16 +1,16 @@
 -- A tree's store: its live nodes and its slots.
 use Rattle.std.specs.FinMap as map
-use Rattle.scene_tree.proofs.Common.{act_start, Action, Answer, ap, arith, cases_lt, Cell, cell_at, cells_after}
-use Rattle.scene_tree.proofs.Common.{change, change_if, close, close_one, cond, Content, content_of, Done, done_only}
-use Rattle.scene_tree.proofs.Common.{End, eq-eqb, false, false_from_ne_true, fill, GenerationalPointer, Here}
-use Rattle.scene_tree.proofs.Common.{hindrance_to, inl, inr, is_making, is_some, IsLiveIn, IsSame, IsSimple, IsSound}
-use Rattle.scene_tree.proofs.Common.{last_name, lasts_insert, leads_to, Lent, Location, Made, made_new, Make, making}
-use Rattle.scene_tree.proofs.Common.{Meets, meets_cases, Name, name_cmp, name_of, name_total, NameMap, nat_cmp_total}
-use Rattle.scene_tree.proofs.Common.{Node, None, none-some, Old, Option, Outcome, own_name, pointer_in, reach, reaches}
-use Rattle.scene_tree.proofs.Common.{Ref, refill, refl, seen_cell, seen_reached, seen_store, set_at, SetValue, Shared}
+use Rattle.scene_tree.proofs.Common.{act_start, Action, Answer, ap, arith, cases_lt, Cell, cell_at, cells_after, change}
+use Rattle.scene_tree.proofs.Common.{change_if, close, close_one, cond, Content, content_of, Done, done_only, End}
+use Rattle.scene_tree.proofs.Common.{eq-eqb, false, false_from_ne_true, fill, GenerationalPointer, Here, hindrance_to}
+use Rattle.scene_tree.proofs.Common.{inl, inr, is_making, is_some, IsLiveIn, IsSame, IsSimple, IsSound, last_name}
+use Rattle.scene_tree.proofs.Common.{lasts_insert, leads_to, Lent, Location, Made, made_new, Make, making, Meets}
+use Rattle.scene_tree.proofs.Common.{meets_cases, Name, name_cmp, name_of, name_total, NameMap, nat_cmp_total, Node}
+use Rattle.scene_tree.proofs.Common.{None, none-some, Old, Option, Outcome, own_name, pointer_in, reach, reaches, Ref}
+use Rattle.scene_tree.proofs.Common.{refill, refl, seen_cell, seen_reached, seen_store, set_at, SetValue, Shared}
 use Rattle.scene_tree.proofs.Common.{slot_apart, slot_in, slot_made, slots, slots_of, Some, some_live, sound_linked}
-use Rattle.scene_tree.proofs.Common.{State, sym, true, true≢false, Value, value_in, [], ⊎_elim, ◌+◌, ◌-◌, ◌<◌, ◌∙◌}
-use Rattle.scene_tree.proofs.Common.{◌∷◌, ◌≡◌, ◌≢◌, ◌⊎◌}
+use Rattle.scene_tree.proofs.Common.{State, sym, true, true≢false, Value, value_in, [], ⊎_elim, ◌+◌, ◌-◌, ◌<◌, ◌∙◌, ◌∷◌}
+use Rattle.scene_tree.proofs.Common.{◌≡◌, ◌≢◌, ◌⊎◌}
 
 module _ {T : Type 0} where
   -- a live node has a live cell

@@ -3,10 +3,10 @@ use Rattle.std.specs.FinMap as map
 use Rattle.scene_tree.proofs.Common.{alone, ap, arith, cases_Bool, children_at, children_of, cond, count_at, false}
 use Rattle.scene_tree.proofs.Common.{Family, family_at, family_of, flat_map, GenerationalBoxId, inl, inr, is_live}
 use Rattle.scene_tree.proofs.Common.{is_same, is_some, IsInLevels, IsKept, IsLiveIn, IsRooted, IsRootedIn, IsSame}
-use Rattle.scene_tree.proofs.Common.{IsSound, IsStepsBelow, IsSubtree, IsTree, IsUnder, leads_to, length, List}
-use Rattle.scene_tree.proofs.Common.{name_in, nat_eq, Node, NodeIsUnchanged, None, none-some, Option, parent_at}
-use Rattle.scene_tree.proofs.Common.{parent_of, pointer_in, reach, refl, same_Some, slice_get, slot_in, slot_of, Some}
-use Rattle.scene_tree.proofs.Common.{State, subst, suc, sym, times, TreeState, true, true≢false, value_in, value_of}
+use Rattle.scene_tree.proofs.Common.{IsSound, IsStepsBelow, IsSubtree, IsTree, IsUnder, leads_to, length, List, name_in}
+use Rattle.scene_tree.proofs.Common.{nat_eq, Node, NodeIsUnchanged, None, none-some, Option, parent_at, parent_of}
+use Rattle.scene_tree.proofs.Common.{pointer_in, reach, refl, same_Some, slice_get, slot_in, slot_of, Some, State}
+use Rattle.scene_tree.proofs.Common.{subst, suc, sym, times, TreeState, true, true≢false, value_in, value_of}
 use Rattle.scene_tree.proofs.Common.{value_reached, zero, [], ℕ, ⊎_elim, ◌++◌, ◌<◌, ◌∙◌, ◌∷◌, ◌≡◌, ◌⊎◌}
 use Rattle.scene_tree.proofs.Counting.{is_id, same_id, times_at, times_none}
 use Rattle.scene_tree.proofs.Forests.{above_parent}
