@@ -1,7 +1,7 @@
 -- Chains after a write to links.
 use Rattle.scene_tree.proofs.Common.{after_put, after_tied, ap, arith, before_put, chain, changed, count_at, first_of}
-use Rattle.scene_tree.proofs.Common.{head_or, IsChain, IsHeld, last_of, last_or, length, Link, List, Node, node_tied}
-use Rattle.scene_tree.proofs.Common.{None, none-some, Option, refl, same_Some, slice_get, slice_get-get_or}
+use Rattle.scene_tree.proofs.Common.{head_or, IsChain, IsHeld, last_of, last_or, length, Link, List, Node, node_in}
+use Rattle.scene_tree.proofs.Common.{node_tied, None, none-some, noted, Option, refl, same_Some, slice_get}
 use Rattle.scene_tree.proofs.Common.{slice_index_or, slice_set, slot_in, Some, suc, sym, tie_of, zero, [], ℕ, ◌++◌, ◌<◌}
 use Rattle.scene_tree.proofs.Common.{◌∙◌, ◌∷◌, ◌≡◌, ◌≢◌, ◌≤◌}
 use Rattle.scene_tree.proofs.Counting.{count_here, count_more}
@@ -48,18 +48,20 @@ module _ {T : Type 0} where
   changed_length (l ∷ links) zero f = refl
   changed_length (l ∷ links) (suc slot) f = ap suc (changed_length links slot f)
 
-  pub changed_is : (links : List (Link T)) (slot : ℕ) (f : Link T → Link T) (l : Link T)
-      → slice_get links slot ≡ Some l → slice_set links slot (f l) ≡ changed links slot f
-  changed_is [] slot f l is = absurd (none-some l is)
-  changed_is (x ∷ links) zero f l is = ap (λ y. f y ∷ links) (sym (same_Some x l is))
-  changed_is (x ∷ links) (suc slot) f l is = ap (λ rest. x ∷ rest) (changed_is links slot f l is)
-
-  -- the same, as what is read at the slot is written there
+  -- what is read at a slot is changed and written there
   pub written : (links : List (Link T)) (slot : ℕ) (f : Link T → Link T) (old : Link T)
-      → slot < length links → old ≡ slice_index_or links slot old
-      → slice_set links slot (f old) ≡ changed links slot f
-  written links slot f old lt is = changed_is links slot f old
-      (slice_get-get_or links slot old lt ∙ ap Some (sym is))
+      → old ≡ slice_index_or links slot old → slice_set links slot (f old) ≡ changed links slot f
+  written [] zero f old is = refl
+  written [] (suc slot) f old is = refl
+  written (l ∷ links) zero f old is = ap (λ y. f y ∷ links) is
+  written (l ∷ links) (suc slot) f old is = ap (λ rest. l ∷ rest) (written links slot f old is)
+
+  -- a slot within has a link
+  pub link_there : (links : List (Link T)) (s : ℕ) → s < length links
+      → (l : Link T) × (slice_get links s ≡ Some l)
+  link_there [] s lt = absurd (omega arith)
+  link_there (l ∷ links) zero lt = (l, refl)
+  link_there (l ∷ links) (suc s) lt = link_there links s (omega (arith, lt))
 
   -- ---- a child, or the first, is put after another, or the last before it
 
@@ -69,59 +71,47 @@ module _ {T : Type 0} where
       → ((l : Link T) (next : Option ℕ) → part (Some (record l { after = next })) ≡ part (Some l))
       → (links : List (Link T)) (up : ℕ) (at next : Option ℕ) (s : ℕ)
       → part (slice_get (after_put links up at next) s) ≡ part (slice_get links s)
-  after_kept part ends ties links up None next s =
-      changed_kept part links up (λ l. record l { first = next }) (λ l. ends l next) s
-  after_kept part ends ties links up (Some at) next s =
-      changed_kept part links at (λ l. record l { after = next }) (λ l. ties l next) s
+  after_kept part ends ties links up None next s = changed_kept part links up _ (λ l. ends l next) s
+  after_kept part ends ties links up (Some at) next s = changed_kept part links at _ (λ l. ties l next) s
 
   pub before_kept : {X : Type 0} (part : Option (Link T) → X)
       → ((l : Link T) (next : Option ℕ) → part (Some (record l { last = next })) ≡ part (Some l))
       → ((l : Link T) (next : Option ℕ) → part (Some (record l { before = next })) ≡ part (Some l))
       → (links : List (Link T)) (up : ℕ) (at next : Option ℕ) (s : ℕ)
       → part (slice_get (before_put links up at next) s) ≡ part (slice_get links s)
-  before_kept part ends ties links up None next s =
-      changed_kept part links up (λ l. record l { last = next }) (λ l. ends l next) s
-  before_kept part ends ties links up (Some at) next s =
-      changed_kept part links at (λ l. record l { before = next }) (λ l. ties l next) s
+  before_kept part ends ties links up None next s = changed_kept part links up _ (λ l. ends l next) s
+  before_kept part ends ties links up (Some at) next s = changed_kept part links at _ (λ l. ties l next) s
 
   pub after_length : (links : List (Link T)) (up : ℕ) (at next : Option ℕ)
       → length (after_put links up at next) ≡ length links
-  after_length links up None next = changed_length links up (λ l. record l { first = next })
-  after_length links up (Some at) next = changed_length links at (λ l. record l { after = next })
+  after_length links up None next = changed_length links up _
+  after_length links up (Some at) next = changed_length links at _
 
   pub before_length : (links : List (Link T)) (up : ℕ) (at next : Option ℕ)
       → length (before_put links up at next) ≡ length links
-  before_length links up None next = changed_length links up (λ l. record l { last = next })
-  before_length links up (Some at) next = changed_length links at (λ l. record l { before = next })
+  before_length links up None next = changed_length links up _
+  before_length links up (Some at) next = changed_length links at _
 
   -- ties stay but for the neighbour's, and ends but for the slot's
   pub after_ties : (links : List (Link T)) (up : ℕ) (at next : Option ℕ) (s : ℕ) → at ≢ Some s
       → tie_of (slice_get (after_put links up at next) s) ≡ tie_of (slice_get links s)
-  after_ties links up None next s ne =
-      changed_kept tie_of links up (λ l. record l { first = next }) (λ l. refl) s
-  after_ties links up (Some at) next s ne =
-      ap tie_of (changed_apart links at (λ l. record l { after = next }) s (λ is. ne (ap Some (sym is))))
+  after_ties links up None next s ne = changed_kept tie_of links up _ (λ l. refl) s
+  after_ties links up (Some at) next s ne = ap tie_of (changed_apart links at _ s (λ is. ne (ap Some (sym is))))
 
   pub before_ties : (links : List (Link T)) (up : ℕ) (at next : Option ℕ) (s : ℕ) → at ≢ Some s
       → tie_of (slice_get (before_put links up at next) s) ≡ tie_of (slice_get links s)
-  before_ties links up None next s ne =
-      changed_kept tie_of links up (λ l. record l { last = next }) (λ l. refl) s
-  before_ties links up (Some at) next s ne =
-      ap tie_of (changed_apart links at (λ l. record l { before = next }) s (λ is. ne (ap Some (sym is))))
+  before_ties links up None next s ne = changed_kept tie_of links up _ (λ l. refl) s
+  before_ties links up (Some at) next s ne = ap tie_of (changed_apart links at _ s (λ is. ne (ap Some (sym is))))
 
   pub after_first : (links : List (Link T)) (up : ℕ) (at next : Option ℕ) (s : ℕ) → s ≢ up
       → first_of (slice_get (after_put links up at next) s) ≡ first_of (slice_get links s)
-  after_first links up None next s ne =
-      ap first_of (changed_apart links up (λ l. record l { first = next }) s ne)
-  after_first links up (Some at) next s ne =
-      changed_kept first_of links at (λ l. record l { after = next }) (λ l. refl) s
+  after_first links up None next s ne = ap first_of (changed_apart links up _ s ne)
+  after_first links up (Some at) next s ne = changed_kept first_of links at _ (λ l. refl) s
 
   pub before_last : (links : List (Link T)) (up : ℕ) (at next : Option ℕ) (s : ℕ) → s ≢ up
       → last_of (slice_get (before_put links up at next) s) ≡ last_of (slice_get links s)
-  before_last links up None next s ne =
-      ap last_of (changed_apart links up (λ l. record l { last = next }) s ne)
-  before_last links up (Some at) next s ne =
-      changed_kept last_of links at (λ l. record l { before = next }) (λ l. refl) s
+  before_last links up None next s ne = ap last_of (changed_apart links up _ s ne)
+  before_last links up (Some at) next s ne = changed_kept last_of links at _ (λ l. refl) s
 
   pub after_last : (links : List (Link T)) (up : ℕ) (at next : Option ℕ) (s : ℕ)
       → last_of (slice_get (after_put links up at next) s) ≡ last_of (slice_get links s)
@@ -130,6 +120,13 @@ module _ {T : Type 0} where
   pub before_first : (links : List (Link T)) (up : ℕ) (at next : Option ℕ) (s : ℕ)
       → first_of (slice_get (before_put links up at next) s) ≡ first_of (slice_get links s)
   before_first = before_kept first_of (λ l next. refl) (λ l next. refl)
+
+  -- the noted nodes stay
+  pub noted_joined : (links : List (Link T)) (up top : ℕ) (a b c d : Option ℕ) (s : ℕ)
+      → noted (before_put (after_put links up a b) top c d) s ≡ noted links s
+  noted_joined links up top a b c d s =
+      before_kept node_in (λ l next. refl) (λ l next. refl) (after_put links up a b) top c d s
+      ∙ after_kept node_in (λ l next. refl) (λ l next. refl) links up a b s
 
   -- ---- lists in a row
 

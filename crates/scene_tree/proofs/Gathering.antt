@@ -1,13 +1,13 @@
 -- Lists of a node and the nodes below it, level by level.
 use Rattle.scene_tree.proofs.Common.{above, alone, ap, arith, cases_eq, cases_lt, children_at, count_at, eqb-true}
-use Rattle.scene_tree.proofs.Common.{Family, family_at, flat_map, flat_map_more, get_or, get_or-eq_default, IsForest}
-use Rattle.scene_tree.proofs.Common.{IsInLevels, IsRooted, IsUnder, length, length-append}
-use Rattle.scene_tree.proofs.Common.{length-le_from_distinct_below, length-map, List, list_any, map, nat_eq, Node, None}
-use Rattle.scene_tree.proofs.Common.{none-some, or_cases, refl, same_Some, slot_in, slot_of, Some, subst, suc, sym}
-use Rattle.scene_tree.proofs.Common.{take, take-append-le, take_all, take_more, true, true≢false, zero, [], ℕ, ⊎_elim}
-use Rattle.scene_tree.proofs.Common.{◌++◌, ◌+◌, ◌<◌, ◌∙◌, ◌∷◌, ◌≡◌, ◌≤◌}
+use Rattle.scene_tree.proofs.Common.{families, Family, family_at, family_in, flat_map, flat_map_more, get_or}
+use Rattle.scene_tree.proofs.Common.{get_or-eq_default, IsForest, IsInLevels, IsRooted, IsUnder, length, length-append}
+use Rattle.scene_tree.proofs.Common.{length-le_from_distinct_below, length-map, Link, List, list_any, map, nat_eq, Node}
+use Rattle.scene_tree.proofs.Common.{None, none-some, or_cases, refl, same_Some, slot_in, slot_of, Some, subst, suc}
+use Rattle.scene_tree.proofs.Common.{sym, take, take-append-le, take_all, take_more, true, true≢false, zero, [], ℕ}
+use Rattle.scene_tree.proofs.Common.{⊎_elim, ◌++◌, ◌+◌, ◌<◌, ◌∙◌, ◌∷◌, ◌≡◌, ◌≤◌}
+use Rattle.scene_tree.proofs.Paths.{depth_within, no_cycle}
 use Rattle.scene_tree.proofs.Counting.{count_apart, count_both, count_here, count_more, count_take, distinct}
-use Rattle.scene_tree.proofs.Paths.{no_cycle}
 
 -- nodes at different slots are no more than there are slots
 pub short : {T : Type 0} (list : List (Node T)) (n : ℕ) → ((s : ℕ) → count_at s list ≤ 1)
@@ -167,3 +167,12 @@ module _ {T : Type 0} (fs : List (Family T)) where
         within = omega arith;
         level = level ∙ ap (λ xs. top ∷ all_children xs) (sym (take_all (length list) list (omega arith)));
       }
+
+-- a root is fewer steps above a slot than there are links
+pub rooted_within : {T : Type 0} (links : List (Link T)) → IsForest (families links) → (s : ℕ) → s < length links
+    → (n : ℕ) × (0 + n < length links) × IsRooted (families links) n s
+rooted_within links f s lt =
+    let len = length-map links (family_in links) in
+    let r = f.rooted s in
+    let far = depth_within (families links) _ (above_within (families links) f) r.0 s r.1 (omega (arith, lt, len)) in
+    (r.0, omega (arith, far, len), r.1)

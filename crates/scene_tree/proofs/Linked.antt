@@ -1,17 +1,17 @@
 -- Links whose children are linked: what they hold, and after a child comes or goes.
-use Rattle.scene_tree.specs.declared.spot.Spot.TheVariants as spot
 use Rattle.scene_tree.proofs.Common.{above, after_put, alone, ap, arith, before_put, cases_Bool, cases_eq, chain}
-use Rattle.scene_tree.proofs.Common.{changed, children_at, cond, count_at, eq-eqb, eqb_tells, families, Family}
-use Rattle.scene_tree.proofs.Common.{family_at, family_in, first_of, head_or, inl, inr, insert, is_same, IsAmong}
-use Rattle.scene_tree.proofs.Common.{IsAttached, IsChain, IsDetached, IsForest, IsGap, IsHeld, IsLinked, IsOpened}
-use Rattle.scene_tree.proofs.Common.{IsRest, last_of, last_or, length, length-append, length-map, Link, List, map}
-use Rattle.scene_tree.proofs.Common.{nat_eq, Node, None, none-some, not, Option, parent_at, place_of, pushed_old, refl}
-use Rattle.scene_tree.proofs.Common.{same_Some, slice_get, slice_get-get_or, slice_get_within, slice_index_or, slot_in}
-use Rattle.scene_tree.proofs.Common.{slot_of, Some, Spot, subst, suc, sym, tie_of, true, true≢false, without, zero, []}
-use Rattle.scene_tree.proofs.Common.{ℕ, ⊎_elim, ◌++◌, ◌+◌, ◌<◌, ◌∙◌, ◌∷◌, ◌≡◌, ◌≢◌, ◌≤◌, ◌⊎◌}
+use Rattle.scene_tree.proofs.Common.{changed, children_at, cond, count_at, families, Family, family_at, family_in}
+use Rattle.scene_tree.proofs.Common.{first_of, head_or, inl, inr, insert, is_same, IsAmong, IsAttached, IsChain}
+use Rattle.scene_tree.proofs.Common.{IsDetached, IsForest, IsGap, IsHeld, IsLinked, IsOpened, IsRest, last_of, last_or}
+use Rattle.scene_tree.proofs.Common.{length, length-append, length-map, Link, List, map, Node, node_in, None, none-some}
+use Rattle.scene_tree.proofs.Common.{not, noted, Option, parent_at, place_of, pushed_old, refl, same_Some, slice_get}
+use Rattle.scene_tree.proofs.Common.{slice_get-get_or, slice_get_within, slice_index_or, slot_in, slot_of, Some, Spot}
+use Rattle.scene_tree.proofs.Common.{subst, suc, sym, tie_of, true, true≢false, without, zero, [], ℕ, ⊎_elim, ◌++◌, ◌+◌}
+use Rattle.scene_tree.proofs.Common.{◌<◌, ◌∙◌, ◌∷◌, ◌≡◌, ◌≢◌, ◌≤◌, ◌⊎◌}
 use Rattle.scene_tree.proofs.Chains.{after_kept, after_length, before_kept, before_length, chain_is, chain_none}
 use Rattle.scene_tree.proofs.Chains.{chain_short, changed_apart, changed_here, changed_kept, changed_length, held_is}
-use Rattle.scene_tree.proofs.Chains.{last_both, pushed_kept}
+use Rattle.scene_tree.proofs.Chains.{last_both, link_there, noted_joined, pushed_kept}
+use Rattle.scene_tree.specs.declared.spot.Spot.TheVariants as spot
 use Rattle.scene_tree.proofs.Counting.{count_apart, count_both, count_here, count_more, same_slot, same_without}
 use Rattle.scene_tree.proofs.Forests.{slot_cases}
 use Rattle.scene_tree.proofs.Gathering.{above_within, short, slot_within}
@@ -67,17 +67,21 @@ module _ {T : Type 0} where
       let same = ap length (children_from links s) in omega (arith, le, same)
 
   -- links are linked where they hold some list of each slot that isn't too long
+  linked_at : (links : List (Link T)) (s : ℕ) (xs : List (Node T)) → IsHeld links s xs
+      → length xs ≤ length links → IsHeld links s (children_at (families links) s)
+  linked_at links s xs held le = subst (IsHeld links s) (sym (children_held links s xs held le)) held
+
   pub linked_with : (links : List (Link T)) (lists : ℕ → List (Node T))
       → ((s : ℕ) → IsHeld links s (lists s)) → ((s : ℕ) → length (lists s) ≤ length links) → IsLinked links
-  linked_with links lists held le s =
-      subst (IsHeld links s) (sym (children_held links s (lists s) (held s) (le s))) (held s)
+  linked_with links lists held le s = linked_at links s (lists s) (held s) (le s)
 
-  -- a slot within has a link
-  pub link_there : (links : List (Link T)) (s : ℕ) → s < length links
-      → (l : Link T) × (slice_get links s ≡ Some l)
-  link_there [] s lt = absurd (omega arith)
-  link_there (l ∷ links) zero lt = (l, refl)
-  link_there (l ∷ links) (suc s) lt = link_there links s (omega (arith, lt))
+  -- of one slot, and of each other
+  linked_but : (links : List (Link T)) (up : ℕ) (here : List (Node T)) (lists : ℕ → List (Node T))
+      → IsHeld links up here → length here ≤ length links → ((s : ℕ) → s ≢ up → IsHeld links s (lists s))
+      → ((s : ℕ) → length (lists s) ≤ length links) → IsLinked links
+  linked_but links up here lists held le others short s = ⊎_elim
+      (λ same. linked_at links s here (subst (λ i. IsHeld links i here) (sym same) held) le)
+      (λ ne. linked_at links s (lists s) (others s ne) (short s)) (cases_eq s up)
 
   tied_within : (links : List (Link T)) (s : ℕ) (tie : Node T × Option ℕ × Option ℕ)
       → tie_of (slice_get links s) ≡ Some tie → (l : Link T) × (slice_get links s ≡ Some l)
@@ -405,53 +409,30 @@ module _ {T : Type 0} where
     bare_there : (l : Link T) × (slice_get bared slot ≡ Some (bare l))
     bare_there = let l = link_there links slot lt in (l.0, changed_here links slot bare l.0 l.1)
 
-    abbrev bared_list : ℕ → List (Node T)
-    bared_list s = cond (nat_eq s slot) [] (children_at (families links) s)
+    bared_here : IsHeld bared slot []
+    bared_here = record { first = ap first_of bare_there.1; last = ap last_of bare_there.1; chain = tt }
 
-    bared_here : (s : ℕ) → s ≡ slot → bared_list s ≡ []
-    bared_here s same = ap (λ b. cond b [] (children_at (families links) s)) (eq-eqb s slot same)
-
-    bared_apart : (s : ℕ) → s ≢ slot → bared_list s ≡ children_at (families links) s
-    bared_apart s ne = ap (λ b. cond b [] (children_at (families links) s))
-        (⊎_elim (λ yes. absurd (ne yes.1)) (λ no. no.0) (eqb_tells s slot))
-
-    bared_held : (s : ℕ) → IsHeld bared s (bared_list s)
-    bared_held s = ⊎_elim
-        (λ same. subst (IsHeld bared s) (sym (bared_here s same)) (subst (λ i. IsHeld bared i []) (sym same)
-        (record {
-          first = ap first_of bare_there.1;
-          last = ap last_of bare_there.1;
-          chain = tt;
-        })))
-        (λ ne. subst (IsHeld bared s) (sym (bared_apart s ne))
-        (held_kept links bared s (children_at (families links) s)
+    bared_apart : (s : ℕ) → s ≢ slot → IsHeld bared s (children_at (families links) s)
+    bared_apart s ne = held_kept links bared s (children_at (families links) s)
         (λ i some. changed_kept tie_of links slot bare (λ l. refl) i)
-        (ap first_of (changed_apart links slot bare s ne)) (ap last_of (changed_apart links slot bare s ne))
-        (linked s)))
-        (cases_eq s slot)
+        (ap first_of (changed_apart links slot bare s ne)) (ap last_of (changed_apart links slot bare s ne)) (linked s)
 
-    bared_short : (s : ℕ) → length (bared_list s) ≤ length bared
-    bared_short s = ⊎_elim
-        (λ same. let none = ap length (bared_here s same) in omega (arith, none))
-        (λ ne. let le = children_short links s in
-        let len = ap length (bared_apart s ne) in
-        let long = bared_length in omega (arith, le, len, long))
-        (cases_eq s slot)
+    bared_short : (s : ℕ) → length (children_at (families links) s) ≤ length bared
+    bared_short s = let le = children_short links s in omega (arith, le, bared_length)
 
     pub bared_linked : IsLinked bared
-    bared_linked = linked_with bared bared_list bared_held bared_short
+    bared_linked = linked_but bared slot [] (children_at (families links)) bared_here (omega arith) bared_apart bared_short
 
     pub bared_alone : family_at (families bared) slot ≡ alone
     bared_alone = λ i. record {
       parent = (parent_from bared slot ∙ ap upper bare_there.1) i;
-      children = (children_held bared slot (bared_list slot) (bared_held slot) (bared_short slot)
-          ∙ bared_here slot refl) i;
+      children = children_held bared slot [] bared_here (omega arith) i;
     }
 
     pub bared_others : (s : ℕ) → s ≢ slot → family_at (families bared) s ≡ family_at (families links) s
     bared_others s ne = λ i. record {
       parent = (parent_from bared s ∙ (ap upper (changed_apart links slot bare s ne) ∙ sym (parent_from links s))) i;
-      children = (children_held bared s (bared_list s) (bared_held s) (bared_short s) ∙ bared_apart s ne) i;
+      children = children_held bared s (children_at (families links) s) (bared_apart s ne) (bared_short s) i;
     }
 
   -- ---- a child more
@@ -480,12 +461,6 @@ module _ {T : Type 0} where
 
     abbrev new : List (Link T)
     new = joined there up is.front is.back (Some (slot_in child)) (Some (slot_in child))
-
-    -- what the calls leave
-    pub as_put : before_put (after_put (changed links (slot_in child) (put_in gap.0 gap.1)) up gap.0
-        (Some (slot_in child))) up gap.1 (Some (slot_in child)) ≡ new
-    as_put = λ i. before_put (after_put (changed links (slot_in child) (put_in (is.before i) (is.after i))) up
-        (is.before i) (Some (slot_in child))) up (is.after i) (Some (slot_in child))
 
     unlisted : (s : ℕ) → count_at (slot_in child) (children_at fs s) ≡ 0
     unlisted s = f.only (slot_in child) s (λ some. none-some s (sym root ∙ some))
@@ -539,40 +514,28 @@ module _ {T : Type 0} where
         omega (arith, less, long))
         (cases_eq s (slot_in child))
 
-    abbrev new_list : ℕ → List (Node T)
-    new_list s = cond (nat_eq s up) (is.front ++ child ∷ is.back) (children_at fs s)
+    new_here : IsHeld new up (is.front ++ child ∷ is.back)
+    new_here = linked_in there up up_there.0 is.front is.back child up_there.1 once tied
+        (subst (IsHeld there up) is.whole (there_held up))
 
-    list_here : (s : ℕ) → s ≡ up → new_list s ≡ is.front ++ child ∷ is.back
-    list_here s same = ap (λ b. cond b (is.front ++ child ∷ is.back) (children_at fs s)) (eq-eqb s up same)
-
-    list_apart : (s : ℕ) → s ≢ up → new_list s ≡ children_at fs s
-    list_apart s ne = ap (λ b. cond b (is.front ++ child ∷ is.back) (children_at fs s))
-        (⊎_elim (λ yes. absurd (ne yes.1)) (λ no. no.0) (eqb_tells s up))
-
-    new_held : (s : ℕ) → IsHeld new s (new_list s)
-    new_held s = ⊎_elim
-        (λ same. subst (IsHeld new s) (sym (list_here s same)) (subst (λ i. IsHeld new i (is.front ++ child ∷ is.back)) (sym same)
-        (linked_in there up up_there.0 is.front is.back child up_there.1 once tied
-        (subst (IsHeld there up) is.whole (there_held up)))))
-        (λ ne. subst (IsHeld new s) (sym (list_apart s ne))
-        (joined_held there up up_there.0 is.front is.back up_there.1
+    new_apart : (s : ℕ) → s ≢ up → IsHeld new s (children_at fs s)
+    new_apart s ne = joined_held there up up_there.0 is.front is.back up_there.1
         (λ i. let both = count_both i is.front is.back in let same = ap (count_at i) is.whole in
         let le = once_each fs f up i in omega (arith, both, same, le))
         (Some (slot_in child)) (Some (slot_in child)) s (children_at fs s) ne
         (λ i lt. parts_none i (children_at fs up) is.front is.back is.whole (none_beside fs f up s i ne lt))
-        (there_held s)))
-        (cases_eq s up)
+        (there_held s)
 
-    new_short : (s : ℕ) → length (new_list s) ≤ length new
-    new_short s = ⊎_elim
-        (λ same. let le = short (is.front ++ child ∷ is.back) (length links) once listed_within in
-        let len = ap length (list_here s same) in omega (arith, le, len, new_length))
-        (λ ne. let le = children_short links s in
-        let len = ap length (list_apart s ne) in omega (arith, le, len, new_length))
-        (cases_eq s up)
+    here_short : length (is.front ++ child ∷ is.back) ≤ length new
+    here_short =
+        let le = short (is.front ++ child ∷ is.back) (length links) once listed_within in omega (arith, le, new_length)
+
+    new_short : (s : ℕ) → length (children_at fs s) ≤ length new
+    new_short s = let le = children_short links s in omega (arith, le, new_length)
 
     pub attached_linked : IsLinked new
-    attached_linked = linked_with new new_list new_held new_short
+    attached_linked =
+        linked_but new up (is.front ++ child ∷ is.back) (children_at fs) new_here here_short new_apart new_short
 
     new_parent : (s : ℕ) → upper (slice_get new s) ≡ upper (slice_get there s)
     new_parent s = before_kept upper (λ l next. refl) (λ l next. refl)
@@ -587,9 +550,8 @@ module _ {T : Type 0} where
           ∙ ap upper (changed_here links (slot_in child) (put_in before after) l.0 l.1));
       parents = λ s ne. parent_from new s ∙ (new_parent s
           ∙ (ap upper (changed_apart links (slot_in child) (put_in before after) s ne) ∙ sym (parent_from links s)));
-      listed = children_held new up (new_list up) (new_held up) (new_short up)
-          ∙ (list_here up refl ∙ sym (is.put child));
-      others = λ s ne. children_held new s (new_list s) (new_held s) (new_short s) ∙ list_apart s ne;
+      listed = children_held new up (is.front ++ child ∷ is.back) new_here here_short ∙ sym (is.put child);
+      others = λ s ne. children_held new s (children_at fs s) (new_apart s ne) (new_short s);
     }
 
   -- ---- a child less
@@ -655,16 +617,6 @@ module _ {T : Type 0} where
         let more = count_more s part.here part.back in
         let le = once_listed s in omega (arith, both, more, le)
 
-    abbrev rest_list : ℕ → List (Node T)
-    rest_list s = cond (nat_eq s top) (part.front ++ part.back) (children_at old s)
-
-    rest_here : (s : ℕ) → s ≡ top → rest_list s ≡ part.front ++ part.back
-    rest_here s same = ap (λ b. cond b (part.front ++ part.back) (children_at old s)) (eq-eqb s top same)
-
-    rest_apart : (s : ℕ) → s ≢ top → rest_list s ≡ children_at old s
-    rest_apart s ne = ap (λ b. cond b (part.front ++ part.back) (children_at old s))
-        (⊎_elim (λ yes. absurd (ne yes.1)) (λ no. no.0) (eqb_tells s top))
-
     beside_none : (s i : ℕ) → s ≢ top → 0 < count_at i (children_at old s)
         → (count_at i part.front ≡ 0) × (count_at i part.back ≡ 0)
     beside_none s i ne lt =
@@ -673,29 +625,28 @@ module _ {T : Type 0} where
         let more = count_more i part.here part.back in
         let zero = none.1 in (none.0, omega (arith, more, zero))
 
-    cut_held : (s : ℕ) → IsHeld cut s (rest_list s)
-    cut_held s = ⊎_elim
-        (λ same. subst (IsHeld cut s) (sym (rest_here s same)) (subst (λ i. IsHeld cut i (part.front ++ part.back)) (sym same)
-        (linked_out freed top top_there.0 part.front part.back part.here top_there.1 once_listed
-        (subst (IsHeld freed top) part.whole (freed_held top)))))
-        (λ ne. subst (IsHeld cut s) (sym (rest_apart s ne))
-        (joined_held freed top top_there.0 part.front part.back top_there.1 few_listed
-        (head_or part.back None) (last_or None part.front) s (children_at old s) ne
-        (λ i lt. beside_none s i ne lt) (freed_held s)))
-        (cases_eq s top)
+    cut_here : IsHeld cut top (part.front ++ part.back)
+    cut_here = linked_out freed top top_there.0 part.front part.back part.here top_there.1 once_listed
+        (subst (IsHeld freed top) part.whole (freed_held top))
 
-    cut_short : (s : ℕ) → length (rest_list s) ≤ length cut
-    cut_short s = ⊎_elim
-        (λ same. let le = children_short links top in
-        let len = ap length (rest_here s same) ∙ length-append part.front part.back in
+    cut_apart : (s : ℕ) → s ≢ top → IsHeld cut s (children_at old s)
+    cut_apart s ne = joined_held freed top top_there.0 part.front part.back top_there.1 few_listed
+        (head_or part.back None) (last_or None part.front) s (children_at old s) ne
+        (λ i lt. beside_none s i ne lt) (freed_held s)
+
+    rest_short : length (part.front ++ part.back) ≤ length cut
+    rest_short =
+        let le = children_short links top in
+        let len = length-append part.front part.back in
         let whole = ap length part.whole ∙ length-append part.front (part.here ∷ part.back) in
-        omega (arith, le, len, whole, cut_length))
-        (λ ne. let le = children_short links s in
-        let len = ap length (rest_apart s ne) in omega (arith, le, len, cut_length))
-        (cases_eq s top)
+        omega (arith, le, len, whole, cut_length)
+
+    cut_short : (s : ℕ) → length (children_at old s) ≤ length cut
+    cut_short s = let le = children_short links s in omega (arith, le, cut_length)
 
     pub detached_linked : IsLinked cut
-    detached_linked = linked_with cut rest_list cut_held cut_short
+    detached_linked =
+        linked_but cut top (part.front ++ part.back) (children_at old) cut_here rest_short cut_apart cut_short
 
     cut_parent : (s : ℕ) → upper (slice_get cut s) ≡ upper (slice_get freed s)
     cut_parent s = before_kept upper (λ l next. refl) (λ l next. refl)
@@ -704,9 +655,9 @@ module _ {T : Type 0} where
         ∙ after_kept upper (λ l next. refl) (λ l next. refl) freed top (last_or None part.front) (head_or part.back None) s
 
     rest_is : children_at (families cut) top ≡ without node (children_at old top)
-    rest_is = children_held cut top (rest_list top) (cut_held top) (cut_short top)
-        ∙ (rest_here top refl ∙ sym (ap (without node) part.whole
-        ∙ without_one node part.here part.front part.back same_here none.0 none.1))
+    rest_is = children_held cut top (part.front ++ part.back) cut_here rest_short
+        ∙ sym (ap (without node) part.whole
+        ∙ without_one node part.here part.front part.back same_here none.0 none.1)
       where
         same_here : is_same part.here node ≡ true
         same_here = alike top (length part.front) part.here
@@ -731,8 +682,8 @@ module _ {T : Type 0} where
           ∙ (ap upper (changed_apart links (slot_in node) (λ l. record l { parent = None }) s ne) ∙ sym (parent_from links s)));
       lost = λ s is. subst (λ i. children_at (families cut) i ≡ without node (children_at old i))
           (same_Some top s (sym (ap slot_of has) ∙ is)) rest_is;
-      others = λ s ne. children_held cut s (rest_list s) (cut_held s) (cut_short s)
-          ∙ rest_apart s (λ same. ne (ap slot_of has ∙ ap Some (sym same)));
+      others = λ s ne. children_held cut s (children_at old s)
+          (cut_apart s (λ same. ne (ap slot_of has ∙ ap Some (sym same)))) (cut_short s);
     }
       where
         freed_here : (o : Option (Link T)) → slice_get links (slot_in node) ≡ o
@@ -767,50 +718,70 @@ module _ {T : Type 0} where
       whole : count_at s (children_at (families links) up) ≡ count_at s is.front + count_at s is.back
       whole = ap (count_at s) is.whole ∙ count_both s is.front is.back
 
-  pub attached_by : (links : List (Link T)) → IsLinked links → IsForest (families links)
-      → (parent child : Node T) (at : Spot T) → slot_in parent < length links → slot_in child < length links
-      → above (families links) (slot_in child) ≡ None → (up slot : ℕ) → up ≡ slot_in parent
-      → slot ≡ slot_in child → (gap : Option ℕ × Option ℕ) → IsGap (children_at (families links) up) at gap
-      → (final : List (Link T))
-      → final ≡ before_put (after_put (changed links (slot_in child)
-      (λ l. record l { node = child; parent = Some parent; before = gap.0; after = gap.1 }))
-      up gap.0 (Some slot)) up gap.1 (Some slot)
-      → IsLinked final × IsAttached (families links) parent at child (families final)
-  attached_by links linked f parent child at within lc root up slot upis slotis gap is final left =
-      let here = subst (λ i. IsGap (children_at (families links) i) at gap) upis is in
-      let same = left
-      ∙ (ap (λ i. before_put (after_put (changed links (slot_in child)
-      (λ l. record l { node = child; parent = Some parent; before = gap.0; after = gap.1 }))
-      i gap.0 (Some slot)) i gap.1 (Some slot)) upis
-      ∙ (ap (λ s. before_put (after_put (changed links (slot_in child)
-      (λ l. record l { node = child; parent = Some parent; before = gap.0; after = gap.1 }))
-      (slot_in parent) gap.0 (Some s)) (slot_in parent) gap.1 (Some s)) slotis
-      ∙ as_put links linked f parent child at within lc root gap here)) in (
-        subst IsLinked (sym same) (attached_linked links linked f parent child at within lc root gap here),
-        subst (λ ls. IsAttached (families links) parent at child (families ls)) (sym same)
-            (attached_is links linked f parent child at within lc root gap here),
-      )
+  -- what an attaching leaves
+  pub record HasChild (links : List (Link T)) (parent : Node T) (at : Spot T) (child : Node T) (final : List (Link T)) : Type 0 where
+    pub linked : IsLinked final
+    pub attached : IsAttached (families links) parent at child (families final)
+    pub others : (s : ℕ) → s ≢ slot_in child → noted final s ≡ noted links s
+    pub noted : noted final (slot_in child) ≡ Some child
 
-  pub detached_by : (links : List (Link T)) (linked : IsLinked links) (f : IsForest (families links))
-      (node parent : Node T) (slot up : ℕ) → slot ≡ slot_in node → up ≡ slot_in parent
+  pub attached_by : (links one put final : List (Link T)) → IsLinked links → IsForest (families links)
+      → (parent child : Node T) (at : Spot T) → slot_in parent < length links → slot_in child < length links
+      → above (families links) (slot_in child) ≡ None → (top slot : ℕ) → top ≡ slot_in parent
+      → slot ≡ slot_in child → (gap : Option ℕ × Option ℕ) → IsGap (children_at (families links) top) at gap
+      → one ≡ changed links (slot_in child) (λ l. record l {
+        node = child;
+        parent = Some parent;
+        before = gap.0;
+        after = gap.1;
+      }) → put ≡ after_put one top gap.0 (Some slot) → final ≡ before_put put top gap.1 (Some slot)
+      → HasChild links parent at child final
+  attached_by links one put final linked f parent child at within lc root top slot topis slotis gap is first next last =
+      let here = subst (λ i. IsGap (children_at (families links) i) at gap) topis is in
+      let left = last ∙ (ap (λ ls. before_put ls top gap.1 (Some slot)) (next
+      ∙ ap (λ ls. after_put ls top gap.0 (Some slot)) first)) in
+      let same = left ∙ λ i. before_put (after_put (changed links (slot_in child) (λ l. record l {
+        node = child;
+        parent = Some parent;
+        before = here.before i;
+        after = here.after i;
+      })) (topis i) (here.before i) (Some (slotis i))) (topis i) (here.after i) (Some (slotis i)) in record {
+        linked = subst IsLinked (sym same) (attached_linked links linked f parent child at within lc root gap here);
+        attached = subst (λ ls. IsAttached (families links) parent at child (families ls)) (sym same)
+            (attached_is links linked f parent child at within lc root gap here);
+        noted = ap (λ ls. noted ls (slot_in child)) left ∙ (noted_joined _ top top gap.0 (Some slot) gap.1 (Some slot)
+            (slot_in child) ∙ (let l = link_there links (slot_in child) lc in
+            ap node_in (changed_here links (slot_in child) _ l.0 l.1)));
+        others = λ s ne. ap (λ ls. noted ls s) left ∙ (noted_joined _ top top gap.0 (Some slot) gap.1 (Some slot) s
+            ∙ ap node_in (changed_apart links (slot_in child) _ s ne));
+      }
+
+  -- and a detaching
+  pub record HasNoParent (links : List (Link T)) (node : Node T) (final : List (Link T)) : Type 0 where
+    pub linked : IsLinked final
+    pub detached : IsDetached (families links) node (families final)
+    pub noted : (s : ℕ) → noted final s ≡ noted links s
+
+  pub detached_by : (links free put final : List (Link T)) (linked : IsLinked links) (f : IsForest (families links))
+      (node parent : Node T) (slot top : ℕ) → slot ≡ slot_in node → top ≡ slot_in parent
       → parent_at (families links) slot ≡ Some parent
       → ((s k : ℕ) (n : Node T) → slice_get (children_at (families links) s) k ≡ Some n
       → slot_in n ≡ slot_in node → is_same n node ≡ true)
       → (n : Node T) (b a : Option ℕ) → tie_of (slice_get links slot) ≡ Some (n, b, a)
-      → (final : List (Link T))
-      → final ≡ before_put (after_put (changed links slot (λ l. record l { parent = None })) up b a) up a b
-      → IsLinked final × IsDetached (families links) node (families final)
-  detached_by links linked f node parent slot up slotis upis has alike n b a tie final left =
+      → free ≡ changed links slot (λ l. record l { parent = None }) → put ≡ after_put free top b a
+      → final ≡ before_put put top a b → HasNoParent links node final
+  detached_by links free put final linked f node parent slot top slotis topis has alike n b a tie one two three =
       let is = subst (λ i. parent_at (families links) i ≡ Some parent) slotis has in
       let here = subst (λ i. tie_of (slice_get links i) ≡ Some (n, b, a)) slotis tie in
-      let same = left
-      ∙ (ap (λ i. before_put (after_put (changed links i (λ l. record l { parent = None })) up b a) up a b) slotis
-      ∙ (ap (λ i. before_put (after_put (changed links (slot_in node) (λ l. record l { parent = None })) i b a) i a b) upis
-      ∙ as_cut links linked f node parent is alike n b a here)) in (
-        subst IsLinked (sym same) (detached_linked links linked f node parent is alike),
-        subst (λ ls. IsDetached (families links) node (families ls)) (sym same)
-            (detached_is links linked f node parent is alike),
-      )
+      let left = three ∙ (ap (λ ls. before_put ls top a b) (two ∙ ap (λ ls. after_put ls top b a) one)) in
+      let same = left ∙ ((λ i. before_put (after_put (changed links (slotis i) (λ l. record l { parent = None }))
+      (topis i) b a) (topis i) a b) ∙ as_cut links linked f node parent is alike n b a here) in record {
+        linked = subst IsLinked (sym same) (detached_linked links linked f node parent is alike);
+        detached = subst (λ ls. IsDetached (families links) node (families ls)) (sym same)
+            (detached_is links linked f node parent is alike);
+        noted = λ s. ap (λ ls. noted ls s) left ∙ (noted_joined _ top top b a a b s
+            ∙ changed_kept node_in links slot _ (λ l. refl) s);
+      }
 
   pub side_within : (links : List (Link T)) (linked : IsLinked links) (f : IsForest (families links))
       (node parent : Node T) (slot : ℕ) → slot ≡ slot_in node

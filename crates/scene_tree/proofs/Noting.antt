@@ -1,13 +1,13 @@
 -- Which node is noted at each slot, after each write to the links.
-use Rattle.scene_tree.proofs.Common.{above, after_put, ap, AreNoted, arith, before_put, cases_eq, cases_lt, changed}
-use Rattle.scene_tree.proofs.Common.{children_at, count_at, families, family_in, first_of, HasLost, is_some, IsForest}
-use Rattle.scene_tree.proofs.Common.{IsHeld, IsLinked, IsLiveIn, IsOpened, IsSame, IsSimple, IsSound, last_of, length}
-use Rattle.scene_tree.proofs.Common.{length-map, Link, List, Location, Made, Make, Meets, Node, node_in, None}
-use Rattle.scene_tree.proofs.Common.{none-some, noted, Option, pointer_in, refl, same_Some, same_value, slot_in, Some}
-use Rattle.scene_tree.proofs.Common.{State, suc, sym, tie_of, times, true≢false, value_in, zero, [], ℕ, ⊎_elim, ◌++◌}
-use Rattle.scene_tree.proofs.Common.{◌<◌, ◌∙◌, ◌∷◌, ◌≡◌, ◌≢◌, ◌≤◌}
-use Rattle.scene_tree.proofs.Chains.{after_kept, before_kept, changed_apart, changed_here, changed_kept, changed_length}
-use Rattle.scene_tree.proofs.Linked.{children_held, children_short, link_there, linked_with, parent_from, upper}
+use Rattle.scene_tree.proofs.Chains.{changed_apart, changed_here, changed_kept, changed_length, link_there}
+use Rattle.scene_tree.proofs.Common.{above, ap, AreNoted, arith, cases_eq, cases_lt, changed, children_at, count_at}
+use Rattle.scene_tree.proofs.Common.{families, family_in, first_of, HasLost, is_some, IsForest, IsHeld, IsLinked}
+use Rattle.scene_tree.proofs.Common.{IsLiveIn, IsOpened, IsSame, IsSimple, IsSound, last_of, length, length-map, Link}
+use Rattle.scene_tree.proofs.Common.{List, Location, Made, Make, Meets, Node, node_in, None, none-some, noted}
+use Rattle.scene_tree.proofs.Common.{pointer_in, refl, same_Some, same_value, slot_in, Some, State, suc, sym, tie_of}
+use Rattle.scene_tree.proofs.Common.{times, true≢false, value_in, zero, [], ℕ, ⊎_elim, ◌++◌, ◌<◌, ◌∙◌, ◌∷◌, ◌≡◌, ◌≢◌}
+use Rattle.scene_tree.proofs.Common.{◌≤◌}
+use Rattle.scene_tree.proofs.Linked.{children_held, children_short, linked_with, parent_from, upper}
 use Rattle.scene_tree.proofs.Linking.{held_kept}
 use Rattle.scene_tree.proofs.Stores.{one_live}
 
@@ -27,13 +27,6 @@ module _ {T : Type 0} where
   pub noted_kept : (links : List (Link T)) (slot : ℕ) (f : Link T → Link T)
       → ((l : Link T) → (f l).node ≡ l.node) → (s : ℕ) → noted (changed links slot f) s ≡ noted links s
   noted_kept links slot f same s = changed_kept node_in links slot f (λ l. ap Some (same l)) s
-
-  -- where both sides of a spot are linked anew
-  pub noted_joined : (links : List (Link T)) (up top : ℕ) (a b c d : Option ℕ) (s : ℕ)
-      → noted (before_put (after_put links up a b) top c d) s ≡ noted links s
-  noted_joined links up top a b c d s =
-      before_kept node_in (λ l next. refl) (λ l next. refl) (after_put links up a b) top c d s
-      ∙ after_kept node_in (λ l next. refl) (λ l next. refl) links up a b s
 
   -- with a link more at the end
   pub noted_last : (links : List (Link T)) (l : Link T) (s : ℕ) → s ≡ length links

@@ -1,15 +1,12 @@
-use Rattle.scene_tree.proofs.{above, above_within, ap, arith, depth_within, families, family_in, IsRooted, length}
-use Rattle.scene_tree.proofs.{length-map, rooted_up, slot_of, Some, subst, suc, sym, ◌<◌, ◌∙◌, ◌≡◌}
+use Rattle.scene_tree.proofs.{above, ap, arith, families, IsRooted, rooted_up, rooted_within, slot_of, Some, subst, suc}
+use Rattle.scene_tree.proofs.{sym, ◌∙◌, ◌≡◌}
 use Rattle.scene_tree.proofs.links.depth_at.Goals as goal
 
 pub loop-steps-init : goal.loop-steps-init
-loop-steps-init g c =
-    let fs = families c.args.links.now.items in
-    let len = length-map c.args.links.now.items (family_in c.args.links.now.items) in
-    let r = c.requires.forest.rooted c.args.slot in
-    let lt : c.args.slot < length fs = omega (arith, len, c.requires.within) in
-    let far = depth_within fs (length fs) (above_within fs c.requires.forest) r.0 c.args.slot r.1 lt in
-    record { rooted = (r.0, omega (arith, far, len), r.1); deeper = λ d down. subst (λ n. IsRooted fs n c.args.slot) (omega arith) down }
+loop-steps-init g c = record {
+  rooted = rooted_within _ c.requires.forest c.args.slot c.requires.within;
+  deeper = λ d down. subst (λ n. IsRooted (families c.args.links.now.items) n c.args.slot) (omega arith) down;
+}
 
 pub loop-steps-preserved : goal.loop-steps-preserved
 loop-steps-preserved g c =
@@ -26,7 +23,5 @@ loop-steps-preserved g c =
     }
 
 pub returns-in-None : goal.returns-in-None
-returns-in-None g c =
-    let fs = families c.args.links.now.items in
-    subst (λ n. IsRooted fs n c.args.slot) (omega arith)
+returns-in-None g c = subst (λ n. IsRooted (families c.args.links.now.items) n c.args.slot) (omega arith)
     (c.loop-steps.invariant.deeper 0 (ap slot_of (sym c.parent_at.ensures ∙ c.in-None.is)))

@@ -1,23 +1,19 @@
-use Rattle.scene_tree.proofs.{above, above_within, ap, arith, depth_within, families, family_in, length, length-map}
-use Rattle.scene_tree.proofs.{no_cycle, root_under, rooted_up, slot_of, Some, step_under, suc, sym, true≢false}
-use Rattle.scene_tree.proofs.{under_up, ◌<◌, ◌∙◌, ◌≡◌}
+use Rattle.scene_tree.proofs.{above, ap, arith, families, no_cycle, root_under, rooted_up, rooted_within, slot_of, Some}
+use Rattle.scene_tree.proofs.{step_under, suc, sym, true≢false, under_up, ◌∙◌, ◌≡◌}
 use Rattle.scene_tree.proofs.links.is_under.Goals as goal
 
 pub loop-init : goal.loop-init
-loop-init g c =
-    let fs = families c.args.links.now.items in
-    let len = length-map c.args.links.now.items (family_in c.args.links.now.items) in
-    let r = c.requires.forest.rooted c.args.slot in
-    let lt : c.args.slot < length fs = omega (arith, len, c.requires.within) in
-    let far = depth_within fs (length fs) (above_within fs c.requires.forest) r.0 c.args.slot r.1 lt in
-    record { rooted = (r.0, omega (arith, far, len), r.1); same = (λ u. u, λ u. u) }
+loop-init g c = record {
+  rooted = rooted_within _ c.requires.forest c.args.slot c.requires.within;
+  same = (λ u. u, λ u. u);
+}
 
 pub returns-in-None : goal.returns-in-None
 returns-in-None g c = (
   λ is. absurd (true≢false (sym is)),
   λ under.
       let here = c.loop.invariant.same.0 under in
-      absurd (c.if-at-top.false (root_under (families c.args.links.now.items) c.args.top here.0 c.loop.at
+      absurd (c.if-at-top.false (root_under _ c.args.top here.0 c.loop.at
       (ap slot_of (sym c.parent_at.ensures ∙ c.in-None.is)) here.1)),
 )
 
@@ -41,11 +37,10 @@ loop-preserved g c =
 
 pub returns-then-is_at : goal.returns-then-is_at
 returns-then-is_at g c =
-    let fs = families c.args.links.now.items in
     let r = c.requires.forest.rooted c.args.top in (
       λ is. absurd (true≢false (sym is)),
       λ under.
           let here = c.loop.invariant.same.0 under in
-          absurd (no_cycle fs r.0 c.args.top c.loop.at here.0 r.1 (ap slot_of (sym c.parent_at-above.ensures)
+          absurd (no_cycle _ r.0 c.args.top c.loop.at here.0 r.1 (ap slot_of (sym c.parent_at-above.ensures)
           ∙ c.is_at.ensures (grind arith)) here.1),
     )
