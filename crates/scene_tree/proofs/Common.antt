@@ -59,6 +59,7 @@ pub use Rattle.std.proofs.{lemmas.Bool.Decides.eqb_tells, lemmas.Iterator.Consum
 pub use Rattle.std.proofs.{lemmas.Iterator.Consumers.YieldsList-from_first}
 pub use Rattle.std.proofs.{lemmas.Map.Steps.length-le_from_distinct_below, Math.ListN.get_or-eq_default}
 pub use Rattle.std.specs.{Cmp.nat_cmp_total, Iterator.YieldsFirst, Ordering.nat_cmp}
+pub use Rattle.std.proofs.lemmas.Result.{IfOk-weaker}
 unfoldable pub use Rattle.generational_core.specs.Borrowing.{reach}
 unfoldable pub use Rattle.generational_core.specs.Names.{change}
 unfoldable pub use Rattle.generational_core.specs.Seeing.{value_in}

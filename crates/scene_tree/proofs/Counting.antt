@@ -1,9 +1,9 @@
 -- How many nodes of a list live at a slot.
 use Rattle.scene_tree.specs.declared.spot.Spot.TheVariants as spot
-use Rattle.scene_tree.proofs.Common.{AllByRecursion, alone, and_from, and_parts, ap, arith, cases_Bool, cases_eq, cond}
-use Rattle.scene_tree.proofs.Common.{count_at, drop, eq-eqb, eqb-true, eqb_tells, false, Family, family_at, get_or}
-use Rattle.scene_tree.proofs.Common.{get_pushed, inl, inr, insert, is_same, IsCleared, IsDistinct, IsSame, length, List}
-use Rattle.scene_tree.proofs.Common.{map, nat_eq, Node, none-some, not, place_of, placed, refl, same_Some, slice_get}
+use Rattle.scene_tree.proofs.Common.{AllByRecursion, alone, and_parts, ap, arith, cases_Bool, cases_eq, cond, count_at}
+use Rattle.scene_tree.proofs.Common.{drop, eq-eqb, eqb-true, eqb_tells, false, Family, family_at, get_or, get_pushed}
+use Rattle.scene_tree.proofs.Common.{inl, inr, insert, is_same, IsCleared, IsDistinct, IsSame, length, List, map}
+use Rattle.scene_tree.proofs.Common.{nat_eq, Node, none-some, not, place_of, placed, refl, same_Some, slice_get}
 use Rattle.scene_tree.proofs.Common.{slot_in, Some, Spot, subst, suc, sum_by-append, sum_by-cons, sum_by-take-drop}
 use Rattle.scene_tree.proofs.Common.{sum_by-take-le, sym, take, take_more, times, true, true≢false, without, zero, []}
 use Rattle.scene_tree.proofs.Common.{ℕ, ⊎_elim, ◌++◌, ◌+◌, ◌<◌, ◌∙◌, ◌∷◌, ◌≡◌, ◌≢◌, ◌≤◌, ◌⊎◌}
@@ -19,11 +19,7 @@ module _ {T : Type 0} where
 
   pub count_apart : (s : ℕ) (c : Node T) (xs : List (Node T)) → slot_in c ≢ s
       → count_at s (c ∷ xs) ≡ count_at s xs
-  count_apart s c xs ne =
-      let more = sum_by-cons (λ n. cond (nat_eq (slot_in n) s) 1 0) c xs in
-      let none : ◌≡◌ {A = ℕ} (cond (nat_eq (slot_in c) s) 1 0) 0 = ⊎_elim (λ yes. absurd (ne yes.1))
-      (λ no. ap (λ b. cond b 1 0) no.0) (eqb_tells (slot_in c) s) in
-      omega (arith, more, none)
+  count_apart s c xs ne = grind arith
 
   pub count_more : (s : ℕ) (c : Node T) (xs : List (Node T)) → count_at s xs ≤ count_at s (c ∷ xs)
   count_more s c xs = let more = sum_by-cons (λ n. cond (nat_eq (slot_in n) s) 1 0) c xs in
@@ -70,8 +66,7 @@ module _ {T : Type 0} where
       → slice_get (placed at c xs) k ≡ Some x
       → ((j : ℕ) × (slice_get xs j ≡ Some x)) ⊎ (c ≡ x)
   placed_from (spot.FirstOf up) xs k c x at = inserted_from xs 0 k c x at
-  placed_from (spot.LastOf up) xs k c x at = ⊎_elim (λ old. inl (k, old)) (λ more. inr more.1)
-      (get_pushed xs k c x at)
+  placed_from (spot.LastOf up) xs k c x at = grind (arith, get_pushed xs k c x at)
   placed_from (spot.Before by) xs k c x at = inserted_from xs (place_of by xs) k c x at
   placed_from (spot.After by) xs k c x at = inserted_from xs (place_of by xs + 1) k c x at
 
@@ -81,20 +76,15 @@ module _ {T : Type 0} where
   -- of the first nodes, with the next one
   count_next : (s : ℕ) (xs : List (Node T)) (i : ℕ) (d : Node T) → i < length xs
       → count_at s (take (i + 1) xs) ≡ count_at s (take i xs) + count_at s (get_or xs i d ∷ [])
-  count_next s xs i d lt =
-      ap (count_at s) (take_more xs i d lt) ∙ count_both s (take i xs) (get_or xs i d ∷ [])
+  count_next s xs i d lt = grind (arith, take_more xs i d lt, count_both s (take i xs) (get_or xs i d ∷ []))
 
   pub next_here : (s : ℕ) (xs : List (Node T)) (i : ℕ) (d : Node T) → i < length xs
       → slot_in (get_or xs i d) ≡ s → 0 < count_at s (take (i + 1) xs)
-  next_here s xs i d lt is =
-      let both = count_next s xs i d lt in
-      let one = count_here s (get_or xs i d) [] is in omega (arith, both, one)
+  next_here s xs i d lt is = grind (arith, count_next s xs i d lt, count_here s (get_or xs i d) [] is)
 
   pub next_apart : (s : ℕ) (xs : List (Node T)) (i : ℕ) (d : Node T) → i < length xs
       → slot_in (get_or xs i d) ≢ s → count_at s (take (i + 1) xs) ≡ count_at s (take i xs)
-  next_apart s xs i d lt ne =
-      let both = count_next s xs i d lt in
-      let none = count_apart s (get_or xs i d) [] ne in omega (arith, both, none)
+  next_apart s xs i d lt ne = grind (arith, count_next s xs i d lt, count_apart s (get_or xs i d) [] ne)
 
   -- what is counted stands there, and what stands there is counted
   pub counted : (s : ℕ) (xs : List (Node T)) → 0 < count_at s xs
@@ -107,10 +97,8 @@ module _ {T : Type 0} where
   pub counts : (s : ℕ) (xs : List (Node T)) (k : ℕ) (x : Node T) → slice_get xs k ≡ Some x
       → slot_in x ≡ s → 0 < count_at s xs
   counts s [] k x at is = absurd (none-some x at)
-  counts s (y ∷ ys) zero x at is =
-      let here = count_here s y ys (ap slot_in (same_Some y x at) ∙ is) in omega (arith, here)
-  counts s (y ∷ ys) (suc k) x at is =
-      let rest = counts s ys k x at is in let more = count_more s y ys in omega (arith, rest, more)
+  counts s (y ∷ ys) zero x at is = grind (arith, count_here s y ys (ap slot_in (same_Some y x at) ∙ is))
+  counts s (y ∷ ys) (suc k) x at is = grind (arith, counts s ys k x at is, count_more s y ys)
 
   -- each once
   pub distinct : (xs : List (Node T)) → ((s : ℕ) → count_at s xs ≤ 1)
@@ -120,8 +108,7 @@ module _ {T : Type 0} where
   distinct (x ∷ xs) once = (apart xs none, distinct xs (λ s. let le = once s in let more = count_more s x xs in omega (arith, le, more)))
     where
       none : count_at (slot_in x) xs ≡ 0
-      none = let here = count_here (slot_in x) x xs refl in
-          let le = once (slot_in x) in omega (arith, here, le)
+      none = grind (arith, count_here (slot_in x) x xs refl)
 
       apart : (ys : List (Node T)) → count_at (slot_in x) ys ≡ 0
           → AllByRecursion (λ s. nat_eq (slot_in x) s ≡ false) (map slot_in ys)
@@ -138,17 +125,10 @@ module _ {T : Type 0} where
   same_slot a b same = eqb-true (slot_in a) (slot_in b) (and_parts _ _ (and_parts _ _ same).1).0
 
   pub is_id : (a b : Node T) → is_same a b ≡ true → IsSame a b
-  is_id a b same =
-      let parts = and_parts _ _ same in
-      let rest = and_parts _ _ parts.1 in
-      let store = eqb-true _ _ parts.0 in
-      let slot = eqb-true _ _ rest.0 in
-      let generation = eqb-true _ _ rest.1 in
-      λ i. record { store = store i; slot = slot i; generation = generation i }
+  is_id a b same = grind arith
 
   pub same_id : (a b : Node T) → IsSame a b → is_same a b ≡ true
-  same_id a b same = and_from _ _ (eq-eqb _ _ (ap (λ id. id.store) same))
-      (and_from _ _ (eq-eqb _ _ (ap (λ id. id.slot) same)) (eq-eqb _ _ (ap (λ id. id.generation) same)))
+  same_id a b same = grind arith
 
   -- how many times a node stands in a list, with one more before the others
   pub times_more : (n x : Node T) (xs : List (Node T)) → is_same x n ≡ true
@@ -160,10 +140,7 @@ module _ {T : Type 0} where
 
   pub times_apart : (n x : Node T) (xs : List (Node T)) → is_same x n ≡ false
       → times n (x ∷ xs) ≡ times n xs
-  times_apart n x xs other =
-      let more = sum_by-cons (λ c. cond (is_same c n) 1 0) x xs in
-      let none : ◌≡◌ {A = ℕ} (cond (is_same x n) 1 0) 0 = ap (λ b. cond b 1 0) other in
-      omega (arith, more, none)
+  times_apart n x xs other = grind arith
 
   pub times_both : (n : Node T) (xs ys : List (Node T))
       → times n (xs ++ ys) ≡ times n xs + times n ys
@@ -256,6 +233,4 @@ module _ {T : Type 0} where
       → IsCleared old here (take i nodes) → family_at new slot ≡ alone
       → ((s : ℕ) → s ≢ slot → family_at new s ≡ family_at here s)
       → IsCleared old new (take (i + 1) nodes)
-  clear_more old here new nodes items i slot d same lt is c =
-      clear_next old here new nodes i slot d (subst (λ xs. i < length xs) same lt)
-      (is ∙ ap (λ xs. slot_in (get_or xs i d)) same) c
+  clear_more old here new nodes items i slot d same lt is c = grind (arith, clear_next)

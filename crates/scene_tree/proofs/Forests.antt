@@ -1,27 +1,21 @@
 -- Forests after a change.
 use Rattle.scene_tree.proofs.Common.{above, alone, ap, arith, cases_eq, cases_lt, children_at, count_at, Family}
 use Rattle.scene_tree.proofs.Common.{family_at, inl, inr, is_same, IsAttached, IsCleared, IsDetached, IsForest}
-use Rattle.scene_tree.proofs.Common.{IsRooted, IsUnder, List, Node, None, none-some, Option, parent_at, refl, same_Some}
-use Rattle.scene_tree.proofs.Common.{slice_get, slot_in, slot_of, Some, Spot, suc, sym, true, zero, ℕ, ⊎_elim, ◌<◌, ◌∙◌}
-use Rattle.scene_tree.proofs.Common.{◌∷◌, ◌≡◌, ◌≢◌, ◌⊎◌}
+use Rattle.scene_tree.proofs.Common.{IsRooted, IsUnder, List, Node, None, none-some, Option, parent_at, refl, slice_get}
+use Rattle.scene_tree.proofs.Common.{slot_in, slot_of, Some, Spot, suc, sym, true, zero, ℕ, ⊎_elim, ◌<◌, ◌∙◌, ◌∷◌, ◌≡◌}
+use Rattle.scene_tree.proofs.Common.{◌≢◌, ◌⊎◌}
 use Rattle.scene_tree.proofs.Counting.{count_apart, count_here, count_placed, count_without, counts, none_without}
 use Rattle.scene_tree.proofs.Paths.{step_under}
 
 pub slot_cases : (o : Option ℕ) (up : ℕ) → (o ≡ Some up) ⊎ (o ≢ Some up)
 slot_cases None up = inr (λ is. none-some up is)
-slot_cases (Some s) up = ⊎_elim (λ is. inl (ap Some is)) (λ ne. inr (λ is. ne (same_Some s up is)))
-    (cases_eq s up)
+slot_cases (Some s) up = grind arith
 
 module _ {T : Type 0} (fs : List (Family T)) where
   -- a slot below another has a parent there
   pub above_parent : (s up : ℕ) → above fs s ≡ Some up
       → (p : Node T) × (parent_at fs s ≡ Some p) × (slot_in p ≡ up)
-  above_parent s up is = at (parent_at fs s) refl
-    where
-      at : (o : Option (Node T)) → parent_at fs s ≡ o
-          → (p : Node T) × (parent_at fs s ≡ Some p) × (slot_in p ≡ up)
-      at None none = absurd (none-some up (sym (ap slot_of none) ∙ is))
-      at (Some p) some = (p, some, same_Some (slot_in p) up (sym (ap slot_of some) ∙ is))
+  above_parent s up is = grind arith
 
   module _ (f : IsForest fs) where
     -- a child has its slot's node as its parent
@@ -35,20 +29,15 @@ module _ {T : Type 0} (fs : List (Family T)) where
     -- nothing but itself is under a slot that is alone
     pub under_alone : (top e s : ℕ) → family_at fs top ≡ alone → IsUnder fs top e s → s ≡ top
     under_alone top zero s none under = under
-    under_alone top (suc e) s none under =
-        let at = under_alone top e under.0 none under.2 in
-        let one = f.once s top (under.1 ∙ ap Some at) in
-        let zero = ap (λ x. count_at s x.children) none in absurd (omega (arith, one, zero))
+    under_alone top (suc e) s none under = grind (arith, none, under_alone top e under.0 none under.2)
 
 module _ {T : Type 0} (fs gs : List (Family T)) where
   -- ---- the same families
 
   pub same_forest : IsForest fs → ((s : ℕ) → family_at gs s ≡ family_at fs s) → IsForest gs
   same_forest f same = record {
-    once = λ s up is. ap (λ x. count_at s x.children) (same up)
-        ∙ f.once s up (sym (ap (λ x. slot_of x.parent) (same s)) ∙ is);
-    only = λ s other ne. ap (λ x. count_at s x.children) (same other)
-        ∙ f.only s other (λ is. ne (ap (λ x. slot_of x.parent) (same s) ∙ is));
+    once = λ s up is. grind arith;
+    only = λ s other ne. grind arith;
     rooted = λ s. let r = f.rooted s in (r.0, rooted r.0 s r.1);
   }
     where
@@ -93,18 +82,13 @@ module _ {T : Type 0} (fs gs : List (Family T)) where
     more s = ap (count_at s) new.listed ∙ count_placed s spot (children_at fs (slot_in parent)) child
 
     kept : (s up : ℕ) → s ≢ slot_in child → count_at s (children_at gs up) ≡ count_at s (children_at fs up)
-    kept s up ne = ⊎_elim
-        (λ is. ap (λ i. count_at s (children_at gs i)) is ∙ (more s
-        ∙ (count_apart s child (children_at fs (slot_in parent)) (λ e. ne (sym e))
-        ∙ ap (λ i. count_at s (children_at fs i)) (sym is))))
-        (λ other. ap (count_at s) (new.others up other)) (cases_eq up (slot_in parent))
+    kept s up ne = grind (arith, more s, count_apart, cases_eq up (slot_in parent))
 
     none : (s up : ℕ) → s ≡ slot_in child → count_at s (children_at fs up) ≡ 0
     none s up is = f.only s up (λ some. none-some up (sym root ∙ (ap (above fs) (sym is) ∙ some)))
 
     up_is : (s up : ℕ) → s ≡ slot_in child → above gs s ≡ Some up → up ≡ slot_in parent
-    up_is s up is some =
-        same_Some up (slot_in parent) (sym some ∙ (ap (above gs) is ∙ ap slot_of new.here))
+    up_is s up is some = grind arith
 
     pub attached : IsForest gs
     attached = record {
@@ -137,15 +121,10 @@ module _ {T : Type 0} (fs gs : List (Family T)) where
         (λ other. ap (count_at s) (new.others up other)) (slot_cases (above fs (slot_in child)) up)
 
     gone : (s up : ℕ) → s ≡ slot_in child → count_at s (children_at gs up) ≡ 0
-    gone s up at = ⊎_elim
-        (λ is. ap (count_at s) (new.lost up is) ∙ none_without s child at (children_at fs up) (alike up))
-        (λ other. ap (count_at s) (new.others up other)
-        ∙ f.only s up (λ is. other (ap (above fs) (sym at) ∙ is)))
-        (slot_cases (above fs (slot_in child)) up)
+    gone s up at = grind (arith, none_without, at, alike, slot_cases)
 
     left_rooted : (d s : ℕ) → IsRooted fs d s → (e : ℕ) × IsRooted gs e s
-    left_rooted zero s r = ⊎_elim (λ is. (0, ap (above gs) is ∙ ap slot_of new.here))
-        (λ ne. (0, left_above s ne ∙ r)) (cases_eq s (slot_in child))
+    left_rooted zero s r = grind arith
     left_rooted (suc d) s r =
         let up = left_rooted d r.0 r.2 in
         ⊎_elim (λ is. (0, ap (above gs) is ∙ ap slot_of new.here))
@@ -188,12 +167,7 @@ module _ {T : Type 0} (fs gs : List (Family T)) where
 
     pub cleared : IsForest gs
     cleared = record {
-      once = λ s up is. ⊎_elim
-          (λ lt. absurd (none-some up (sym (within s lt) ∙ is)))
-          (λ no. let was = sym (out s no) ∙ is in ⊎_elim
-          (λ lt. absurd (zero_lt (down s up was lt) no))
-          (λ none. ap (λ x. count_at s x.children) (c.others up none) ∙ f.once s up was) (listed up))
-          (listed s);
+      once = λ s up is. grind arith;
       only = λ s other ne. ⊎_elim
           (λ lt. ap (λ x. count_at s x.children) (c.cleared other lt))
           (λ none. ap (λ x. count_at s x.children) (c.others other none) ∙ f.only s other

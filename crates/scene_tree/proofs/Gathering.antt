@@ -3,9 +3,9 @@ use Rattle.scene_tree.proofs.Common.{above, alone, ap, arith, cases_eq, cases_lt
 use Rattle.scene_tree.proofs.Common.{families, Family, family_at, family_in, flat_map, flat_map_more, get_or}
 use Rattle.scene_tree.proofs.Common.{get_or-eq_default, IsForest, IsInLevels, IsRooted, IsUnder, length, length-append}
 use Rattle.scene_tree.proofs.Common.{length-le_from_distinct_below, length-map, Link, List, list_any, map, nat_eq, Node}
-use Rattle.scene_tree.proofs.Common.{None, none-some, or_cases, refl, same_Some, slot_in, slot_of, Some, subst, suc}
-use Rattle.scene_tree.proofs.Common.{sym, take, take-append-le, take_all, take_more, true, true≢false, zero, [], ℕ}
-use Rattle.scene_tree.proofs.Common.{⊎_elim, ◌++◌, ◌+◌, ◌<◌, ◌∙◌, ◌∷◌, ◌≡◌, ◌≤◌}
+use Rattle.scene_tree.proofs.Common.{None, or_cases, refl, same_Some, slot_in, Some, subst, suc, sym, take}
+use Rattle.scene_tree.proofs.Common.{take-append-le, take_all, take_more, true, true≢false, zero, [], ℕ, ⊎_elim, ◌++◌}
+use Rattle.scene_tree.proofs.Common.{◌+◌, ◌<◌, ◌∙◌, ◌∷◌, ◌≡◌, ◌≤◌}
 use Rattle.scene_tree.proofs.Paths.{depth_within, no_cycle}
 use Rattle.scene_tree.proofs.Counting.{count_apart, count_both, count_here, count_more, count_take, distinct}
 
@@ -34,9 +34,7 @@ module _ {T : Type 0} (fs : List (Family T)) where
   past s le = get_or-eq_default fs alone le
 
   pub slot_within : (s up : ℕ) → above fs s ≡ Some up → s < length fs
-  slot_within s up is = ⊎_elim (λ lt. lt)
-      (λ le. absurd (none-some up (sym (ap (λ f. slot_of f.parent) (past s le)) ∙ is)))
-      (cases_lt s (length fs))
+  slot_within s up is = grind (arith, past, cases_lt s (length fs))
 
   module _ (top : Node T) where
     -- the children of the first nodes of a list are listed
@@ -59,9 +57,11 @@ module _ {T : Type 0} (fs : List (Family T)) where
         → count_at s (all_children list) ≡ 0
     children_none s root [] = refl
     children_none s root (n ∷ list) =
-        let both = count_both s (children_at fs (slot_in n)) (all_children list) in
-        let none = f.only s (slot_in n) (λ is. none-some (slot_in n) (sym root ∙ is)) in
-        let rest = children_none s root list in omega (arith, both, none, rest)
+        grind (
+          arith,
+          count_both s (children_at fs (slot_in n)) (all_children list),
+          children_none s root list,
+        )
 
     pub children_some : (s up : ℕ) → above fs s ≡ Some up → (list : List (Node T))
         → count_at s (all_children list) ≡ count_at up list
@@ -81,17 +81,14 @@ module _ {T : Type 0} (fs : List (Family T)) where
           → next < length list → n ≡ get_or list next d
           → more ≡ list ++ children_at fs (slot_in n) → IsPart top more (next + 1)
       part_more list more next n d p lt is after = record {
-        within = let len = ap length after ∙ length-append list (children_at fs (slot_in n)) in
-            omega (arith, lt, len);
+        within = grind (arith, length-append list (children_at fs (slot_in n)));
         level = after ∙ (ap (λ xs. xs ++ children_at fs (slot_in n)) p.level
             ∙ (flat_map_more (λ m. children_at fs (slot_in m)) (top ∷ []) (take next list) n
             ∙ ap (λ xs. top ∷ all_children xs) (sym taken)));
       }
         where
           taken : take (next + 1) more ≡ take next list ++ n ∷ []
-          taken = ap (take (next + 1)) after
-              ∙ (take-append-le (next + 1) list (children_at fs (slot_in n)) (omega (arith, lt))
-              ∙ (take_more list next d lt ∙ ap (λ m. take next list ++ m ∷ []) (sym is)))
+          taken = grind (arith, take-append-le, take_more)
 
       module _ (list : List (Node T)) (next : ℕ) (p : IsPart top list next) where
         whole : (s : ℕ) → count_at s list ≡ count_at s (top ∷ all_children (take next list))
@@ -151,15 +148,14 @@ module _ {T : Type 0} (fs : List (Family T)) where
       -- where the children of all are listed, all that are below are
       pub all_listed : (list : List (Node T)) → IsInLevels fs top list → (e s : ℕ)
           → IsUnder fs (slot_in top) e s → 0 < count_at s list
-      all_listed list level zero s is =
-          let whole = ap (count_at s) level in
-          let one = count_here s top (all_children list) (sym is) in omega (arith, whole, one)
+      all_listed list level zero s is = grind (arith, count_here s top (all_children list) (sym is))
       all_listed list level (suc e) s under =
-          let whole = ap (count_at s) level in
-          let more = count_more s top (all_children list) in
-          let some = children_some s under.0 under.1 list in
-          let rest = all_listed list level e under.0 under.2 in
-          omega (arith, whole, more, some, rest)
+          grind (
+            arith,
+            count_more s top (all_children list),
+            children_some s under.0 under.1 list,
+            all_listed list level e under.0 under.2,
+          )
 
       -- and then the list is whole
       pub part_whole : (list : List (Node T)) → IsInLevels fs top list → IsPart top list (length list)
@@ -176,3 +172,8 @@ rooted_within links f s lt =
     let r = f.rooted s in
     let far = depth_within (families links) _ (above_within (families links) f) r.0 s r.1 (omega (arith, lt, len)) in
     (r.0, omega (arith, far, len), r.1)
+
+-- links of one length have families of one
+pub same_length : {T : Type 0} (xs ys : List (Link T)) → length xs ≡ length ys
+    → length (families xs) ≡ length (families ys)
+same_length xs ys same = length-map xs (family_in xs) ∙ (same ∙ sym (length-map ys (family_in ys)))

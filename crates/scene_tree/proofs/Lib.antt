@@ -17,7 +17,6 @@ pub mod Setting
 pub mod Stores
 pub mod Trees
 pub mod Walking
-pub mod Writes
 unfoldable pub use Chains.*
 unfoldable pub use Common.*
 unfoldable pub use Counting.*
@@ -37,4 +36,3 @@ unfoldable pub use Setting.*
 unfoldable pub use Stores.*
 unfoldable pub use Trees.*
 unfoldable pub use Walking.*
-unfoldable pub use Writes.*

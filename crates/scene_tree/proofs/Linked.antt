@@ -14,9 +14,8 @@ use Rattle.scene_tree.proofs.Chains.{last_both, link_there, noted_joined, pushed
 use Rattle.scene_tree.specs.declared.spot.Spot.TheVariants as spot
 use Rattle.scene_tree.proofs.Counting.{count_apart, count_both, count_here, count_more, same_slot, same_without}
 use Rattle.scene_tree.proofs.Forests.{slot_cases}
-use Rattle.scene_tree.proofs.Gathering.{above_within, short, slot_within}
+use Rattle.scene_tree.proofs.Gathering.{above_within, same_length, short, slot_within}
 use Rattle.scene_tree.proofs.Linking.{back_of, held_kept, joined, joined_held, linked_in, linked_out}
-use Rattle.scene_tree.proofs.Writes.{same_length}
 
 module _ {T : Type 0} where
   -- ---- what links say
@@ -66,22 +65,32 @@ module _ {T : Type 0} where
       let le = chain_short links (length links) (first_of (slice_get links s)) in
       let same = ap length (children_from links s) in omega (arith, le, same)
 
-  -- links are linked where they hold some list of each slot that isn't too long
-  linked_at : (links : List (Link T)) (s : ℕ) (xs : List (Node T)) → IsHeld links s xs
-      → length xs ≤ length links → IsHeld links s (children_at (families links) s)
-  linked_at links s xs held le = subst (IsHeld links s) (sym (children_held links s xs held le)) held
+  -- links, no fewer than others, that hold what these have of a slot, have its children, and its family
+  children_like : (old new : List (Link T)) (s : ℕ) → length old ≤ length new
+      → IsHeld new s (children_at (families old) s) → children_at (families new) s ≡ children_at (families old) s
+  children_like old new s le held = children_held new s (children_at (families old) s) held
+      (let short = children_short old s in omega (arith, short, le))
 
-  pub linked_with : (links : List (Link T)) (lists : ℕ → List (Node T))
-      → ((s : ℕ) → IsHeld links s (lists s)) → ((s : ℕ) → length (lists s) ≤ length links) → IsLinked links
-  linked_with links lists held le s = linked_at links s (lists s) (held s) (le s)
+  pub family_like : (old new : List (Link T)) (s : ℕ) → length old ≤ length new
+      → IsHeld new s (children_at (families old) s) → upper (slice_get new s) ≡ upper (slice_get old s)
+      → family_at (families new) s ≡ family_at (families old) s
+  family_like old new s le held same = λ i. record {
+    parent = (parent_from new s ∙ (same ∙ sym (parent_from old s))) i;
+    children = children_like old new s le held i;
+  }
 
-  -- of one slot, and of each other
-  linked_but : (links : List (Link T)) (up : ℕ) (here : List (Node T)) (lists : ℕ → List (Node T))
-      → IsHeld links up here → length here ≤ length links → ((s : ℕ) → s ≢ up → IsHeld links s (lists s))
-      → ((s : ℕ) → length (lists s) ≤ length links) → IsLinked links
-  linked_but links up here lists held le others short s = ⊎_elim
-      (λ same. linked_at links s here (subst (λ i. IsHeld links i here) (sym same) held) le)
-      (λ ne. linked_at links s (lists s) (others s ne) (short s)) (cases_eq s up)
+  -- they are linked where they hold so what these have of each slot, or another list of one
+  pub linked_like : (old new : List (Link T)) → length old ≤ length new
+      → ((s : ℕ) → IsHeld new s (children_at (families old) s)) → IsLinked new
+  linked_like old new le held s = subst (IsHeld new s) (sym (children_like old new s le (held s))) (held s)
+
+  linked_but : (old new : List (Link T)) (up : ℕ) (here : List (Node T)) → length old ≤ length new
+      → IsHeld new up here → length here ≤ length new
+      → ((s : ℕ) → s ≢ up → IsHeld new s (children_at (families old) s)) → IsLinked new
+  linked_but old new up here le held short others s = ⊎_elim
+      (λ same. subst (λ i. IsHeld new i (children_at (families new) i)) (sym same)
+      (subst (IsHeld new up) (sym (children_held new up here held short)) held))
+      (λ ne. subst (IsHeld new s) (sym (children_like old new s le (others s ne))) (others s ne)) (cases_eq s up)
 
   tied_within : (links : List (Link T)) (s : ℕ) (tie : Node T × Option ℕ × Option ℕ)
       → tie_of (slice_get links s) ≡ Some tie → (l : Link T) × (slice_get links s ≡ Some l)
@@ -356,8 +365,8 @@ module _ {T : Type 0} where
     abbrev longer : List (Link T)
     longer = links ++ l ∷ []
 
-    longer_length : length longer ≡ length links + 1
-    longer_length = length-append links (l ∷ [])
+    more : length links ≤ length longer
+    more = let long = length-append links (l ∷ []) in omega (arith, long)
 
     grown : (before after : Option ℕ) (xs : List (Node T)) → IsChain links before xs after
         → IsChain longer before xs after
@@ -375,23 +384,17 @@ module _ {T : Type 0} where
       chain = grown None None (children_at (families links) s) (linked s).chain;
     }
 
-    longer_short : (s : ℕ) → length (children_at (families links) s) ≤ length longer
-    longer_short s = let le = children_short links s in let long = longer_length in omega (arith, le, long)
-
     pub opened_linked : IsLinked longer
-    opened_linked = linked_with longer (children_at (families links)) longer_held longer_short
+    opened_linked = linked_like links longer more longer_held
 
     pub opened_is : (slot : ℕ) → slot ≡ length links → IsOpened (families links) slot (families longer)
     opened_is slot at = record {
-      same = λ s. λ i. record {
-        parent = (parent_from longer s ∙ (pushed_kept upper l root links s ∙ sym (parent_from links s))) i;
-        children = children_held longer s (children_at (families links) s) (longer_held s) (longer_short s) i;
-      };
+      same = λ s. family_like links longer s more (longer_held s) (pushed_kept upper l root links s);
       old = λ lt. let old = length-map links (family_in links) in absurd (omega (arith, lt, at, old));
       next = λ is.
           let old = length-map links (family_in links) in
           let new = length-map longer (family_in longer) in
-          let long = longer_length in omega (arith, old, new, long);
+          let long = length-append links (l ∷ []) in omega (arith, old, new, long);
     }
 
   -- ---- a slot left alone
@@ -403,8 +406,8 @@ module _ {T : Type 0} where
     abbrev bared : List (Link T)
     bared = changed links slot bare
 
-    bared_length : length bared ≡ length links
-    bared_length = changed_length links slot bare
+    bared_length : length links ≤ length bared
+    bared_length = let same = changed_length links slot bare in omega (arith, same)
 
     bare_there : (l : Link T) × (slice_get bared slot ≡ Some (bare l))
     bare_there = let l = link_there links slot lt in (l.0, changed_here links slot bare l.0 l.1)
@@ -417,11 +420,8 @@ module _ {T : Type 0} where
         (λ i some. changed_kept tie_of links slot bare (λ l. refl) i)
         (ap first_of (changed_apart links slot bare s ne)) (ap last_of (changed_apart links slot bare s ne)) (linked s)
 
-    bared_short : (s : ℕ) → length (children_at (families links) s) ≤ length bared
-    bared_short s = let le = children_short links s in omega (arith, le, bared_length)
-
     pub bared_linked : IsLinked bared
-    bared_linked = linked_but bared slot [] (children_at (families links)) bared_here (omega arith) bared_apart bared_short
+    bared_linked = linked_but links bared slot [] bared_length bared_here (omega arith) bared_apart
 
     pub bared_alone : family_at (families bared) slot ≡ alone
     bared_alone = λ i. record {
@@ -430,10 +430,8 @@ module _ {T : Type 0} where
     }
 
     pub bared_others : (s : ℕ) → s ≢ slot → family_at (families bared) s ≡ family_at (families links) s
-    bared_others s ne = λ i. record {
-      parent = (parent_from bared s ∙ (ap upper (changed_apart links slot bare s ne) ∙ sym (parent_from links s))) i;
-      children = children_held bared s (children_at (families links) s) (bared_apart s ne) (bared_short s) i;
-    }
+    bared_others s ne = family_like links bared s bared_length (bared_apart s ne)
+        (ap upper (changed_apart links slot bare s ne))
 
   -- ---- a child more
 
@@ -530,12 +528,11 @@ module _ {T : Type 0} where
     here_short =
         let le = short (is.front ++ child ∷ is.back) (length links) once listed_within in omega (arith, le, new_length)
 
-    new_short : (s : ℕ) → length (children_at fs s) ≤ length new
-    new_short s = let le = children_short links s in omega (arith, le, new_length)
+    enough : length links ≤ length new
+    enough = omega (arith, new_length)
 
     pub attached_linked : IsLinked new
-    attached_linked =
-        linked_but new up (is.front ++ child ∷ is.back) (children_at fs) new_here here_short new_apart new_short
+    attached_linked = linked_but links new up (is.front ++ child ∷ is.back) enough new_here here_short new_apart
 
     new_parent : (s : ℕ) → upper (slice_get new s) ≡ upper (slice_get there s)
     new_parent s = before_kept upper (λ l next. refl) (λ l next. refl)
@@ -551,7 +548,7 @@ module _ {T : Type 0} where
       parents = λ s ne. parent_from new s ∙ (new_parent s
           ∙ (ap upper (changed_apart links (slot_in child) (put_in before after) s ne) ∙ sym (parent_from links s)));
       listed = children_held new up (is.front ++ child ∷ is.back) new_here here_short ∙ sym (is.put child);
-      others = λ s ne. children_held new s (children_at fs s) (new_apart s ne) (new_short s);
+      others = λ s ne. children_like links new s enough (new_apart s ne);
     }
 
   -- ---- a child less
@@ -641,12 +638,11 @@ module _ {T : Type 0} where
         let whole = ap length part.whole ∙ length-append part.front (part.here ∷ part.back) in
         omega (arith, le, len, whole, cut_length)
 
-    cut_short : (s : ℕ) → length (children_at old s) ≤ length cut
-    cut_short s = let le = children_short links s in omega (arith, le, cut_length)
+    same_many : length links ≤ length cut
+    same_many = omega (arith, cut_length)
 
     pub detached_linked : IsLinked cut
-    detached_linked =
-        linked_but cut top (part.front ++ part.back) (children_at old) cut_here rest_short cut_apart cut_short
+    detached_linked = linked_but links cut top (part.front ++ part.back) same_many cut_here rest_short cut_apart
 
     cut_parent : (s : ℕ) → upper (slice_get cut s) ≡ upper (slice_get freed s)
     cut_parent s = before_kept upper (λ l next. refl) (λ l next. refl)
@@ -682,8 +678,8 @@ module _ {T : Type 0} where
           ∙ (ap upper (changed_apart links (slot_in node) (λ l. record l { parent = None }) s ne) ∙ sym (parent_from links s)));
       lost = λ s is. subst (λ i. children_at (families cut) i ≡ without node (children_at old i))
           (same_Some top s (sym (ap slot_of has) ∙ is)) rest_is;
-      others = λ s ne. children_held cut s (children_at old s)
-          (cut_apart s (λ same. ne (ap slot_of has ∙ ap Some (sym same)))) (cut_short s);
+      others = λ s ne. children_like links cut s same_many
+          (cut_apart s (λ same. ne (ap slot_of has ∙ ap Some (sym same))));
     }
       where
         freed_here : (o : Option (Link T)) → slice_get links (slot_in node) ≡ o

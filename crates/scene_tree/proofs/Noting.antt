@@ -1,4 +1,6 @@
 -- Which node is noted at each slot, after each write to the links.
+use Rattle.scene_tree.proofs.Linked.{family_like, linked_like, upper}
+use Rattle.scene_tree.proofs.Gathering.{same_length}
 use Rattle.scene_tree.proofs.Chains.{changed_apart, changed_here, changed_kept, changed_length, link_there}
 use Rattle.scene_tree.proofs.Common.{above, ap, AreNoted, arith, cases_eq, cases_lt, changed, children_at, count_at}
 use Rattle.scene_tree.proofs.Common.{families, family_in, first_of, HasLost, is_some, IsForest, IsHeld, IsLinked}
@@ -7,7 +9,6 @@ use Rattle.scene_tree.proofs.Common.{List, Location, Made, Make, Meets, Node, no
 use Rattle.scene_tree.proofs.Common.{pointer_in, refl, same_Some, same_value, slot_in, Some, State, suc, sym, tie_of}
 use Rattle.scene_tree.proofs.Common.{times, true≢false, value_in, zero, [], ℕ, ⊎_elim, ◌++◌, ◌<◌, ◌∙◌, ◌∷◌, ◌≡◌, ◌≢◌}
 use Rattle.scene_tree.proofs.Common.{◌≤◌}
-use Rattle.scene_tree.proofs.Linked.{children_held, children_short, linked_with, parent_from, upper}
 use Rattle.scene_tree.proofs.Linking.{held_kept}
 use Rattle.scene_tree.proofs.Stores.{one_live}
 
@@ -65,23 +66,17 @@ module _ {T : Type 0} where
         (changed_kept first_of links (slot_in node) put_node (λ l. refl) s)
         (changed_kept last_of links (slot_in node) put_node (λ l. refl) s) (linked s)
 
-    renoted_short : (s : ℕ) → length (children_at (families links) s) ≤ length renoted
-    renoted_short s =
-        let le = children_short links s in
-        let same = changed_length links (slot_in node) put_node in omega (arith, le, same)
+    long : length renoted ≡ length links
+    long = changed_length links (slot_in node) put_node
 
     pub renoted_linked : IsLinked renoted
-    renoted_linked = linked_with renoted (children_at (families links)) renoted_held renoted_short
+    renoted_linked = linked_like links renoted (omega (arith, long)) renoted_held
 
     pub renoted_opened : slot_in node < length links → IsOpened (families links) (slot_in node) (families renoted)
     renoted_opened lt = record {
-      same = λ s. λ i. record {
-        parent = (parent_from renoted s
-            ∙ (changed_kept upper links (slot_in node) put_node (λ l. refl) s ∙ sym (parent_from links s))) i;
-        children = children_held renoted s (children_at (families links) s) (renoted_held s) (renoted_short s) i;
-      };
-      old = λ _. length-map renoted (family_in renoted)
-          ∙ (changed_length links (slot_in node) put_node ∙ sym (length-map links (family_in links)));
+      same = λ s. family_like links renoted s (omega (arith, long)) (renoted_held s)
+          (changed_kept upper links (slot_in node) put_node (λ l. refl) s);
+      old = λ _. same_length renoted links long;
       next = λ is. let old = length-map links (family_in links) in absurd (omega (arith, is, lt, old));
     }
 

@@ -2,8 +2,8 @@
 use Rattle.scene_tree.proofs.Common.{above, AllByRecursion, ap, arith, eq-eqb, eqb-true, eqb_tells, false, Family}
 use Rattle.scene_tree.proofs.Common.{IsDistinct, IsRooted, IsUnder, length, length-le_from_distinct_below, List}
 use Rattle.scene_tree.proofs.Common.{list_any, nat_eq, None, none-some, or_cases, or_left, or_right, refl, same_Some}
-use Rattle.scene_tree.proofs.Common.{Some, subst, suc, sym, true, true≢false, zero, [], ℕ, ⊎_elim, ◌+◌, ◌<◌, ◌∙◌, ◌∷◌}
-use Rattle.scene_tree.proofs.Common.{◌≡◌, ◌≢◌, ◌≤◌}
+use Rattle.scene_tree.proofs.Common.{Some, subst, suc, sym, true, zero, [], ℕ, ⊎_elim, ◌+◌, ◌<◌, ◌∙◌, ◌∷◌, ◌≡◌, ◌≢◌}
+use Rattle.scene_tree.proofs.Common.{◌≤◌}
 
 module _ {T : Type 0} (fs : List (Family T)) where
   -- there is one way to a root
@@ -24,10 +24,7 @@ module _ {T : Type 0} (fs : List (Family T)) where
 
   -- so nothing is under a slot that stands above it
   pub no_cycle : (d s up e : ℕ) → IsRooted fs d s → above fs s ≡ Some up → IsUnder fs s e up → ⊥
-  no_cycle d s up e r is under =
-      let far = rooted_under s d e up under r in
-      let more = far.1 in
-      let same = rooted_once (suc far.0) d s (up, is, far.2) r in omega (arith, same, more)
+  no_cycle d s up e r is under = grind (arith, rooted_under s d e up under r, rooted_once)
 
   -- one step more below
   pub step_under : (top e s up : ℕ) → above fs s ≡ Some up → IsUnder fs top e up
@@ -37,21 +34,18 @@ module _ {T : Type 0} (fs : List (Family T)) where
   -- the same at slots that are read elsewhere
   pub under_at : {top s from to : ℕ} (e : ℕ) → top ≡ from → s ≡ to → IsUnder fs top e s
       → IsUnder fs from e to
-  under_at {s = s} {from = from} e is at under =
-      subst (IsUnder fs from e) at (subst (λ t. IsUnder fs t e s) is under)
+  under_at {s = s} {from = from} e is at under = grind arith
 
   -- one step up
   pub rooted_up : (steps s up : ℕ) → above fs s ≡ Some up → IsRooted fs steps s
       → (less : ℕ) × (less + 1 ≡ steps) × IsRooted fs less up
   rooted_up zero s up is r = absurd (none-some up (sym r ∙ is))
-  rooted_up (suc d) s up is r =
-      (d, omega arith, subst (IsRooted fs d) (same_Some r.0 up (sym r.1 ∙ is)) r.2)
+  rooted_up (suc d) s up is r = grind arith
 
   pub under_up : (top steps s up : ℕ) → above fs s ≡ Some up → s ≢ top → IsUnder fs top steps s
       → (less : ℕ) × IsUnder fs top less up
   under_up top zero s up is other under = absurd (other under)
-  under_up top (suc e) s up is other under =
-      (e, subst (IsUnder fs top e) (same_Some under.0 up (sym under.1 ∙ is)) under.2)
+  under_up top (suc e) s up is other under = grind arith
 
   -- a root is under itself alone
   pub root_under : (top steps s : ℕ) → above fs s ≡ None → IsUnder fs top steps s → s ≡ top
@@ -75,12 +69,7 @@ module _ {T : Type 0} (fs : List (Family T)) where
         → list_any (nat_eq q) (slots_on d s r) ≡ true
         → (q < n) × ((e : ℕ) × (e ≤ d) × IsRooted fs e q)
     unfolding slots_on
-    on zero s r lt q any = ⊎_elim
-        (λ yes. let is = eqb-true q s yes in (
-          subst (λ i. i < n) (sym is) lt,
-          (0, omega arith, subst (IsRooted fs 0) (sym is) r),
-        ))
-        (λ none. absurd (true≢false (sym none))) (or_cases _ _ any)
+    on zero s r lt q any = grind arith
     on (suc d) s r lt q any = ⊎_elim
         (λ yes. let is = eqb-true q s yes in (
           subst (λ i. i < n) (sym is) lt,
@@ -112,6 +101,11 @@ module _ {T : Type 0} (fs : List (Family T)) where
 
     pub depth_within : (d s : ℕ) → IsRooted fs d s → s < n → d < n
     depth_within d s r lt =
-        let few = length-le_from_distinct_below (slots_on d s r) n (distinct_on d s r)
-        (λ q any. (on d s r lt q any).0) in
-        let long = length_on d s r in omega (arith, few, long)
+        grind (
+          arith,
+          length-le_from_distinct_below,
+          slots_on d s r,
+          distinct_on d s r,
+          on,
+          length_on d s r,
+        )

@@ -6,7 +6,7 @@ use Rattle.scene_tree.proofs.Common.{Link, List, Node, None, none-some, Option, 
 use Rattle.scene_tree.proofs.Common.{same_Some, slice_get, slice_get-get_or, slice_get_within, slice_index_or, slot_in}
 use Rattle.scene_tree.proofs.Common.{Some, State, subst, suc, sym, tie_of, TreeState, waiting, zero, [], ℕ, ⊎_elim}
 use Rattle.scene_tree.proofs.Common.{◌++◌, ◌+◌, ◌-◌, ◌<◌, ◌∙◌, ◌∷◌, ◌≡◌, ◌≢◌, ◌≤◌}
-use Rattle.scene_tree.proofs.Chains.{chain_is, chain_none}
+use Rattle.scene_tree.proofs.Chains.{chain_is}
 use Rattle.scene_tree.proofs.Counting.{count_apart, counts}
 use Rattle.scene_tree.proofs.Gathering.{above_within}
 use Rattle.scene_tree.proofs.Linked.{between, child_above, child_within, children_short}
@@ -74,12 +74,7 @@ module _ {T : Type 0} where
     head_there : (before : Option ℕ) (y : Node T) (ys : List (Node T)) → IsChain links before (y ∷ ys) None
         → (at : ℕ) (l : Link T) → slice_get links at ≡ Some l → Some at ≡ Some (slot_in y)
         → (l.node ≡ y) × (at ≡ slot_in y)
-    head_there before y ys is at l there same =
-        let slot = same_Some at (slot_in y) same in (
-          ap (λ t. t.0) (same_Some (l.node, l.before, l.after) (y, before, head_or ys None)
-              (sym (ap tie_of there) ∙ (ap (λ s. tie_of (slice_get links s)) slot ∙ is.0))),
-          slot,
-        )
+    head_there before y ys is at l there same = grind arith
 
     -- the next sibling's row waits next, and has the same parent
     pub next_sibling : (d s up at : ℕ) (l : Link T) → above fs s ≡ Some up → after_at s ≡ Some at
@@ -116,8 +111,7 @@ module _ {T : Type 0} where
     -- where no sibling follows, what follows the parent does
     pub no_sibling : (d s : ℕ) → after_at s ≡ None
         → behind links (suc d) (Some s) ≡ behind links d (above fs s)
-    no_sibling d s none = ap (λ zs. rows_at (suc d) zs ++ behind links d (above fs s))
-        (ap (chain links (length links)) none ∙ chain_none links (length links))
+    no_sibling d s none = grind arith
 
     head : (s : ℕ) (m : Link T) → slice_get links s ≡ Some m → m.first ≡ head_or (children_at fs s) None
     head s m from = sym (ap first_of from) ∙ (linked s).first
@@ -166,8 +160,7 @@ module _ {T : Type 0} where
         by : (cs : List (Node T)) → children_at fs s ≡ cs
             → rows_at (d + 1) (children_at fs s) ++ behind links d (Some s) ≡ behind links d (Some s)
         by [] is = ap (λ zs. rows_at (d + 1) zs ++ behind links d (Some s)) is
-        by (c ∷ cs) is = absurd (none-some (slot_in c)
-            (sym none ∙ (sym (ap first_of from) ∙ ((linked s).first ∙ ap (λ zs. head_or zs None) is))))
+        by (c ∷ cs) is = grind arith
 
     -- a slot of a link is within, as the slots that a link names
     pub first_within : (s at : ℕ) (m : Link T) → slice_get links s ≡ Some m → m.first ≡ Some at
@@ -175,8 +168,7 @@ module _ {T : Type 0} where
     first_within s at m from next = by (children_at fs s) refl
       where
         by : (cs : List (Node T)) → children_at fs s ≡ cs → at < length links
-        by [] none = absurd (none-some at
-            (sym (sym (ap first_of from) ∙ ((linked s).first ∙ ap (λ zs. head_or zs None) none)) ∙ next))
+        by [] none = grind arith
         by (c ∷ cs) some =
             let slot = same_Some (slot_in c) at
             (sym (sym (ap first_of from) ∙ ((linked s).first ∙ ap (λ zs. head_or zs None) some)) ∙ next) in
@@ -234,20 +226,12 @@ module _ {T : Type 0} (links : List (Link T)) where
         → IsPlaced links (d - 1) up × (behind links (d - 1) (Some up) ≡ behind links d (Some s))
     behind_up zero s placed lt l read none up is = absurd (omega arith)
     behind_up (suc d) s placed lt l read none up is =
-        let here = slice_get-get_or links s l placed.2 ∙ ap Some (sym read) in
-        let long = length-map links (family_in links) in
-        let within = above_within (families links) f s up is in
-        let same = same_Some placed.1.0 up (sym placed.1.1 ∙ is) in
-        let less : suc d - 1 ≡ d = omega arith in (
-          (
-            placed.0,
-            subst (λ e. IsUnder (families links) placed.0 e up) (sym less)
-                (subst (IsUnder (families links) placed.0 d) same placed.1.2),
-            omega (arith, within, long),
-          ),
-          subst (λ e. behind links e (Some up) ≡ behind links (suc d) (Some s)) (sym less)
-              (ap (behind links d) (sym is)
-              ∙ sym (no_sibling links linked f d s (ap (λ o. after_tied (tie_of o)) here ∙ none))),
+        grind (
+          arith,
+          slice_get-get_or links s l placed.2,
+          length-map links (family_in links),
+          above_within (families links) f s up is,
+          no_sibling,
         )
 
   -- what is read of rows, one at a time
@@ -258,13 +242,7 @@ module _ {T : Type 0} (links : List (Link T)) where
       ≡ (d, n) ∷ rows (families links) (left - 1) (waiting links next)
   unfolding rows
   rows_more zero d n some slot is next then = absurd (some refl)
-  rows_more (suc left) d n some slot is next then =
-      let less : suc left - 1 ≡ left = omega arith in
-      ap (λ rest. (d, n) ∷ rest)
-      (ap (λ s. rows (families links) left (rows_at (d + 1) (children_at (families links) s) ++ behind links d (Some s)))
-      (sym is)
-      ∙ (ap (rows (families links) left) (sym then)
-      ∙ ap (λ k. rows (families links) k (waiting links next)) (sym less)))
+  rows_more (suc left) d n some slot is next then = grind arith
 
 module _ {T : Type 0} (fs : List (Family T)) where
   pub rows_none : (left : ℕ) (list : List (ℕ × Node T)) → left ≡ 0 → rows fs left list ≡ []

@@ -1,16 +1,15 @@
 -- What a tree shows of its nodes.
+use Rattle.scene_tree.proofs.Common.{alone, ap, arith, Bool, cases_Bool, children_at, children_of, cond, count_at}
+use Rattle.scene_tree.proofs.Common.{false, Family, family_at, family_of, flat_map, inl, inr, is_live, is_same, is_some}
+use Rattle.scene_tree.proofs.Common.{IsInLevels, IsKept, IsLiveIn, IsRooted, IsRootedIn, IsSame, IsSound, IsStepsBelow}
+use Rattle.scene_tree.proofs.Common.{IsSubtree, IsTree, IsUnder, length, List, Node, NodeIsUnchanged, None, none-some}
+use Rattle.scene_tree.proofs.Common.{Option, parent_at, parent_of, pointer_in, reach, refl, slice_get, slot_in, slot_of}
+use Rattle.scene_tree.proofs.Common.{Some, State, subst, suc, sym, times, TreeState, true, true≢false, value_in}
+use Rattle.scene_tree.proofs.Common.{value_of, zero, [], ℕ, ⊎_elim, ◌++◌, ◌<◌, ◌∙◌, ◌∷◌, ◌≡◌, ◌⊎◌}
+use Rattle.scene_tree.proofs.Gathering.{all_listed, listed_below, listed_once, part_whole}
 use Rattle.std.specs.FinMap as map
-use Rattle.scene_tree.proofs.Common.{alone, ap, arith, cases_Bool, children_at, children_of, cond, count_at, false}
-use Rattle.scene_tree.proofs.Common.{Family, family_at, family_of, flat_map, GenerationalBoxId, inl, inr, is_live}
-use Rattle.scene_tree.proofs.Common.{is_same, is_some, IsInLevels, IsKept, IsLiveIn, IsRooted, IsRootedIn, IsSame}
-use Rattle.scene_tree.proofs.Common.{IsSound, IsStepsBelow, IsSubtree, IsTree, IsUnder, leads_to, length, List, name_in}
-use Rattle.scene_tree.proofs.Common.{nat_eq, Node, NodeIsUnchanged, None, none-some, Option, parent_at, parent_of}
-use Rattle.scene_tree.proofs.Common.{pointer_in, reach, refl, same_Some, slice_get, slot_in, slot_of, Some, State}
-use Rattle.scene_tree.proofs.Common.{subst, suc, sym, times, TreeState, true, true≢false, value_in, value_of}
-use Rattle.scene_tree.proofs.Common.{value_reached, zero, [], ℕ, ⊎_elim, ◌++◌, ◌<◌, ◌∙◌, ◌∷◌, ◌≡◌, ◌⊎◌}
 use Rattle.scene_tree.proofs.Counting.{is_id, same_id, times_at, times_none}
 use Rattle.scene_tree.proofs.Forests.{above_parent}
-use Rattle.scene_tree.proofs.Gathering.{all_listed, listed_below, listed_once, part_whole}
 use Rattle.scene_tree.proofs.Stores.{one_live}
 
 module _ {T : Type 0} where
@@ -28,27 +27,26 @@ module _ {T : Type 0} where
       → (is_live t n ≡ true
       → part (family_at u.families (slot_in n)) ≡ part (family_at t.families (slot_in n)))
       → part (family_of u n) ≡ part (family_of t n)
-  part_with part t u n value same = ⊎_elim
-      (λ live. ap part (live_family u n (ap is_some value ∙ live))
-      ∙ (same live ∙ sym (ap part (live_family t n live))))
-      (λ gone. ap part (gone_family u n (ap is_some value ∙ gone) ∙ sym (gone_family t n gone)))
-      (cases_Bool (is_live t n))
+  part_with part t u n value same = grind arith
 
   -- a node is left that shows what it showed, and has the family that it had where it is live
   pub left_with : (t u : TreeState T) (n : Node T) → value_of u n ≡ value_of t n
       → (is_live t n ≡ true → family_at u.families (slot_in n) ≡ family_at t.families (slot_in n))
       → NodeIsUnchanged t n u
-  left_with t u n value family =
-      record { value = value; family = part_with (λ f. f) t u n value family }
+  left_with t u n value family = grind arith
 
   pub left_still : (t u : TreeState T) (n : Node T) → u ≡ t → NodeIsUnchanged t n u
-  left_still t u n same =
-      record { value = ap (λ x. value_of x n) same; family = ap (λ x. family_of x n) same }
+  left_still t u n same = grind arith
 
   -- what a caller sees where the families stay
   pub same_families : {S R : State T} (fs : List (Family T)) → R ≡ S
       → ◌≡◌ {A = TreeState T} (record { state = R; families = fs }) (record { state = S; families = fs })
   same_families fs same = λ i. record { state = same i; families = fs }
+
+-- what a test told of a node of a tree that is shown
+pub told_live : {T : Type 0} {t u : TreeState T} (n : Node T) {b : Bool} → t ≡ u → b ≡ is_live u n
+    → b ≡ true → is_live t n ≡ true
+told_live n same is live = cc
 
 -- what is there isn't missing
 pub never : {X : Type 0} {x : Option X} → is_some x ≡ true → x ≡ None → ⊥
@@ -77,16 +75,13 @@ module _ {T : Type 0} where
   pub same_shown : (S : State T) (a b : Node T) → IsSame a b
       → value_in S (pointer_in a) ≡ value_in S (pointer_in b)
   unfolding value_in reach
-  same_shown S a b same = ap (λ (id : GenerationalBoxId). value_reached S (cond (nat_eq id.store S.number)
-      (leads_to (map.get S.cells (name_in id)) (name_in id)) None)) same
+  same_shown S a b same = grind arith
 
   -- what is below a live node is live
   pub below_live : (t : TreeState T) (top n : Node T) (e : ℕ) → is_live t top ≡ true
       → IsStepsBelow t top e n → is_live t n ≡ true
   below_live t top n zero live same = ap is_some (same_shown t.state n top same) ∙ live
-  below_live t top n (suc e) live below = ⊎_elim (λ lives. lives)
-      (λ gone. absurd (none-some below.0 (sym (ap (λ f. f.parent) (gone_family t n gone)) ∙ below.1)))
-      (cases_Bool (is_live t n))
+  below_live t top n (suc e) live below = grind arith
 
   abbrev pub AreLive : State T → List (Node T) → Type 0
   AreLive S list = (i : ℕ) (c : Node T) → slice_get list i ≡ Some c → IsLiveIn S c
@@ -116,22 +111,12 @@ module _ {T : Type 0} where
     -- a node with a parent is live, and so is the parent
     pub has_parent : (n up : Node T) → parent_of tree n ≡ Some up
         → IsLiveIn S n × (parent_at fs (slot_in n) ≡ Some up)
-    has_parent n up is = ⊎_elim (λ live. (live, sym (live_parent n live) ∙ is))
-        (λ gone. absurd (none-some up (sym (ap (λ f. f.parent) (gone_family tree n gone)) ∙ is)))
-        (cases_Bool (is_live tree n))
+    has_parent n up is = grind arith
 
     -- ---- the tree
 
     pub rooted_in : (d : ℕ) (n : Node T) → IsLiveIn S n → IsRooted fs d (slot_in n) → IsRootedIn tree d n
-    rooted_in zero n live r = ⊎_elim (λ is. live_parent n live ∙ is)
-        (λ some. absurd (none-some (slot_in some.0) (sym r ∙ ap slot_of some.1)))
-        (parent_cases (parent_at fs (slot_in n)) refl)
-      where
-        parent_cases : (o : Option (Node T)) → parent_at fs (slot_in n) ≡ o
-            → (parent_at fs (slot_in n) ≡ None)
-            ⊎ ((p : Node T) × (parent_at fs (slot_in n) ≡ Some p))
-        parent_cases None is = inl is
-        parent_cases (Some p) is = inr (p, is)
+    rooted_in zero n live r = grind arith
     rooted_in (suc d) n live r =
         let up = above_parent fs (slot_in n) r.0 r.1 in (
           up.0,
@@ -179,23 +164,12 @@ module _ {T : Type 0} where
 
       pub below_under : (e : ℕ) (n : Node T) → IsStepsBelow tree top e n
           → IsLiveIn S n × IsUnder fs (slot_in top) e (slot_in n)
-      below_under zero n same =
-          (ap is_some (same_shown S n top same) ∙ live, ap (λ id. id.slot) same)
-      below_under (suc e) n below =
-          let at = has_parent n below.0 below.1 in
-          let rest = below_under e below.0 below.2 in
-          (at.0, (slot_in below.0, ap slot_of at.1, rest.1))
+      below_under zero n same = grind (arith, same_shown S n top same)
+      below_under (suc e) n below = grind (arith, has_parent n below.0 below.1, below_under e below.0 below.2)
 
       module _ (list : List (Node T)) (level : IsInLevels fs top list) where
         pub list_live : AreLive S list
-        list_live i c at = first i (ap (λ xs. slice_get xs i) (sym level) ∙ at)
-          where
-            first : (i : ℕ) → slice_get (top ∷ flat_map (λ n. children_at fs (slot_in n)) list) i ≡ Some c
-                → IsLiveIn S c
-            first zero at = subst (IsLiveIn S) (same_Some top c at) live
-            first (suc i) at =
-                let from = get_flat (λ n. children_at fs (slot_in n)) list i c at in
-                k.children (slot_in from.0) from.1 c from.2
+        list_live i c at = grind (arith, get_flat)
 
         flat_same : (xs : List (Node T)) → AreLive S xs
             → flat_map (λ n. children_at fs (slot_in n)) xs ≡ flat_map (children_of tree) xs

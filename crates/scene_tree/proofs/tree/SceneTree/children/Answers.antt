@@ -2,12 +2,9 @@ use Rattle.scene_tree.proofs.{ap, arith, children_at, kept_tree, live_children, 
 use Rattle.scene_tree.proofs.tree.SceneTree.children.Goals as goal
 
 pub children_at-requires-clause-within : goal.children_at-requires-clause-within
-children_at-requires-clause-within g c = omega (
-  arith,
-  live_slot _ (g.met.S.AnyStorage.sound _) c.self.invariant.0
-      c.args.node (told_live c.args.node c.self.view_is c.is_alive.ensures c.if-not-is_alive.false),
-  c.slot.ensures,
-)
+children_at-requires-clause-within g c =
+    let live = told_live c.args.node c.self.view_is c.is_alive.ensures c.if-not-is_alive.false in
+    let lt = live_slot _ (g.met.S.AnyStorage.sound _) c.self.invariant.0 c.args.node live in omega (arith, lt, c.slot.ensures)
 
 pub returns-then-not-is_alive-clause-tree : goal.returns-then-not-is_alive-clause-tree
 returns-then-not-is_alive-clause-tree g c =

@@ -1,6 +1,5 @@
-use Rattle.scene_tree.proofs.{alike, ap, freed_others, freed_parents, kept_detached, live_children, live_family}
-use Rattle.scene_tree.proofs.{live_parent, live_slot, noted_left, part_with, refl, rules, slot_in, slot_of, sym}
-use Rattle.scene_tree.proofs.{told_live, without, ◌∙◌}
+use Rattle.scene_tree.proofs.{alike, freed_lost, freed_others, freed_parents, freed_root, kept_detached, live_slot}
+use Rattle.scene_tree.proofs.{noted_left, rules, told_live}
 use Rattle.scene_tree.proofs.tree.SceneTree.detach.Goals as goal
 
 pub detach-requires : goal.detach-requires
@@ -28,17 +27,10 @@ returns g c =
     let gone = c.detach.ensures.detached in
     rw (← c.self.view_is) (record {
       state = search rules;
-      root = ap (λ f. f.parent) (live_family _ c.args.node live) ∙ gone.here;
-      lost = λ up is.
-          let at = sym (live_parent (sound _) k c.args.node live) ∙ is in
-          let lives = k.parents (slot_in c.args.node) up at in
-          ap (λ f. f.children) (live_family _ up lives) ∙ (gone.lost (slot_in up) (ap slot_of at)
-          ∙ ap (without c.args.node) (sym (live_children (sound _) k up lives)));
-      parents = λ n other. part_with (λ f. f.parent) _ _ n refl (λ lives.
-          freed_parents (sound _) k c.args.node live gone n lives other);
-      others = λ n beside. part_with (λ f. f.children) _ _ n refl (λ lives.
-          freed_others (sound _) k c.args.node live gone n lives
-          (λ up is. beside up (live_parent (sound _) k c.args.node live ∙ is)));
+      root = freed_root (sound _) k c.args.node live gone;
+      lost = freed_lost (sound _) k c.args.node live gone;
+      parents = freed_parents (sound _) k c.args.node live gone;
+      others = freed_others (sound _) k c.args.node live gone;
       stale = search rules;
       told = search rules;
       refused = search rules;

@@ -1,7 +1,6 @@
-use Rattle.scene_tree.proofs.{alike, ap, arith, family_in, IsBelow, kept_detached, kept_moved, length-map}
-use Rattle.scene_tree.proofs.{live_children, live_family, live_parent, live_slot, moved_lost, moved_others}
-use Rattle.scene_tree.proofs.{moved_parents, moved_placed, named, noted_put, one_live, parent_for, part_with, placed}
-use Rattle.scene_tree.proofs.{refl, rules, same_Some, slot_in, slot_of, spot_left, sym, under_below, without, ◌∙◌}
+use Rattle.scene_tree.proofs.{alike, ap, arith, family_in, kept_detached, kept_moved, length-map, live_slot, moved_lost}
+use Rattle.scene_tree.proofs.{moved_others, moved_parents, moved_placed, noted_put, one_live, rules, same_Some, slot_of}
+use Rattle.scene_tree.proofs.{spot_left, sym, ◌∙◌}
 use Rattle.scene_tree.proofs.tree.SceneTree.move_at.Goals as goal
 
 pub detach-requires : goal.detach-requires
@@ -16,16 +15,20 @@ detach-requires g c =
 pub attach-requires : goal.attach-requires
 attach-requires g c =
     let sound = g.met.S.AnyStorage.sound in
+    let k = c.self.invariant.0 in
     let may = rw (← c.self.view_is) at c.in_ok-parent.ensures.may in
+    let is = rw (← c.self.view_is) at c.in_ok-parent.ensures.parent in
+    let apart = rw (← c.self.view_is) at c.in_ok-parent.ensures.apart in
     let left = c.detach.ensures.detached in
+    let up = live_slot _ (sound _) k c.in_ok-parent.parent may.parent in
+    let child = live_slot _ (sound _) k c.args.node may.node in
     let old = length-map c.self.inside.links.items (family_in c.self.inside.links.items) in
     let new = length-map c.detach.new.links.items (family_in c.detach.new.links.items) in record {
       linked = c.detach.ensures.linked;
-      forest = (kept_detached c.self.invariant.0 (sound _) _ c.args.node may.node left).forest;
-      spot = spot_left (sound _) c.self.invariant.0 c.args.node may.node left c.args.spot c.in_ok-parent.parent
-          (rw (← c.self.view_is) at c.in_ok-parent.ensures.parent) (rw (← c.self.view_is) at c.in_ok-parent.ensures.apart);
-      parent = omega (arith, live_slot _ (sound _) c.self.invariant.0 c.in_ok-parent.parent may.parent, left.long, old, new);
-      child = omega (arith, live_slot _ (sound _) c.self.invariant.0 c.args.node may.node, left.long, old, new);
+      forest = (kept_detached k (sound _) _ c.args.node may.node left).forest;
+      spot = spot_left (sound _) k c.args.node may.node left c.args.spot _ is apart;
+      parent = omega (arith, up, left.long, old, new);
+      child = omega (arith, child, left.long, old, new);
       root = ap slot_of left.here;
     }
 
@@ -33,12 +36,8 @@ pub invariant_of-self : goal.invariant_of-self
 invariant_of-self g c =
     let sound = g.met.S.AnyStorage.sound in
     let may = rw (← c.self.view_is) at c.in_ok-parent.ensures.may in (
-      kept_moved (sound _) c.self.invariant.0 c.args.node _ c.args.spot may.node may.parent c.detach.ensures.detached
-          c.attach.ensures.attached (λ e under. may.apart (
-            e,
-            under_below (sound _) c.self.invariant.0 c.args.node
-                may.node e c.in_ok-parent.parent may.parent under,
-          )),
+      kept_moved (sound _) c.self.invariant.0 c.args.node may.node c.detach.ensures.detached _ c.args.spot may
+          c.attach.ensures.attached,
       c.attach.ensures.linked,
       noted_put c.self.invariant.2 c.args.node c.attach.ensures.noted
           (λ s ne. c.attach.ensures.others s ne ∙ c.detach.ensures.noted s)
@@ -52,26 +51,19 @@ returns g c =
     let k = c.self.invariant.0 in
     let parent = c.in_ok-parent.parent in
     let may = rw (← c.self.view_is) at c.in_ok-parent.ensures.may in
-    let put = rw (← c.self.view_is) at c.in_ok-parent.ensures.parent in
+    let is = rw (← c.self.view_is) at c.in_ok-parent.ensures.parent in
     let left = c.detach.ensures.detached in
+    let put = c.attach.ensures.attached in
     rw (← c.self.view_is) (record {
       state = search rules;
       moved = search rules;
-      placed = λ up is. let same = same_Some parent up (sym put ∙ is) in
-          rw (← same) (ap (λ f. f.children) (live_family _ parent may.parent)
-          ∙ (moved_placed (sound _) k c.args.node parent c.args.spot may.node may.parent left c.attach.ensures.attached
-          ∙ ap (λ xs. placed c.args.spot c.args.node (without c.args.node xs)) (sym (live_children (sound _) k parent may.parent))));
-      lost = λ up is other.
-          let at = sym (live_parent (sound _) k c.args.node may.node) ∙ is in
-          let lives = k.parents (slot_in c.args.node) up at in
-          ap (λ f. f.children) (live_family _ up lives)
-          ∙ (moved_lost (sound _) k c.args.node parent c.args.spot may.node may.parent left c.attach.ensures.attached
-          up at (other parent put) ∙ ap (without c.args.node) (sym (live_children (sound _) k up lives)));
-      parents = λ n other. part_with (λ f. f.parent) _ _ n refl (λ lives. moved_parents (sound _) k
-          c.args.node parent c.args.spot may.node may.parent left c.attach.ensures.attached n lives other);
-      others = λ n other beside. part_with (λ f. f.children) _ _ n refl (λ lives. moved_others (sound _) k
-          c.args.node parent c.args.spot may.node may.parent left c.attach.ensures.attached n lives (other parent put)
-          (λ up is. beside up (live_parent (sound _) k c.args.node may.node ∙ is)));
+      placed = λ up some. rw (← same_Some parent up (sym is ∙ some))
+          (moved_placed (sound _) k c.args.node may.node left parent c.args.spot may put);
+      lost = λ up some other. moved_lost (sound _) k c.args.node may.node left parent c.args.spot may put up some
+          (other parent is);
+      parents = moved_parents (sound _) k c.args.node may.node left parent c.args.spot may put;
+      others = λ n other. moved_others (sound _) k c.args.node may.node left parent c.args.spot may put n
+          (other parent is);
       gone = search rules;
       stale = search rules;
       cycle = search rules;
