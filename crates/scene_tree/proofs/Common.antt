@@ -28,7 +28,8 @@ pub use Rattle.std.proofs.lemmas.Bool.{false_from_ne_true, or_cases, or_left, or
 pub use Rattle.std.proofs.lemmas.List.{flat_map_more, length-map, map-id, take-append-le, take_more}
 pub use Rattle.std.proofs.lemmas.List.Sums.{sum_by-append, sum_by-cons, sum_by-take-drop, sum_by-take-le}
 pub use Rattle.std.proofs.lemmas.Option.{get_or_from_slice_get, none-some, same_Some, slice_get-get_or}
-pub use Rattle.std.proofs.lemmas.Option.{slice_get_read, slice_get_within}
+pub use Rattle.std.proofs.Common.{append-nil, append_assoc}
+pub use Rattle.std.proofs.lemmas.Option.{slice_get-map, slice_get_read, slice_get_within, unwrap_or-slice_get}
 pub use Rattle.std.specs.List.{AllByRecursion, flat_map, insert, list_any}
 pub use Rattle.std.specs.Prelude.{filter, IfOk, is_some, map, nat_eq, OnOk, Result, slice_get, slice_index_or}
 pub use Rattle.std.specs.Prelude.{slice_set, ◌↔◌, ◌⊎◌}

@@ -78,20 +78,13 @@ module _ {T : Type 0} where
     pub kept_same : {R : State T} (gs : List (Family T)) → IsSimple R → length gs ≡ slots R
         → ((s : ℕ) → family_at gs s ≡ family_at fs s)
         → ((n : Node T) → IsLiveIn S n → IsLiveIn R n) → IsKept R gs
-    kept_same gs simple whole same live = record {
-      simple = simple;
-      whole = whole;
-      forest = same_forest fs gs k.forest same;
-      parents = λ s up is. live up (k.parents s up (sym (ap (λ f. f.parent) (same s)) ∙ is));
-      children = λ s i c is. live c (k.children s i c (sym (ap (λ f. slice_get f.children i) (same s)) ∙ is));
-    }
+    kept_same gs simple whole same live = grind (arith, same_forest fs gs k.forest same)
 
     -- the same families where the same nodes are live
     pub kept_still : {R : State T} → IsSimple R → slots R ≡ slots S
         → ((n : Node T) → is_some (value_in R (pointer_in n)) ≡ is_some (value_in S (pointer_in n)))
         → IsKept R fs
-    kept_still simple same live =
-        kept_same fs simple (k.whole ∙ sym same) (λ s. refl) (λ n lives. live n ∙ lives)
+    kept_still simple same live = grind arith
 
     -- a slot that was opened for a new node
     module _ {R : State T} (sound : IsSound S) (v : T) (l : Location) (b : GenerationalPointer)
@@ -100,16 +93,10 @@ module _ {T : Type 0} where
       opened_same = o.same
 
       opened_whole : length gs ≡ slots R
-      opened_whole = ⊎_elim
-          (λ old. o.old (omega (arith, old.0, k.whole)) ∙ (k.whole ∙ sym old.1))
-          (λ next. let long = o.next (next.0 ∙ sym k.whole) in
-          let more = next.1 in omega (arith, long, more, k.whole))
-          (made_slots sound k.simple v l b m)
+      opened_whole = grind (arith, made_slots sound k.simple v l b m)
 
       pub opened_within : b.id.slot < length gs
-      opened_within = let long = opened_whole in ⊎_elim
-          (λ old. omega (arith, old.0, old.1, long)) (λ next. omega (arith, next.0, next.1, long))
-          (made_slots sound k.simple v l b m)
+      opened_within = grind arith
 
       pub kept_opened : IsKept R gs
       kept_opened = kept_same gs (made_simple sound k.simple v l b m) opened_whole opened_same
@@ -269,18 +256,13 @@ module _ {T : Type 0} where
   module _ {S : State T} (links : List (Link T)) (sound : IsSound S) (k : IsKept S (families links)) where
     -- a live node's slot has links
     pub live_slot : (n : Node T) → IsLiveIn S n → slot_in n < length links
-    live_slot n live =
-        let lt = live_within S n sound k.simple live in
-        let long = length-map links (family_in links) in omega (arith, lt, long, k.whole)
+    live_slot n live = grind (arith, live_within S n sound k.simple live, length-map links (family_in links))
 
     -- a new node's has, or is the next one, and has no parent
     module _ {R : State T} (v : T) (l : Location) (b : GenerationalPointer)
         (m : Meets S (Make None v l) (Made b) R) where
       pub next_slot : b.id.slot ≤ length links
-      next_slot =
-          let long = length-map links (family_in links) in
-          ⊎_elim (λ old. omega (arith, old.0, long, k.whole)) (λ next. omega (arith, next.0, long, k.whole))
-          (made_slots sound k.simple v l b m)
+      next_slot = grind (arith, length-map links (family_in links), made_slots sound k.simple v l b m)
 
       pub next_root : above (families links) b.id.slot ≡ None
       next_root = ap (λ f. slot_of f.parent) (lone k b.id.slot (made_beside sound k.simple v l b m))

@@ -1,13 +1,14 @@
 -- Links whose children are linked: what they hold, and after a child comes or goes.
-use Rattle.scene_tree.proofs.Common.{above, after_put, alone, ap, arith, before_put, cases_Bool, cases_eq, chain}
-use Rattle.scene_tree.proofs.Common.{changed, children_at, cond, count_at, families, Family, family_at, family_in}
-use Rattle.scene_tree.proofs.Common.{first_of, head_or, inl, inr, insert, is_same, IsAmong, IsAttached, IsChain}
-use Rattle.scene_tree.proofs.Common.{IsDetached, IsForest, IsGap, IsHeld, IsLinked, IsOpened, IsRest, last_of, last_or}
-use Rattle.scene_tree.proofs.Common.{length, length-append, length-map, Link, List, map, Node, node_in, None, none-some}
-use Rattle.scene_tree.proofs.Common.{not, noted, Option, parent_at, place_of, pushed_old, refl, same_Some, slice_get}
-use Rattle.scene_tree.proofs.Common.{slice_get-get_or, slice_get_within, slice_index_or, slot_in, slot_of, Some, Spot}
-use Rattle.scene_tree.proofs.Common.{subst, suc, sym, tie_of, true, true≢false, without, zero, [], ℕ, ⊎_elim, ◌++◌, ◌+◌}
-use Rattle.scene_tree.proofs.Common.{◌<◌, ◌∙◌, ◌∷◌, ◌≡◌, ◌≢◌, ◌≤◌, ◌⊎◌}
+use Rattle.scene_tree.proofs.Common.{above, after_put, alone, ap, append-nil, append_assoc, arith, before_put}
+use Rattle.scene_tree.proofs.Common.{cases_Bool, cases_eq, chain, changed, children_at, cond, count_at, families}
+use Rattle.scene_tree.proofs.Common.{Family, family_at, family_in, first_of, head_or, inl, inr, insert, is_same}
+use Rattle.scene_tree.proofs.Common.{IsAmong, IsAttached, IsChain, IsDetached, IsForest, IsGap, IsHeld, IsLinked}
+use Rattle.scene_tree.proofs.Common.{IsOpened, IsRest, last_of, last_or, length, length-append, length-map, Link, List}
+use Rattle.scene_tree.proofs.Common.{Node, node_in, None, none-some, not, noted, Option, parent_at, place_of}
+use Rattle.scene_tree.proofs.Common.{pushed_old, refl, same_Some, slice_get, slice_get-get_or, slice_get-map}
+use Rattle.scene_tree.proofs.Common.{slice_get_within, slice_index_or, slot_in, slot_of, Some, Spot, subst, suc, sym}
+use Rattle.scene_tree.proofs.Common.{tie_of, true, true≢false, unwrap_or-slice_get, without, zero, [], ℕ, ⊎_elim, ◌++◌}
+use Rattle.scene_tree.proofs.Common.{◌+◌, ◌<◌, ◌∙◌, ◌∷◌, ◌≡◌, ◌≢◌, ◌≤◌, ◌⊎◌}
 use Rattle.scene_tree.proofs.Chains.{after_kept, after_length, before_kept, before_length, chain_is, chain_none}
 use Rattle.scene_tree.proofs.Chains.{chain_short, changed_apart, changed_here, changed_kept, changed_length, held_is}
 use Rattle.scene_tree.proofs.Chains.{last_both, link_there, noted_joined, pushed_kept}
@@ -24,36 +25,19 @@ module _ {T : Type 0} where
   upper None = None
   upper (Some l) = l.parent
 
-  abbrev family_of : List (Link T) → Option (Link T) → Family T
-  family_of links None = alone
-  family_of links (Some l) = family_in links l
-
-  family_is : (links : List (Link T)) (s : ℕ)
-      → family_at (families links) s ≡ family_of links (slice_get links s)
-  family_is links s = at links s
-    where
-      at : (ls : List (Link T)) (i : ℕ)
-          → slice_index_or (map (family_in links) ls) i alone ≡ family_of links (slice_get ls i)
-      at [] zero = refl
-      at [] (suc i) = refl
-      at (l ∷ ls) zero = refl
-      at (l ∷ ls) (suc i) = at ls i
-
   pub parent_from : (links : List (Link T)) (s : ℕ)
       → parent_at (families links) s ≡ upper (slice_get links s)
-  parent_from links s = ap (λ f. f.parent) (family_is links s) ∙ at (slice_get links s)
-    where
-      at : (o : Option (Link T)) → (family_of links o).parent ≡ upper o
-      at None = refl
-      at (Some l) = refl
+  parent_from links s =
+      grind (arith, unwrap_or-slice_get (families links) s alone, slice_get-map (family_in links) links s)
 
   pub children_from : (links : List (Link T)) (s : ℕ)
       → children_at (families links) s ≡ chain links (length links) (first_of (slice_get links s))
-  children_from links s = ap (λ f. f.children) (family_is links s) ∙ at (slice_get links s)
-    where
-      at : (o : Option (Link T)) → (family_of links o).children ≡ chain links (length links) (first_of o)
-      at None = sym (chain_none links (length links))
-      at (Some l) = refl
+  children_from links s = grind (
+    arith,
+    unwrap_or-slice_get (families links) s alone,
+    slice_get-map (family_in links) links s,
+    chain_none links (length links),
+  )
 
   pub children_held : (links : List (Link T)) (s : ℕ) (xs : List (Node T)) → IsHeld links s xs
       → length xs ≤ length links → children_at (families links) s ≡ xs
@@ -94,11 +78,7 @@ module _ {T : Type 0} where
 
   tied_within : (links : List (Link T)) (s : ℕ) (tie : Node T × Option ℕ × Option ℕ)
       → tie_of (slice_get links s) ≡ Some tie → (l : Link T) × (slice_get links s ≡ Some l)
-  tied_within links s tie is = at (slice_get links s) refl
-    where
-      at : (o : Option (Link T)) → slice_get links s ≡ o → (l : Link T) × (slice_get links s ≡ Some l)
-      at None there = absurd (none-some tie (sym (ap tie_of there) ∙ is))
-      at (Some l) there = (l, there)
+  tied_within links s tie is = grind arith
 
   -- ---- forests
 
@@ -161,19 +141,6 @@ module _ {T : Type 0} where
   insert_here : (xs ys : List (Node T)) (n : Node T) → insert (xs ++ ys) (length xs) n ≡ xs ++ n ∷ ys
   insert_here [] ys n = refl
   insert_here (x ∷ xs) ys n = ap (λ rest. x ∷ rest) (insert_here xs ys n)
-
-  insert_next : (xs ys : List (Node T)) (c n : Node T)
-      → insert (xs ++ c ∷ ys) (suc (length xs)) n ≡ (xs ++ c ∷ []) ++ n ∷ ys
-  insert_next [] ys c n = refl
-  insert_next (x ∷ xs) ys c n = ap (λ rest. x ∷ rest) (insert_next xs ys c n)
-
-  both_apart : (xs ys : List (Node T)) (c : Node T) → xs ++ c ∷ ys ≡ (xs ++ c ∷ []) ++ ys
-  both_apart [] ys c = refl
-  both_apart (x ∷ xs) ys c = ap (λ rest. x ∷ rest) (both_apart xs ys c)
-
-  nil_behind : (xs : List (Node T)) → xs ≡ xs ++ []
-  nil_behind [] = refl
-  nil_behind (x ∷ xs) = ap (λ rest. x ∷ rest) (nil_behind xs)
 
   -- a node that is counted parts a list
   pub among : (n : Node T) (cs : List (Node T)) → 0 < count_at (slot_in n) cs
@@ -239,7 +206,7 @@ module _ {T : Type 0} where
     gap_last at l there = record {
       front = cs;
       back = [];
-      whole = nil_behind cs;
+      whole = sym (append-nil cs);
       put = λ n. refl;
       before = sym (ap last_of there) ∙ (linked up).last;
       after = refl;
@@ -269,25 +236,17 @@ module _ {T : Type 0} where
         front = is.front;
         back = is.here ∷ is.back;
         whole = is.whole;
-        put = λ n. ap (λ i. insert cs i n) is.place
-            ∙ (ap (λ xs. insert xs (length is.front) n) is.whole
-            ∙ insert_here is.front (is.here ∷ is.back) n);
+        put = λ n. cc (insert_here is.front (is.here ∷ is.back) n);
         before = ap (λ t. t.1) sides;
         after = ap Some (sym is.slot);
       }
-
-      one_more : length is.front + 1 ≡ suc (length is.front)
-      one_more = omega arith
 
       pub gap_after : IsGap cs (spot.After by) (Some (slot_in by), after)
       gap_after = record {
         front = is.front ++ is.here ∷ [];
         back = is.back;
-        whole = is.whole ∙ both_apart is.front is.back is.here;
-        put = λ n. ap (λ i. insert cs (i + 1) n) is.place
-            ∙ (ap (λ xs. insert xs (length is.front + 1) n) is.whole
-            ∙ (ap (λ i. insert (is.front ++ is.here ∷ is.back) i n) one_more
-            ∙ insert_next is.front is.back is.here n));
+        whole = is.whole ∙ sym (append_assoc is.front (is.here ∷ []) is.back);
+        put = λ n. grind (arith, insert_here (is.front ++ is.here ∷ []) is.back n, append_assoc, length-append);
         before = ap Some (sym is.slot) ∙ sym (last_both None is.front (is.here ∷ []));
         after = ap (λ t. t.2) sides;
       }

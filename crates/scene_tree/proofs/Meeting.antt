@@ -115,9 +115,7 @@ module _ {T : Type 0} {S : State T} (sound : IsSound S) (links : List (Link T)) 
 
   -- what is met is live
   met_live : (roots : Bool) (n : Node T) → IsOfLink S roots links n → IsLiveIn S n
-  met_live roots n of =
-      ap is_some (same_id_sees S (pointer_in n) (pointer_in of.link.node) (sym (is_id of.link.node n of.same)))
-      ∙ (and_parts _ _ of.meets).0
+  met_live roots n of = grind (arith, same_id_sees, is_id, and_parts)
 
   -- a live node has a link
   record HasLink (n : Node T) : Type 0 where
@@ -126,16 +124,7 @@ module _ {T : Type 0} {S : State T} (sound : IsSound S) (links : List (Link T)) 
     pub same : IsSame link.node n
 
   has_link : (n : Node T) → IsLiveIn S n → HasLink n
-  has_link n live = let h = a.live n live in at (slice_get links (slot_in n)) refl h.0 h.1 h.2
-    where
-      at : (o : Option (Link T)) → slice_get links (slot_in n) ≡ o → (h : Node T)
-          → noted links (slot_in n) ≡ Some h → IsSame h n → HasLink n
-      at None is h to same = absurd (none-some h (sym (ap node_in is) ∙ to))
-      at (Some l) is h to same = record {
-        link = l;
-        there = is;
-        same = ap (λ x. (pointer_in x).id) (same_Some l.node h (sym (ap node_in is) ∙ to)) ∙ same;
-      }
+  has_link n live = grind arith
 
   link_live : (n : Node T) → IsLiveIn S n → (of : HasLink n)
       → is_some (value_in S (pointer_in of.link.node)) ≡ true

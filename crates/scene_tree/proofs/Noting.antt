@@ -2,13 +2,12 @@
 use Rattle.scene_tree.proofs.Linked.{family_like, linked_like, upper}
 use Rattle.scene_tree.proofs.Gathering.{same_length}
 use Rattle.scene_tree.proofs.Chains.{changed_apart, changed_here, changed_kept, changed_length, link_there}
-use Rattle.scene_tree.proofs.Common.{above, ap, AreNoted, arith, cases_eq, cases_lt, changed, children_at, count_at}
-use Rattle.scene_tree.proofs.Common.{families, family_in, first_of, HasLost, is_some, IsForest, IsHeld, IsLinked}
-use Rattle.scene_tree.proofs.Common.{IsLiveIn, IsOpened, IsSame, IsSimple, IsSound, last_of, length, length-map, Link}
-use Rattle.scene_tree.proofs.Common.{List, Location, Made, Make, Meets, Node, node_in, None, none-some, noted}
-use Rattle.scene_tree.proofs.Common.{pointer_in, refl, same_Some, same_value, slot_in, Some, State, suc, sym, tie_of}
-use Rattle.scene_tree.proofs.Common.{times, true≢false, value_in, zero, [], ℕ, ⊎_elim, ◌++◌, ◌<◌, ◌∙◌, ◌∷◌, ◌≡◌, ◌≢◌}
-use Rattle.scene_tree.proofs.Common.{◌≤◌}
+use Rattle.scene_tree.proofs.Common.{above, ap, AreNoted, arith, changed, children_at, count_at, families, family_in}
+use Rattle.scene_tree.proofs.Common.{first_of, HasLost, is_some, IsForest, IsHeld, IsLinked, IsLiveIn, IsOpened, IsSame}
+use Rattle.scene_tree.proofs.Common.{IsSimple, IsSound, last_of, length, length-map, Link, List, Location, Made, Make}
+use Rattle.scene_tree.proofs.Common.{Meets, Node, node_in, None, none-some, noted, pointer_in, refl, same_value}
+use Rattle.scene_tree.proofs.Common.{slot_in, Some, State, suc, sym, tie_of, zero, [], ℕ, ⊎_elim, ◌++◌, ◌<◌, ◌∙◌, ◌∷◌}
+use Rattle.scene_tree.proofs.Common.{◌≡◌, ◌≢◌, ◌≤◌}
 use Rattle.scene_tree.proofs.Linking.{held_kept}
 use Rattle.scene_tree.proofs.Stores.{one_live}
 
@@ -17,9 +16,7 @@ module _ {T : Type 0} where
 
   pub noted_here : (links : List (Link T)) (slot : ℕ) (f : Link T → Link T) (n : Node T)
       → slot < length links → ((l : Link T) → (f l).node ≡ n) → noted (changed links slot f) slot ≡ Some n
-  noted_here links slot f n lt is =
-      let l = link_there links slot lt in
-      ap node_in (changed_here links slot f l.0 l.1) ∙ ap Some (is l.0)
+  noted_here links slot f n lt is = grind (arith, link_there links slot lt, changed_here)
 
   pub noted_apart : (links : List (Link T)) (slot : ℕ) (f : Link T → Link T) (s : ℕ) → s ≢ slot
       → noted (changed links slot f) s ≡ noted links s
@@ -83,34 +80,20 @@ module _ {T : Type 0} where
   -- ---- the live nodes
 
   pub none_noted : (S : State T) → ((n : Node T) → IsLiveIn S n → ⊥) → AreNoted S []
-  none_noted S none = record {
-    live = λ n lives. absurd (none n lives);
-    placed = λ slot h is. absurd (none-some h is);
-  }
+  none_noted S none = grind arith
 
   module _ {S R : State T} {old new : List (Link T)} (k : AreNoted S old) where
     -- where the same nodes are noted, and none is live that wasn't
     pub noted_left : ((s : ℕ) → noted new s ≡ noted old s) → ((n : Node T) → IsLiveIn R n → IsLiveIn S n)
         → AreNoted R new
-    noted_left same lives = record {
-      live = λ n now. let was = k.live n (lives n now) in (was.0, same (slot_in n) ∙ was.1, was.2);
-      placed = λ slot h is. k.placed slot h (sym (same slot) ∙ is);
-    }
+    noted_left same lives = grind arith
 
     -- where one is noted at its slot, and each live one is this, or was live, and has another slot
     pub noted_put : (child : Node T) → noted new (slot_in child) ≡ Some child
         → ((s : ℕ) → s ≢ slot_in child → noted new s ≡ noted old s)
         → ((n : Node T) → IsLiveIn R n → slot_in n ≡ slot_in child → IsSame child n)
         → ((n : Node T) → IsLiveIn R n → slot_in n ≢ slot_in child → IsLiveIn S n) → AreNoted R new
-    noted_put child here others one before = record {
-      live = λ n now. ⊎_elim
-          (λ same. (child, ap (noted new) same ∙ here, one n now same))
-          (λ ne. let was = k.live n (before n now ne) in (was.0, others (slot_in n) ne ∙ was.1, was.2))
-          (cases_eq (slot_in n) (slot_in child));
-      placed = λ slot h is. ⊎_elim
-          (λ same. ap slot_in (same_Some h child (sym is ∙ (ap (noted new) same ∙ here))) ∙ sym same)
-          (λ ne. k.placed slot h (sym (others slot ne) ∙ is)) (cases_eq slot (slot_in child));
-    }
+    noted_put child here others one before = grind arith
 
     -- after a making
     pub noted_made : IsSound S → IsSound R → IsSimple R → (v : T) (l : Location) (child : Node T)
@@ -125,9 +108,4 @@ module _ {T : Type 0} where
     -- and after the ends of nodes
     pub noted_lost : {list : List (Node T)} → HasLost S list R → ((s : ℕ) → noted new s ≡ noted old s)
         → AreNoted R new
-    noted_lost {list} lost same = noted_left same (λ n now. ⊎_elim
-        (λ some. absurd (none-some_live n now (lost.ended n some)))
-        (λ none. ap is_some (sym (lost.others n (omega (arith, none)))) ∙ now) (cases_lt 0 (times n list)))
-      where
-        none-some_live : (n : Node T) → IsLiveIn R n → value_in R (pointer_in n) ≡ None → ⊥
-        none-some_live n now none = true≢false (sym now ∙ ap is_some none)
+    noted_lost {list} lost same = grind arith

@@ -1,16 +1,15 @@
 -- A tree's store: its live nodes and its slots.
-use Rattle.std.specs.FinMap as map
 use Rattle.scene_tree.proofs.Common.{act_start, Action, Answer, ap, arith, cases_lt, Cell, cell_at, cells_after, change}
-use Rattle.scene_tree.proofs.Common.{change_if, close, close_one, cond, Content, content_of, Done, done_only, End}
-use Rattle.scene_tree.proofs.Common.{eq-eqb, false, false_from_ne_true, fill, GenerationalPointer, Here, hindrance_to}
-use Rattle.scene_tree.proofs.Common.{inl, inr, is_making, is_some, IsLiveIn, IsSame, IsSimple, IsSound, last_name}
-use Rattle.scene_tree.proofs.Common.{lasts_insert, leads_to, Lent, Location, Made, made_new, Make, making, Meets}
-use Rattle.scene_tree.proofs.Common.{meets_cases, Name, name_cmp, name_of, name_total, NameMap, nat_cmp_total, Node}
-use Rattle.scene_tree.proofs.Common.{None, none-some, Old, Option, Outcome, own_name, pointer_in, reach, reaches, Ref}
-use Rattle.scene_tree.proofs.Common.{refill, refl, seen_cell, seen_reached, seen_store, set_at, SetValue, Shared}
-use Rattle.scene_tree.proofs.Common.{slot_apart, slot_in, slot_made, slots, slots_of, Some, some_live, sound_linked}
-use Rattle.scene_tree.proofs.Common.{State, sym, true, true≢false, Value, value_in, [], ⊎_elim, ◌+◌, ◌-◌, ◌<◌, ◌∙◌, ◌∷◌}
-use Rattle.scene_tree.proofs.Common.{◌≡◌, ◌≢◌, ◌⊎◌}
+use Rattle.scene_tree.proofs.Common.{change_if, close, close_one, cond, Content, content_of, Done, End, eq-eqb, false}
+use Rattle.scene_tree.proofs.Common.{false_from_ne_true, GenerationalPointer, Here, inl, inr, is_making, is_some}
+use Rattle.scene_tree.proofs.Common.{IsLiveIn, IsSame, IsSimple, IsSound, lasts_insert, leads_to, Lent, Location, Made}
+use Rattle.scene_tree.proofs.Common.{made_new, Make, making, Meets, meets_cases, Name, name_cmp, name_of, name_total}
+use Rattle.scene_tree.proofs.Common.{NameMap, nat_cmp_total, Node, None, Old, Option, Outcome, own_name, pointer_in}
+use Rattle.scene_tree.proofs.Common.{reach, reaches, Ref, refill, refl, seen_cell, seen_reached, seen_store, set_at}
+use Rattle.scene_tree.proofs.Common.{SetValue, Shared, slot_apart, slot_in, slot_made, slots, slots_of, Some, some_live}
+use Rattle.scene_tree.proofs.Common.{sound_linked, State, sym, true, true≢false, Value, value_in, [], ⊎_elim, ◌+◌, ◌-◌}
+use Rattle.scene_tree.proofs.Common.{◌<◌, ◌∙◌, ◌∷◌, ◌≡◌, ◌≢◌, ◌⊎◌}
+use Rattle.std.specs.FinMap as map
 
 module _ {T : Type 0} where
   -- a live node has a live cell
@@ -27,10 +26,13 @@ module _ {T : Type 0} where
   pub one_live : (S : State T) (a b : Node T) → IsSound S → IsSimple S → IsLiveIn S a
       → IsLiveIn S b → slot_in a ≡ slot_in b → IsSame a b
   one_live S a b s k live lives same =
-      let name = k.bounded.last (name_of (pointer_in a)) (live_cell S a live)
-      ∙ (ap (last_name S) same ∙ sym (k.bounded.last (name_of (pointer_in b)) (live_cell S b lives))) in
-      let store = seen_store S (pointer_in a) s live ∙ sym (seen_store S (pointer_in b) s lives) in
-      λ i. record { store = store i; slot = (name i).slot; generation = (name i).generation }
+      grind (
+        arith,
+        live_cell S a live,
+        live_cell S b lives,
+        seen_store S (pointer_in a) s live,
+        seen_store S (pointer_in b) s lives,
+      )
 
   -- ---- a making
 
@@ -67,13 +69,7 @@ module _ {T : Type 0} where
 
   pub same_slots : {S R : State T} (call : Action T) (answer : Answer T) → is_making call ≡ false
       → Meets S call answer R → slots R ≡ slots S
-  same_slots {S} {R} call answer other m = ap (λ given. slots (record S { given = given })) given
-    where
-      given : R.given ≡ S.given
-      given = ⊎_elim (λ refused. ap (λ (X : State T). X.given) refused.1)
-          (λ acts. ap (λ (out : Outcome T). out.1.given) acts.2
-          ∙ (act_start S call acts.0).given other)
-          (meets_cases S R call answer m)
+  same_slots {S} {R} call answer other m = grind (arith, act_start, meets_cases S R call answer m)
 
   -- ---- another value
 
@@ -101,8 +97,7 @@ module _ {T : Type 0} where
           → map.len R.cells ≡ map.len S.cells
       at None c is = same S is
       at (Some n) None is = same S is
-      at (Some n) (Some (Here o [])) is = same (fill S n (Here v [])) is
-          ∙ len_change S.cells n (refill (Here v []))
+      at (Some n) (Some (Here o [])) is = grind (arith, len_change S.cells n (refill (Here v [])))
       at (Some n) (Some (Here o (r ∷ rs))) is = same S is
       at (Some n) (Some (Lent w)) is = same S is
 
@@ -119,11 +114,9 @@ module _ {T : Type 0} where
       at : (o : Option (Cell T)) → map.get S.cells (name_of (pointer_in n)) ≡ o → (to : Name)
           → leads_to (map.get S.cells (name_of (pointer_in n))) (name_of (pointer_in n)) ≡ Some to
           → (c : Content T) × (l : Location) × (map.get S.cells (name_of (pointer_in n)) ≡ Some (Value c l))
-      at None is to leads = absurd (none-some to
-          (sym (ap (λ c. leads_to c (name_of (pointer_in n))) is) ∙ leads))
+      at None is to leads = grind arith
       at (Some (Value c l)) is to leads = (c, l, is)
-      at (Some (Shared c l)) is to leads = absurd (none-some to
-          (sym (ap (λ c. leads_to c (name_of (pointer_in n))) is) ∙ leads))
+      at (Some (Shared c l)) is to leads = grind arith
       at (Some (Ref m l)) is to leads = absurd (k.plain.none (name_of (pointer_in n)) m l is)
 
   -- with its end there is one live node less
@@ -138,9 +131,7 @@ module _ {T : Type 0} where
       name = name_of (pointer_in n)
 
       left : R ≡ close S (own_name S (pointer_in n))
-      left = ⊎_elim (λ refused. absurd (true≢false (sym refused.0)))
-          (λ acts. done_only (hindrance_to S (own_name S (pointer_in n))) S R _ acts.2)
-          (meets_cases S R (End (pointer_in n)) Done m)
+      left = grind arith
 
       cells : R.cells ≡ map.remove S.cells name
       cells = let cell = value_cell S n k live in
