@@ -150,8 +150,7 @@ module _ {T : Type 0} where
 
   pub head_apart : (xs : List (Node T)) (s : ℕ) → count_at s xs ≡ 0 → head_or xs None ≢ Some s
   head_apart [] s none is = none-some s is
-  head_apart (x ∷ xs) s none is =
-      let here = count_here s x xs (same_Some (slot_in x) s is) in omega (arith, none, here)
+  head_apart (x ∷ xs) s none is = grind (arith, count_here s x xs (same_Some (slot_in x) s is), none)
 
   -- a list with a last node has one
   last_some : (s : ℕ) (xs : List (Node T)) → (w : ℕ) × (last_or (Some s) xs ≡ Some w)
@@ -166,17 +165,14 @@ module _ {T : Type 0} where
         → IsChain links before xs (head_or ys after) × IsChain links (last_or before xs) ys after
     chain_split before after [] ys is = (tt, is)
     chain_split before after (x ∷ xs) ys is =
-        let rest = chain_split (Some (slot_in x)) after xs ys is.1 in
-        ((is.0 ∙ ap (λ o. Some (x, before, o)) (head_both xs ys after), rest.0), rest.1)
+        grind (arith, chain_split (Some (slot_in x)) after xs ys is.1, head_both xs ys after)
 
     pub chain_join : (before after : Option ℕ) (xs ys : List (Node T))
         → IsChain links before xs (head_or ys after) → IsChain links (last_or before xs) ys after
         → IsChain links before (xs ++ ys) after
     chain_join before after [] ys front back = back
-    chain_join before after (x ∷ xs) ys front back = (
-      front.0 ∙ ap (λ o. Some (x, before, o)) (sym (head_both xs ys after)),
-      chain_join (Some (slot_in x)) after xs ys front.1 back,
-    )
+    chain_join before after (x ∷ xs) ys front back =
+        grind (arith, head_both xs ys after, chain_join (Some (slot_in x)) after xs ys front.1 back)
 
     -- a walk along a chain meets its nodes
     pub chain_none : (n : ℕ) → chain links n None ≡ []
@@ -188,8 +184,7 @@ module _ {T : Type 0} where
     chain_is before [] n is le = chain_none n
     chain_is before (x ∷ xs) zero is le = absurd (omega (arith, le))
     chain_is before (x ∷ xs) (suc n) is le =
-        ap (λ tie. node_tied tie ++ chain links n (after_tied tie)) is.0
-        ∙ ap (λ rest. x ∷ rest) (chain_is (Some (slot_in x)) xs n is.1 (omega (arith, le)))
+        grind (arith, n, chain_is (Some (slot_in x)) xs n is.1 (omega (arith, le)))
 
     pub chain_short : (n : ℕ) (at : Option ℕ) → length (chain links n at) ≤ n
     chain_short zero at = omega arith
@@ -204,5 +199,4 @@ module _ {T : Type 0} where
 
     pub held_is : (slot : ℕ) (xs : List (Node T)) (n : ℕ) → IsHeld links slot xs → length xs ≤ n
         → chain links n (first_of (slice_get links slot)) ≡ xs
-    held_is slot xs n held le =
-        ap (chain links n) held.first ∙ chain_is None xs n held.chain le
+    held_is slot xs n held le = grind (arith, n, chain_is)

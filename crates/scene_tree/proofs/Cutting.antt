@@ -1,9 +1,8 @@
 -- A tree from which a node was removed with all below it.
-use Rattle.scene_tree.proofs.Common.{above, ap, arith, cases_eq, cases_lt, children_of, count_at, Family, family_of}
-use Rattle.scene_tree.proofs.Common.{HasLost, is_some, IsCut, IsKept, IsLiveIn, IsOther, IsSound, IsUnder, length, List}
-use Rattle.scene_tree.proofs.Common.{Node, NodeIsUnchanged, parent_at, parent_of, same_Some, slot_in, slot_of, Some}
-use Rattle.scene_tree.proofs.Common.{State, subst, suc, sym, times, TreeState, value_of, without, zero, ℕ, ⊎_elim, ◌<◌}
-use Rattle.scene_tree.proofs.Common.{◌∙◌, ◌≡◌, ◌≢◌}
+use Rattle.scene_tree.proofs.Common.{above, ap, arith, cases_lt, children_of, count_at, Family, family_of, HasLost}
+use Rattle.scene_tree.proofs.Common.{is_some, IsCut, IsKept, IsLiveIn, IsOther, IsSound, IsUnder, length, List, Node}
+use Rattle.scene_tree.proofs.Common.{NodeIsUnchanged, parent_of, same_Some, slot_in, slot_of, Some, State, subst, suc}
+use Rattle.scene_tree.proofs.Common.{sym, times, TreeState, value_of, without, zero, ℕ, ⊎_elim, ◌<◌, ◌∙◌, ◌≡◌, ◌≢◌}
 use Rattle.scene_tree.proofs.Forests.{above_parent}
 use Rattle.scene_tree.proofs.Gathering.{all_listed, listed_below, part_whole}
 use Rattle.scene_tree.proofs.Keeping.{kept_cleared, kept_detached}
@@ -23,8 +22,7 @@ module _ {T : Type 0} {S R : State T} {fs hs : List (Family T)} (sound : IsSound
   listed = all_listed fs k.forest node list cut.level
 
   before : (s up : ℕ) → above cut.left s ≡ Some up → (s ≢ slot_in node) × (above fs s ≡ Some up)
-  before s up is = ⊎_elim (λ at. let gone = ap slot_of cut.detached.here in cc (ap (above cut.left) at, gone))
-      (λ ne. (ne, sym (ap slot_of (cut.detached.parents s ne)) ∙ is)) (cases_eq s (slot_in node))
+  before s up is = grind arith
 
   upward : (s up : ℕ) → above cut.left s ≡ Some up → 0 < count_at s list → 0 < count_at up list
   upward s up is lt = let u = under s lt in

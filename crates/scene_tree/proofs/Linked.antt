@@ -7,8 +7,8 @@ use Rattle.scene_tree.proofs.Common.{IsOpened, IsRest, last_of, last_or, length,
 use Rattle.scene_tree.proofs.Common.{Node, node_in, None, none-some, not, noted, Option, parent_at, place_of}
 use Rattle.scene_tree.proofs.Common.{pushed_old, refl, same_Some, slice_get, slice_get-get_or, slice_get-map}
 use Rattle.scene_tree.proofs.Common.{slice_get_within, slice_index_or, slot_in, slot_of, Some, Spot, subst, suc, sym}
-use Rattle.scene_tree.proofs.Common.{tie_of, true, true≢false, unwrap_or-slice_get, without, zero, [], ℕ, ⊎_elim, ◌++◌}
-use Rattle.scene_tree.proofs.Common.{◌+◌, ◌<◌, ◌∙◌, ◌∷◌, ◌≡◌, ◌≢◌, ◌≤◌, ◌⊎◌}
+use Rattle.scene_tree.proofs.Common.{tie_of, true, true≢false, unwrap_or-slice_get, without, [], ℕ, ⊎_elim, ◌++◌, ◌+◌}
+use Rattle.scene_tree.proofs.Common.{◌<◌, ◌∙◌, ◌∷◌, ◌≡◌, ◌≢◌, ◌≤◌, ◌⊎◌}
 use Rattle.scene_tree.proofs.Chains.{after_kept, after_length, before_kept, before_length, chain_is, chain_none}
 use Rattle.scene_tree.proofs.Chains.{chain_short, changed_apart, changed_here, changed_kept, changed_length, held_is}
 use Rattle.scene_tree.proofs.Chains.{last_both, link_there, noted_joined, pushed_kept}
@@ -32,12 +32,13 @@ module _ {T : Type 0} where
 
   pub children_from : (links : List (Link T)) (s : ℕ)
       → children_at (families links) s ≡ chain links (length links) (first_of (slice_get links s))
-  children_from links s = grind (
-    arith,
-    unwrap_or-slice_get (families links) s alone,
-    slice_get-map (family_in links) links s,
-    chain_none links (length links),
-  )
+  children_from links s =
+      grind (
+        arith,
+        unwrap_or-slice_get (families links) s alone,
+        slice_get-map (family_in links) links s,
+        chain_none links (length links),
+      )
 
   pub children_held : (links : List (Link T)) (s : ℕ) (xs : List (Node T)) → IsHeld links s xs
       → length xs ≤ length links → children_at (families links) s ≡ xs
@@ -45,23 +46,17 @@ module _ {T : Type 0} where
 
   pub children_short : (links : List (Link T)) (s : ℕ)
       → length (children_at (families links) s) ≤ length links
-  children_short links s =
-      let le = chain_short links (length links) (first_of (slice_get links s)) in
-      let same = ap length (children_from links s) in omega (arith, le, same)
+  children_short links s = grind (arith, chain_short, children_from)
 
   -- links, no fewer than others, that hold what these have of a slot, have its children, and its family
   children_like : (old new : List (Link T)) (s : ℕ) → length old ≤ length new
       → IsHeld new s (children_at (families old) s) → children_at (families new) s ≡ children_at (families old) s
-  children_like old new s le held = children_held new s (children_at (families old) s) held
-      (let short = children_short old s in omega (arith, short, le))
+  children_like old new s le held = grind (arith, children_held, children_short old s)
 
   pub family_like : (old new : List (Link T)) (s : ℕ) → length old ≤ length new
       → IsHeld new s (children_at (families old) s) → upper (slice_get new s) ≡ upper (slice_get old s)
       → family_at (families new) s ≡ family_at (families old) s
-  family_like old new s le held same = λ i. record {
-    parent = (parent_from new s ∙ (same ∙ sym (parent_from old s))) i;
-    children = children_like old new s le held i;
-  }
+  family_like old new s le held same = grind (arith, parent_from new s, parent_from old s, children_like)
 
   -- they are linked where they hold so what these have of each slot, or another list of one
   pub linked_like : (old new : List (Link T)) → length old ≤ length new
@@ -71,10 +66,8 @@ module _ {T : Type 0} where
   linked_but : (old new : List (Link T)) (up : ℕ) (here : List (Node T)) → length old ≤ length new
       → IsHeld new up here → length here ≤ length new
       → ((s : ℕ) → s ≢ up → IsHeld new s (children_at (families old) s)) → IsLinked new
-  linked_but old new up here le held short others s = ⊎_elim
-      (λ same. subst (λ i. IsHeld new i (children_at (families new) i)) (sym same)
-      (subst (IsHeld new up) (sym (children_held new up here held short)) held))
-      (λ ne. subst (IsHeld new s) (sym (children_like old new s le (others s ne))) (others s ne)) (cases_eq s up)
+  linked_but old new up here le held short others s =
+      grind (arith, children_held new up here held short, short, children_like, cases_eq s up)
 
   tied_within : (links : List (Link T)) (s : ℕ) (tie : Node T × Option ℕ × Option ℕ)
       → tie_of (slice_get links s) ≡ Some tie → (l : Link T) × (slice_get links s ≡ Some l)
@@ -84,18 +77,15 @@ module _ {T : Type 0} where
 
   module _ (fs : List (Family T)) (f : IsForest fs) where
     pub once_each : (up s : ℕ) → count_at s (children_at fs up) ≤ 1
-    once_each up s = ⊎_elim (λ is. let one = f.once s up is in omega (arith, one))
-        (λ ne. let none = f.only s up ne in omega (arith, none)) (slot_cases (above fs s) up)
+    once_each up s = grind (arith, slot_cases (above fs s) up)
 
     pub child_above : (up s : ℕ) → 0 < count_at s (children_at fs up) → above fs s ≡ Some up
-    child_above up s lt = ⊎_elim (λ is. is)
-        (λ ne. let none = f.only s up ne in absurd (omega (arith, lt, none))) (slot_cases (above fs s) up)
+    child_above up s lt = grind arith
 
     -- what is among the children of one slot isn't among those of another
     pub none_beside : (up other s : ℕ) → other ≢ up → 0 < count_at s (children_at fs other)
         → count_at s (children_at fs up) ≡ 0
-    none_beside up other s ne lt = f.only s up
-        (λ is. ne (same_Some other up (sym (child_above other s lt) ∙ is)))
+    none_beside up other s ne lt = grind (arith, child_above other s lt)
 
   -- what is among children has a link
   pub child_within : (links : List (Link T)) → IsForest (families links) → (up s : ℕ)
@@ -115,9 +105,7 @@ module _ {T : Type 0} where
 
   pub parts_none : (s : ℕ) (cs xs ys : List (Node T)) → cs ≡ xs ++ ys → count_at s cs ≡ 0
       → (count_at s xs ≡ 0) × (count_at s ys ≡ 0)
-  parts_none s cs xs ys whole none =
-      let both = count_both s xs ys in let same = ap (count_at s) whole in
-      (omega (arith, both, same, none), omega (arith, both, same, none))
+  parts_none s cs xs ys whole none = grind (arith, count_both s xs ys, none)
 
   -- the ends of a list are counted
   pub last_counted : (s : ℕ) (xs : List (Node T)) → last_or None xs ≡ Some s → 0 < count_at s xs
@@ -135,8 +123,7 @@ module _ {T : Type 0} where
 
   pub head_counted : (s : ℕ) (xs : List (Node T)) → head_or xs None ≡ Some s → 0 < count_at s xs
   head_counted s [] is = absurd (none-some s is)
-  head_counted s (x ∷ xs) is =
-      let here = count_here s x xs (same_Some (slot_in x) s is) in omega (arith, here)
+  head_counted s (x ∷ xs) is = grind (arith, count_here s x xs (same_Some (slot_in x) s is))
 
   insert_here : (xs ys : List (Node T)) (n : Node T) → insert (xs ++ ys) (length xs) n ≡ xs ++ n ∷ ys
   insert_here [] ys n = refl
@@ -166,16 +153,14 @@ module _ {T : Type 0} where
         back = rest.back;
         whole = ap (λ xs. c ∷ xs) rest.whole;
         slot = rest.slot;
-        place = ap (λ b. cond (not b) (1 + place_of n cs) 0) other
-            ∙ (let at = rest.place in omega (arith, at));
+        place = grind arith;
       })
       (cases_Bool (is_same c n))
 
   pub without_one : (n c : Node T) (xs ys : List (Node T)) → is_same c n ≡ true
       → count_at (slot_in n) xs ≡ 0 → count_at (slot_in n) ys ≡ 0
       → without n (xs ++ c ∷ ys) ≡ xs ++ ys
-  without_one n c [] ys same none free =
-      ap (λ b. cond (not b) (c ∷ without n ys) (without n ys)) same ∙ same_without n ys free
+  without_one n c [] ys same none free = grind (arith, n, same_without)
   without_one n c (x ∷ xs) ys same none free = ⊎_elim
       (λ is. let here = count_here (slot_in n) x xs (same_slot x n is) in
       absurd (omega (arith, here, none)))
@@ -192,14 +177,7 @@ module _ {T : Type 0} where
 
     pub gap_first : (at : Node T) (l : Link T) → slice_get links up ≡ Some l
         → IsGap cs (spot.FirstOf at) (None, l.first)
-    gap_first at l there = record {
-      front = [];
-      back = cs;
-      whole = refl;
-      put = λ n. refl;
-      before = refl;
-      after = sym (ap first_of there) ∙ (linked up).first;
-    }
+    gap_first at l there = grind arith
 
     pub gap_last : (at : Node T) (l : Link T) → slice_get links up ≡ Some l
         → IsGap cs (spot.LastOf at) (l.last, None)
@@ -218,28 +196,16 @@ module _ {T : Type 0} where
     between xs c ys whole = (back_of links up xs (c ∷ ys) (subst (IsHeld links up) whole (linked up))).chain.0
 
     pub among_within : (by : Node T) → IsAmong cs by → slot_in by < length links
-    among_within by is =
-        let there = tied_within links (slot_in is.here) (is.here, last_or None is.front, head_or is.back None)
-        (between is.front is.here is.back is.whole) in
-        subst (λ s. s < length links) is.slot (slice_get_within links (slot_in is.here) there.0 there.1)
+    among_within by is = grind (arith, tied_within, between, slice_get_within)
 
     module _ (by : Node T) (is : IsAmong cs by) (node : Node T) (before after : Option ℕ)
         (tie : tie_of (slice_get links (slot_in by)) ≡ Some (node, before, after)) where
       sides : ◌≡◌ {A = Node T × Option ℕ × Option ℕ} (node, before, after)
           (is.here, last_or None is.front, head_or is.back None)
-      sides = same_Some (node, before, after) (is.here, last_or None is.front, head_or is.back None)
-          (sym tie ∙ (ap (λ s. tie_of (slice_get links s)) (sym is.slot)
-          ∙ between is.front is.here is.back is.whole))
+      sides = grind (arith, between is.front is.here is.back is.whole)
 
       pub gap_before : IsGap cs (spot.Before by) (before, Some (slot_in by))
-      gap_before = record {
-        front = is.front;
-        back = is.here ∷ is.back;
-        whole = is.whole;
-        put = λ n. cc (insert_here is.front (is.here ∷ is.back) n);
-        before = ap (λ t. t.1) sides;
-        after = ap Some (sym is.slot);
-      }
+      gap_before = grind (arith, insert_here, sides)
 
       pub gap_after : IsGap cs (spot.After by) (Some (slot_in by), after)
       gap_after = record {
@@ -255,14 +221,7 @@ module _ {T : Type 0} where
 
   pub rest_first : (links : List (Link T)) (s : ℕ) (l : Link T) → IsLinked links
       → slice_get links s ≡ Some l → IsRest links l.first
-  rest_first links s l linked there = record {
-    before = None;
-    first = sym (ap first_of there) ∙ ((linked s).first ∙ ap (λ xs. head_or xs None) same);
-    lies = subst (λ xs. IsChain links None xs None) same (linked s).chain;
-  }
-    where
-      same : children_at (families links) s ≡ chain links (length links) l.first
-      same = children_from links s ∙ ap (λ o. chain links (length links) (first_of o)) there
+  rest_first links s l linked there = grind (arith, linked s, children_from links s)
 
   pub rest_next : (links : List (Link T)) (next : Option ℕ) (s : ℕ) → IsRest links next → next ≡ Some s
       → (l : Link T) × (slice_get links s ≡ Some l)
@@ -303,19 +262,19 @@ module _ {T : Type 0} where
 
   pub rest_within : (links : List (Link T)) (next : Option ℕ) (s : ℕ) → IsRest links next → next ≡ Some s
       → s < length links
-  rest_within links next s rest is =
-      let at = rest_next links next s rest is in slice_get_within links s at.0 at.1
+  rest_within links next s rest is = grind (arith, rest_next links next s rest is, slice_get_within)
 
   -- the same, as the link is read
   pub rest_read : (links : List (Link T)) (next : Option ℕ) (s : ℕ) (l : Link T) → IsRest links next
       → next ≡ Some s → l ≡ slice_index_or links s l
       → (chain links (length links) next ≡ l.node ∷ chain links (length links) l.after) × IsRest links l.after
   rest_read links next s l rest is read =
-      let at = rest_next links next s rest is in
-      let same = same_Some at.0 l (sym at.1 ∙ (slice_get-get_or links s l (rest_within links next s rest is)
-      ∙ ap Some (sym read))) in
-      subst (λ m. (chain links (length links) next ≡ m.node ∷ chain links (length links) m.after)
-      × IsRest links m.after) same (at.2, at.3)
+      grind (
+        arith,
+        rest_next links next s rest is,
+        slice_get-get_or links s l (rest_within links next s rest is),
+        rest_within links next s rest is,
+      )
 
   -- ---- a slot more
 
@@ -330,18 +289,17 @@ module _ {T : Type 0} where
     grown : (before after : Option ℕ) (xs : List (Node T)) → IsChain links before xs after
         → IsChain longer before xs after
     grown before after [] is = tt
-    grown before after (x ∷ xs) is =
-        let there = tied_within links (slot_in x) (x, before, head_or xs after) is.0 in (
-          ap tie_of (pushed_old links (slot_in x) l there.0 there.1) ∙ (ap tie_of (sym there.1) ∙ is.0),
-          grown (Some (slot_in x)) after xs is.1,
-        )
+    grown before after (x ∷ xs) is = grind (arith, tied_within, pushed_old, grown (Some (slot_in x)) after xs is.1)
 
     longer_held : (s : ℕ) → IsHeld longer s (children_at (families links) s)
-    longer_held s = record {
-      first = pushed_kept first_of l first links s ∙ (linked s).first;
-      last = pushed_kept last_of l last links s ∙ (linked s).last;
-      chain = grown None None (children_at (families links) s) (linked s).chain;
-    }
+    longer_held s =
+        grind (
+          arith,
+          pushed_kept first_of l first links s,
+          linked s,
+          pushed_kept last_of l last links s,
+          grown None None (children_at (families links) s) (linked s).chain,
+        )
 
     pub opened_linked : IsLinked longer
     opened_linked = linked_like links longer more longer_held
@@ -351,9 +309,12 @@ module _ {T : Type 0} where
       same = λ s. family_like links longer s more (longer_held s) (pushed_kept upper l root links s);
       old = λ lt. let old = length-map links (family_in links) in absurd (omega (arith, lt, at, old));
       next = λ is.
-          let old = length-map links (family_in links) in
-          let new = length-map longer (family_in longer) in
-          let long = length-append links (l ∷ []) in omega (arith, old, new, long);
+          grind (
+            arith,
+            length-map links (family_in links),
+            length-map longer (family_in longer),
+            length-append links (l ∷ []),
+          );
     }
 
   -- ---- a slot left alone
@@ -389,8 +350,7 @@ module _ {T : Type 0} where
     }
 
     pub bared_others : (s : ℕ) → s ≢ slot → family_at (families bared) s ≡ family_at (families links) s
-    bared_others s ne = family_like links bared s bared_length (bared_apart s ne)
-        (ap upper (changed_apart links slot bare s ne))
+    bared_others s ne = grind (arith, family_like, bared_length, bared_apart, changed_apart)
 
   -- ---- a child more
 
@@ -426,8 +386,7 @@ module _ {T : Type 0} where
     there_length = changed_length links (slot_in child) (put_in before after)
 
     new_length : length new ≡ length links
-    new_length = before_length (after_put there up before (Some (slot_in child))) up after (Some (slot_in child))
-        ∙ (after_length there up before (Some (slot_in child)) ∙ there_length)
+    new_length = grind (arith, before_length, after_length, there_length)
 
     there_held : (s : ℕ) → IsHeld there s (children_at fs s)
     there_held s = held_kept links there s (children_at fs s)
@@ -441,8 +400,7 @@ module _ {T : Type 0} where
     up_there = link_there there up (omega (arith, within, there_length))
 
     tied : tie_of (slice_get there (slot_in child)) ≡ Some (child, before, after)
-    tied = let l = link_there links (slot_in child) lc in
-        ap tie_of (changed_here links (slot_in child) (put_in before after) l.0 l.1)
+    tied = grind (arith, link_there links (slot_in child) lc, changed_here)
 
     counted_more : (s : ℕ) → s ≢ slot_in child → count_at s (is.front ++ child ∷ is.back) ≡ count_at s (children_at fs up)
     counted_more s ne =
@@ -504,8 +462,7 @@ module _ {T : Type 0} where
       here = let l = link_there links (slot_in child) lc in
           parent_from new (slot_in child) ∙ (new_parent (slot_in child)
           ∙ ap upper (changed_here links (slot_in child) (put_in before after) l.0 l.1));
-      parents = λ s ne. parent_from new s ∙ (new_parent s
-          ∙ (ap upper (changed_apart links (slot_in child) (put_in before after) s ne) ∙ sym (parent_from links s)));
+      parents = λ s ne. grind (arith, parent_from, new_parent, changed_apart);
       listed = children_held new up (is.front ++ child ∷ is.back) new_here here_short ∙ sym (is.put child);
       others = λ s ne. children_like links new s enough (new_apart s ne);
     }
@@ -538,9 +495,7 @@ module _ {T : Type 0} where
     pub sides_of : (n : Node T) (b a : Option ℕ) → tie_of (slice_get links (slot_in node)) ≡ Some (n, b, a)
         → ◌≡◌ {A = Node T × Option ℕ × Option ℕ} (n, b, a)
         (part.here, last_or None part.front, head_or part.back None)
-    sides_of n b a tie = same_Some (n, b, a) (part.here, last_or None part.front, head_or part.back None)
-        (sym tie ∙ (ap (λ s. tie_of (slice_get links s)) (sym part.slot)
-        ∙ between links top linked part.front part.here part.back part.whole))
+    sides_of n b a tie = grind (arith, n, between, linked)
 
     pub as_cut : (n : Node T) (b a : Option ℕ) → tie_of (slice_get links (slot_in node)) ≡ Some (n, b, a)
         → before_put (after_put freed top b a) top a b ≡ cut
@@ -550,9 +505,7 @@ module _ {T : Type 0} where
     freed_length = changed_length links (slot_in node) (λ l. record l { parent = None })
 
     cut_length : length cut ≡ length links
-    cut_length = before_length (after_put freed top (last_or None part.front) (head_or part.back None)) top
-        (head_or part.back None) (last_or None part.front)
-        ∙ (after_length freed top (last_or None part.front) (head_or part.back None) ∙ freed_length)
+    cut_length = grind (arith, before_length, after_length, freed_length)
 
     freed_held : (s : ℕ) → IsHeld freed s (children_at old s)
     freed_held s = held_kept links freed s (children_at old s)
@@ -569,17 +522,22 @@ module _ {T : Type 0} where
 
     few_listed : (s : ℕ) → count_at s part.front + count_at s part.back ≤ 1
     few_listed s =
-        let both = count_both s part.front (part.here ∷ part.back) in
-        let more = count_more s part.here part.back in
-        let le = once_listed s in omega (arith, both, more, le)
+        grind (
+          arith,
+          count_both s part.front (part.here ∷ part.back),
+          count_more s part.here part.back,
+          once_listed s,
+        )
 
     beside_none : (s i : ℕ) → s ≢ top → 0 < count_at i (children_at old s)
         → (count_at i part.front ≡ 0) × (count_at i part.back ≡ 0)
     beside_none s i ne lt =
-        let none = parts_none i (children_at old top) part.front (part.here ∷ part.back) part.whole
-        (none_beside old f top s i ne lt) in
-        let more = count_more i part.here part.back in
-        let zero = none.1 in (none.0, omega (arith, more, zero))
+        grind (
+          arith,
+          parts_none i (children_at old top) part.front (part.here ∷ part.back) part.whole (none_beside old f top s i ne lt),
+          none_beside old f top s i ne lt,
+          count_more i part.here part.back,
+        )
 
     cut_here : IsHeld cut top (part.front ++ part.back)
     cut_here = linked_out freed top top_there.0 part.front part.back part.here top_there.1 once_listed
@@ -592,10 +550,13 @@ module _ {T : Type 0} where
 
     rest_short : length (part.front ++ part.back) ≤ length cut
     rest_short =
-        let le = children_short links top in
-        let len = length-append part.front part.back in
-        let whole = ap length part.whole ∙ length-append part.front (part.here ∷ part.back) in
-        omega (arith, le, len, whole, cut_length)
+        grind (
+          arith,
+          children_short links top,
+          length-append part.front part.back,
+          length-append part.front (part.here ∷ part.back),
+          cut_length,
+        )
 
     same_many : length links ≤ length cut
     same_many = omega (arith, cut_length)
@@ -631,22 +592,17 @@ module _ {T : Type 0} where
     pub detached_is : IsDetached old node (families cut)
     detached_is = record {
       long = same_length cut links cut_length;
-      here = parent_from cut (slot_in node) ∙ (cut_parent (slot_in node)
-          ∙ freed_here (slice_get links (slot_in node)) refl);
-      parents = λ s ne. parent_from cut s ∙ (cut_parent s
-          ∙ (ap upper (changed_apart links (slot_in node) (λ l. record l { parent = None }) s ne) ∙ sym (parent_from links s)));
-      lost = λ s is. subst (λ i. children_at (families cut) i ≡ without node (children_at old i))
-          (same_Some top s (sym (ap slot_of has) ∙ is)) rest_is;
+      here = grind (arith, parent_from, cut_parent, freed_here);
+      parents = λ s ne. grind (arith, parent_from cut s, cut_parent s, changed_apart, parent_from links s);
+      lost = λ s is. grind (arith, rest_is);
       others = λ s ne. children_like links cut s same_many
           (cut_apart s (λ same. ne (ap slot_of has ∙ ap Some (sym same))));
     }
       where
         freed_here : (o : Option (Link T)) → slice_get links (slot_in node) ≡ o
             → upper (slice_get freed (slot_in node)) ≡ None
-        freed_here None there = absurd (none-some parent
-            (sym (parent_from links (slot_in node) ∙ ap upper there) ∙ has))
-        freed_here (Some l) there =
-            ap upper (changed_here links (slot_in node) (λ l. record l { parent = None }) l there)
+        freed_here None there = grind (arith, parent_from links (slot_in node))
+        freed_here (Some l) there = grind (arith, changed_here)
 
     -- the slots beside the node are slots of links
     pub beside_within : (s : ℕ) → (last_or None part.front ≡ Some s) ⊎ (head_or part.back None ≡ Some s)
@@ -707,8 +663,7 @@ module _ {T : Type 0} where
         noted = ap (λ ls. noted ls (slot_in child)) left ∙ (noted_joined _ top top gap.0 (Some slot) gap.1 (Some slot)
             (slot_in child) ∙ (let l = link_there links (slot_in child) lc in
             ap node_in (changed_here links (slot_in child) _ l.0 l.1)));
-        others = λ s ne. ap (λ ls. noted ls s) left ∙ (noted_joined _ top top gap.0 (Some slot) gap.1 (Some slot) s
-            ∙ ap node_in (changed_apart links (slot_in child) _ s ne));
+        others = λ s ne. grind (arith, noted_joined, changed_apart);
       }
 
   -- and a detaching
@@ -732,8 +687,7 @@ module _ {T : Type 0} where
       let same = left ∙ ((λ i. before_put (after_put (changed links (slotis i) (λ l. record l { parent = None }))
       (topis i) b a) (topis i) a b) ∙ as_cut links linked f node parent is alike n b a here) in record {
         linked = subst IsLinked (sym same) (detached_linked links linked f node parent is alike);
-        detached = subst (λ ls. IsDetached (families links) node (families ls)) (sym same)
-            (detached_is links linked f node parent is alike);
+        detached = grind (arith, detached_is, linked, alike);
         noted = λ s. ap (λ ls. noted ls s) left ∙ (noted_joined _ top top b a a b s
             ∙ changed_kept node_in links slot _ (λ l. refl) s);
       }

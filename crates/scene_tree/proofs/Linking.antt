@@ -25,13 +25,11 @@ module _ {T : Type 0} where
 
   ties_rest : (old new : List (Link T)) (x : Node T) (xs : List (Node T)) → HasTies old new (x ∷ xs)
       → HasTies old new xs
-  ties_rest old new x xs same s lt =
-      same s (let more = count_more s x xs in omega (arith, lt, more))
+  ties_rest old new x xs same s lt = grind (arith, count_more s x xs)
 
   ties_here : (old new : List (Link T)) (x : Node T) (xs : List (Node T)) → HasTies old new (x ∷ xs)
       → tie_of (slice_get new (slot_in x)) ≡ tie_of (slice_get old (slot_in x))
-  ties_here old new x xs same =
-      same (slot_in x) (let here = count_here (slot_in x) x xs refl in omega (arith, here))
+  ties_here old new x xs same = grind (arith, count_here (slot_in x) x xs refl)
 
   pub chain_kept : (old new : List (Link T)) (before after : Option ℕ) (xs : List (Node T))
       → HasTies old new xs → IsChain old before xs after → IsChain new before xs after
@@ -45,35 +43,21 @@ module _ {T : Type 0} where
       → first_of (slice_get new slot) ≡ first_of (slice_get old slot)
       → last_of (slice_get new slot) ≡ last_of (slice_get old slot)
       → IsHeld old slot xs → IsHeld new slot xs
-  held_kept old new slot xs same first last held = record {
-    first = first ∙ held.first;
-    last = last ∙ held.last;
-    chain = chain_kept old new None None xs same held.chain;
-  }
+  held_kept old new slot xs same first last held = grind (arith, chain_kept old new None None xs same held.chain)
 
   -- a list of children is its front and its back
   pub front_of : (links : List (Link T)) (up : ℕ) (xs ys : List (Node T)) → IsHeld links up (xs ++ ys)
       → IsFront links up xs (head_or ys None)
-  front_of links up xs ys held = record {
-    first = held.first ∙ head_both xs ys None;
-    chain = (chain_split links None None xs ys held.chain).0;
-  }
+  front_of links up xs ys held = grind (arith, head_both xs ys None, chain_split links None None xs ys held.chain)
 
   pub back_of : (links : List (Link T)) (up : ℕ) (xs ys : List (Node T)) → IsHeld links up (xs ++ ys)
       → IsBack links up (last_or None xs) ys
-  back_of links up xs ys held = record {
-    last = held.last ∙ last_both None xs ys;
-    chain = (chain_split links None None xs ys held.chain).1;
-  }
+  back_of links up xs ys held = grind (arith, last_both None xs ys, chain_split links None None xs ys held.chain)
 
   pub held_of : (links : List (Link T)) (up : ℕ) (xs ys : List (Node T))
       → IsFront links up xs (head_or ys None) → IsBack links up (last_or None xs) ys
       → IsHeld links up (xs ++ ys)
-  held_of links up xs ys front back = record {
-    first = front.first ∙ sym (head_both xs ys None);
-    last = back.last ∙ sym (last_both None xs ys);
-    chain = chain_join links None None xs ys front.chain back.chain;
-  }
+  held_of links up xs ys front back = grind (arith, head_both, last_both, chain_join)
 
   -- ---- another comes after the front
 
@@ -88,10 +72,7 @@ module _ {T : Type 0} where
           → tie_of (slice_get (changed links (slot_in x) (λ l. record l { after = next })) (slot_in x))
           ≡ Some (x, before, next)
       tied None there = absurd (none-some (x, before, after) (sym (ap tie_of there) ∙ is.0))
-      tied (Some l) there =
-          ap tie_of (changed_here links (slot_in x) (λ l. record l { after = next }) l there)
-          ∙ ap (λ tie. Some (tie.0, tie.1, next))
-          (same_Some (l.node, l.before, l.after) (x, before, after) (sym (ap tie_of there) ∙ is.0))
+      tied (Some l) there = grind (arith, changed_here)
   chain_after links up before after next at (x ∷ y ∷ ys) once is = (
     after_ties links up (last_or (Some (slot_in y)) ys) next (slot_in x)
         (last_apart (Some (slot_in y)) ys (slot_in x)
@@ -109,10 +90,7 @@ module _ {T : Type 0} where
   pub front_put : (links : List (Link T)) (up : ℕ) (after next : Option ℕ) (l : Link T) (xs : List (Node T))
       → slice_get links up ≡ Some l → ((s : ℕ) → count_at s xs ≤ 1) → IsFront links up xs after
       → IsFront (after_put links up (last_or None xs) next) up xs next
-  front_put links up after next l [] there once front = record {
-    first = ap first_of (changed_here links up (λ l. record l { first = next }) l there);
-    chain = tt;
-  }
+  front_put links up after next l [] there once front = grind (arith, changed_here)
   front_put links up after next l (x ∷ xs) there once front = record {
     first = first (last_or (Some (slot_in x)) xs) (last_is (slot_in x) xs);
     chain = chain_after links up None after next None (x ∷ xs) once front.chain;
@@ -131,21 +109,14 @@ module _ {T : Type 0} where
   pub back_after : (links : List (Link T)) (up : ℕ) (at next before : Option ℕ) (ys : List (Node T))
       → ((s : ℕ) → 0 < count_at s ys → at ≢ Some s) → IsBack links up before ys
       → IsBack (after_put links up at next) up before ys
-  back_after links up at next before ys apart back = record {
-    last = after_last links up at next up ∙ back.last;
-    chain = chain_kept links (after_put links up at next) before None ys
-        (λ s lt. after_ties links up at next s (apart s lt)) back.chain;
-  }
+  back_after links up at next before ys apart back = grind (arith, after_last, at, chain_kept, after_ties)
 
   -- ---- another comes before the back
 
   pub back_put : (links : List (Link T)) (up : ℕ) (before next : Option ℕ) (l : Link T) (ys : List (Node T))
       → slice_get links up ≡ Some l → ((s : ℕ) → count_at s ys ≤ 1) → IsBack links up before ys
       → IsBack (before_put links up (head_or ys None) next) up next ys
-  back_put links up before next l [] there once back = record {
-    last = ap last_of (changed_here links up (λ l. record l { last = next }) l there);
-    chain = tt;
-  }
+  back_put links up before next l [] there once back = grind (arith, changed_here)
   back_put links up before next l (y ∷ ys) there once back = record {
     last = changed_kept last_of links (slot_in y) (λ l. record l { before = next }) (λ l. refl) up ∙ back.last;
     chain = (
@@ -161,20 +132,12 @@ module _ {T : Type 0} where
           → tie_of (slice_get (changed links (slot_in y) (λ l. record l { before = next })) (slot_in y))
           ≡ Some (y, next, head_or ys None)
       tied None there = absurd (none-some (y, before, head_or ys None) (sym (ap tie_of there) ∙ back.chain.0))
-      tied (Some l) there =
-          ap tie_of (changed_here links (slot_in y) (λ l. record l { before = next }) l there)
-          ∙ ap (λ tie. Some (tie.0, next, tie.2))
-          (same_Some (l.node, l.before, l.after) (y, before, head_or ys None)
-          (sym (ap tie_of there) ∙ back.chain.0))
+      tied (Some l) there = grind (arith, changed_here)
 
   pub front_before : (links : List (Link T)) (up : ℕ) (at next after : Option ℕ) (xs : List (Node T))
       → ((s : ℕ) → 0 < count_at s xs → at ≢ Some s) → IsFront links up xs after
       → IsFront (before_put links up at next) up xs after
-  front_before links up at next after xs apart front = record {
-    first = before_first links up at next up ∙ front.first;
-    chain = chain_kept links (before_put links up at next) None after xs
-        (λ s lt. before_ties links up at next s (apart s lt)) front.chain;
-  }
+  front_before links up at next after xs apart front = grind (arith, before_first, at, chain_kept, before_ties)
 
   -- ---- the links of a slot's children on both sides of a spot
 

@@ -40,8 +40,7 @@ module _ {T : Type 0} where
       simple = last.simple;
       same = last.same ∙ before.same;
       number = last.number ∙ before.number;
-      count = let more = length-append xs (x ∷ []) in
-          omega (arith, more, before.count, last.count);
+      count = grind (arith, length-append xs (x ∷ []));
       given = λ n given. last.given n (before.given n given);
       ended = λ n some. ⊎_elim (λ lt. last.ended n lt)
           (λ le. let both = times_both n xs (x ∷ []) in
@@ -54,22 +53,12 @@ module _ {T : Type 0} where
     pub lost_more : (nodes items : List (Node T)) (i : ℕ) (x d : Node T) → items ≡ nodes
         → i < length items → x ≡ get_or items i d → HasLost S (take i nodes) R
         → HasLost R (x ∷ []) Q → HasLost S (take (i + 1) nodes) Q
-    lost_more nodes items i x d same lt is before last = subst (λ xs. HasLost S xs Q)
-        (sym (take_more nodes i d (subst (λ xs. i < length xs) same lt)
-        ∙ ap (λ y. take i nodes ++ y ∷ []) (sym (is ∙ ap (λ xs. get_or xs i d) same))))
-        (lost_last (take i nodes) x before last)
+    lost_more nodes items i x d same lt is before last =
+        grind (arith, take_more, lost_last (take i nodes) x before last)
 
   -- of none
   pub lost_none : {S : State T} → IsSimple S → HasLost S [] S
-  lost_none simple = record {
-    simple = simple;
-    same = refl;
-    number = refl;
-    count = omega arith;
-    given = λ n given. given;
-    ended = λ n some. absurd (zero_less some refl);
-    others = λ n none. refl;
-  }
+  lost_none simple = grind arith
 
   -- a node that was live, and stands once in the list, is live until its turn comes
   pub still_live : {S R : State T} {nodes items : List (Node T)} {i : ℕ} (d : Node T)

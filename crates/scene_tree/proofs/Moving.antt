@@ -1,10 +1,9 @@
 -- A tree in which a node was moved, or was made a root.
-use Rattle.scene_tree.proofs.Common.{above, ap, arith, CanMove, cases_eq, children_at, children_of, Err, Family, IfOk}
-use Rattle.scene_tree.proofs.Common.{is_live, IsAmong, IsAttached, IsBelow, IsDetached, IsKept, IsLiveIn, IsOther}
-use Rattle.scene_tree.proofs.Common.{IsSound, IsSpotIn, IsUnder, List, named, Node, None, none-some, Ok, OnOk}
-use Rattle.scene_tree.proofs.Common.{parent_at, parent_for, parent_of, placed, refl, Result, same_Some, slot_in}
-use Rattle.scene_tree.proofs.Common.{slot_of, Some, Spot, State, subst, suc, sym, TreeState, true, without, zero, ℕ}
-use Rattle.scene_tree.proofs.Common.{⊎_elim, ◌∙◌, ◌≡◌, ◌≢◌}
+use Rattle.scene_tree.proofs.Common.{ap, arith, CanMove, cases_eq, children_at, children_of, Err, Family, IfOk, is_live}
+use Rattle.scene_tree.proofs.Common.{IsAmong, IsAttached, IsBelow, IsDetached, IsKept, IsLiveIn, IsOther, IsSound}
+use Rattle.scene_tree.proofs.Common.{IsSpotIn, IsUnder, List, named, Node, None, Ok, OnOk, parent_at, parent_for}
+use Rattle.scene_tree.proofs.Common.{parent_of, placed, refl, Result, same_Some, slot_in, slot_of, Some, Spot, State}
+use Rattle.scene_tree.proofs.Common.{subst, suc, sym, TreeState, true, without, zero, ℕ, ⊎_elim, ◌∙◌, ◌≡◌, ◌≢◌}
 use Rattle.scene_tree.specs.declared.spot.Spot.TheVariants as spot
 use Rattle.scene_tree.proofs.Counting.{same_without}
 use Rattle.scene_tree.proofs.Forests.{above_parent, slot_cases}
@@ -27,16 +26,11 @@ module _ {T : Type 0} {S : State T} {fs gs : List (Family T)} (sound : IsSound S
   -- the parent, which is live, loses the child
   pub freed_lost : (up : Node T) → parent_of tree node ≡ Some up
       → children_of freed up ≡ without node (children_of tree up)
-  freed_lost up is =
-      let at = (has_parent sound k node up is).1 in
-      let lives = k.parents (slot_in node) up at in
-      ap (λ f. f.children) (live_family freed up lives) ∙ (d.lost (slot_in up) (ap slot_of at)
-      ∙ ap (without node) (sym (live_children sound k up lives)))
+  freed_lost up is = grind arith
 
   -- each other node has the parent that it had, and each but its parent the children
   parents_left : (n : Node T) → IsOther node n → IsLiveIn S n → parent_at gs (slot_in n) ≡ parent_at fs (slot_in n)
-  parents_left n other lives =
-      d.parents (slot_in n) (λ is. other (one_live S node n sound k.simple live lives (sym is)))
+  parents_left n other lives = grind (arith, n, one_live)
 
   children_left : (n : Node T) → ((up : Node T) → parent_of tree node ≡ Some up → IsOther up n) → IsLiveIn S n
       → children_at gs (slot_in n) ≡ children_at fs (slot_in n)
@@ -77,10 +71,7 @@ module _ {T : Type 0} {S : State T} {fs gs : List (Family T)} (sound : IsSound S
     -- what is under the node once it is detached was so before
     under_before : (e s : ℕ) → IsUnder gs (slot_in node) e s → IsUnder fs (slot_in node) e s
     under_before zero s under = under
-    under_before (suc e) s under = ⊎_elim
-        (λ at. absurd (none-some under.0 (sym (ap slot_of d.here) ∙ (ap (above gs) (sym at) ∙ under.1))))
-        (λ ne. (under.0, sym (ap slot_of (d.parents s ne)) ∙ under.1, under_before e under.0 under.2))
-        (cases_eq s (slot_in node))
+    under_before (suc e) s under = grind (arith, under_before e under.0 under.2, cases_eq s (slot_in node))
 
     pub kept_moved : IsKept S hs
     kept_moved = kept_attached (kept_detached k sound gs node live d) hs parent node at may.parent live
@@ -92,11 +83,7 @@ module _ {T : Type 0} {S : State T} {fs gs : List (Family T)} (sound : IsSound S
 
     -- the node is at its spot, and was taken out from where it stood
     pub moved_placed : children_of moved parent ≡ placed at node (without node (children_of tree parent))
-    moved_placed = ap (λ f. f.children) (live_family moved parent may.parent) ∙ (a.listed ∙ ap (placed at node)
-        (⊎_elim (λ here. d.lost (slot_in parent) here) (λ other. d.others (slot_in parent) other
-        ∙ sym (same_without node (children_at fs (slot_in parent))
-        (k.forest.only (slot_in node) (slot_in parent) other))) (slot_cases (above fs (slot_in node)) (slot_in parent))
-        ∙ ap (without node) (sym (live_children sound k parent may.parent))))
+    moved_placed = grind (arith, live_family, at, same_without, slot_cases, live_children)
 
     -- a live node other than the parent has another slot
     not_parent : (n : Node T) → IsOther parent n → IsLiveIn S n → slot_in n ≢ slot_in parent

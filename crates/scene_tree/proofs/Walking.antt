@@ -72,9 +72,7 @@ module _ {T : Type 0} {S : State T} {fs : List (Family T)} (sound : IsSound S) (
       → (o : Option (Node T)) → parent_at fs (slot_in node) ≡ o
       → AreAncestors tree node (way_up fs n o)
   way_ancestors zero d node live r le None is = live_parent sound k node live ∙ is
-  way_ancestors zero d node live r le (Some up) is =
-      let less = rooted_up fs d (slot_in node) (slot_in up) (ap slot_of is) r in
-      let one = less.1 in absurd (omega (arith, le, one))
+  way_ancestors zero d node live r le (Some up) is = grind arith
   way_ancestors (suc n) d node live r le None is = live_parent sound k node live ∙ is
   way_ancestors (suc n) d node live r le (Some up) is =
       let less = rooted_up fs d (slot_in node) (slot_in up) (ap slot_of is) r in

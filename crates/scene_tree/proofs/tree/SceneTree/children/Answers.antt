@@ -14,10 +14,6 @@ pub returns : goal.returns
 returns g c =
     let sound = g.met.S.AnyStorage.sound in
     let live = told_live c.args.node c.self.view_is c.is_alive.ensures c.if-not-is_alive.false in
-    rw (← c.self.view_is) (record {
-      children = c.children_at.ensures ∙ (ap (children_at _) c.slot.ensures
-          ∙ sym (live_children (sound _) c.self.invariant.0 c.args.node live));
-      tree = kept_tree (sound _) c.self.invariant.0;
-      stale = search rules;
-      told = search rules;
-    })
+    let children = c.children_at.ensures ∙ (ap (children_at _) c.slot.ensures
+    ∙ sym (live_children (sound _) c.self.invariant.0 c.args.node live)) in
+    let tree = kept_tree (sound _) c.self.invariant.0 in rw (← c.self.view_is) (search rules)

@@ -4,12 +4,9 @@ use Rattle.scene_tree.proofs.tree.SceneTree.detach.Goals as goal
 
 pub detach-requires : goal.detach-requires
 detach-requires g c =
-    let live = told_live c.args.node c.self.view_is c.is_alive.ensures c.if-not-is_alive.false in record {
-      linked = c.self.invariant.1;
-      forest = c.self.invariant.0.forest;
-      node = live_slot _ (g.met.S.AnyStorage.sound _) c.self.invariant.0 c.args.node live;
-      alike = alike c.self.invariant.0 (g.met.S.AnyStorage.sound _) c.args.node live;
-    }
+    let live = told_live c.args.node c.self.view_is c.is_alive.ensures c.if-not-is_alive.false in
+    let within = live_slot _ (g.met.S.AnyStorage.sound _) c.self.invariant.0 c.args.node live in
+    let same = alike c.self.invariant.0 (g.met.S.AnyStorage.sound _) c.args.node live in search rules
 
 pub invariant_of-self : goal.invariant_of-self
 invariant_of-self g c = (
@@ -25,13 +22,7 @@ returns g c =
     let k = c.self.invariant.0 in
     let live = told_live c.args.node c.self.view_is c.is_alive.ensures c.if-not-is_alive.false in
     let gone = c.detach.ensures.detached in
-    rw (← c.self.view_is) (record {
-      state = search rules;
-      root = freed_root (sound _) k c.args.node live gone;
-      lost = freed_lost (sound _) k c.args.node live gone;
-      parents = freed_parents (sound _) k c.args.node live gone;
-      others = freed_others (sound _) k c.args.node live gone;
-      stale = search rules;
-      told = search rules;
-      refused = search rules;
-    })
+    let root = freed_root (sound _) k c.args.node live gone in
+    let lost = freed_lost (sound _) k c.args.node live gone in
+    let parents = freed_parents (sound _) k c.args.node live gone in
+    let others = freed_others (sound _) k c.args.node live gone in rw (← c.self.view_is) (search rules)

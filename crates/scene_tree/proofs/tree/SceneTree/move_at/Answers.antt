@@ -5,12 +5,9 @@ use Rattle.scene_tree.proofs.tree.SceneTree.move_at.Goals as goal
 
 pub detach-requires : goal.detach-requires
 detach-requires g c =
-    let may = rw (← c.self.view_is) at c.in_ok-parent.ensures.may in record {
-      linked = c.self.invariant.1;
-      forest = c.self.invariant.0.forest;
-      node = live_slot _ (g.met.S.AnyStorage.sound _) c.self.invariant.0 c.args.node may.node;
-      alike = alike c.self.invariant.0 (g.met.S.AnyStorage.sound _) c.args.node may.node;
-    }
+    let may = rw (← c.self.view_is) at c.in_ok-parent.ensures.may in
+    let within = live_slot _ (g.met.S.AnyStorage.sound _) c.self.invariant.0 c.args.node may.node in
+    let same = alike c.self.invariant.0 (g.met.S.AnyStorage.sound _) c.args.node may.node in search rules
 
 pub attach-requires : goal.attach-requires
 attach-requires g c =
@@ -23,14 +20,10 @@ attach-requires g c =
     let up = live_slot _ (sound _) k c.in_ok-parent.parent may.parent in
     let child = live_slot _ (sound _) k c.args.node may.node in
     let old = length-map c.self.inside.links.items (family_in c.self.inside.links.items) in
-    let new = length-map c.detach.new.links.items (family_in c.detach.new.links.items) in record {
-      linked = c.detach.ensures.linked;
-      forest = (kept_detached k (sound _) _ c.args.node may.node left).forest;
-      spot = spot_left (sound _) k c.args.node may.node left c.args.spot _ is apart;
-      parent = omega (arith, up, left.long, old, new);
-      child = omega (arith, child, left.long, old, new);
-      root = ap slot_of left.here;
-    }
+    let new = length-map c.detach.new.links.items (family_in c.detach.new.links.items) in
+    let forest = (kept_detached k (sound _) _ c.args.node may.node left).forest in
+    let spot = spot_left (sound _) k c.args.node may.node left c.args.spot _ is apart in
+    let root = ap slot_of left.here in search (rules, arith)
 
 pub invariant_of-self : goal.invariant_of-self
 invariant_of-self g c =

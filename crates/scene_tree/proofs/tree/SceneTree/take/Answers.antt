@@ -5,23 +5,18 @@ use Rattle.scene_tree.proofs.tree.SceneTree.take.Goals as goal
 
 pub cut-requires : goal.cut-requires
 cut-requires g c =
-    let live = told_live c.args.node c.self.view_is c.is_alive.ensures c.if-not-is_alive.false in record {
-      linked = c.self.invariant.1;
-      forest = c.self.invariant.0.forest;
-      within = live_slot _ (g.met.S.AnyStorage.sound _) c.self.invariant.0 c.args.node live;
-      alike = alike c.self.invariant.0 (g.met.S.AnyStorage.sound _) c.args.node live;
-    }
+    let live = told_live c.args.node c.self.view_is c.is_alive.ensures c.if-not-is_alive.false in
+    let within = live_slot _ (g.met.S.AnyStorage.sound _) c.self.invariant.0 c.args.node live in
+    let same = alike c.self.invariant.0 (g.met.S.AnyStorage.sound _) c.args.node live in search rules
 
 pub take_first-requires : goal.take_first-requires
 take_first-requires g c =
     let sound = g.met.S.AnyStorage.sound in
     let live = told_live c.args.node c.self.view_is c.is_alive.ensures c.if-not-is_alive.false in
-    let level = c.in-Ok.ensures.cut.level in record {
-      some = omega (arith, ap length level);
-      simple = c.self.invariant.0.simple;
-      live = list_live (sound _) c.self.invariant.0 c.args.node live _ level;
-      once = (subtree (sound _) c.self.invariant.0 c.args.node live _ level).once;
-    }
+    let level = c.in-Ok.ensures.cut.level in
+    let some = ap length level in
+    let lives = list_live (sound _) c.self.invariant.0 c.args.node live _ level in
+    let once = (subtree (sound _) c.self.invariant.0 c.args.node live _ level).once in search (rules, arith)
 
 pub invariant_of-self : goal.invariant_of-self
 invariant_of-self g c = subst (λ links. IsKept (g.S.AnyStorage.state c.self.inside.store) (families links)

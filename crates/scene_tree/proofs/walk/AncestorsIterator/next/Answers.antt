@@ -1,5 +1,5 @@
-use Rattle.scene_tree.proofs.{ap, arith, families, IsWithin, length, next_within, parent_at, subst, sym, way_next}
-use Rattle.scene_tree.proofs.{way_up, ◌∙◌, ◌∷◌}
+use Rattle.scene_tree.proofs.{ap, arith, families, IsWithin, length, next_within, parent_at, rules, subst, sym}
+use Rattle.scene_tree.proofs.{way_next, way_up, ◌∙◌, ◌∷◌}
 use Rattle.scene_tree.proofs.walk.AncestorsIterator.next.Goals as goal
 
 pub invariant_of-self : goal.invariant_of-self
@@ -20,8 +20,4 @@ returns-clause-steps g c =
     (ap (parent_at fs) (sym c.slot.ensures) ∙ sym c.parent_at-self-inside.ensures)))
 
 pub returns-clause-goes : goal.returns-clause-goes
-returns-clause-goes g c = record {
-  on = λ _. (tt, tt, let less = ap length (returns-clause-steps g c) in omega (arith, less));
-  keeps = tt;
-  rests = λ _. tt;
-}
+returns-clause-goes g c = let less = ap length (returns-clause-steps g c) in search (rules, arith)

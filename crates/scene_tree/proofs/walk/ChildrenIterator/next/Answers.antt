@@ -1,4 +1,4 @@
-use Rattle.scene_tree.proofs.{ap, arith, length, rest_read, sym, ◌∙◌}
+use Rattle.scene_tree.proofs.{ap, arith, length, rest_read, rules, sym, ◌∙◌}
 use Rattle.scene_tree.proofs.walk.ChildrenIterator.next.Goals as goal
 
 pub invariant_of-self : goal.invariant_of-self
@@ -10,8 +10,4 @@ returns-clause-steps g c = sym c.self.view_is
     ∙ (rest_read _ _ _ c.index-link.result.now c.self.invariant c.in_ok-slot.was c.index-link.ensures).0
 
 pub returns-clause-goes : goal.returns-clause-goes
-returns-clause-goes g c = record {
-  on = λ _. (tt, tt, let less = ap length (returns-clause-steps g c) in omega (arith, less));
-  keeps = tt;
-  rests = λ _. tt;
-}
+returns-clause-goes g c = let less = ap length (returns-clause-steps g c) in search (rules, arith)

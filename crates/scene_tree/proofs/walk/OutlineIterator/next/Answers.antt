@@ -1,5 +1,5 @@
-use Rattle.scene_tree.proofs.{ap, arith, families, length, rows, rows_end, rows_more, rows_none, subst, sym, waiting}
-use Rattle.scene_tree.proofs.{YieldsFirst, ◌∙◌}
+use Rattle.scene_tree.proofs.{ap, arith, families, length, rows, rows_end, rows_more, rows_none, rules, subst, sym}
+use Rattle.scene_tree.proofs.{waiting, YieldsFirst, ◌∙◌}
 use Rattle.scene_tree.proofs.walk.OutlineIterator.next.Goals as goal
 
 pub returns-then-self-eq0-clause-steps : goal.returns-then-self-eq0-clause-steps
@@ -25,8 +25,4 @@ returns-clause-steps g c =
     c.slot.result c.slot.ensures c.next_row-self-inside.result c.next_row-self-inside.ensures.next)
 
 pub returns-clause-goes : goal.returns-clause-goes
-returns-clause-goes g c = record {
-  on = λ _. (tt, tt, let less = ap length (returns-clause-steps g c) in omega (arith, less));
-  keeps = tt;
-  rests = λ _. tt;
-}
+returns-clause-goes g c = let less = ap length (returns-clause-steps g c) in search (rules, arith)
