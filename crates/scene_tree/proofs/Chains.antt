@@ -1,9 +1,9 @@
 -- Chains after a write to links.
 use Rattle.scene_tree.proofs.Common.{after_put, after_tied, ap, arith, before_put, chain, changed, count_at, first_of}
-use Rattle.scene_tree.proofs.Common.{head_or, IsChain, IsHeld, last_of, last_or, length, Link, List, Node, node_in}
-use Rattle.scene_tree.proofs.Common.{node_tied, None, none-some, noted, Option, refl, same_Some, slice_get}
-use Rattle.scene_tree.proofs.Common.{slice_index_or, slice_set, slot_in, Some, suc, sym, tie_of, zero, [], ℕ, ◌++◌, ◌<◌}
-use Rattle.scene_tree.proofs.Common.{◌∙◌, ◌∷◌, ◌≡◌, ◌≢◌, ◌≤◌}
+use Rattle.scene_tree.proofs.Common.{head_or, IsChain, last_of, last_or, length, Link, List, Node, node_in, node_tied}
+use Rattle.scene_tree.proofs.Common.{None, none-some, noted, Option, refl, same_Some, slice_get, slice_index_or}
+use Rattle.scene_tree.proofs.Common.{slice_set, slot_in, Some, suc, sym, tie_of, zero, [], ℕ, ◌++◌, ◌<◌, ◌∙◌, ◌∷◌, ◌≡◌}
+use Rattle.scene_tree.proofs.Common.{◌≢◌, ◌≤◌}
 use Rattle.scene_tree.proofs.Counting.{count_here, count_more}
 
 module _ {T : Type 0} where
@@ -152,11 +152,6 @@ module _ {T : Type 0} where
   head_apart [] s none is = none-some s is
   head_apart (x ∷ xs) s none is = grind (arith, count_here s x xs (same_Some (slot_in x) s is), none)
 
-  -- a list with a last node has one
-  last_some : (s : ℕ) (xs : List (Node T)) → (w : ℕ) × (last_or (Some s) xs ≡ Some w)
-  last_some s [] = (s, refl)
-  last_some s (x ∷ xs) = last_some (slot_in x) xs
-
   module _ (links : List (Link T)) where
     -- ---- chains
 
@@ -196,7 +191,3 @@ module _ {T : Type 0} where
             → length (node_tied tie ++ chain links n (after_tied tie)) ≤ suc n
         met short None = let le = short None in omega (arith, le)
         met short (Some tie) = let le = short tie.2 in omega (arith, le)
-
-    pub held_is : (slot : ℕ) (xs : List (Node T)) (n : ℕ) → IsHeld links slot xs → length xs ≤ n
-        → chain links n (first_of (slice_get links slot)) ≡ xs
-    held_is slot xs n held le = grind (arith, n, chain_is)

@@ -78,14 +78,6 @@ module _ {T : Type 0} where
       → count_at s (take (i + 1) xs) ≡ count_at s (take i xs) + count_at s (get_or xs i d ∷ [])
   count_next s xs i d lt = grind (arith, take_more xs i d lt, count_both s (take i xs) (get_or xs i d ∷ []))
 
-  pub next_here : (s : ℕ) (xs : List (Node T)) (i : ℕ) (d : Node T) → i < length xs
-      → slot_in (get_or xs i d) ≡ s → 0 < count_at s (take (i + 1) xs)
-  next_here s xs i d lt is = grind (arith, count_next s xs i d lt, count_here s (get_or xs i d) [] is)
-
-  pub next_apart : (s : ℕ) (xs : List (Node T)) (i : ℕ) (d : Node T) → i < length xs
-      → slot_in (get_or xs i d) ≢ s → count_at s (take (i + 1) xs) ≡ count_at s (take i xs)
-  next_apart s xs i d lt ne = grind (arith, count_next s xs i d lt, count_apart s (get_or xs i d) [] ne)
-
   -- what is counted stands there, and what stands there is counted
   pub counted : (s : ℕ) (xs : List (Node T)) → 0 < count_at s xs
       → (k : ℕ) × (x : Node T) × (slice_get xs k ≡ Some x) × (slot_in x ≡ s)
@@ -220,12 +212,12 @@ module _ {T : Type 0} where
         (λ ne. others s ne ∙ c.cleared s (let less = apart s ne in omega (arith, some, less)))
         (cases_eq s slot);
     others = λ s none. ⊎_elim
-        (λ same. let some = next_here s nodes i d lt (sym (same ∙ is)) in absurd (omega (arith, some, none)))
+        (λ same. grind (arith, count_next s nodes i d lt, count_here s (get_or nodes i d) [] (sym (same ∙ is)), none))
         (λ ne. others s ne ∙ c.others s (sym (apart s ne) ∙ none)) (cases_eq s slot);
   }
     where
       apart : (s : ℕ) → s ≢ slot → count_at s (take (i + 1) nodes) ≡ count_at s (take i nodes)
-      apart s ne = next_apart s nodes i d lt (λ e. ne (sym (is ∙ e)))
+      apart s ne = grind (arith, count_next s nodes i d lt, count_apart s (get_or nodes i d) [], ne, is)
 
   -- the same where the list is read elsewhere
   pub clear_more : (old here new : List (Family T)) (nodes items : List (Node T)) (i slot : ℕ)

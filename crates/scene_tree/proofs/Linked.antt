@@ -5,13 +5,13 @@ use Rattle.scene_tree.proofs.Common.{Family, family_at, family_in, first_of, hea
 use Rattle.scene_tree.proofs.Common.{IsAmong, IsAttached, IsChain, IsDetached, IsForest, IsGap, IsHeld, IsLinked}
 use Rattle.scene_tree.proofs.Common.{IsOpened, IsRest, last_of, last_or, length, length-append, length-map, Link, List}
 use Rattle.scene_tree.proofs.Common.{Node, node_in, None, none-some, not, noted, Option, parent_at, place_of}
-use Rattle.scene_tree.proofs.Common.{pushed_old, refl, same_Some, slice_get, slice_get-get_or, slice_get-map}
+use Rattle.scene_tree.proofs.Common.{pushed_old, refl, same_Some, slice_get, slice_get-map, slice_get_read}
 use Rattle.scene_tree.proofs.Common.{slice_get_within, slice_index_or, slot_in, slot_of, Some, Spot, subst, suc, sym}
 use Rattle.scene_tree.proofs.Common.{tie_of, true, true≢false, unwrap_or-slice_get, without, [], ℕ, ⊎_elim, ◌++◌, ◌+◌}
 use Rattle.scene_tree.proofs.Common.{◌<◌, ◌∙◌, ◌∷◌, ◌≡◌, ◌≢◌, ◌≤◌, ◌⊎◌}
 use Rattle.scene_tree.proofs.Chains.{after_kept, after_length, before_kept, before_length, chain_is, chain_none}
-use Rattle.scene_tree.proofs.Chains.{chain_short, changed_apart, changed_here, changed_kept, changed_length, held_is}
-use Rattle.scene_tree.proofs.Chains.{last_both, link_there, noted_joined, pushed_kept}
+use Rattle.scene_tree.proofs.Chains.{chain_short, changed_apart, changed_here, changed_kept, changed_length, last_both}
+use Rattle.scene_tree.proofs.Chains.{link_there, noted_joined, pushed_kept}
 use Rattle.scene_tree.specs.declared.spot.Spot.TheVariants as spot
 use Rattle.scene_tree.proofs.Counting.{count_apart, count_both, count_here, count_more, same_slot, same_without}
 use Rattle.scene_tree.proofs.Forests.{slot_cases}
@@ -42,7 +42,8 @@ module _ {T : Type 0} where
 
   pub children_held : (links : List (Link T)) (s : ℕ) (xs : List (Node T)) → IsHeld links s xs
       → length xs ≤ length links → children_at (families links) s ≡ xs
-  children_held links s xs held le = children_from links s ∙ held_is links s xs (length links) held le
+  children_held links s xs held le = children_from links s
+      ∙ (ap (chain links (length links)) held.first ∙ chain_is links None xs (length links) held.chain le)
 
   pub children_short : (links : List (Link T)) (s : ℕ)
       → length (children_at (families links) s) ≤ length links
@@ -223,58 +224,38 @@ module _ {T : Type 0} where
       → slice_get links s ≡ Some l → IsRest links l.first
   rest_first links s l linked there = grind (arith, linked s, children_from links s)
 
-  pub rest_next : (links : List (Link T)) (next : Option ℕ) (s : ℕ) → IsRest links next → next ≡ Some s
-      → (l : Link T) × (slice_get links s ≡ Some l)
-      × (chain links (length links) next ≡ l.node ∷ chain links (length links) l.after)
+  walk_next : (links : List (Link T)) (before : Option ℕ) (zs : List (Node T)) (s : ℕ) → length zs ≤ length links
+      → IsChain links before zs None → head_or zs None ≡ Some s
+      → (l : Link T) × (slice_get links s ≡ Some l) × (zs ≡ l.node ∷ chain links (length links) l.after)
       × IsRest links l.after
-  rest_next links next s rest is = at (chain links (length links) next) refl
-    where
-      Told : Type 0
-      Told = (l : Link T) × (slice_get links s ≡ Some l)
-          × (chain links (length links) next ≡ l.node ∷ chain links (length links) l.after)
-          × IsRest links l.after
-
-      at : (left : List (Node T)) → chain links (length links) next ≡ left → Told
-      at [] none = absurd (none-some s (sym (rest.first ∙ ap (λ xs. head_or xs None) none) ∙ is))
-      at (c ∷ cs) some =
-          let lies = subst (λ xs. IsChain links rest.before xs None) some rest.lies in
-          let here : slot_in c ≡ s = same_Some (slot_in c) s
-          (sym (rest.first ∙ ap (λ xs. head_or xs None) some) ∙ is) in
-          let tie = ap (λ i. tie_of (slice_get links i)) (sym here) ∙ lies.0 in
-          let there = tied_within links s (c, rest.before, head_or cs None) tie in
-          let l = there.0 in
-          let ties = same_Some (l.node, l.before, l.after) (c, rest.before, head_or cs None)
-          (sym (ap tie_of there.1) ∙ tie) in
-          let short = chain_short links (length links) next in
-          let long = ap length some in
-          let left : chain links (length links) l.after ≡ cs =
-          ap (λ t. chain links (length links) t.2) ties
-          ∙ chain_is links (Some (slot_in c)) cs (length links) lies.1 (omega (arith, short, long)) in (
-            l,
-            there.1,
-            some ∙ (ap (λ t. t.0 ∷ cs) (sym ties) ∙ ap (λ xs. l.node ∷ xs) (sym left)),
-            record {
-              before = Some (slot_in c);
-              first = ap (λ t. t.2) ties ∙ ap (λ xs. head_or xs None) (sym left);
-              lies = subst (λ xs. IsChain links (Some (slot_in c)) xs None) (sym left) lies.1;
-            },
-          )
-
-  pub rest_within : (links : List (Link T)) (next : Option ℕ) (s : ℕ) → IsRest links next → next ≡ Some s
-      → s < length links
-  rest_within links next s rest is = grind (arith, rest_next links next s rest is, slice_get_within)
+  walk_next links before [] s le lies is = absurd (none-some s is)
+  walk_next links before (c ∷ cs) s le lies is =
+      let tie = ap (λ i. tie_of (slice_get links i)) (sym (same_Some (slot_in c) s is)) ∙ lies.0 in
+      let there = tied_within links s (c, before, head_or cs None) tie in
+      let l = there.0 in
+      let ties = same_Some (l.node, l.before, l.after) (c, before, head_or cs None) (sym (ap tie_of there.1) ∙ tie) in
+      let left = ap (λ t. chain links (length links) t.2) ties
+      ∙ chain_is links (Some (slot_in c)) cs (length links) lies.1 (omega (arith, le)) in (
+        l,
+        there.1,
+        ap (λ t. t.0 ∷ cs) (sym ties) ∙ ap (λ xs. l.node ∷ xs) (sym left),
+        record {
+          before = Some (slot_in c);
+          first = ap (λ t. t.2) ties ∙ ap (λ xs. head_or xs None) (sym left);
+          lies = subst (λ xs. IsChain links (Some (slot_in c)) xs None) (sym left) lies.1;
+        },
+      )
 
   -- the same, as the link is read
   pub rest_read : (links : List (Link T)) (next : Option ℕ) (s : ℕ) (l : Link T) → IsRest links next
       → next ≡ Some s → l ≡ slice_index_or links s l
       → (chain links (length links) next ≡ l.node ∷ chain links (length links) l.after) × IsRest links l.after
   rest_read links next s l rest is read =
-      grind (
-        arith,
-        rest_next links next s rest is,
-        slice_get-get_or links s l (rest_within links next s rest is),
-        rest_within links next s rest is,
-      )
+      let at = walk_next links rest.before (chain links (length links) next) s
+      (chain_short links (length links) next) rest.lies (sym rest.first ∙ is) in
+      let there = slice_get_read links _ s l refl (slice_get_within links s at.0 at.1) read in
+      subst (λ m. (chain links (length links) next ≡ m.node ∷ chain links (length links) m.after)
+      × IsRest links m.after) (same_Some at.0 l (sym at.1 ∙ there)) (at.2, at.3)
 
   -- ---- a slot more
 

@@ -5,9 +5,8 @@ use Rattle.scene_tree.proofs.Chains.{changed_apart, changed_here, changed_kept, 
 use Rattle.scene_tree.proofs.Common.{above, ap, AreNoted, arith, changed, children_at, count_at, families, family_in}
 use Rattle.scene_tree.proofs.Common.{first_of, HasLost, is_some, IsForest, IsHeld, IsLinked, IsLiveIn, IsOpened, IsSame}
 use Rattle.scene_tree.proofs.Common.{IsSimple, IsSound, last_of, length, length-map, Link, List, Location, Made, Make}
-use Rattle.scene_tree.proofs.Common.{Meets, Node, node_in, None, none-some, noted, pointer_in, refl, same_value}
-use Rattle.scene_tree.proofs.Common.{slot_in, Some, State, suc, sym, tie_of, zero, [], ℕ, ⊎_elim, ◌++◌, ◌<◌, ◌∙◌, ◌∷◌}
-use Rattle.scene_tree.proofs.Common.{◌≡◌, ◌≢◌, ◌≤◌}
+use Rattle.scene_tree.proofs.Common.{Meets, Node, None, none-some, noted, pointer_in, refl, same_value, slot_in, Some}
+use Rattle.scene_tree.proofs.Common.{State, suc, sym, tie_of, zero, [], ℕ, ⊎_elim, ◌++◌, ◌<◌, ◌∙◌, ◌∷◌, ◌≡◌, ◌≢◌, ◌≤◌}
 use Rattle.scene_tree.proofs.Linking.{held_kept}
 use Rattle.scene_tree.proofs.Stores.{one_live}
 
@@ -17,14 +16,6 @@ module _ {T : Type 0} where
   pub noted_here : (links : List (Link T)) (slot : ℕ) (f : Link T → Link T) (n : Node T)
       → slot < length links → ((l : Link T) → (f l).node ≡ n) → noted (changed links slot f) slot ≡ Some n
   noted_here links slot f n lt is = grind (arith, link_there links slot lt, changed_here)
-
-  pub noted_apart : (links : List (Link T)) (slot : ℕ) (f : Link T → Link T) (s : ℕ) → s ≢ slot
-      → noted (changed links slot f) s ≡ noted links s
-  noted_apart links slot f s ne = ap node_in (changed_apart links slot f s ne)
-
-  pub noted_kept : (links : List (Link T)) (slot : ℕ) (f : Link T → Link T)
-      → ((l : Link T) → (f l).node ≡ l.node) → (s : ℕ) → noted (changed links slot f) s ≡ noted links s
-  noted_kept links slot f same s = changed_kept node_in links slot f (λ l. ap Some (same l)) s
 
   -- with a link more at the end
   pub noted_last : (links : List (Link T)) (l : Link T) (s : ℕ) → s ≡ length links

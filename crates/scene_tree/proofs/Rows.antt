@@ -1,4 +1,6 @@
 -- Rows of an outline: what follows each, and that they are those of the tree.
+use Rattle.scene_tree.proofs.Gathering.{above_within, slot_within}
+use Rattle.scene_tree.proofs.Forests.{parent_is}
 use Rattle.scene_tree.proofs.Common.{above, after_tied, ap, arith, behind, cases_eq, chain, children_at, count_at}
 use Rattle.scene_tree.proofs.Common.{families, Family, family_in, first_of, head_or, IsChain, IsForest, IsHeld, IsKept}
 use Rattle.scene_tree.proofs.Common.{IsLinked, IsLiveIn, IsPlaced, IsSound, IsUnder, length, length-append, length-map}
@@ -7,9 +9,8 @@ use Rattle.scene_tree.proofs.Common.{same_Some, slice_get, slice_get-get_or, sli
 use Rattle.scene_tree.proofs.Common.{Some, State, subst, suc, sym, tie_of, TreeState, waiting, zero, [], ℕ, ⊎_elim}
 use Rattle.scene_tree.proofs.Common.{◌++◌, ◌+◌, ◌-◌, ◌<◌, ◌∙◌, ◌∷◌, ◌≡◌, ◌≢◌, ◌≤◌}
 use Rattle.scene_tree.proofs.Chains.{chain_is}
-use Rattle.scene_tree.proofs.Counting.{count_apart, counts}
-use Rattle.scene_tree.proofs.Gathering.{above_within}
-use Rattle.scene_tree.proofs.Linked.{between, child_above, child_within, children_short}
+use Rattle.scene_tree.proofs.Counting.{count_apart}
+use Rattle.scene_tree.proofs.Linked.{between, children_short}
 use Rattle.scene_tree.proofs.Linking.{back_of}
 use Rattle.scene_tree.proofs.Paths.{depth_within, rooted_under}
 use Rattle.scene_tree.proofs.Trees.{get_both, live_children}
@@ -64,11 +65,10 @@ module _ {T : Type 0} where
       left_is = ap (chain links (length links)) after_is
           ∙ chain_is links (Some (slot_in part.1)) part.2 (length links) lies short
 
-      each_above : (k : ℕ) (y : Node T) → slice_get part.2 k ≡ Some y → above fs (slot_in y) ≡ Some up
-      each_above k y at =
-          let there = get_behind part.0 (part.1 ∷ part.2) (suc k) y at in
-          child_above fs f up (slot_in y) (counts (slot_in y) (children_at fs up) there.0 y
-          (ap (λ cs. slice_get cs there.0) part.3 ∙ there.1) refl)
+      over : (y : Node T) → slice_get part.2 0 ≡ Some y → above fs (slot_in y) ≡ Some up
+      over y at =
+          let there = get_behind part.0 (part.1 ∷ part.2) 1 y at in
+          parent_is fs f up there.0 y (ap (λ cs. slice_get cs there.0) part.3 ∙ there.1)
 
     -- a node that is first of what follows has a link, with what follows it
     head_there : (before : Option ℕ) (y : Node T) (ys : List (Node T)) → IsChain links before (y ∷ ys) None
@@ -76,37 +76,48 @@ module _ {T : Type 0} where
         → (l.node ≡ y) × (at ≡ slot_in y)
     head_there before y ys is at l there same = grind arith
 
+    -- a node that is first of some children of a slot has a slot of a link, and its row is their first
+    head_within : (up at : ℕ) (zs : List (Node T))
+        → ((y : Node T) → slice_get zs 0 ≡ Some y → above fs (slot_in y) ≡ Some up)
+        → head_or zs None ≡ Some at → at < length links
+    head_within up at [] over is = absurd (none-some at is)
+    head_within up at (y ∷ ys) over is =
+        let lt = slot_within fs (slot_in y) up (over y refl) in
+        let long = length-map links (family_in links) in
+        let same = same_Some (slot_in y) at is in omega (arith, lt, long, same)
+
+    head_row : (d up at : ℕ) (l : Link T) (before : Option ℕ) (zs : List (Node T)) → length zs ≤ length links
+        → IsChain links before zs None
+        → ((y : Node T) → slice_get zs 0 ≡ Some y → above fs (slot_in y) ≡ Some up)
+        → head_or zs None ≡ Some at → slice_get links at ≡ Some l
+        → (waiting links (Some (suc d, l.node)) ≡ rows_at (suc d) zs ++ behind links d (Some up))
+        × (above fs (slot_in l.node) ≡ Some up) × (slot_in l.node < length links)
+    head_row d up at l before [] le lies over is there = absurd (none-some at is)
+    head_row d up at l before (c ∷ cs) le lies over is there =
+        let here = head_there before c cs lies at l there (sym is) in
+        let after : chain links (length links) (after_at (slot_in c)) ≡ cs =
+        ap (chain links (length links)) (ap after_tied lies.0)
+        ∙ chain_is links (Some (slot_in c)) cs (length links) lies.1 (omega (arith, le)) in (
+          ap (λ n. waiting links (Some (suc d, n))) here.0
+              ∙ (ap (λ zs. (suc d, c) ∷ (rows_at (suc d) zs ++ behind links d (above fs (slot_in c)))) after
+              ∙ ap (λ o. (suc d, c) ∷ (rows_at (suc d) cs ++ behind links d o)) (over c refl)),
+          ap (λ n. above fs (slot_in n)) here.0 ∙ over c refl,
+          subst (λ i. i < length links) (here.1 ∙ ap slot_in (sym here.0)) (slice_get_within links at l there),
+        )
+
     -- the next sibling's row waits next, and has the same parent
     pub next_sibling : (d s up at : ℕ) (l : Link T) → above fs s ≡ Some up → after_at s ≡ Some at
         → slice_get links at ≡ Some l
         → (waiting links (Some (suc d, l.node)) ≡ behind links (suc d) (Some s))
         × (above fs (slot_in l.node) ≡ Some up) × (slot_in l.node < length links)
-    next_sibling d s up at l is next there = by (part s up is).2 refl
-      where
-        by : (ys : List (Node T)) → (part s up is).2 ≡ ys
-            → (waiting links (Some (suc d, l.node)) ≡ behind links (suc d) (Some s))
-            × (above fs (slot_in l.node) ≡ Some up) × (slot_in l.node < length links)
-        by [] none = absurd (none-some at (sym (after_is s up is ∙ ap (λ ys. head_or ys None) none) ∙ next))
-        by (y ∷ ys) some =
-            let here = head_there (Some (slot_in (part s up is).1)) y ys
-            (subst (λ zs. IsChain links (Some (slot_in (part s up is).1)) zs None) some (lies s up is)) at l there
-            (sym next ∙ (after_is s up is ∙ ap (λ zs. head_or zs None) some)) in
-            let over : above fs (slot_in y) ≡ Some up =
-            each_above s up is 0 y (ap (λ zs. slice_get zs 0) some) in
-            let rest = subst (λ zs. IsChain links (Some (slot_in (part s up is).1)) zs None) some (lies s up is) in
-            let le = short s up is in
-            let long = ap length some in
-            let after : chain links (length links) (after_at (slot_in y)) ≡ ys =
-            ap (chain links (length links)) (ap after_tied rest.0)
-            ∙ chain_is links (Some (slot_in y)) ys (length links) rest.1 (omega (arith, le, long)) in
-            let rows_are : waiting links (Some (suc d, y)) ≡ behind links (suc d) (Some s) =
-            ap (λ zs. (suc d, y) ∷ (rows_at (suc d) zs ++ behind links d (above fs (slot_in y)))) after
-            ∙ (ap (λ o. (suc d, y) ∷ (rows_at (suc d) ys ++ behind links d o)) (over ∙ sym is)
-            ∙ ap (λ zs. rows_at (suc d) zs ++ behind links d (above fs s)) (sym (left_is s up is ∙ some))) in (
-              ap (λ n. waiting links (Some (suc d, n))) here.0 ∙ rows_are,
-              ap (λ n. above fs (slot_in n)) here.0 ∙ over,
-              subst (λ i. i < length links) (here.1 ∙ ap slot_in (sym here.0)) (slice_get_within links at l there),
-            )
+    next_sibling d s up at l is next there =
+        let row = head_row d up at l _ (part s up is).2 (short s up is) (lies s up is) (over s up is)
+        (sym (after_is s up is) ∙ next) there in (
+          row.0 ∙ (ap (λ zs. rows_at (suc d) zs ++ behind links d (Some up)) (sym (left_is s up is))
+              ∙ ap (λ o. rows_at (suc d) (chain links (length links) (after_at s)) ++ behind links d o) (sym is)),
+          row.1,
+          row.2,
+        )
 
     -- where no sibling follows, what follows the parent does
     pub no_sibling : (d s : ℕ) → after_at s ≡ None
@@ -122,35 +133,9 @@ module _ {T : Type 0} where
         → (waiting links (Some (d + 1, l.node))
         ≡ rows_at (d + 1) (children_at fs s) ++ behind links d (Some s))
         × (above fs (slot_in l.node) ≡ Some s) × (slot_in l.node < length links)
-    first_row d s at l m from next there = by (children_at fs s) refl
-      where
-        by : (cs : List (Node T)) → children_at fs s ≡ cs
-            → (waiting links (Some (d + 1, l.node))
-            ≡ rows_at (d + 1) (children_at fs s) ++ behind links d (Some s))
-            × (above fs (slot_in l.node) ≡ Some s) × (slot_in l.node < length links)
-        by [] none = absurd (none-some at (sym (head s m from ∙ ap (λ cs. head_or cs None) none) ∙ next))
-        by (c ∷ cs) some =
-            let all = subst (λ zs. IsChain links None zs None) some (linked s).chain in
-            let here = head_there None c cs all at l there
-            (sym next ∙ (head s m from ∙ ap (λ zs. head_or zs None) some)) in
-            let over : above fs (slot_in c) ≡ Some s =
-            child_above fs f s (slot_in c) (counts (slot_in c) (children_at fs s) 0 c
-            (ap (λ zs. slice_get zs 0) some) refl) in
-            let le = children_short links s in
-            let long = ap length some in
-            let after : chain links (length links) (after_at (slot_in c)) ≡ cs =
-            ap (chain links (length links)) (ap after_tied all.0)
-            ∙ chain_is links (Some (slot_in c)) cs (length links) all.1 (omega (arith, le, long)) in
-            let rows_are : waiting links (Some (suc d, c)) ≡ rows_at (suc d) (children_at fs s) ++ behind links d (Some s) =
-            ap (λ zs. (suc d, c) ∷ (rows_at (suc d) zs ++ behind links d (above fs (slot_in c)))) after
-            ∙ (ap (λ o. (suc d, c) ∷ (rows_at (suc d) cs ++ behind links d o)) over
-            ∙ ap (λ zs. rows_at (suc d) zs ++ behind links d (Some s)) (sym some)) in (
-              ap (λ n. waiting links (Some (d + 1, n))) here.0
-                  ∙ subst (λ e. waiting links (Some (e, c)) ≡ rows_at e (children_at fs s) ++ behind links d (Some s))
-                  (sym (one_deeper d)) rows_are,
-              ap (λ n. above fs (slot_in n)) here.0 ∙ over,
-              subst (λ i. i < length links) (here.1 ∙ ap slot_in (sym here.0)) (slice_get_within links at l there),
-            )
+    first_row d s at l m from next there =
+        let row = head_row d s at l None (children_at fs s) (children_short links s) (linked s).chain
+        (parent_is fs f s 0) (sym (head s m from) ∙ next) there in (rw one_deeper row.0, row.1, row.2)
 
     -- a slot without children has no rows of any
     pub no_row : (d s : ℕ) (m : Link T) → slice_get links s ≡ Some m → m.first ≡ None
@@ -165,26 +150,12 @@ module _ {T : Type 0} where
     -- a slot of a link is within, as the slots that a link names
     pub first_within : (s at : ℕ) (m : Link T) → slice_get links s ≡ Some m → m.first ≡ Some at
         → at < length links
-    first_within s at m from next = by (children_at fs s) refl
-      where
-        by : (cs : List (Node T)) → children_at fs s ≡ cs → at < length links
-        by [] none = grind arith
-        by (c ∷ cs) some =
-            let slot = same_Some (slot_in c) at
-            (sym (sym (ap first_of from) ∙ ((linked s).first ∙ ap (λ zs. head_or zs None) some)) ∙ next) in
-            child_within links f s at (counts at (children_at fs s) 0 c (ap (λ zs. slice_get zs 0) some) slot)
+    first_within s at m from next =
+        head_within s at (children_at fs s) (parent_is fs f s 0) (sym (head s m from) ∙ next)
 
     pub after_within : (s up at : ℕ) → above fs s ≡ Some up → after_at s ≡ Some at → at < length links
-    after_within s up at is next = by (part s up is).2 refl
-      where
-        by : (ys : List (Node T)) → (part s up is).2 ≡ ys → at < length links
-        by [] none = absurd (none-some at (sym (after_is s up is ∙ ap (λ ys. head_or ys None) none) ∙ next))
-        by (y ∷ ys) some =
-            let slot = same_Some (slot_in y) at (sym (after_is s up is ∙ ap (λ zs. head_or zs None) some) ∙ next) in
-            let there = get_behind (part s up is).0 ((part s up is).1 ∷ (part s up is).2) 1 y
-            (ap (λ zs. slice_get zs 0) some) in
-            child_within links f up at (counts at (children_at fs up) there.0 y
-            (ap (λ cs. slice_get cs there.0) (part s up is).3 ∙ there.1) slot)
+    after_within s up at is next =
+        head_within up at (part s up is).2 (over s up is) (sym (after_is s up is) ∙ next)
 
 -- a slot that is some steps below another has a parent, where these aren't none
 pub under_has : {T : Type 0} (fs : List (Family T)) (top d s : ℕ) → 0 < d → IsUnder fs top d s

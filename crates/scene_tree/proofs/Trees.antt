@@ -35,23 +35,12 @@ module _ {T : Type 0} where
       → NodeIsUnchanged t n u
   left_with t u n value family = grind arith
 
-  pub left_still : (t u : TreeState T) (n : Node T) → u ≡ t → NodeIsUnchanged t n u
-  left_still t u n same = grind arith
-
-  -- what a caller sees where the families stay
-  pub same_families : {S R : State T} (fs : List (Family T)) → R ≡ S
-      → ◌≡◌ {A = TreeState T} (record { state = R; families = fs }) (record { state = S; families = fs })
-  same_families fs same = λ i. record { state = same i; families = fs }
-
 -- what a test told of a node of a tree that is shown
 pub told_live : {T : Type 0} {t u : TreeState T} (n : Node T) {b : Bool} → t ≡ u → b ≡ is_live u n
     → b ≡ true → is_live t n ≡ true
 told_live n same is live = cc
 
--- what is there isn't missing
-pub never : {X : Type 0} {x : Option X} → is_some x ≡ true → x ≡ None → ⊥
-never there none = true≢false (sym there ∙ ap is_some none)
-
+-- what is not there is missing
 pub missing : {X : Type 0} (x : Option X) → is_some x ≡ false → x ≡ None
 missing None none = refl
 missing (Some v) none = absurd (true≢false none)

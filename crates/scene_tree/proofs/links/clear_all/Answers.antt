@@ -1,6 +1,6 @@
-use Rattle.scene_tree.proofs.{ap, arith, bared_alone, bared_linked, bared_others, changed_length, clear_more, count_at}
-use Rattle.scene_tree.proofs.{counts, families, family_at, get_or, IsLinked, length, List, Node, noted, noted_kept}
-use Rattle.scene_tree.proofs.{refl, slice_get-get_or, slot_in, subst, sym, ℕ, ◌<◌, ◌∙◌, ◌≡◌}
+use Rattle.scene_tree.proofs.{ap, arith, bared_alone, bared_linked, bared_others, changed_kept, changed_length}
+use Rattle.scene_tree.proofs.{clear_more, count_at, counts, families, family_at, get_or, IsLinked, length, List, Node}
+use Rattle.scene_tree.proofs.{node_in, noted, refl, slice_get-get_or, slot_in, subst, sym, ℕ, ◌<◌, ◌∙◌, ◌≡◌}
 use Rattle.scene_tree.proofs.links.clear_all.Goals as goal
 
 -- what is read of a list is counted there
@@ -31,5 +31,5 @@ loop-node-preserved g c =
           (λ s ne. ap (λ ls. family_at (families ls) s) c.clear.ensures
           ∙ bared_others links was.linked c.slot.result lt s ne);
       noted = λ s. ap (λ ls. noted ls s) c.clear.ensures
-          ∙ (noted_kept links c.slot.result _ (λ l. refl) s ∙ was.noted s);
+          ∙ (changed_kept node_in links c.slot.result _ (λ l. refl) s ∙ was.noted s);
     }

@@ -1,6 +1,6 @@
-use Rattle.scene_tree.proofs.{ap, arith, changed_length, families, IsLinked, IsOpened, length, noted, noted_apart}
-use Rattle.scene_tree.proofs.{noted_before, noted_here, noted_last, opened_is, opened_linked, refl, renoted_linked}
-use Rattle.scene_tree.proofs.{renoted_opened, rules, slot_in, Some, subst, sym, ◌<◌, ◌∙◌}
+use Rattle.scene_tree.proofs.{ap, arith, changed_apart, changed_length, families, IsLinked, IsOpened, length, node_in}
+use Rattle.scene_tree.proofs.{noted, noted_before, noted_here, noted_last, opened_is, opened_linked, refl}
+use Rattle.scene_tree.proofs.{renoted_linked, renoted_opened, rules, slot_in, Some, subst, sym, ◌<◌, ◌∙◌}
 use Rattle.scene_tree.proofs.links.open_slot.Goals as goal
 
 pub returns-then-slot-len : goal.returns-then-slot-len
@@ -34,5 +34,5 @@ returns-else-slot-len g c =
       longer = omega (arith, len);
       noted = ap (λ ls. noted ls (slot_in c.args.node)) same
           ∙ noted_here links (slot_in c.args.node) _ c.args.node lt (λ l. refl);
-      others = λ s ne. ap (λ ls. noted ls s) same ∙ noted_apart links (slot_in c.args.node) _ s ne;
+      others = λ s ne. ap (λ ls. noted ls s) same ∙ ap node_in (changed_apart links (slot_in c.args.node) _ s ne);
     }
