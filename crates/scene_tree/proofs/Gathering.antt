@@ -57,11 +57,8 @@ module _ {T : Type 0} (fs : List (Family T)) where
         → count_at s (all_children list) ≡ 0
     children_none s root [] = refl
     children_none s root (n ∷ list) =
-        grind (
-          arith,
-          count_both s (children_at fs (slot_in n)) (all_children list),
-          children_none s root list,
-        )
+        let both = count_both s (children_at fs (slot_in n)) (all_children list) in
+        grind (arith, children_none s root list)
 
     pub children_some : (s up : ℕ) → above fs s ≡ Some up → (list : List (Node T))
         → count_at s (all_children list) ≡ count_at up list
@@ -150,12 +147,8 @@ module _ {T : Type 0} (fs : List (Family T)) where
           → IsUnder fs (slot_in top) e s → 0 < count_at s list
       all_listed list level zero s is = grind (arith, count_here s top (all_children list) (sym is))
       all_listed list level (suc e) s under =
-          grind (
-            arith,
-            count_more s top (all_children list),
-            children_some s under.0 under.1 list,
-            all_listed list level e under.0 under.2,
-          )
+          let some = children_some s under.0 under.1 list in
+          grind (arith, count_more s top (all_children list), all_listed list level e under.0 under.2)
 
       -- and then the list is whole
       pub part_whole : (list : List (Node T)) → IsInLevels fs top list → IsPart top list (length list)

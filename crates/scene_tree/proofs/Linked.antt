@@ -33,12 +33,8 @@ module _ {T : Type 0} where
   pub children_from : (links : List (Link T)) (s : ℕ)
       → children_at (families links) s ≡ chain links (length links) (first_of (slice_get links s))
   children_from links s =
-      grind (
-        arith,
-        unwrap_or-slice_get (families links) s alone,
-        slice_get-map (family_in links) links s,
-        chain_none links (length links),
-      )
+      let read = unwrap_or-slice_get (families links) s alone in
+      grind (arith, slice_get-map (family_in links) links s, chain_none links (length links))
 
   pub children_held : (links : List (Link T)) (s : ℕ) (xs : List (Node T)) → IsHeld links s xs
       → length xs ≤ length links → children_at (families links) s ≡ xs
@@ -125,6 +121,14 @@ module _ {T : Type 0} where
   pub head_counted : (s : ℕ) (xs : List (Node T)) → head_or xs None ≡ Some s → 0 < count_at s xs
   head_counted s [] is = absurd (none-some s is)
   head_counted s (x ∷ xs) is = grind (arith, count_here s x xs (same_Some (slot_in x) s is))
+
+  -- so those of a list's two parts, which has children, have links
+  ends_within : (links : List (Link T)) → IsForest (families links) → (up : ℕ) (xs ys : List (Node T))
+      → ((i : ℕ) → count_at i xs + count_at i ys ≤ count_at i (children_at (families links) up))
+      → (s : ℕ) → (last_or None xs ≡ Some s) ⊎ (head_or ys None ≡ Some s) → s < length links
+  ends_within links f up xs ys few s side = let le = few s in child_within links f up s (⊎_elim
+      (λ is. let lt = last_counted s xs is in omega (arith, le, lt))
+      (λ is. let lt = head_counted s ys is in omega (arith, le, lt)) side)
 
   insert_here : (xs ys : List (Node T)) (n : Node T) → insert (xs ++ ys) (length xs) n ≡ xs ++ n ∷ ys
   insert_here [] ys n = refl
@@ -274,13 +278,9 @@ module _ {T : Type 0} where
 
     longer_held : (s : ℕ) → IsHeld longer s (children_at (families links) s)
     longer_held s =
-        grind (
-          arith,
-          pushed_kept first_of l first links s,
-          linked s,
-          pushed_kept last_of l last links s,
-          grown None None (children_at (families links) s) (linked s).chain,
-        )
+        let begins = pushed_kept first_of l first links s in
+        let lies = grown None None (children_at (families links) s) (linked s).chain in
+        grind (arith, linked s, pushed_kept last_of l last links s)
 
     pub opened_linked : IsLinked longer
     opened_linked = linked_like links longer more longer_held
@@ -290,12 +290,9 @@ module _ {T : Type 0} where
       same = λ s. family_like links longer s more (longer_held s) (pushed_kept upper l root links s);
       old = λ lt. let old = length-map links (family_in links) in absurd (omega (arith, lt, at, old));
       next = λ is.
-          grind (
-            arith,
-            length-map links (family_in links),
-            length-map longer (family_in longer),
-            length-append links (l ∷ []),
-          );
+          let old = length-map links (family_in links) in
+          let new = length-map longer (family_in longer) in
+          let long = length-append links (l ∷ []) in omega (arith, old, new, long);
     }
 
   -- ---- a slot left alone
@@ -503,22 +500,15 @@ module _ {T : Type 0} where
 
     few_listed : (s : ℕ) → count_at s part.front + count_at s part.back ≤ 1
     few_listed s =
-        grind (
-          arith,
-          count_both s part.front (part.here ∷ part.back),
-          count_more s part.here part.back,
-          once_listed s,
-        )
+        let both = count_both s part.front (part.here ∷ part.back) in
+        grind (arith, count_more s part.here part.back, once_listed s)
 
     beside_none : (s i : ℕ) → s ≢ top → 0 < count_at i (children_at old s)
         → (count_at i part.front ≡ 0) × (count_at i part.back ≡ 0)
     beside_none s i ne lt =
-        grind (
-          arith,
-          parts_none i (children_at old top) part.front (part.here ∷ part.back) part.whole (none_beside old f top s i ne lt),
-          none_beside old f top s i ne lt,
-          count_more i part.here part.back,
-        )
+        let free = none_beside old f top s i ne lt in
+        let none = parts_none i (children_at old top) part.front (part.here ∷ part.back) part.whole free in
+        grind (arith, count_more i part.here part.back)
 
     cut_here : IsHeld cut top (part.front ++ part.back)
     cut_here = linked_out freed top top_there.0 part.front part.back part.here top_there.1 once_listed
@@ -531,13 +521,9 @@ module _ {T : Type 0} where
 
     rest_short : length (part.front ++ part.back) ≤ length cut
     rest_short =
-        grind (
-          arith,
-          children_short links top,
-          length-append part.front part.back,
-          length-append part.front (part.here ∷ part.back),
-          cut_length,
-        )
+        let le = children_short links top in
+        let whole = ap length part.whole ∙ length-append part.front (part.here ∷ part.back) in
+        grind (arith, length-append part.front part.back, cut_length)
 
     same_many : length links ≤ length cut
     same_many = omega (arith, cut_length)
@@ -588,27 +574,20 @@ module _ {T : Type 0} where
     -- the slots beside the node are slots of links
     pub beside_within : (s : ℕ) → (last_or None part.front ≡ Some s) ⊎ (head_or part.back None ≡ Some s)
         → s < length links
-    beside_within s side = child_within links f top s (⊎_elim
-        (λ is. let lt = last_counted s part.front is in omega (arith, whole, lt))
-        (λ is. let lt = head_counted s part.back is in omega (arith, whole, more, lt)) side)
-      where
-        whole : count_at s (children_at old top) ≡ count_at s part.front + count_at s (part.here ∷ part.back)
-        whole = ap (count_at s) part.whole ∙ count_both s part.front (part.here ∷ part.back)
-
-        more : count_at s part.back ≤ count_at s (part.here ∷ part.back)
-        more = count_more s part.here part.back
+    beside_within = ends_within links f top part.front part.back (λ i.
+        let both = count_both i part.front (part.here ∷ part.back) in
+        let whole = ap (count_at i) part.whole in
+        let more = count_more i part.here part.back in omega (arith, both, whole, more))
 
   -- ---- both, by what the calls leave
 
   pub gap_within : (links : List (Link T)) → IsForest (families links) → (up : ℕ) (at : Spot T)
       (gap : Option ℕ × Option ℕ) → IsGap (children_at (families links) up) at gap
       → (s : ℕ) → (gap.0 ≡ Some s) ⊎ (gap.1 ≡ Some s) → s < length links
-  gap_within links f up at gap is s side = child_within links f up s (⊎_elim
-      (λ here. let lt = last_counted s is.front (sym is.before ∙ here) in omega (arith, whole, lt))
-      (λ here. let lt = head_counted s is.back (sym is.after ∙ here) in omega (arith, whole, lt)) side)
-    where
-      whole : count_at s (children_at (families links) up) ≡ count_at s is.front + count_at s is.back
-      whole = ap (count_at s) is.whole ∙ count_both s is.front is.back
+  gap_within links f up at gap is s side = ends_within links f up is.front is.back (λ i.
+      let both = count_both i is.front is.back in
+      let whole = ap (count_at i) is.whole in omega (arith, both, whole)) s
+      (⊎_elim (λ before. inl (sym is.before ∙ before)) (λ after. inr (sym is.after ∙ after)) side)
 
   -- what an attaching leaves
   pub record HasChild (links : List (Link T)) (parent : Node T) (at : Spot T) (child : Node T) (final : List (Link T)) : Type 0 where

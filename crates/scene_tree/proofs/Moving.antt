@@ -3,7 +3,7 @@ use Rattle.scene_tree.proofs.Common.{ap, arith, CanMove, cases_eq, children_at, 
 use Rattle.scene_tree.proofs.Common.{IsAmong, IsAttached, IsBelow, IsDetached, IsKept, IsLiveIn, IsOther, IsSound}
 use Rattle.scene_tree.proofs.Common.{IsSpotIn, IsUnder, List, named, Node, None, Ok, OnOk, parent_at, parent_for}
 use Rattle.scene_tree.proofs.Common.{parent_of, placed, refl, Result, same_Some, slot_in, slot_of, Some, Spot, State}
-use Rattle.scene_tree.proofs.Common.{subst, suc, sym, TreeState, true, without, zero, ℕ, ⊎_elim, ◌∙◌, ◌≡◌, ◌≢◌}
+use Rattle.scene_tree.proofs.Common.{subst, suc, sym, TreeState, true, without, zero, ℕ, ◌∙◌, ◌≡◌, ◌≢◌}
 use Rattle.scene_tree.specs.declared.spot.Spot.TheVariants as spot
 use Rattle.scene_tree.proofs.Counting.{same_without}
 use Rattle.scene_tree.proofs.Forests.{above_parent, slot_cases}

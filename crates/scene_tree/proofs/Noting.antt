@@ -6,7 +6,7 @@ use Rattle.scene_tree.proofs.Common.{above, ap, AreNoted, arith, changed, childr
 use Rattle.scene_tree.proofs.Common.{first_of, HasLost, is_some, IsForest, IsHeld, IsLinked, IsLiveIn, IsOpened, IsSame}
 use Rattle.scene_tree.proofs.Common.{IsSimple, IsSound, last_of, length, length-map, Link, List, Location, Made, Make}
 use Rattle.scene_tree.proofs.Common.{Meets, Node, None, none-some, noted, pointer_in, refl, same_value, slot_in, Some}
-use Rattle.scene_tree.proofs.Common.{State, suc, sym, tie_of, zero, [], ℕ, ⊎_elim, ◌++◌, ◌<◌, ◌∙◌, ◌∷◌, ◌≡◌, ◌≢◌, ◌≤◌}
+use Rattle.scene_tree.proofs.Common.{State, suc, sym, tie_of, zero, [], ℕ, ◌++◌, ◌<◌, ◌∙◌, ◌∷◌, ◌≡◌, ◌≢◌}
 use Rattle.scene_tree.proofs.Linking.{held_kept}
 use Rattle.scene_tree.proofs.Stores.{one_live}
 

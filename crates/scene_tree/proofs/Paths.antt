@@ -101,11 +101,4 @@ module _ {T : Type 0} (fs : List (Family T)) where
 
     pub depth_within : (d s : ℕ) → IsRooted fs d s → s < n → d < n
     depth_within d s r lt =
-        grind (
-          arith,
-          length-le_from_distinct_below,
-          slots_on d s r,
-          distinct_on d s r,
-          on,
-          length_on d s r,
-        )
+        grind (arith, length-le_from_distinct_below, distinct_on d s r, on, length_on d s r)

@@ -197,13 +197,8 @@ module _ {T : Type 0} (links : List (Link T)) where
         → IsPlaced links (d - 1) up × (behind links (d - 1) (Some up) ≡ behind links d (Some s))
     behind_up zero s placed lt l read none up is = absurd (omega arith)
     behind_up (suc d) s placed lt l read none up is =
-        grind (
-          arith,
-          slice_get-get_or links s l placed.2,
-          length-map links (family_in links),
-          above_within (families links) f s up is,
-          no_sibling,
-        )
+        let here = slice_get-get_or links s l placed.2 in
+        let long = length-map links (family_in links) in grind (arith, above_within (families links) f s up is, no_sibling)
 
   -- what is read of rows, one at a time
   pub rows_more : (left d : ℕ) (n : Node T) → left ≢ 0 → (slot : ℕ) → slot ≡ slot_in n

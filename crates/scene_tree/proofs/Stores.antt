@@ -26,13 +26,8 @@ module _ {T : Type 0} where
   pub one_live : (S : State T) (a b : Node T) → IsSound S → IsSimple S → IsLiveIn S a
       → IsLiveIn S b → slot_in a ≡ slot_in b → IsSame a b
   one_live S a b s k live lives same =
-      grind (
-        arith,
-        live_cell S a live,
-        live_cell S b lives,
-        seen_store S (pointer_in a) s live,
-        seen_store S (pointer_in b) s lives,
-      )
+      let here = seen_store S (pointer_in a) s live in
+      let there = seen_store S (pointer_in b) s lives in grind (arith, live_cell S a live, live_cell S b lives)
 
   -- ---- a making
 

@@ -7,7 +7,6 @@ use Rattle.scene_tree.proofs.Common.{Option, parent_at, parent_of, pointer_in, r
 use Rattle.scene_tree.proofs.Common.{Some, State, subst, suc, sym, times, TreeState, true, true≢false, value_in}
 use Rattle.scene_tree.proofs.Common.{value_of, zero, [], ℕ, ⊎_elim, ◌++◌, ◌<◌, ◌∙◌, ◌∷◌, ◌≡◌, ◌⊎◌}
 use Rattle.scene_tree.proofs.Gathering.{all_listed, listed_below, listed_once, part_whole}
-use Rattle.std.specs.FinMap as map
 use Rattle.scene_tree.proofs.Counting.{is_id, same_id, times_at, times_none}
 use Rattle.scene_tree.proofs.Forests.{above_parent}
 use Rattle.scene_tree.proofs.Stores.{one_live}

@@ -1,4 +1,4 @@
-use Rattle.scene_tree.proofs.{ap, is_some, lost_one, None, simple_taken, sym, taken_seen, true≢false, ◌∙◌}
+use Rattle.scene_tree.proofs.{ap, is_some, lost_one, simple_taken, sym, taken_seen, true≢false, ◌∙◌}
 use Rattle.scene_tree.proofs.tree.take_value.Goals as goal
 
 pub unreachable-requires : goal.unreachable-requires

@@ -2,7 +2,7 @@ use Rattle.scene_tree.proofs.{above, added_child, added_others, added_parent, ap
 use Rattle.scene_tree.proofs.{IsLinked, kept_added, kept_opened, length, length-map, live_slot, made, made_count}
 use Rattle.scene_tree.proofs.{made_new, made_simple, meets_given, next_root, next_slot, Node, None, noted, noted_made}
 use Rattle.scene_tree.proofs.{Ok, opened_alone, opened_within, pointer_of, rules, same_Some, slot_in, slot_of, spot_in}
-use Rattle.scene_tree.proofs.{subst, sym, [], ◌∙◌}
+use Rattle.scene_tree.proofs.{subst, sym, ◌∙◌}
 use Rattle.scene_tree.proofs.tree.SceneTree.add_at.Goals as goal
 
 pub open_slot-requires : goal.open_slot-requires

@@ -8,12 +8,10 @@ returns-then-not-is_alive-2-clause-cycle g c live below = absurd (true≢false
     ∙ (sym c.is_alive-2.ensures ∙ c.if-not-is_alive-2.true)))
 
 pub is_under-requires-clause-within : goal.is_under-requires-clause-within
-is_under-requires-clause-within g c = omega (
-  arith,
-  live_slot _ (g.met.S.AnyStorage.sound _) c.self.invariant.0
-      c.args.parent (told_live c.args.parent c.self.view_is c.is_alive-2.ensures c.if-not-is_alive-2.false),
-  c.slot.ensures,
-)
+is_under-requires-clause-within g c =
+    let lives = told_live c.args.parent c.self.view_is c.is_alive-2.ensures c.if-not-is_alive-2.false in
+    let lt = live_slot _ (g.met.S.AnyStorage.sound _) c.self.invariant.0 c.args.parent lives in
+    omega (arith, lt, c.slot.ensures)
 
 pub returns-then-is_under-clause-why : goal.returns-then-is_under-clause-why
 returns-then-is_under-clause-why g c =
