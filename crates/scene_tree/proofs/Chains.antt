@@ -63,6 +63,11 @@ module _ {T : Type 0} where
   link_there (l ∷ links) zero lt = (l, refl)
   link_there (l ∷ links) (suc s) lt = link_there links s (omega (arith, lt))
 
+  -- and so has one with a tie
+  pub tied_within : (links : List (Link T)) (s : ℕ) (tie : Node T × Option ℕ × Option ℕ)
+      → tie_of (slice_get links s) ≡ Some tie → (l : Link T) × (slice_get links s ≡ Some l)
+  tied_within links s tie is = grind arith
+
   -- ---- a child, or the first, is put after another, or the last before it
 
   -- what neither an end nor a neighbour is stays

@@ -1,4 +1,7 @@
 -- Links whose children are linked: what they hold, and after a child comes or goes.
+use Rattle.scene_tree.proofs.Chains.{after_kept, after_length, before_kept, before_length, chain_is, chain_none}
+use Rattle.scene_tree.proofs.Chains.{chain_short, changed_apart, changed_here, changed_kept, changed_length, last_both}
+use Rattle.scene_tree.proofs.Chains.{link_there, noted_joined, pushed_kept, tied_within}
 use Rattle.scene_tree.proofs.Common.{above, after_put, alone, ap, append-nil, append_assoc, arith, before_put}
 use Rattle.scene_tree.proofs.Common.{cases_Bool, cases_eq, chain, changed, children_at, cond, count_at, families}
 use Rattle.scene_tree.proofs.Common.{Family, family_at, family_in, first_of, head_or, inl, inr, insert, is_same}
@@ -9,9 +12,6 @@ use Rattle.scene_tree.proofs.Common.{pushed_old, refl, same_Some, slice_get, sli
 use Rattle.scene_tree.proofs.Common.{slice_get_within, slice_index_or, slot_in, slot_of, Some, Spot, subst, suc, sym}
 use Rattle.scene_tree.proofs.Common.{tie_of, true, true≢false, unwrap_or-slice_get, without, [], ℕ, ⊎_elim, ◌++◌, ◌+◌}
 use Rattle.scene_tree.proofs.Common.{◌<◌, ◌∙◌, ◌∷◌, ◌≡◌, ◌≢◌, ◌≤◌, ◌⊎◌}
-use Rattle.scene_tree.proofs.Chains.{after_kept, after_length, before_kept, before_length, chain_is, chain_none}
-use Rattle.scene_tree.proofs.Chains.{chain_short, changed_apart, changed_here, changed_kept, changed_length, last_both}
-use Rattle.scene_tree.proofs.Chains.{link_there, noted_joined, pushed_kept}
 use Rattle.scene_tree.specs.declared.spot.Spot.TheVariants as spot
 use Rattle.scene_tree.proofs.Counting.{count_apart, count_both, count_here, count_more, same_slot, same_without}
 use Rattle.scene_tree.proofs.Forests.{slot_cases}
@@ -65,10 +65,6 @@ module _ {T : Type 0} where
       → ((s : ℕ) → s ≢ up → IsHeld new s (children_at (families old) s)) → IsLinked new
   linked_but old new up here le held short others s =
       grind (arith, children_held new up here held short, short, children_like, cases_eq s up)
-
-  tied_within : (links : List (Link T)) (s : ℕ) (tie : Node T × Option ℕ × Option ℕ)
-      → tie_of (slice_get links s) ≡ Some tie → (l : Link T) × (slice_get links s ≡ Some l)
-  tied_within links s tie is = grind arith
 
   -- ---- forests
 

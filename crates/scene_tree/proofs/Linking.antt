@@ -1,11 +1,11 @@
 -- A child that is linked among its siblings, and one that is taken out.
-use Rattle.scene_tree.proofs.Common.{after_put, ap, arith, before_put, cases_eq, changed, count_at, first_of, head_or}
+use Rattle.scene_tree.proofs.Chains.{after_first, after_last, after_ties, before_first, before_last, before_ties}
+use Rattle.scene_tree.proofs.Chains.{chain_join, chain_split, changed_apart, changed_here, changed_kept, head_apart}
+use Rattle.scene_tree.proofs.Chains.{head_both, last_apart, last_both, tied_within}
+use Rattle.scene_tree.proofs.Common.{after_put, arith, before_put, cases_eq, changed, count_at, first_of, head_or}
 use Rattle.scene_tree.proofs.Common.{IsChain, IsHeld, last_of, last_or, Link, List, Node, None, none-some, Option, refl}
 use Rattle.scene_tree.proofs.Common.{same_Some, slice_get, slot_in, Some, subst, sym, tie_of, [], ℕ, ⊎_elim, ◌++◌, ◌+◌}
 use Rattle.scene_tree.proofs.Common.{◌<◌, ◌∙◌, ◌∷◌, ◌≡◌, ◌≢◌, ◌≤◌}
-use Rattle.scene_tree.proofs.Chains.{after_first, after_last, after_ties, before_first, before_last, before_ties}
-use Rattle.scene_tree.proofs.Chains.{chain_join, chain_split, changed_apart, changed_here, changed_kept, head_apart}
-use Rattle.scene_tree.proofs.Chains.{head_both, last_apart, last_both}
 use Rattle.scene_tree.proofs.Counting.{count_both, count_here, count_more}
 
 module _ {T : Type 0} where
@@ -23,20 +23,13 @@ module _ {T : Type 0} where
   HasTies old new xs = (s : ℕ) → 0 < count_at s xs
       → tie_of (slice_get new s) ≡ tie_of (slice_get old s)
 
-  ties_rest : (old new : List (Link T)) (x : Node T) (xs : List (Node T)) → HasTies old new (x ∷ xs)
-      → HasTies old new xs
-  ties_rest old new x xs same s lt = grind (arith, count_more s x xs)
-
-  ties_here : (old new : List (Link T)) (x : Node T) (xs : List (Node T)) → HasTies old new (x ∷ xs)
-      → tie_of (slice_get new (slot_in x)) ≡ tie_of (slice_get old (slot_in x))
-  ties_here old new x xs same = grind (arith, count_here (slot_in x) x xs refl)
-
   pub chain_kept : (old new : List (Link T)) (before after : Option ℕ) (xs : List (Node T))
       → HasTies old new xs → IsChain old before xs after → IsChain new before xs after
   chain_kept old new before after [] same is = tt
   chain_kept old new before after (x ∷ xs) same is = (
-    ties_here old new x xs same ∙ is.0,
-    chain_kept old new (Some (slot_in x)) after xs (ties_rest old new x xs same) is.1,
+    same (slot_in x) (let here = count_here (slot_in x) x xs refl in omega (arith, here)) ∙ is.0,
+    chain_kept old new (Some (slot_in x)) after xs
+        (λ s lt. same s (let more = count_more s x xs in omega (arith, lt, more))) is.1,
   )
 
   pub held_kept : (old new : List (Link T)) (slot : ℕ) (xs : List (Node T)) → HasTies old new xs
@@ -66,13 +59,7 @@ module _ {T : Type 0} where
       → IsChain (after_put links up (last_or at xs) next) before xs next
   chain_after links up before after next at [] once is = tt
   chain_after links up before after next at (x ∷ []) once is =
-      (tied (slice_get links (slot_in x)) refl, tt)
-    where
-      tied : (o : Option (Link T)) → slice_get links (slot_in x) ≡ o
-          → tie_of (slice_get (changed links (slot_in x) (λ l. record l { after = next })) (slot_in x))
-          ≡ Some (x, before, next)
-      tied None there = absurd (none-some (x, before, after) (sym (ap tie_of there) ∙ is.0))
-      tied (Some l) there = grind (arith, changed_here)
+      (grind (arith, tied_within links (slot_in x) (x, before, after) is.0, changed_here), tt)
   chain_after links up before after next at (x ∷ y ∷ ys) once is = (
     after_ties links up (last_or (Some (slot_in y)) ys) next (slot_in x)
         (last_apart (Some (slot_in y)) ys (slot_in x)
@@ -120,19 +107,13 @@ module _ {T : Type 0} where
   back_put links up before next l (y ∷ ys) there once back = record {
     last = changed_kept last_of links (slot_in y) (λ l. record l { before = next }) (λ l. refl) up ∙ back.last;
     chain = (
-      tied (slice_get links (slot_in y)) refl,
+      grind (arith, tied_within links (slot_in y) (y, before, head_or ys None) back.chain.0, changed_here),
       chain_kept links (before_put links up (Some (slot_in y)) next) (Some (slot_in y)) None ys
           (λ s lt. before_ties links up (Some (slot_in y)) next s (λ is.
           let here = count_here s y ys (same_Some (slot_in y) s is) in
           let le = once s in omega (arith, here, le, lt))) back.chain.1,
     );
   }
-    where
-      tied : (o : Option (Link T)) → slice_get links (slot_in y) ≡ o
-          → tie_of (slice_get (changed links (slot_in y) (λ l. record l { before = next })) (slot_in y))
-          ≡ Some (y, next, head_or ys None)
-      tied None there = absurd (none-some (y, before, head_or ys None) (sym (ap tie_of there) ∙ back.chain.0))
-      tied (Some l) there = grind (arith, changed_here)
 
   pub front_before : (links : List (Link T)) (up : ℕ) (at next after : Option ℕ) (xs : List (Node T))
       → ((s : ℕ) → 0 < count_at s xs → at ≢ Some s) → IsFront links up xs after

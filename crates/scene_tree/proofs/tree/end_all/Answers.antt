@@ -4,9 +4,6 @@ use Rattle.scene_tree.proofs.tree.end_all.Goals as goal
 pub loop-node-init : goal.loop-node-init
 loop-node-init g c = lost_none c.requires.simple
 
-pub end-requires-clause-simple : goal.end-requires-clause-simple
-end-requires-clause-simple g c = c.loop-node.invariant.simple
-
 pub end-requires-clause-live : goal.end-requires-clause-live
 end-requires-clause-live g c = still_live _ c.loop-node.invariant c.deref-node-items.ensures.value
     c.loop-node-test.true c.requires.live c.requires.once

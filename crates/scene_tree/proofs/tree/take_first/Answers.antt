@@ -1,6 +1,5 @@
-use Rattle.scene_tree.proofs.{ap, arith, get_or_from_slice_get, HasLost, IsLiveIn, length, lost_more, lost_none}
-use Rattle.scene_tree.proofs.{pointer_in, refl, rules, slice_get-get_or, Some, still_live, subst, sym, take_all}
-use Rattle.scene_tree.proofs.{value_in, ◌<◌, ◌∙◌, ◌≡◌, ◌≤◌}
+use Rattle.scene_tree.proofs.{ap, arith, get_or_from_slice_get, length, lost_more, lost_none, pointer_in, refl, rules}
+use Rattle.scene_tree.proofs.{slice_get-get_or, Some, still_live, subst, sym, take_all, value_in, ◌<◌, ◌∙◌, ◌≡◌, ◌≤◌}
 use Rattle.scene_tree.proofs.tree.take_first.Goals as goal
 
 pub take_value-value-requires-clause-live : goal.take_value-value-requires-clause-live
@@ -14,14 +13,12 @@ rest-init g c = (
       (lost_none c.requires.simple) c.take_value-value.ensures.lost,
 )
 
-pub end-requires-clause-simple : goal.end-requires-clause-simple
-end-requires-clause-simple g c = c.rest.invariant.1.simple
-
-pub end-requires-clause-live : goal.end-requires-clause-live
-end-requires-clause-live g c =
-    let lt : c.rest.next < length c.args.nodes.now.items = search (rules, arith) in
-    subst (IsLiveIn (g.S.AnyStorage.state c.rest.store)) (sym c.index-in-rest.ensures)
-    (still_live _ c.rest.invariant.1 refl lt c.requires.live c.requires.once)
+pub end-requires : goal.end-requires
+end-requires g c =
+    let lt : c.rest.next < length c.args.nodes.now.items = search (rules, arith) in record {
+      simple = c.rest.invariant.1.simple;
+      live = rw c.index-in-rest.ensures (still_live _ c.rest.invariant.1 refl lt c.requires.live c.requires.once);
+    }
 
 pub rest-preserved : goal.rest-preserved
 rest-preserved g c =
@@ -31,13 +28,11 @@ rest-preserved g c =
           c.rest.invariant.1 c.end.ensures,
     )
 
-pub returns-clause-value : goal.returns-clause-value
-returns-clause-value g c n at =
-    subst (λ x. value_in (g.S.AnyStorage.state c.args.store.now) (pointer_in x) ≡ Some c.take_value-value.result)
-    (c.index.ensures ∙ get_or_from_slice_get c.args.nodes.now.items 0 n _ at) c.take_value-value.ensures.value
-
-pub returns-clause-lost : goal.returns-clause-lost
-returns-clause-lost g c =
-    let all : length c.args.nodes.now.items ≤ c.rest.next = search (rules, arith) in
-    subst (λ xs. HasLost (g.S.AnyStorage.state c.args.store.now) xs (g.S.AnyStorage.state c.rest.store))
-    (take_all c.rest.next c.args.nodes.now.items all) c.rest.invariant.1
+pub returns : goal.returns
+returns g c =
+    let all : length c.args.nodes.now.items ≤ c.rest.next = search (rules, arith) in record {
+      value = λ n at. subst (λ x. value_in (g.S.AnyStorage.state c.args.store.now) (pointer_in x)
+          ≡ Some c.take_value-value.result) (c.index.ensures ∙ get_or_from_slice_get _ 0 n _ at)
+          c.take_value-value.ensures.value;
+      lost = rw take_all at c.rest.invariant.1;
+    }
