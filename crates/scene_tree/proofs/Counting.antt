@@ -1,21 +1,18 @@
 -- How many nodes of a list live at a slot.
 use Rattle.scene_tree.specs.declared.spot.Spot.TheVariants as spot
 use Rattle.scene_tree.proofs.Common.{AllByRecursion, alone, and_parts, ap, arith, cases_Bool, cases_eq, cond, count_at}
-use Rattle.scene_tree.proofs.Common.{drop, eq-eqb, eqb-true, eqb_tells, false, Family, family_at, get_or, get_pushed}
-use Rattle.scene_tree.proofs.Common.{inl, inr, insert, is_same, IsCleared, IsDistinct, IsSame, length, List, map}
-use Rattle.scene_tree.proofs.Common.{nat_eq, Node, none-some, not, place_of, placed, refl, same_Some, slice_get}
-use Rattle.scene_tree.proofs.Common.{slot_in, Some, Spot, subst, suc, sum_by-append, sum_by-cons, sum_by-take-drop}
-use Rattle.scene_tree.proofs.Common.{sum_by-take-le, sym, take, take_more, times, true, true≢false, without, zero, []}
-use Rattle.scene_tree.proofs.Common.{ℕ, ⊎_elim, ◌++◌, ◌+◌, ◌<◌, ◌∙◌, ◌∷◌, ◌≡◌, ◌≢◌, ◌≤◌, ◌⊎◌}
+use Rattle.scene_tree.proofs.Common.{drop, eqb-true, eqb_tells, false, Family, family_at, get_or, get_pushed, inl, inr}
+use Rattle.scene_tree.proofs.Common.{insert, is_same, IsCleared, IsDistinct, IsSame, length, List, map, nat_eq, Node}
+use Rattle.scene_tree.proofs.Common.{none-some, place_of, placed, refl, same_Some, slice_get, slot_in, Some, Spot}
+use Rattle.scene_tree.proofs.Common.{subst, suc, sum_by-append, sum_by-cons, sum_by-take-drop, sum_by-take-le, sym}
+use Rattle.scene_tree.proofs.Common.{take, take_more, times, true, without, zero, [], ℕ, ⊎_elim, ◌++◌, ◌+◌, ◌<◌, ◌∙◌}
+use Rattle.scene_tree.proofs.Common.{◌∷◌, ◌≡◌, ◌≢◌, ◌≤◌, ◌⊎◌}
 
 module _ {T : Type 0} where
   -- with a node more before the others
   pub count_here : (s : ℕ) (c : Node T) (xs : List (Node T)) → slot_in c ≡ s
       → count_at s (c ∷ xs) ≡ count_at s xs + 1
-  count_here s c xs is =
-      let more = sum_by-cons (λ n. cond (nat_eq (slot_in n) s) 1 0) c xs in
-      let one : ◌≡◌ {A = ℕ} (cond (nat_eq (slot_in c) s) 1 0) 1 = ap (λ b. cond b 1 0) (eq-eqb (slot_in c) s is) in
-      omega (arith, more, one)
+  count_here s c xs is = grind (arith, sum_by-cons (λ n. cond (nat_eq (slot_in n) s) 1 0) c xs)
 
   pub count_apart : (s : ℕ) (c : Node T) (xs : List (Node T)) → slot_in c ≢ s
       → count_at s (c ∷ xs) ≡ count_at s xs
@@ -33,21 +30,17 @@ module _ {T : Type 0} where
   count_inserted : (s : ℕ) (xs : List (Node T)) (i : ℕ) (c : Node T)
       → count_at s (insert xs i c) ≡ count_at s (c ∷ xs)
   count_inserted s xs i c =
-      let both = count_both s (take i xs) (c ∷ drop i xs) in
+      let one = sum_by-cons (λ n. cond (nat_eq (slot_in n) s) 1 0) c in
       let parts = sum_by-take-drop (λ n. cond (nat_eq (slot_in n) s) 1 0) xs i in
-      let rest = sum_by-cons (λ n. cond (nat_eq (slot_in n) s) 1 0) c (drop i xs) in
-      let all = sum_by-cons (λ n. cond (nat_eq (slot_in n) s) 1 0) c xs in
-      omega (arith, both, parts, rest, all)
+      omega (arith, count_both s (take i xs) (c ∷ drop i xs), parts, one (drop i xs), one xs)
 
   -- with a node more at a spot, it is counted as with one more before the others
   pub count_placed : (s : ℕ) (at : Spot T) (xs : List (Node T)) (c : Node T)
       → count_at s (placed at c xs) ≡ count_at s (c ∷ xs)
   count_placed s (spot.FirstOf up) xs c = refl
   count_placed s (spot.LastOf up) xs c =
-      let both = count_both s xs (c ∷ []) in
-      let one = sum_by-cons (λ n. cond (nat_eq (slot_in n) s) 1 0) c [] in
-      let all = sum_by-cons (λ n. cond (nat_eq (slot_in n) s) 1 0) c xs in
-      omega (arith, both, one, all)
+      let one = sum_by-cons (λ n. cond (nat_eq (slot_in n) s) 1 0) c in
+      grind (arith, count_both s xs (c ∷ []), one [], one xs)
   count_placed s (spot.Before by) xs c = count_inserted s xs (place_of by xs) c
   count_placed s (spot.After by) xs c = count_inserted s xs (place_of by xs + 1) c
 
@@ -125,10 +118,7 @@ module _ {T : Type 0} where
   -- how many times a node stands in a list, with one more before the others
   pub times_more : (n x : Node T) (xs : List (Node T)) → is_same x n ≡ true
       → times n (x ∷ xs) ≡ times n xs + 1
-  times_more n x xs same =
-      let more = sum_by-cons (λ c. cond (is_same c n) 1 0) x xs in
-      let one : ◌≡◌ {A = ℕ} (cond (is_same x n) 1 0) 1 = ap (λ b. cond b 1 0) same in
-      omega (arith, more, one)
+  times_more n x xs same = grind (arith, sum_by-cons (λ c. cond (is_same c n) 1 0) x xs)
 
   pub times_apart : (n x : Node T) (xs : List (Node T)) → is_same x n ≡ false
       → times n (x ∷ xs) ≡ times n xs
@@ -145,11 +135,8 @@ module _ {T : Type 0} where
   times_at n [] alike = refl
   times_at n (x ∷ xs) alike =
       let rest = times_at n xs (λ k. alike (suc k)) in
-      ⊎_elim
-      (λ same. let one = times_more n x xs same in
-      let here = count_here (slot_in n) x xs (same_slot x n same) in omega (arith, rest, one, here))
-      (λ other. times_apart n x xs other ∙ (rest ∙ sym (count_apart (slot_in n) x xs
-      (λ is. true≢false (sym (alike 0 x refl is) ∙ other))))) (cases_Bool (is_same x n))
+      let here = count_here (slot_in n) x xs in
+      grind (arith, times_more n x xs, times_apart n x xs, count_apart, same_slot, alike 0 x refl)
 
   -- and not at all where none is of it
   pub times_none : (n : Node T) (xs : List (Node T))
@@ -163,31 +150,15 @@ module _ {T : Type 0} where
   count_without s n ne [] = refl
   count_without s n ne (x ∷ xs) =
       let rest = count_without s n ne xs in
-      ⊎_elim
-      (λ same. ap (λ b. count_at s (cond (not b) (x ∷ without n xs) (without n xs))) same
-      ∙ (rest ∙ sym (count_apart s x xs (λ is. ne (sym is ∙ same_slot x n same)))))
-      (λ other. ap (λ b. count_at s (cond (not b) (x ∷ without n xs) (without n xs))) other
-      ∙ more rest) (cases_Bool (is_same x n))
-    where
-      more : count_at s (without n xs) ≡ count_at s xs
-          → count_at s (x ∷ without n xs) ≡ count_at s (x ∷ xs)
-      more rest = ⊎_elim
-          (λ here. let a = count_here s x xs here in let b = count_here s x (without n xs) here in
-          omega (arith, a, b, rest))
-          (λ apart. count_apart s x (without n xs) apart ∙ (rest ∙ sym (count_apart s x xs apart)))
-          (cases_eq (slot_in x) s)
+      let here = count_here s x xs in
+      grind (arith, count_here s x (without n xs), count_apart, same_slot x n, cases_eq (slot_in x) s)
 
   -- a list without a node that doesn't stand there is the list
   pub same_without : (n : Node T) (xs : List (Node T)) → count_at (slot_in n) xs ≡ 0
       → without n xs ≡ xs
   same_without n [] none = refl
-  same_without n (x ∷ xs) none = ⊎_elim
-      (λ same. let here = count_here (slot_in n) x xs (same_slot x n same) in
-      absurd (omega (arith, here, none)))
-      (λ other. ap (λ b. cond (not b) (x ∷ without n xs) (without n xs)) other
-      ∙ ap (λ rest. x ∷ rest) (same_without n xs
-      (let more = count_more (slot_in n) x xs in omega (arith, more, none))))
-      (cases_Bool (is_same x n))
+  same_without n (x ∷ xs) none =
+      grind (arith, same_without n xs, count_here (slot_in n) x xs, count_more (slot_in n) x xs, same_slot x n)
 
   pub none_without : (s : ℕ) (n : Node T) → s ≡ slot_in n → (xs : List (Node T))
       → ((k : ℕ) (x : Node T) → slice_get xs k ≡ Some x → slot_in x ≡ slot_in n → is_same x n ≡ true)
@@ -195,12 +166,7 @@ module _ {T : Type 0} where
   none_without s n at [] alike = refl
   none_without s n at (x ∷ xs) alike =
       let rest = none_without s n at xs (λ k. alike (suc k)) in
-      ⊎_elim
-      (λ same. ap (λ b. count_at s (cond (not b) (x ∷ without n xs) (without n xs))) same ∙ rest)
-      (λ other. ap (λ b. count_at s (cond (not b) (x ∷ without n xs) (without n xs))) other
-      ∙ (count_apart s x (without n xs)
-      (λ is. true≢false (sym (alike 0 x refl (is ∙ at)) ∙ other)) ∙ rest))
-      (cases_Bool (is_same x n))
+      grind (arith, count_apart s x (without n xs), alike 0 x refl, cases_Bool (is_same x n))
 
   -- one node more of a list is left alone
   clear_next : (old here new : List (Family T)) (nodes : List (Node T)) (i slot : ℕ) (d : Node T)

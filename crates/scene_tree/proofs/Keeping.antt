@@ -4,11 +4,11 @@ use Rattle.scene_tree.proofs.Common.{children_of, cond, count_at, families, Fami
 use Rattle.scene_tree.proofs.Common.{filter, fresh, fresh_simple, GenerationalPointer, is_same, is_some, IsAmong}
 use Rattle.scene_tree.proofs.Common.{IsAttached, IsCleared, IsDetached, IsKept, IsLiveIn, IsOpened, IsOther, IsSimple}
 use Rattle.scene_tree.proofs.Common.{IsSound, IsSpotIn, IsUnder, length, length-map, Link, List, Location, Made, made}
-use Rattle.scene_tree.proofs.Common.{made_new, made_simple, Make, Meets, nat_cmp, no_slots, Node, NodeIsUnchanged, None}
-use Rattle.scene_tree.proofs.Common.{none-some, Ok, Option, others_left, parent_at, parent_for, parent_of, placed}
-use Rattle.scene_tree.proofs.Common.{pointer_in, refl, same_Some, same_value, slice_get, slot_in, slot_of, slots, Some}
-use Rattle.scene_tree.proofs.Common.{Spot, State, subst, suc, sym, TreeState, true, value_in, value_of, zero, [], ℕ}
-use Rattle.scene_tree.proofs.Common.{⊎_elim, ◌<◌, ◌∙◌, ◌∷◌, ◌≡◌, ◌≢◌, ◌≤◌}
+use Rattle.scene_tree.proofs.Common.{made_new, made_simple, Make, Meets, nat_cmp, no_slots, Node, NodeIsUnchanged}
+use Rattle.scene_tree.proofs.Common.{None, none-some, Ok, Option, others_left, parent_at, parent_for, parent_of, placed}
+use Rattle.scene_tree.proofs.Common.{pointer_in, refl, same_value, slice_get, slot_in, slot_of, slots, Some, Spot}
+use Rattle.scene_tree.proofs.Common.{State, suc, sym, TreeState, true, value_in, value_of, zero, [], ℕ, ⊎_elim, ◌<◌}
+use Rattle.scene_tree.proofs.Common.{◌∙◌, ◌∷◌, ◌≡◌, ◌≢◌, ◌≤◌}
 use Rattle.scene_tree.proofs.Trees.{has_parent, left_with, live_children, live_family, live_parent}
 use Rattle.scene_tree.specs.declared.spot.Spot.TheVariants as spot
 use Rattle.std.specs.FinMap as map
@@ -40,11 +40,7 @@ module _ {T : Type 0} where
   fresh_kept number start next = record {
     simple = fresh_simple number start next;
     whole = sym (ap map.len no_slots ∙ map.len-empty nat_cmp ℕ);
-    forest = record {
-      once = λ s up is. absurd (none-some up is);
-      only = λ s other ne. refl;
-      rooted = λ s. (0, refl);
-    };
+    forest = search arith;
     parents = λ s up is. absurd (none-some up is);
     children = λ s k c is. absurd (none-some c is);
   }
@@ -116,16 +112,8 @@ module _ {T : Type 0} where
       simple = k.simple;
       whole = new.long ∙ k.whole;
       forest = attached fs gs k.forest parent child spot root apart new;
-      parents = λ s up is. ⊎_elim
-          (λ at. subst (IsLiveIn S) (same_Some parent up (sym new.here ∙ (ap (parent_at gs) (sym at) ∙ is))) live)
-          (λ ne. k.parents s up (sym (new.parents s ne) ∙ is)) (cases_eq s (slot_in child));
-      children = λ s i c is. ⊎_elim
-          (λ at. ⊎_elim (λ old. k.children (slot_in parent) old.0 c old.1)
-          (λ more. subst (IsLiveIn S) more lives)
-          (placed_from spot (children_at fs (slot_in parent)) i child c
-          (sym (ap (λ xs. slice_get xs i) (ap (children_at gs) at ∙ new.listed)) ∙ is)))
-          (λ ne. k.children s i c (sym (ap (λ xs. slice_get xs i) (new.others s ne)) ∙ is))
-          (cases_eq s (slot_in parent));
+      parents = λ s up is. search arith;
+      children = λ s i c is. grind (arith, placed_from, cases_eq s (slot_in parent));
     }
 
     -- a node that was taken out of its parent's children
@@ -157,14 +145,8 @@ module _ {T : Type 0} where
       simple = k.simple;
       whole = new.long ∙ k.whole;
       forest = detached fs gs k.forest child (alike sound child live) new;
-      parents = λ s up is. ⊎_elim
-          (λ at. absurd (none-some up (sym new.here ∙ (ap (parent_at gs) (sym at) ∙ is))))
-          (λ ne. k.parents s up (sym (new.parents s ne) ∙ is)) (cases_eq s (slot_in child));
-      children = λ s i c is. ⊎_elim
-          (λ up. let old = filtered_from _ (children_at fs s) i c
-          (sym (ap (λ xs. slice_get xs i) (new.lost s up)) ∙ is) in k.children s old.0 c old.1)
-          (λ other. k.children s i c (sym (ap (λ xs. slice_get xs i) (new.others s other)) ∙ is))
-          (slot_cases (above fs (slot_in child)) s);
+      parents = λ s up is. search arith;
+      children = λ s i c is. grind (arith, filtered_from, slot_cases (above fs (slot_in child)) s);
     }
 
     -- nodes that were left alone, with all that are below them and none above, and whose values ended

@@ -100,31 +100,18 @@ module _ {T : Type 0} where
       → (count_at s xs ≡ 0) × (count_at s ys ≡ 0)
   parts_none s cs xs ys whole none = grind (arith, count_both s xs ys, none)
 
+  last_from : (s i : ℕ) (ys : List (Node T)) → last_or (Some i) ys ≡ Some s → (i ≡ s) ⊎ (0 < count_at s ys)
+  last_from s i [] is = inl (same_Some i s is)
+  last_from s i (y ∷ ys) is = grind (arith, last_from s (slot_in y) ys is, count_here s y ys, count_more s y ys)
+
   -- the ends of a list are counted
   pub last_counted : (s : ℕ) (xs : List (Node T)) → last_or None xs ≡ Some s → 0 < count_at s xs
   last_counted s [] is = absurd (none-some s is)
-  last_counted s (x ∷ xs) is = more (slot_in x) xs is
-      (let here = count_here (slot_in x) x xs refl in let some : 0 < count_at (slot_in x) (x ∷ xs) = omega (arith, here) in some)
-      (λ i lt. let le = count_more i x xs in omega (arith, le, lt))
-    where
-      more : (i : ℕ) (ys : List (Node T)) → last_or (Some i) ys ≡ Some s → 0 < count_at i (x ∷ xs)
-          → ((j : ℕ) → 0 < count_at j ys → 0 < count_at j (x ∷ xs)) → 0 < count_at s (x ∷ xs)
-      more i [] is some all = subst (λ j. 0 < count_at j (x ∷ xs)) (same_Some i s is) some
-      more i (y ∷ ys) is some all = more (slot_in y) ys is
-          (all (slot_in y) (let here = count_here (slot_in y) y ys refl in omega (arith, here)))
-          (λ j lt. all j (let le = count_more j y ys in omega (arith, le, lt)))
+  last_counted s (x ∷ xs) is = grind (arith, last_from s (slot_in x) xs is, count_here s x xs, count_more s x xs)
 
   pub head_counted : (s : ℕ) (xs : List (Node T)) → head_or xs None ≡ Some s → 0 < count_at s xs
   head_counted s [] is = absurd (none-some s is)
   head_counted s (x ∷ xs) is = grind (arith, count_here s x xs (same_Some (slot_in x) s is))
-
-  -- so those of a list's two parts, which has children, have links
-  ends_within : (links : List (Link T)) → IsForest (families links) → (up : ℕ) (xs ys : List (Node T))
-      → ((i : ℕ) → count_at i xs + count_at i ys ≤ count_at i (children_at (families links) up))
-      → (s : ℕ) → (last_or None xs ≡ Some s) ⊎ (head_or ys None ≡ Some s) → s < length links
-  ends_within links f up xs ys few s side = let le = few s in child_within links f up s (⊎_elim
-      (λ is. let lt = last_counted s xs is in omega (arith, le, lt))
-      (λ is. let lt = head_counted s ys is in omega (arith, le, lt)) side)
 
   insert_here : (xs ys : List (Node T)) (n : Node T) → insert (xs ++ ys) (length xs) n ≡ xs ++ n ∷ ys
   insert_here [] ys n = refl
@@ -567,23 +554,17 @@ module _ {T : Type 0} where
         freed_here None there = grind (arith, parent_from links (slot_in node))
         freed_here (Some l) there = grind (arith, changed_here)
 
-    -- the slots beside the node are slots of links
-    pub beside_within : (s : ℕ) → (last_or None part.front ≡ Some s) ⊎ (head_or part.back None ≡ Some s)
-        → s < length links
-    beside_within = ends_within links f top part.front part.back (λ i.
-        let both = count_both i part.front (part.here ∷ part.back) in
-        let whole = ap (count_at i) part.whole in
-        let more = count_more i part.here part.back in omega (arith, both, whole, more))
-
   -- ---- both, by what the calls leave
 
   pub gap_within : (links : List (Link T)) → IsForest (families links) → (up : ℕ) (at : Spot T)
       (gap : Option ℕ × Option ℕ) → IsGap (children_at (families links) up) at gap
       → (s : ℕ) → (gap.0 ≡ Some s) ⊎ (gap.1 ≡ Some s) → s < length links
-  gap_within links f up at gap is s side = ends_within links f up is.front is.back (λ i.
-      let both = count_both i is.front is.back in
-      let whole = ap (count_at i) is.whole in omega (arith, both, whole)) s
-      (⊎_elim (λ before. inl (sym is.before ∙ before)) (λ after. inr (sym is.after ∙ after)) side)
+  gap_within links f up at gap is s side = child_within links f up s (⊎_elim
+      (λ here. let lt = last_counted s is.front (sym is.before ∙ here) in omega (arith, whole, lt))
+      (λ here. let lt = head_counted s is.back (sym is.after ∙ here) in omega (arith, whole, lt)) side)
+    where
+      whole : count_at s (children_at (families links) up) ≡ count_at s is.front + count_at s is.back
+      whole = ap (count_at s) is.whole ∙ count_both s is.front is.back
 
   -- what an attaching leaves
   pub record HasChild (links : List (Link T)) (parent : Node T) (at : Spot T) (child : Node T) (final : List (Link T)) : Type 0 where
@@ -658,7 +639,9 @@ module _ {T : Type 0} where
   side_within links linked f node parent slot slotis has alike n b a tie s side =
       let is = subst (λ i. parent_at (families links) i ≡ Some parent) slotis has in
       let here = subst (λ i. tie_of (slice_get links i) ≡ Some (n, b, a)) slotis tie in
-      let sides = sides_of links linked f node parent is alike n b a here in
-      beside_within links linked f node parent is alike s
-      (⊎_elim (λ before. inl (sym (ap (λ t. t.1) sides) ∙ before))
-      (λ after. inr (sym (ap (λ t. t.2) sides) ∙ after)) side)
+      let top = slot_in parent in
+      let of = part links linked f node parent is alike in ⊎_elim
+      (λ before. gap_within links f top (spot.Before node) (b, Some (slot_in node))
+      (gap_before links top linked node of n b a here) s (inl before))
+      (λ after. gap_within links f top (spot.After node) (Some (slot_in node), a)
+      (gap_after links top linked node of n b a here) s (inr after)) side

@@ -2,9 +2,9 @@
 use Rattle.scene_tree.proofs.Common.{and_from, and_parts, ap, AreAll, AreNoted, AreRoots, arith, Bool, cases_Bool, cond}
 use Rattle.scene_tree.proofs.Common.{false, families, is_met, is_same, is_some, IsKept, IsLiveIn, IsSame, IsSound, Link}
 use Rattle.scene_tree.proofs.Common.{List, met, Node, node_in, None, none-some, not, noted, Option, parent_of}
-use Rattle.scene_tree.proofs.Common.{pointer_in, refl, same_id_sees, same_Some, slice_get, slot_in, Some, State, subst}
-use Rattle.scene_tree.proofs.Common.{suc, sym, times, TreeState, true, true≢false, value_in, zero, [], ℕ, ⊎_elim, ◌+◌}
-use Rattle.scene_tree.proofs.Common.{◌<◌, ◌∙◌, ◌∷◌, ◌≡◌, ◌≤◌}
+use Rattle.scene_tree.proofs.Common.{pointer_in, refl, same_id_sees, slice_get, slot_in, Some, State, subst, suc, sym}
+use Rattle.scene_tree.proofs.Common.{times, TreeState, true, true≢false, value_in, zero, [], ℕ, ⊎_elim, ◌+◌, ◌<◌, ◌∙◌}
+use Rattle.scene_tree.proofs.Common.{◌∷◌, ◌≡◌, ◌≤◌}
 use Rattle.scene_tree.proofs.Counting.{is_id, same_id, same_slot, times_apart, times_more}
 use Rattle.scene_tree.proofs.Linked.{parent_from, upper}
 use Rattle.scene_tree.proofs.Trees.{live_parent}
@@ -23,58 +23,27 @@ module _ {T : Type 0} (S : State T) (roots : Bool) where
       → times n (met S roots links) ≡ 0
   met_below [] k placed n lt = refl
   met_below (l ∷ links) k placed n lt =
-      at (is_met S roots l) (met_below links (suc k) (placed_rest l links k placed) n (omega (arith, lt)))
-    where
-      apart : is_same l.node n ≡ true → ⊥
-      apart same =
-          let here = placed 0 l.node refl in
-          let slot = same_slot l.node n same in omega (arith, here, slot, lt)
-
-      at : (b : Bool) → times n (met S roots links) ≡ 0
-          → times n (cond b (l.node ∷ met S roots links) (met S roots links)) ≡ 0
-      at true rest = times_apart n l.node (met S roots links)
-          (⊎_elim (λ yes. absurd (apart yes)) (λ no. no) (cases_Bool (is_same l.node n))) ∙ rest
-      at false rest = rest
+      let rest = met_below links (suc k) (placed_rest l links k placed) n (omega (arith, lt)) in
+      let here = placed 0 l.node refl in
+      grind (arith, times_apart n l.node (met S roots links), same_slot l.node n)
 
   met_once : (links : List (Link T)) (k : ℕ) → ArePlaced links k → (n : Node T)
       → times n (met S roots links) ≤ 1
   met_once [] k placed n = omega arith
   met_once (l ∷ links) k placed n =
-      at (is_met S roots l) (met_once links (suc k) (placed_rest l links k placed) n)
-    where
-      here : is_same l.node n ≡ true → times n (met S roots links) ≡ 0
-      here same = met_below links (suc k) (placed_rest l links k placed) n
-          (let at = placed 0 l.node refl in
-          let slot = same_slot l.node n same in omega (arith, at, slot))
-
-      at : (b : Bool) → times n (met S roots links) ≤ 1
-          → times n (cond b (l.node ∷ met S roots links) (met S roots links)) ≤ 1
-      at true rest = ⊎_elim
-          (λ same. let more = times_more n l.node (met S roots links) same in
-          let none = here same in omega (arith, more, none))
-          (λ other. let same = times_apart n l.node (met S roots links) other in omega (arith, same, rest))
-          (cases_Bool (is_same l.node n))
-      at false rest = rest
+      let rest = met_once links (suc k) (placed_rest l links k placed) n in
+      let below = met_below links (suc k) (placed_rest l links k placed) n in
+      let here = placed 0 l.node refl in
+      let more = times_more n l.node (met S roots links) in
+      grind (arith, times_apart n l.node (met S roots links), same_slot l.node n)
 
   met_has : (links : List (Link T)) (i : ℕ) (l : Link T) → slice_get links i ≡ Some l
       → is_met S roots l ≡ true → (n : Node T) → is_same l.node n ≡ true → 0 < times n (met S roots links)
   met_has [] i l at passes n same = absurd (none-some l at)
-  met_has (x ∷ links) zero l at passes n same =
-      let here = ap (is_met S roots) (same_Some x l at) ∙ passes in
-      let more = times_more n x.node (met S roots links)
-      (ap (λ (y : Link T). is_same y.node n) (same_Some x l at) ∙ same) in
-      subst (λ b. 0 < times n (cond b (x.node ∷ met S roots links) (met S roots links))) (sym here)
-      (omega (arith, more))
+  met_has (x ∷ links) zero l at passes n same = grind (arith, times_more n x.node (met S roots links))
   met_has (x ∷ links) (suc i) l at passes n same =
-      at_rest (is_met S roots x) (met_has links i l at passes n same)
-    where
-      at_rest : (b : Bool) → 0 < times n (met S roots links)
-          → 0 < times n (cond b (x.node ∷ met S roots links) (met S roots links))
-      at_rest true rest = ⊎_elim
-          (λ is. let more = times_more n x.node (met S roots links) is in omega (arith, more))
-          (λ other. let less = times_apart n x.node (met S roots links) other in omega (arith, less, rest))
-          (cases_Bool (is_same x.node n))
-      at_rest false rest = rest
+      let rest = met_has links i l at passes n same in
+      grind (arith, times_more n x.node (met S roots links), times_apart n x.node (met S roots links))
 
   -- a node that is met is that of a link
   record IsOfLink (links : List (Link T)) (n : Node T) : Type 0 where

@@ -140,12 +140,7 @@ module _ {T : Type 0} where
     -- a slot without children has no rows of any
     pub no_row : (d s : ℕ) (m : Link T) → slice_get links s ≡ Some m → m.first ≡ None
         → rows_at (d + 1) (children_at fs s) ++ behind links d (Some s) ≡ behind links d (Some s)
-    no_row d s m from none = by (children_at fs s) refl
-      where
-        by : (cs : List (Node T)) → children_at fs s ≡ cs
-            → rows_at (d + 1) (children_at fs s) ++ behind links d (Some s) ≡ behind links d (Some s)
-        by [] is = ap (λ zs. rows_at (d + 1) zs ++ behind links d (Some s)) is
-        by (c ∷ cs) is = grind arith
+    no_row d s m from none = search arith
 
     -- a slot of a link is within, as the slots that a link names
     pub first_within : (s at : ℕ) (m : Link T) → slice_get links s ≡ Some m → m.first ≡ Some at

@@ -2,11 +2,17 @@
 use Rattle.scene_tree.proofs.Common.{ap, AreNoted, families, Family, is_some, IsKept, IsLinked, IsOther, IsSimple}
 use Rattle.scene_tree.proofs.Common.{IsSound, Link, List, Meets, Node, NodeIsUnchanged, Old, others_left, pointer_in}
 use Rattle.scene_tree.proofs.Common.{reach_apart, refl, same_value, seen_reached, seen_store, set_seen, sets, SetValue}
-use Rattle.scene_tree.proofs.Common.{simple_still, State, sym, value_in, ◌∙◌, ◌≡◌}
+use Rattle.scene_tree.proofs.Common.{simple_still, State, subst, sym, value_in, ◌∙◌, ◌≡◌}
 use Rattle.scene_tree.proofs.Keeping.{kept_still}
 use Rattle.scene_tree.proofs.Noting.{noted_left}
 use Rattle.scene_tree.proofs.Stores.{same_slots}
 use Rattle.scene_tree.proofs.Trees.{left_with}
+
+-- links that stayed are kept as they were
+pub kept_links : {T : Type 0} {S : State T} {here new : List (Link T)} → here ≡ new
+    → IsKept S (families here) × IsLinked here × AreNoted S here
+    → IsKept S (families new) × IsLinked new × AreNoted S new
+kept_links {S = S} same = subst (λ links. IsKept S (families links) × IsLinked links × AreNoted S links) same
 
 module _ {T : Type 0} {S R : State T} (sound : IsSound S) (node : Node T) (v old : T)
     (m : Meets S (SetValue (pointer_in node) v) (Old old) R) where

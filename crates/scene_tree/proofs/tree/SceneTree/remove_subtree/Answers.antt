@@ -1,5 +1,5 @@
-use Rattle.scene_tree.proofs.{alike, AreNoted, cut_others, cut_parent, families, IsKept, IsLinked, kept_cut, list_live}
-use Rattle.scene_tree.proofs.{live_slot, noted_lost, rules, subst, subtree, sym, told_live}
+use Rattle.scene_tree.proofs.{alike, cut_others, cut_parent, kept_cut, kept_links, list_live, live_slot, noted_lost}
+use Rattle.scene_tree.proofs.{rules, subtree, sym, told_live}
 use Rattle.scene_tree.proofs.tree.SceneTree.remove_subtree.Goals as goal
 
 pub cut-requires : goal.cut-requires
@@ -17,9 +17,7 @@ end_all-requires g c =
     let once = (subtree (sound _) c.self.invariant.0 c.args.node live _ level).once in search rules
 
 pub invariant_of-self : goal.invariant_of-self
-invariant_of-self g c = subst (λ links. IsKept (g.S.AnyStorage.state c.self.inside.store) (families links)
-    × IsLinked links × AreNoted (g.S.AnyStorage.state c.self.inside.store) links)
-    (sym c.in-Err.ensures.refused) c.self.invariant
+invariant_of-self g c = kept_links (sym c.in-Err.ensures.refused) c.self.invariant
 
 pub invariant_of-self-2 : goal.invariant_of-self-2
 invariant_of-self-2 g c = (

@@ -1,6 +1,5 @@
-use Rattle.scene_tree.proofs.{alike, ap, AreNoted, arith, cases_lt, cut_others, cut_parent, families, IsKept, IsLinked}
-use Rattle.scene_tree.proofs.{kept_cut, length, list_live, live_slot, noted_lost, rules, slice_get, subst, subtree, sym}
-use Rattle.scene_tree.proofs.{told_live, ⊎_elim}
+use Rattle.scene_tree.proofs.{alike, ap, arith, cases_lt, cut_others, cut_parent, kept_cut, kept_links, length}
+use Rattle.scene_tree.proofs.{list_live, live_slot, noted_lost, rules, slice_get, subtree, sym, told_live, ⊎_elim}
 use Rattle.scene_tree.proofs.tree.SceneTree.take.Goals as goal
 
 pub cut-requires : goal.cut-requires
@@ -19,9 +18,7 @@ take_first-requires g c =
     let once = (subtree (sound _) c.self.invariant.0 c.args.node live _ level).once in search (rules, arith)
 
 pub invariant_of-self : goal.invariant_of-self
-invariant_of-self g c = subst (λ links. IsKept (g.S.AnyStorage.state c.self.inside.store) (families links)
-    × IsLinked links × AreNoted (g.S.AnyStorage.state c.self.inside.store) links)
-    (sym c.in-Err.ensures.refused) c.self.invariant
+invariant_of-self g c = kept_links (sym c.in-Err.ensures.refused) c.self.invariant
 
 pub invariant_of-self-2 : goal.invariant_of-self-2
 invariant_of-self-2 g c = (
