@@ -92,17 +92,10 @@ module _ {T : Type 0} (fs gs : List (Family T)) where
 
     pub attached : IsForest gs
     attached = record {
-      once = λ s up is. ⊎_elim
-          (λ at. let zero = none s (slot_in parent) at in
-          let one = count_here s child (children_at fs (slot_in parent)) (sym at) in
-          ap (λ i. count_at s (children_at gs i)) (up_is s up at is)
-          ∙ (more s ∙ (omega (arith, zero, one))))
-          (λ ne. kept s up ne ∙ f.once s up (sym (same_above s ne) ∙ is)) (cases_eq s (slot_in child));
-      only = λ s other ne. ⊎_elim
-          (λ at. ap (count_at s) (new.others other (λ is. ne (ap (above gs) at ∙ (ap slot_of new.here ∙ ap Some (sym is)))))
-          ∙ none s other at)
-          (λ apart. kept s other apart ∙ f.only s other (λ is. ne (same_above s apart ∙ is)))
-          (cases_eq s (slot_in child));
+      once = λ s up is.
+          let here = count_here s child (children_at fs (slot_in parent)) in
+          grind (arith, none s, more s, kept s up, up_is s up, cases_eq s (slot_in child));
+      only = λ s other ne. grind (arith, none s other, kept s other, cases_eq s (slot_in child));
       rooted = λ s. let r = f.rooted s in rooted r.0 s r.1;
     }
 
@@ -116,9 +109,7 @@ module _ {T : Type 0} (fs gs : List (Family T)) where
     left_above s ne = ap slot_of (new.parents s ne)
 
     left : (s up : ℕ) → s ≢ slot_in child → count_at s (children_at gs up) ≡ count_at s (children_at fs up)
-    left s up ne = ⊎_elim
-        (λ is. ap (count_at s) (new.lost up is) ∙ count_without s child ne (children_at fs up))
-        (λ other. ap (count_at s) (new.others up other)) (slot_cases (above fs (slot_in child)) up)
+    left s up ne = grind (arith, count_without s child ne (children_at fs up), slot_cases (above fs (slot_in child)) up)
 
     gone : (s up : ℕ) → s ≡ slot_in child → count_at s (children_at gs up) ≡ 0
     gone s up at = grind (arith, none_without, at, alike, slot_cases)
@@ -132,12 +123,8 @@ module _ {T : Type 0} (fs gs : List (Family T)) where
 
     pub detached : IsForest gs
     detached = record {
-      once = λ s up is. ⊎_elim
-          (λ at. absurd (none-some up (sym (ap slot_of new.here) ∙ (ap (above gs) (sym at) ∙ is))))
-          (λ ne. left s up ne ∙ f.once s up (sym (left_above s ne) ∙ is)) (cases_eq s (slot_in child));
-      only = λ s other ne. ⊎_elim (λ at. gone s other at)
-          (λ apart. left s other apart ∙ f.only s other (λ is. ne (left_above s apart ∙ is)))
-          (cases_eq s (slot_in child));
+      once = λ s up is. grind (arith, left s up, cases_eq s (slot_in child));
+      only = λ s other ne. grind (arith, gone s other, left s other, cases_eq s (slot_in child));
       rooted = λ s. let r = f.rooted s in left_rooted r.0 s r.1;
     }
 

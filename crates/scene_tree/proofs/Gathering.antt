@@ -94,39 +94,27 @@ module _ {T : Type 0} (fs : List (Family T)) where
         -- a slot above the first node's isn't there, where what is there is below
         unlisted : (d s : ℕ) (r : IsRooted fs (suc d) s) → slot_in top ≡ s
             → (0 < count_at r.0 list → IsUnderTop top r.0) → count_at r.0 list ≤ 0
-        unlisted d s r here below = ⊎_elim
-            (λ lt. let under = below lt in absurd (no_cycle fs (suc d) s r.0 under.0 r r.1
-            (subst (λ t. IsUnder fs t under.0 r.0) here under.1)))
-            (λ none. none) (cases_lt 0 (count_at r.0 list))
+        unlisted d s r here below = grind (arith, no_cycle fs (suc d) s r.0, cases_lt 0 (count_at r.0 list))
 
         -- each stands there once, and is below
         listed : (d s : ℕ) → IsRooted fs d s
             → (count_at s list ≤ 1) × (0 < count_at s list → IsUnderTop top s)
         listed zero s r =
-            let all = whole s in
             let none = children_none s r (take next list) in
-            ⊎_elim
-            (λ here. let one = count_here s top (all_children (take next list)) here in
-            (omega (arith, all, none, one), λ _. (0, sym here)))
-            (λ apart. let same = count_apart s top (all_children (take next list)) apart in
-            (omega (arith, all, none, same), λ lt. absurd (omega (arith, lt, all, none, same))))
-            (cases_eq (slot_in top) s)
+            let here = count_here s top (all_children (take next list)) in
+            grind (arith, whole s, count_apart s top (all_children (take next list)))
         listed (suc d) s r =
-            let all = whole s in
             let some = children_some s r.0 r.1 (take next list) in
             let part = count_take r.0 list next in
             let above = listed d r.0 r.2 in
-            let few = above.0 in
-            ⊎_elim
-            (λ here. let one = count_here s top (all_children (take next list)) here in
-            let none = unlisted d s r here above.1 in
-            (omega (arith, all, some, part, one, none), λ _. (0, sym here)))
-            (λ apart. let same = count_apart s top (all_children (take next list)) apart in (
-              omega (arith, all, some, part, few, same),
-              λ lt. let up = above.1 (omega (arith, lt, all, some, part, same)) in
-                  (suc up.0, (r.0, r.1, up.1)),
-            ))
-            (cases_eq (slot_in top) s)
+            let here = count_here s top (all_children (take next list)) in
+            let apart = count_apart s top (all_children (take next list)) in (
+              grind (arith, whole s, unlisted d s r),
+              λ lt. ⊎_elim (λ at. (0, sym at))
+                  (λ ne. let up = above.1 (let same = apart ne in let all = whole s in
+                  omega (arith, lt, all, some, part, same)) in (suc up.0, (r.0, r.1, up.1)))
+                  (cases_eq (slot_in top) s),
+            )
 
         pub listed_once : (s : ℕ) → count_at s list ≤ 1
         listed_once s = let r = f.rooted s in (listed r.0 s r.1).0

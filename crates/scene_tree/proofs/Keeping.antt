@@ -4,8 +4,8 @@ use Rattle.scene_tree.proofs.Common.{children_of, cond, count_at, families, Fami
 use Rattle.scene_tree.proofs.Common.{filter, fresh, fresh_simple, GenerationalPointer, is_same, is_some, IsAmong}
 use Rattle.scene_tree.proofs.Common.{IsAttached, IsCleared, IsDetached, IsKept, IsLiveIn, IsOpened, IsOther, IsSimple}
 use Rattle.scene_tree.proofs.Common.{IsSound, IsSpotIn, IsUnder, length, length-map, Link, List, Location, Made, made}
-use Rattle.scene_tree.proofs.Common.{made_new, made_simple, Make, Meets, nat_cmp, no_slots, Node, NodeIsUnchanged}
-use Rattle.scene_tree.proofs.Common.{None, none-some, Ok, Option, others_left, parent_at, parent_for, parent_of, placed}
+use Rattle.scene_tree.proofs.Common.{made_new, made_simple, Make, Meets, nat_cmp, no_slots, Node, NodeIsUnchanged, None}
+use Rattle.scene_tree.proofs.Common.{none-some, Ok, Option, others_left, parent_at, parent_for, parent_of, placed}
 use Rattle.scene_tree.proofs.Common.{pointer_in, refl, same_value, slice_get, slot_in, slot_of, slots, Some, Spot}
 use Rattle.scene_tree.proofs.Common.{State, suc, sym, TreeState, true, value_in, value_of, zero, [], ℕ, ⊎_elim, ◌<◌}
 use Rattle.scene_tree.proofs.Common.{◌∙◌, ◌∷◌, ◌≡◌, ◌≢◌, ◌≤◌}
@@ -162,16 +162,8 @@ module _ {T : Type 0} where
         simple = simple;
         whole = whole;
         forest = cleared fs gs k.forest list c down upward;
-        parents = λ s up is.
-            let none = out s (λ lt. none-some up (sym (ap (λ f. f.parent) (c.cleared s lt)) ∙ is)) in
-            let was = sym (ap (λ f. f.parent) (c.others s none)) ∙ is in
-            live up (out (slot_in up) (λ lt. let some = down s (slot_in up) (ap slot_of was) lt in
-            omega (arith, some, none))) (k.parents s up was);
-        children = λ s i x is.
-            let none = out s (λ lt. none-some x (sym (ap (λ f. slice_get f.children i) (c.cleared s lt)) ∙ is)) in
-            let was = sym (ap (λ f. slice_get f.children i) (c.others s none)) ∙ is in
-            live x (out (slot_in x) (λ lt. let some = upward (slot_in x) s (parent_is fs k.forest s i x was) lt in
-            omega (arith, some, none))) (k.children s i x was);
+        parents = λ s up is. grind (arith, live up, k.parents s up, c.cleared s, c.others s, down s (slot_in up), out);
+        children = λ s i x is. grind (arith, live x, k.children s i x, c.cleared s, c.others s, parent_is fs k.forest s i x, out);
       }
 
   -- both: a new child

@@ -162,9 +162,8 @@ module _ {T : Type 0} where
         flat_same : (xs : List (Node T)) → AreLive S xs
             → flat_map (λ n. children_at fs (slot_in n)) xs ≡ flat_map (children_of tree) xs
         flat_same [] lives = refl
-        flat_same (x ∷ xs) lives = ap (λ cs. cs ++ flat_map (λ n. children_at fs (slot_in n)) xs)
-            (sym (live_children x (lives 0 x refl)))
-            ∙ ap (λ rest. children_of tree x ++ rest) (flat_same xs (λ i. lives (suc i)))
+        flat_same (x ∷ xs) lives =
+            grind (arith, live_children x (lives 0 x refl), flat_same xs (λ i. lives (suc i)))
 
         pub subtree : IsSubtree tree top list
         subtree = record {
