@@ -6,7 +6,7 @@ use Rattle.scene_tree.proofs.Common.{sym, times, TreeState, value_of, without, z
 use Rattle.scene_tree.proofs.Forests.{above_parent}
 use Rattle.scene_tree.proofs.Gathering.{all_listed, listed_below, part_whole}
 use Rattle.scene_tree.proofs.Keeping.{kept_cleared, kept_detached}
-use Rattle.scene_tree.proofs.Paths.{no_cycle}
+use Rattle.scene_tree.proofs.Paths.{no_cycle, under_up}
 use Rattle.scene_tree.proofs.Stores.{one_live}
 use Rattle.scene_tree.proofs.Trees.{has_parent, left_with, list_live, live_children, live_family, live_parent}
 use Rattle.scene_tree.proofs.Trees.{times_live}
@@ -25,14 +25,10 @@ module _ {T : Type 0} {S R : State T} {fs hs : List (Family T)} (sound : IsSound
   before s up is = grind arith
 
   upward : (s up : ℕ) → above cut.left s ≡ Some up → 0 < count_at s list → 0 < count_at up list
-  upward s up is lt = let u = under s lt in
-      let was = before s up is in step u.0 u.1 was.0 was.1
-    where
-      step : (e : ℕ) → IsUnder fs (slot_in node) e s → s ≢ slot_in node → above fs s ≡ Some up
-          → 0 < count_at up list
-      step zero at ne was = absurd (ne at)
-      step (suc e) far ne was =
-          listed e up (subst (IsUnder fs (slot_in node) e) (same_Some far.0 up (sym far.1 ∙ was)) far.2)
+  upward s up is lt =
+      let u = under s lt in
+      let was = before s up is in
+      let far = under_up fs (slot_in node) u.0 s up was.1 was.0 u.1 in listed far.0 up far.1
 
   -- a live node is listed as often as its slot
   same_times : (n : Node T) → IsLiveIn S n → times n list ≡ count_at (slot_in n) list

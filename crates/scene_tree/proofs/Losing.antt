@@ -42,12 +42,8 @@ module _ {T : Type 0} where
       number = last.number ∙ before.number;
       count = grind (arith, length-append xs (x ∷ []));
       given = λ n given. last.given n (before.given n given);
-      ended = λ n some. ⊎_elim (λ lt. last.ended n lt)
-          (λ le. let both = times_both n xs (x ∷ []) in
-          last.others n (omega (arith, le)) ∙ before.ended n (omega (arith, some, both, le)))
-          (cases_lt 0 (times n (x ∷ [])));
-      others = λ n none. let both = times_both n xs (x ∷ []) in
-          last.others n (omega (arith, none, both)) ∙ before.others n (omega (arith, none, both));
+      ended = λ n some. grind (arith, last.ended n, last.others n, before.ended n, times_both n xs (x ∷ []));
+      others = λ n none. grind (arith, last.others n, before.others n, times_both n xs (x ∷ []));
     }
 
     pub lost_more : (nodes items : List (Node T)) (i : ℕ) (x d : Node T) → items ≡ nodes
