@@ -1,8 +1,8 @@
 -- A tree from which a node was removed with all below it.
 use Rattle.scene_tree.proofs.Common.{above, ap, arith, cases_lt, children_of, count_at, Family, family_of, HasLost}
 use Rattle.scene_tree.proofs.Common.{is_some, IsCut, IsKept, IsLiveIn, IsOther, IsSound, IsUnder, length, List, Node}
-use Rattle.scene_tree.proofs.Common.{NodeIsUnchanged, parent_of, same_Some, slot_in, slot_of, Some, State, subst, suc}
-use Rattle.scene_tree.proofs.Common.{sym, times, TreeState, value_of, without, zero, ℕ, ⊎_elim, ◌<◌, ◌∙◌, ◌≡◌, ◌≢◌}
+use Rattle.scene_tree.proofs.Common.{NodeIsUnchanged, parent_of, slot_in, slot_of, Some, State, suc, sym, times}
+use Rattle.scene_tree.proofs.Common.{TreeState, value_of, without, ℕ, ⊎_elim, ◌<◌, ◌∙◌, ◌≡◌, ◌≢◌}
 use Rattle.scene_tree.proofs.Forests.{above_parent}
 use Rattle.scene_tree.proofs.Gathering.{all_listed, listed_below, part_whole}
 use Rattle.scene_tree.proofs.Keeping.{kept_cleared, kept_detached}

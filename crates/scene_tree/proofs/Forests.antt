@@ -1,7 +1,7 @@
 -- Forests after a change.
 use Rattle.scene_tree.proofs.Common.{above, alone, ap, arith, cases_eq, cases_lt, children_at, count_at, Family}
 use Rattle.scene_tree.proofs.Common.{family_at, inl, inr, is_same, IsAttached, IsCleared, IsDetached, IsForest}
-use Rattle.scene_tree.proofs.Common.{IsRooted, IsUnder, List, Node, None, none-some, Option, parent_at, refl, slice_get}
+use Rattle.scene_tree.proofs.Common.{IsRooted, IsUnder, List, Node, None, none-some, Option, parent_at, slice_get}
 use Rattle.scene_tree.proofs.Common.{slot_in, slot_of, Some, Spot, suc, sym, true, zero, ℕ, ⊎_elim, ◌<◌, ◌∙◌, ◌∷◌, ◌≡◌}
 use Rattle.scene_tree.proofs.Common.{◌≢◌, ◌⊎◌}
 use Rattle.scene_tree.proofs.Counting.{count_apart, count_here, count_placed, count_without, counts, none_without}
@@ -21,10 +21,8 @@ module _ {T : Type 0} (fs : List (Family T)) where
     -- a child has its slot's node as its parent
     pub parent_is : (s k : ℕ) (c : Node T) → slice_get (children_at fs s) k ≡ Some c
         → above fs (slot_in c) ≡ Some s
-    parent_is s k c at = ⊎_elim (λ is. is)
-        (λ ne. let some = counts (slot_in c) (children_at fs s) k c at refl in
-        let none = f.only (slot_in c) s ne in absurd (omega (arith, some, none)))
-        (slot_cases (above fs (slot_in c)) s)
+    parent_is s k c at =
+        grind (arith, counts (slot_in c) (children_at fs s) k c at, f.only (slot_in c) s, slot_cases (above fs (slot_in c)) s)
 
     -- nothing but itself is under a slot that is alone
     pub under_alone : (top e s : ℕ) → family_at fs top ≡ alone → IsUnder fs top e s → s ≡ top

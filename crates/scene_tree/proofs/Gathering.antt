@@ -47,10 +47,7 @@ module _ {T : Type 0} (fs : List (Family T)) where
 
   module _ (f : IsForest fs) where
     pub above_within : (s up : ℕ) → above fs s ≡ Some up → up < length fs
-    above_within s up is = ⊎_elim (λ lt. lt)
-        (λ le. let none : count_at s (children_at fs up) ≡ 0 = ap (λ f. count_at s f.children) (past up le) in
-        let one = f.once s up is in absurd (omega (arith, none, one)))
-        (cases_lt up (length fs))
+    above_within s up is = grind (arith, past up, f.once s up is, cases_lt up (length fs))
 
     -- how many children of the nodes of a list live at a slot
     pub children_none : (s : ℕ) → above fs s ≡ None → (list : List (Node T))

@@ -396,8 +396,7 @@ module _ {T : Type 0} where
 
     new_apart : (s : ℕ) → s ≢ up → IsHeld new s (children_at fs s)
     new_apart s ne = joined_held there up up_there.0 is.front is.back up_there.1
-        (λ i. let both = count_both i is.front is.back in let same = ap (count_at i) is.whole in
-        let le = once_each fs f up i in omega (arith, both, same, le))
+        (λ i. grind (arith, count_both i is.front is.back, is.whole, once_each fs f up i))
         (Some (slot_in child)) (Some (slot_in child)) s (children_at fs s) ne
         (λ i lt. parts_none i (children_at fs up) is.front is.back is.whole (none_beside fs f up s i ne lt))
         (there_held s)
@@ -537,7 +536,7 @@ module _ {T : Type 0} where
         none =
             let all = count_both (slot_in node) part.front (part.here ∷ part.back) in
             let here = count_here (slot_in node) part.here part.back part.slot in
-            let le = once_listed (slot_in node) in (omega (arith, all, here, le), omega (arith, all, here, le))
+            grind (arith, once_listed (slot_in node))
 
     pub detached_is : IsDetached old node (families cut)
     detached_is = record {
@@ -559,12 +558,10 @@ module _ {T : Type 0} where
   pub gap_within : (links : List (Link T)) → IsForest (families links) → (up : ℕ) (at : Spot T)
       (gap : Option ℕ × Option ℕ) → IsGap (children_at (families links) up) at gap
       → (s : ℕ) → (gap.0 ≡ Some s) ⊎ (gap.1 ≡ Some s) → s < length links
-  gap_within links f up at gap is s side = child_within links f up s (⊎_elim
-      (λ here. let lt = last_counted s is.front (sym is.before ∙ here) in omega (arith, whole, lt))
-      (λ here. let lt = head_counted s is.back (sym is.after ∙ here) in omega (arith, whole, lt)) side)
-    where
-      whole : count_at s (children_at (families links) up) ≡ count_at s is.front + count_at s is.back
-      whole = ap (count_at s) is.whole ∙ count_both s is.front is.back
+  gap_within links f up at gap is s side =
+      let both = count_both s is.front is.back in
+      let last = last_counted s is.front in
+      let head = head_counted s is.back in child_within links f up s (grind (arith, is.whole, is.before, is.after))
 
   -- what an attaching leaves
   pub record HasChild (links : List (Link T)) (parent : Node T) (at : Spot T) (child : Node T) (final : List (Link T)) : Type 0 where

@@ -192,15 +192,12 @@ module _ {T : Type 0} where
       (there : slice_get links up ≡ Some l) (once : (s : ℕ) → count_at s (xs ++ c ∷ ys) ≤ 1) where
     few : (s : ℕ) → count_at s xs + count_at s ys ≤ 1
     few s =
-        let both = count_both s xs (c ∷ ys) in
-        let more = count_more s c ys in
-        let le = once s in omega (arith, both, more, le)
+        let both = count_both s xs (c ∷ ys) in grind (arith, count_more s c ys, once s)
 
     none : (count_at (slot_in c) xs ≡ 0) × (count_at (slot_in c) ys ≡ 0)
     none =
         let both = count_both (slot_in c) xs (c ∷ ys) in
-        let here = count_here (slot_in c) c ys refl in
-        let le = once (slot_in c) in (omega (arith, both, here, le), omega (arith, both, here, le))
+        grind (arith, count_here (slot_in c) c ys refl, once (slot_in c))
 
     abbrev more : List (Link T)
     more = joined links up xs ys (Some (slot_in c)) (Some (slot_in c))

@@ -1,10 +1,9 @@
 -- A store after the values of nodes have ended.
-use Rattle.scene_tree.proofs.Common.{ap, arith, cases_Bool, cases_lt, cond, Done, End, ends, get_or, HasLost, is_same}
-use Rattle.scene_tree.proofs.Common.{is_some, IsLiveIn, IsSimple, IsSound, length, length-append, List, Meets}
-use Rattle.scene_tree.proofs.Common.{meets_given, meets_number, Node, Ok, others_left, pointer_in, refl, same_value}
-use Rattle.scene_tree.proofs.Common.{seen_store, simple_still, slice_get, slice_get-get_or, Some, State, subst}
-use Rattle.scene_tree.proofs.Common.{sum_by-take-le, sym, take, take_more, times, unseen, [], ℕ, ⊎_elim, ◌++◌, ◌+◌, ◌<◌}
-use Rattle.scene_tree.proofs.Common.{◌∙◌, ◌∷◌, ◌≡◌, ◌≤◌}
+use Rattle.scene_tree.proofs.Common.{ap, arith, cases_Bool, cond, Done, End, ends, get_or, HasLost, is_same, is_some}
+use Rattle.scene_tree.proofs.Common.{IsLiveIn, IsSimple, IsSound, length, length-append, List, Meets, meets_given}
+use Rattle.scene_tree.proofs.Common.{meets_number, Node, Ok, others_left, pointer_in, refl, same_value, seen_store}
+use Rattle.scene_tree.proofs.Common.{simple_still, slice_get, slice_get-get_or, Some, State, subst, sum_by-take-le, sym}
+use Rattle.scene_tree.proofs.Common.{take, take_more, times, unseen, [], ℕ, ⊎_elim, ◌++◌, ◌+◌, ◌<◌, ◌∙◌, ◌∷◌, ◌≡◌, ◌≤◌}
 use Rattle.scene_tree.proofs.Counting.{is_id, same_id, times_apart, times_both, times_more}
 use Rattle.scene_tree.proofs.Stores.{ended_count, same_slots}
 use Rattle.scene_tree.proofs.Trees.{same_shown}
