@@ -155,7 +155,7 @@ module _ {T : Type 0} where
 
   pub head_apart : (xs : List (Node T)) (s : ℕ) → count_at s xs ≡ 0 → head_or xs None ≢ Some s
   head_apart [] s none is = none-some s is
-  head_apart (x ∷ xs) s none is = grind (arith, count_here s x xs (same_Some (slot_in x) s is), none)
+  head_apart (x ∷ xs) s none is = grind (arith, count_here s x xs (same_Some (slot_in x) s is))
 
   module _ (links : List (Link T)) where
     -- ---- chains
@@ -184,7 +184,7 @@ module _ {T : Type 0} where
     chain_is before [] n is le = chain_none n
     chain_is before (x ∷ xs) zero is le = absurd (omega (arith, le))
     chain_is before (x ∷ xs) (suc n) is le =
-        grind (arith, n, chain_is (Some (slot_in x)) xs n is.1 (omega (arith, le)))
+        grind (arith, chain_is (Some (slot_in x)) xs n is.1 (omega (arith, le)))
 
     pub chain_short : (n : ℕ) (at : Option ℕ) → length (chain links n at) ≤ n
     chain_short zero at = omega arith

@@ -183,7 +183,7 @@ module _ {T : Type 0} where
   }
     where
       apart : (s : ℕ) → s ≢ slot → count_at s (take (i + 1) nodes) ≡ count_at s (take i nodes)
-      apart s ne = grind (arith, count_next s nodes i d lt, count_apart s (get_or nodes i d) [], ne, is)
+      apart s ne = grind (arith, count_next s nodes i d lt, count_apart s (get_or nodes i d) [])
 
   -- the same where the list is read elsewhere
   pub clear_more : (old here new : List (Family T)) (nodes items : List (Node T)) (i slot : ℕ)

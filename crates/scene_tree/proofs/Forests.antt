@@ -27,7 +27,7 @@ module _ {T : Type 0} (fs : List (Family T)) where
     -- nothing but itself is under a slot that is alone
     pub under_alone : (top e s : ℕ) → family_at fs top ≡ alone → IsUnder fs top e s → s ≡ top
     under_alone top zero s none under = under
-    under_alone top (suc e) s none under = grind (arith, none, under_alone top e under.0 none under.2)
+    under_alone top (suc e) s none under = grind (arith, under_alone top e under.0 none under.2)
 
 module _ {T : Type 0} (fs gs : List (Family T)) where
   -- ---- the same families
@@ -110,7 +110,7 @@ module _ {T : Type 0} (fs gs : List (Family T)) where
     left s up ne = grind (arith, count_without s child ne (children_at fs up), slot_cases (above fs (slot_in child)) up)
 
     gone : (s up : ℕ) → s ≡ slot_in child → count_at s (children_at gs up) ≡ 0
-    gone s up at = grind (arith, none_without, at, alike, slot_cases)
+    gone s up at = grind (arith, none_without, alike, slot_cases)
 
     left_rooted : (d s : ℕ) → IsRooted fs d s → (e : ℕ) × IsRooted gs e s
     left_rooted zero s r = grind arith

@@ -64,7 +64,7 @@ module _ {T : Type 0} where
       → IsHeld new up here → length here ≤ length new
       → ((s : ℕ) → s ≢ up → IsHeld new s (children_at (families old) s)) → IsLinked new
   linked_but old new up here le held short others s =
-      grind (arith, children_held new up here held short, short, children_like, cases_eq s up)
+      grind (arith, children_held new up here held short, children_like, cases_eq s up)
 
   -- ---- forests
 
@@ -98,7 +98,7 @@ module _ {T : Type 0} where
 
   pub parts_none : (s : ℕ) (cs xs ys : List (Node T)) → cs ≡ xs ++ ys → count_at s cs ≡ 0
       → (count_at s xs ≡ 0) × (count_at s ys ≡ 0)
-  parts_none s cs xs ys whole none = grind (arith, count_both s xs ys, none)
+  parts_none s cs xs ys whole none = grind (arith, count_both s xs ys)
 
   last_from : (s i : ℕ) (ys : List (Node T)) → last_or (Some i) ys ≡ Some s → (i ≡ s) ⊎ (0 < count_at s ys)
   last_from s i [] is = inl (same_Some i s is)
@@ -148,7 +148,7 @@ module _ {T : Type 0} where
   pub without_one : (n c : Node T) (xs ys : List (Node T)) → is_same c n ≡ true
       → count_at (slot_in n) xs ≡ 0 → count_at (slot_in n) ys ≡ 0
       → without n (xs ++ c ∷ ys) ≡ xs ++ ys
-  without_one n c [] ys same none free = grind (arith, n, same_without)
+  without_one n c [] ys same none free = grind (arith, same_without)
   without_one n c (x ∷ xs) ys same none free = ⊎_elim
       (λ is. let here = count_here (slot_in n) x xs (same_slot x n is) in
       absurd (omega (arith, here, none)))
@@ -455,7 +455,7 @@ module _ {T : Type 0} where
     pub sides_of : (n : Node T) (b a : Option ℕ) → tie_of (slice_get links (slot_in node)) ≡ Some (n, b, a)
         → ◌≡◌ {A = Node T × Option ℕ × Option ℕ} (n, b, a)
         (part.here, last_or None part.front, head_or part.back None)
-    sides_of n b a tie = grind (arith, n, between, linked)
+    sides_of n b a tie = grind (arith, between, linked)
 
     pub as_cut : (n : Node T) (b a : Option ℕ) → tie_of (slice_get links (slot_in node)) ≡ Some (n, b, a)
         → before_put (after_put freed top b a) top a b ≡ cut

@@ -63,12 +63,9 @@ module _ {T : Type 0} where
   chain_after links up before after next at (x ∷ y ∷ ys) once is = (
     after_ties links up (last_or (Some (slot_in y)) ys) next (slot_in x)
         (last_apart (Some (slot_in y)) ys (slot_in x)
-        (let here = count_here (slot_in x) x (y ∷ ys) refl in
-        let more = count_more (slot_in x) y ys in
-        let le = once (slot_in x) in omega (arith, here, more, le))
-        (λ same. let here = count_here (slot_in x) x (y ∷ ys) refl in
-        let there = count_here (slot_in x) y ys (same_Some (slot_in y) (slot_in x) same) in
-        let le = once (slot_in x) in omega (arith, here, there, le)))
+        (grind (arith, count_here (slot_in x) x (y ∷ ys) refl, count_more (slot_in x) y ys, once (slot_in x)))
+        (λ same. let there = count_here (slot_in x) y ys (same_Some (slot_in y) (slot_in x) same) in
+        grind (arith, count_here (slot_in x) x (y ∷ ys) refl, once (slot_in x))))
         ∙ is.0,
     chain_after links up (Some (slot_in x)) after next (Some (slot_in x)) (y ∷ ys)
         (λ s. let more = count_more s x (y ∷ ys) in let le = once s in omega (arith, more, le)) is.1,
@@ -96,7 +93,7 @@ module _ {T : Type 0} where
   pub back_after : (links : List (Link T)) (up : ℕ) (at next before : Option ℕ) (ys : List (Node T))
       → ((s : ℕ) → 0 < count_at s ys → at ≢ Some s) → IsBack links up before ys
       → IsBack (after_put links up at next) up before ys
-  back_after links up at next before ys apart back = grind (arith, after_last, at, chain_kept, after_ties)
+  back_after links up at next before ys apart back = grind (arith, after_last, chain_kept, after_ties)
 
   -- ---- another comes before the back
 
@@ -118,7 +115,7 @@ module _ {T : Type 0} where
   pub front_before : (links : List (Link T)) (up : ℕ) (at next after : Option ℕ) (xs : List (Node T))
       → ((s : ℕ) → 0 < count_at s xs → at ≢ Some s) → IsFront links up xs after
       → IsFront (before_put links up at next) up xs after
-  front_before links up at next after xs apart front = grind (arith, before_first, at, chain_kept, before_ties)
+  front_before links up at next after xs apart front = grind (arith, before_first, chain_kept, before_ties)
 
   -- ---- the links of a slot's children on both sides of a spot
 

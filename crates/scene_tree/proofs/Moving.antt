@@ -30,7 +30,7 @@ module _ {T : Type 0} {S : State T} {fs gs : List (Family T)} (sound : IsSound S
 
   -- each other node has the parent that it had, and each but its parent the children
   parents_left : (n : Node T) → IsOther node n → IsLiveIn S n → parent_at gs (slot_in n) ≡ parent_at fs (slot_in n)
-  parents_left n other lives = grind (arith, n, one_live)
+  parents_left n other lives = grind (arith, one_live)
 
   children_left : (n : Node T) → ((up : Node T) → parent_of tree node ≡ Some up → IsOther up n) → IsLiveIn S n
       → children_at gs (slot_in n) ≡ children_at fs (slot_in n)
@@ -74,16 +74,15 @@ module _ {T : Type 0} {S : State T} {fs gs : List (Family T)} (sound : IsSound S
     under_before (suc e) s under = grind (arith, under_before e under.0 under.2, cases_eq s (slot_in node))
 
     pub kept_moved : IsKept S hs
-    kept_moved = kept_attached (kept_detached k sound gs node live d) hs parent node at may.parent live
-        (ap slot_of d.here) (λ e under. may.apart (
-          e,
-          under_below sound k node live e parent may.parent
-              (under_before e (slot_in parent) under),
-        )) a
+    kept_moved =
+        let left = kept_detached k sound gs node live d in
+        let below = under_below sound k node live in
+        kept_attached left hs parent node at may.parent live (ap slot_of d.here)
+        (λ e under. may.apart (e, below e parent may.parent (under_before e (slot_in parent) under))) a
 
     -- the node is at its spot, and was taken out from where it stood
     pub moved_placed : children_of moved parent ≡ placed at node (without node (children_of tree parent))
-    moved_placed = grind (arith, live_family, at, same_without, slot_cases, live_children)
+    moved_placed = grind (arith, live_family, same_without, slot_cases, live_children)
 
     -- a live node other than the parent has another slot
     not_parent : (n : Node T) → IsOther parent n → IsLiveIn S n → slot_in n ≢ slot_in parent

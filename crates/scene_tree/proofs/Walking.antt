@@ -87,4 +87,4 @@ module _ {T : Type 0} {S : State T} {fs : List (Family T)} (sound : IsSound S) (
   ancestors_of node live lt =
       let r = k.forest.rooted (slot_in node) in
       let deep = depth_within fs (length fs) (above_within fs k.forest) r.0 (slot_in node) r.1 lt in
-      grind (arith, way_ancestors, deep)
+      grind (arith, way_ancestors)
