@@ -15,8 +15,8 @@ and those of `shared` have the list that the audit answers as well. They aren't 
 than this script itself, whose own memory the system counts as that of what it starts.
 
 For each number of live values there is told by the wall how long a first checkpoint takes, a second one, and one of
-the ten after these, each after a box more. The first two make room, while other calls go on; what the others are
-stopped for is less. The later ones stop them for as long as they take.
+the ten after these, each after a box more. The first two touch their memory first. Each packs all slots ahead, with
+other calls in between: what the others are stopped for at once is less.
 
 The first line and the last tell the load, and how many processors others than these runs kept busy meanwhile.
 """
