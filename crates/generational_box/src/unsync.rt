@@ -182,7 +182,7 @@ impl<T: Drop, P: SlotPool> Store<T, P> {
     ///
     /// Refused by `OutOfMemory` alone. It changes nothing, and takes time for each slot, each borrow,
     /// each record of an owner and each box of its list; and memory for each of these for which there
-    /// is no room, and for each record of an owner.
+    /// is no room.
     pub fn pack_rows(&self, past: PackedRows) -> Result<PackedRows, StoreError>
         requires { ArePast (plain self.now.state) past }
         ensures rows { IfOk result (λ rows. rows ≡ rows_of self.now.state) }
@@ -213,7 +213,10 @@ impl<T: Drop, P: SlotPool> Store<T, P> {
 
     /// Packs the slots from one on, up to another, ahead of the rest, into the place of rows that were
     /// packed in an earlier state. So `pack_rows` needn't write those of them that don't change until
-    /// then. The answer is such rows too.
+    /// then. The answer is such rows too; which of them were packed, no clause says.
+    ///
+    /// Refused by `OutOfMemory` at most, and the rows that were handed in are lost then. Takes time for
+    /// each of these slots, and memory where they have no room.
     pub fn pack_ahead(
         &self,
         past: PackedRows,

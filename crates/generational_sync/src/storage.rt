@@ -226,10 +226,10 @@ impl<T: Drop + Send, const NUMBER: u64, M: Count, L: Count, C: Count, R: Count> 
     /// Makes the store's state, without values, the base from which its history goes on, and empties
     /// the history. The answer is how many steps were ever trimmed. It isn't a step, and raises no
     /// count. All slots are packed ahead first, few at a time, with other calls in between. Then no
-    /// other call goes on while the slots that have changed meanwhile are packed, and whatever is
-    /// borrowed, is a reference, or is on an owner's list. The rows stand in the memory of those of the
-    /// base before the last; where that hasn't room for half as many slots more than there are, room for
-    /// twice as many is reserved. The steps are let go once the lock is open.
+    /// other call goes on while all are looked at again, and those that have changed meanwhile are
+    /// packed, with whatever is borrowed, is a reference, or is on an owner's list. The rows stand in the
+    /// memory of those of the base before the last; where that hasn't room for half as many slots more
+    /// than there are, room for twice as many is reserved. The steps are let go once the lock is open.
     ///
     /// Refused, in this order: `NumbersExhausted`, where the steps that were trimmed and those of
     /// the history together would be more than fit into 64 bits; `OutOfMemory`. A refusal changes
