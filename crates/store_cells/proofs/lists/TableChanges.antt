@@ -74,10 +74,10 @@ pub record Opens (t t' : Table) (x : ℕ) (list : List Borrow) : Type 0 where
   pub lists : t'.lists ≡ put_list t.lists x list
   pub free : t'.free ≡ set.remove t.free x
 
-pub opens_one : (t t' : Table) {x : ℕ} {b : Borrow} → IsVacant t x
+pub opens_one : {t t' : Table} {x : ℕ} {b : Borrow} → IsVacant t x
     → t'.lists ≡ put_list t.lists x (b ∷ []) → t'.free ≡ set.remove t.free x
     → Opens t t' x (b ∷ [])
-opens_one t t' {b = b} vacant lists free =
+opens_one {b = b} vacant lists free =
     record { vacant = vacant; some = none_some b []; lists = lists; free = free }
 
 module _ {t t' : Table} {x : ℕ} {list : List Borrow} (o : Opens t t' x list) where

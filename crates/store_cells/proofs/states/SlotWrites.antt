@@ -1,395 +1,426 @@
--- A slot that changes with the table of borrows, and what is left of the other slots.
-use Common.{data_in, SlotData}
-use Rattle.store_cells.proofs.Common
-use Common.{AreBelow, AreIndexed, AreNoted, Borrow, EntryDetails, EntryList, HasListIndex}
-use Common.{HasWriter, Here, IfSome, IsAlone, IsClosed, IsListed, IsReadable, IsUsed, Kind}
-use Common.{LastBorrow, List, Live, Location, Releases, StorageEntry, Table, []}
-use Common.{ap, arith, bit, borrows_of, cases_eq, change_entry, cleared, common_steps, content_in}
-use Common.{entries_of, entry_with, eq-eqb, false, fewer_within, get_or-set_same, has_index}
-use Common.{how_many, index_in, index_of, inl, inr, is_noted, is_noted_at, is_some, kept_data}
-use Common.{length, length-set, list_any, list_at, listed_beside, nat_cmp, nat_eq, nat_tests}
-use Common.{ne_eqb, no_index, readers_of, refl, set-own, set_written, slice_get, slice_set, subst}
-use Common.{sym, true, unread_data, value_of, with_reader, ℕ, ⊎_elim, ◌++◌, ◌+◌, ◌<◌, ◌∙◌, ◌∷◌}
-use Common.{◌≡◌, ◌≢◌, ◌≤◌, ◌⊎◌}
-use Rattle.store_cells.proofs.lists.TableChanges.{Changes, Opens, closed, closed_count}
-use Rattle.store_cells.proofs.lists.TableChanges.{list_changed, none_some, not_empty}
-use Rattle.store_cells.proofs.lists.TableChanges.{opened, opened_count, opened_few}
-use Rattle.store_cells.proofs.lists.TableChanges.{opened_list, opened_used, used_still}
+-- The table of borrows where a slot is written, and what that leaves of the store.
+use Rattle.store_cells.proofs.Common.{AreBelow, AreIndexed, AreNoted, Borrow, Empty, Entry, EntryDetails, EntryList, HasListIndex, HasWriter, Here, IfSome, IsAlone, IsClosed, IsListable, IsListed, IsReadable, IsUnborrowed, IsUsed, Kind, LastBorrow, List, Live, Location, None, Releases, SlotData, Some, StorageEntry, StorageEntryData, Table, [], ap, arith, bit, borrows_of, cases_Bool, cases_eq, cell_of, change_entry, cleared, common_steps, cond, content_in, data_in, entries_of, entry_of, entry_with, eq-eqb, false, false_from_ne_true, fewer_within, filter, full_data, get_or, get_or-set_same, has_index, has_reader, how_many, index_in, index_of, inl, inr, is_noted, is_noted_at, is_reader, is_some, is_writer, kept_data, lend_to, length, length-append, length-set, lent_data, list_any, list_at, listed_beside, nat_cmp, nat_eq, nat_tests, ne_eqb, no_index, not, push_written, readers_of, referring, refl, set-own, set_written, slice_get, slice_get_past, slice_get_read, slice_get_within, slice_set, sym, target_in, true, unread_data, unread_in, value_of, with_reader, with_value, without_reader_in, write_refusal, ℕ, ⊎_elim, ◌&&◌, ◌++◌, ◌+◌, ◌<◌, ◌∙◌, ◌∷◌, ◌≡◌, ◌≢◌, ◌≤◌, ◌⊎◌}
+use Rattle.store_cells.proofs.lists.TableChanges.{Changes, Opens, closed, closed_count, list_changed, none_some, not_empty, opened, opened_count, opened_few, opened_list, opened_used, used_still}
 use Rattle.store_cells.proofs.states.Indexes.{has_listed, indexed, indexed_free}
-use Rattle.store_cells.proofs.states.Entries.{IsAt, IsNear, IsSlot, SameLists, alone}
-use Rattle.store_cells.proofs.states.Entries.{alone_free, has_place, hears, here, kept}
-use Rattle.store_cells.proofs.states.Entries.{location, near_none, near_noted, near_own}
-use Rattle.store_cells.proofs.states.Entries.{noted_slot, own_noted, read_borrows}
-use Rattle.store_cells.proofs.states.Entries.{readable_generation, reborrowed, same_near}
-use Rattle.store_cells.proofs.states.Entries.{slot_seen, unborrowed, unchanged, used_at}
-use Rattle.store_cells.proofs.states.Entries.{used_here, written_index}
+use Rattle.store_cells.proofs.states.Entries.{Holds, IsAt, IsKept, IsSlot, NotRead, Notes, Steps, Writes, alone, base, begins, borrowed, ends, entries_len, entries_written, free_listed, free_none, free_written, has_place, here, is_free, lent_seen, many, noted_after, noted_lent, noted_slot, noted_there, quiet, reads_at, same_slots, seen, stays, there_is, unborrowed_free, used_at, used_here, writes_at, wrote, wrote_cell}
+use Rattle.store_cells.proofs.states.Entries.Notes.{begins, ends, stays}
 use Rattle.std.specs.FinSet as set
 use Rattle.store_cells.specs.declared.latest.Noted.TheVariants as noted
 use Rattle.store_cells.specs.Data.{SlotData as slot}
+use Rattle.store_cells.specs.declared.entry.StorageEntryData.TheVariants as content
 
-module _ {T : Type 0} {r : LastBorrow} {t : Table} {es : List (StorageEntry T)} {i : ℕ}
-    {e : StorageEntry T} (a : IsSlot r t es i e) where
+module _ {T : Type 0} {r : LastBorrow} {t : Table} {es : List (StorageEntry T)} {i : ℕ} {e : StorageEntry T}
+    (a : IsSlot r t es i e) where
+  -- a slot that keeps its index, or has none again
+  pub same_step : {e' : StorageEntry T} → index_of (data_in e'.content) ≡ index_of (data_in e.content)
+      → HasListIndex (data_in e'.content) → Steps t t es i e'
+  same_step {e'} same fits =
+      let w = set_written es i e' e a.there in
+      let count = rw (a.there, same) at (w.count has_index) in
+      let s = a.base.indexed in let long = length-set es i e' in record {
+        lists = λ k other. refl;
+        indexed = indexed w s fits (λ k other. s.used k) (λ some. (
+          rw same (used_here a (rw (← same) some)),
+          λ k other is. other (s.apart k i (λ z. some (sym is ∙ z)) (rw a.there (is ∙ same))),
+        )) (omega (arith, s.counted)) (omega (arith, s.few));
+        rooms = refl;
+      }
+
+  pub free_step : is_free (data_in e.content) ≡ true → {e' : StorageEntry T} → is_free (data_in e'.content) ≡ true
+      → Steps t t es i e'
+  free_step before free = same_step (free_none _ free ∙ sym (free_none _ before)) (free_listed _ free)
+
   -- the table changes at an index that no other slot has
-  module _ {t' : Table} {x : ℕ} (c : Changes t t' x) (below : x < no_index)
-      (alone : (k : ℕ) → k ≢ i → index_in (slice_get es k) ≢ x) where
-    pub same_lists : SameLists t.lists t'.lists es i
-    same_lists k other = c.lists (index_in (slice_get es k)) (alone k other)
-
-    pub step_indexed : (e' : StorageEntry T) → HasListIndex (data_in e'.content)
-        → (index_of (data_in e'.content) ≢ no_index → (index_of (data_in e'.content) ≡ x) × IsUsed t' x)
-        → set.len t'.free + bit (has_index e') + length t.lists
-        ≡ set.len t.free + bit (has_index e) + length t'.lists
-        → length t'.lists ≤ length es → AreIndexed t' (slice_set es i e')
-    step_indexed e' fits here counts few =
-        let w = set_written es i e' e a.there in
-        let count = rw a.there at (w.count has_index) in
-        let counted = a.base.indexed.counted in
-        let long = length-set es i e' in
-        indexed w a.base.indexed fits
-        (λ k other some. used_still c _ (alone k other) (a.base.indexed.used k some))
-        (λ some. rw (here some).0 (here some).1)
-        (λ some k other same. alone k other (same ∙ (here some).0))
-        (omega arith) (omega arith)
-
-  -- an index that is used by no slot
-  vacant_alone : (x : ℕ) → (IsUsed t x → ⊥) → x ≢ no_index
-      → (k : ℕ) → k ≢ i → index_in (slice_get es k) ≢ x
-  vacant_alone x unused some k other same =
-      unused (rw same at (a.base.indexed.used k (λ z. some (sym same ∙ z))))
-
-  pub used_alone : (x : ℕ) → index_of (data_in e.content) ≡ x → x ≢ no_index
-      → (k : ℕ) → k ≢ i → index_in (slice_get es k) ≢ x
-  used_alone x is some k other same =
-      let own : index_in (slice_get es i) ≡ x = rw a.there is in
-      other (a.base.indexed.apart k i (λ z. some (sym same ∙ z)) (same ∙ sym own))
+  step : {t' : Table} {x : ℕ} → Changes t t' x → t'.rooms ≡ t.rooms → x < no_index
+      → ((k : ℕ) → k ≢ i → index_in (slice_get es k) ≢ x) → {e' : StorageEntry T} → HasListIndex (data_in e'.content)
+      → (index_of (data_in e'.content) ≢ no_index → (index_of (data_in e'.content) ≡ x) × IsUsed t' x)
+      → set.len t'.free + bit (has_index e') + length t.lists ≡ set.len t.free + bit (has_index e) + length t'.lists
+      → length t'.lists ≤ length es → Steps t t' es i e'
+  step c rooms below alone {e'} fits here counts few =
+      let w = set_written es i e' e a.there in
+      let count = rw a.there at (w.count has_index) in
+      let counted = a.base.indexed.counted in let long = length-set es i e' in record {
+        lists = λ k other. c.lists (index_in (slice_get es k)) (alone k other);
+        indexed = indexed w a.base.indexed fits (λ k other some. used_still c _ (alone k other) (a.base.indexed.used k some))
+            (λ some. (rw (here some).0 (here some).1, λ k other. rw (here some).0 (alone k other)))
+            (omega arith) (omega arith);
+        rooms = rooms;
+      }
 
   module _ (none : index_of (data_in e.content) ≡ no_index) where
-    has_none : has_index e ≡ false
-    has_none = rw none refl
-
     fewer : how_many has_index es < length es
-    fewer = fewer_within has_index es i e a.there has_none
+    fewer = fewer_within has_index es i e a.there (rw none refl)
 
+    -- there is room for an index more
     pub small_left : length t.lists < no_index
-    small_left = omega arith
+    small_left = let less = fewer in omega (arith, a.base.indexed.counted)
 
-    pub room_left : length es ≤ t.rooms → t.free ≡ set.empty → length t.lists < t.rooms
-    room_left roomy empty =
-        let full : set.len t.free ≡ 0 = rw (empty, set.len-empty nat_cmp) in omega (arith, fewer)
+    pub room_left : t.free ≡ set.empty → length t.lists < t.rooms
+    room_left empty =
+        let full : set.len t.free ≡ 0 = rw (empty, set.len-empty nat_cmp) in let less = fewer in omega (arith, a.base.indexed.counted)
 
-    -- the slot gets an index
-    module _ {t' : Table} {x : ℕ} {list : List Borrow} (o : Opens t t' x list) where
-      pub open_below : x < no_index
-      open_below = let small = small_left in
-          elim o.vacant [ inl v ↦ omega arith | inr v ↦ omega arith ]
+    pub open_some : {t' : Table} {x : ℕ} {list : List Borrow} → Opens t t' x list → x ≢ no_index
+    open_some o z = let small = small_left in elim o.vacant [ inl v ↦ omega arith | inr v ↦ omega arith ]
 
-      open_alone : (k : ℕ) → k ≢ i → index_in (slice_get es k) ≢ x
-      open_alone = let below = open_below in vacant_alone x
-          (λ u. elim o.vacant [ inl v ↦ cc (v.0, u.used) | inr v ↦ omega (arith, u.within, v.1) ])
-          (λ z. omega arith)
+    -- which the slot gets
+    pub open_step : {t' : Table} {x : ℕ} {list : List Borrow} → Opens t t' x list → t'.rooms ≡ t.rooms
+        → {e' : StorageEntry T} → index_of (data_in e'.content) ≡ x → Steps t t' es i e'
+    open_step {x = x} o rooms {e'} at =
+        let small = small_left in
+        let below : x < no_index = elim o.vacant [ inl v ↦ omega arith | inr v ↦ omega arith ] in
+        let unused : IsUsed t x → ⊥ = λ u.
+        elim o.vacant [ inl v ↦ cc (v.0, u.used) | inr v ↦ omega (arith, u.within, v.1) ] in
+        let some = open_some o in
+        let has : has_index e' ≡ true = rw (at, ne_eqb x no_index some) refl in
+        let counts = opened_count o in let few = a.base.indexed.few in
+        let counted = a.base.indexed.counted in let less = fewer in
+        step (opened o) rooms below (λ k other same. unused (rw same at (a.base.indexed.used k (λ z. some (sym same ∙ z)))))
+        (has_listed (data_in e'.content) (rw at some)) (λ _. (at, opened_used o)) (rw (has, none) (omega arith))
+        (opened_few o (length es) few (λ z. omega arith))
 
-      pub open_lists : SameLists t.lists t'.lists es i
-      open_lists = same_lists (opened o) open_below open_alone
-
-      pub open_indexed : (e' : StorageEntry T) → index_of (data_in e'.content) ≡ x
-          → AreIndexed t' (slice_set es i e')
-      open_indexed e' at =
-          let below = open_below in
-          let has : has_index e' ≡ true = rw (at, ne_eqb x no_index (λ z. omega (arith, z))) refl
-          in
-          let counts = opened_count o in let few = a.base.indexed.few in
-          let counted = a.base.indexed.counted in let less = fewer in
-          step_indexed (opened o) open_below open_alone e'
-          (has_listed (data_in e'.content) (λ z. omega (arith, sym at ∙ z, below)))
-          (λ some. (at, opened_used o))
-          (rw (has, has_none) (omega arith))
-          (opened_few o (length es) few (λ z. omega arith))
-
-  module _ (x : ℕ) (is : index_of (data_in e.content) ≡ x) (some : x ≢ no_index) where
+  -- the slot's index
+  module _ {x : ℕ} (is : index_of (data_in e.content) ≡ x) (some : x ≢ no_index) where
     pub used_x : IsUsed t x
-    used_x = rw is at (used_here a (λ z. some (sym is ∙ z)))
+    used_x = rw is at (used_here a (rw is some))
 
-    used_below : x < no_index
-    used_below = omega (arith, used_x.within)
+    own_index : (k : ℕ) → k ≢ i → index_in (slice_get es k) ≢ x
+    own_index k other same =
+        other (a.base.indexed.apart k i (λ z. some (sym same ∙ z)) (rw a.there (same ∙ sym is)))
 
-    has_some : has_index e ≡ true
-    has_some = rw (is, ne_eqb x no_index some) refl
+    -- another list stands there
+    pub list_step : {t' : Table} {left : List Borrow} → left ≢ [] → t' ≡ record t { lists = slice_set t.lists x left }
+        → {e' : StorageEntry T} → index_of (data_in e'.content) ≡ x → Steps t t' es i e'
+    list_step {left = left} left_some now {e'} at = rw now (
+        let used = used_x in let long = length-set t.lists x left in let few = a.base.indexed.few in
+        step (list_changed t _ x left refl) refl (omega arith) own_index (has_listed (data_in e'.content) (rw at some))
+        (λ _. (
+          at,
+          record {
+            within = omega arith;
+            used = used.used;
+            some = rw (get_or-set_same t.lists x left [] used.within) left_some;
+          },
+        )) (rw (at, is) (omega arith)) (omega arith))
 
-    -- another list stands at the slot's index
-    module _ {t' : Table} (left : List Borrow) (b : left ≢ [])
-        (now' : t' ≡ record t { lists = slice_set t.lists x left }) where
-      pub list_lists : SameLists t.lists t'.lists es i
-      list_lists =
-          same_lists (list_changed t t' x left now') used_below (used_alone x is some)
-
-      pub list_indexed : (e' : StorageEntry T) → index_of (data_in e'.content) ≡ x
-          → AreIndexed t' (slice_set es i e')
-      list_indexed e' at =
-          let has : has_index e' ≡ true = rw (at, ne_eqb x no_index some) refl in
-          let long : length t'.lists ≡ length t.lists = rw now' (length-set t.lists x left) in
-          let free : set.len t'.free ≡ set.len t.free = rw now' refl in
-          let few = a.base.indexed.few in
-          step_indexed (list_changed t t' x left now') used_below (used_alone x is some) e'
-          (has_listed (data_in e'.content) (λ z. some (sym at ∙ z)))
-          (λ z. (at, list_used)) (rw (has, has_some) (omega arith)) (omega arith)
-        where
-          list_used : IsUsed t' x
-          list_used = rw now' (record {
-            within = omega (arith, length-set t.lists x left, used_x.within);
-            used = used_x.used;
-            some = λ z. b (sym (get_or-set_same t.lists x left [] used_x.within) ∙ z);
-          })
-
-    -- the slot's index is given back
-    module _ {t' : Table} (c : IsClosed t t' x) where
-      pub close_lists : SameLists t.lists t'.lists es i
-      close_lists = same_lists (closed c) used_below (used_alone x is some)
-
-      pub close_indexed : (e' : StorageEntry T) → HasListIndex (data_in e'.content)
-          → index_of (data_in e'.content) ≡ no_index → AreIndexed t' (slice_set es i e')
-      close_indexed e' fits none =
-          let has : has_index e' ≡ false = rw none refl in
-          let free = closed_count c used_x.used in let long = c.same in
-          let few = a.base.indexed.few in
-          step_indexed (closed c) used_below (used_alone x is some) e' fits
-          (λ z. absurd (z none)) (rw (has, has_some) (omega arith)) (omega arith)
-
-  -- a cell without borrows is written where none stood
-  pub free_indexed : index_of (data_in e.content) ≡ no_index → (e' : StorageEntry T) → HasListIndex (data_in e'.content)
-      → index_of (data_in e'.content) ≡ no_index → AreIndexed t (slice_set es i e')
-  free_indexed before e' fits none =
-      indexed_free (set_written es i e' e a.there) a.base.indexed fits
-      (let same = length-set es i e' in omega arith) (rw a.there before) none
+    -- it is given back
+    pub close_step : {t' : Table} → IsClosed t t' x → {e' : StorageEntry T} → is_free (data_in e'.content) ≡ true
+        → Steps t t' es i e'
+    close_step c {e'} free =
+        let none = free_none _ free in
+        let used = used_x in let more = closed_count c used.used in let few = a.base.indexed.few in
+        step (closed c) c.rooms (omega arith) own_index (free_listed _ free) (λ z. absurd (z none))
+        (rw (none, is, ne_eqb x no_index some) (omega (arith, c.same))) (omega (arith, c.same))
 
   -- the slot's index is given back, if it has one
-  module _ {t' : Table} {x : ℕ} (is : index_of (data_in e.content) ≡ x) (none : x ≡ no_index → t' ≡ t)
-      (some : x ≢ no_index → IsClosed t t' x) where
-    given_back : (P : Table → Type 0) → (x ≡ no_index → P t)
-        → (x ≢ no_index → IsClosed t t' x → P t') → P t'
-    given_back P kept closes = ⊎_elim (λ last. rw (none last) (kept last))
-        (λ index. closes index (some index)) (cases_eq x no_index)
-
-    pub given_lists : SameLists t.lists t'.lists es i
-    given_lists = given_back (λ u. SameLists t.lists u.lists es i) (λ z k other. refl)
-        (λ z c. close_lists x is z c)
-
-    pub given_indexed : (e' : StorageEntry T) → HasListIndex (data_in e'.content)
-        → index_of (data_in e'.content) ≡ no_index → AreIndexed t' (slice_set es i e')
-    given_indexed e' fits free =
-        given_back (λ u. AreIndexed u (slice_set es i e'))
-        (λ z. free_indexed (is ∙ z) e' fits free) (λ z c. close_indexed x is z c e' fits free)
-
-    pub given_rooms : t'.rooms ≡ t.rooms
-    given_rooms = given_back (λ u. u.rooms ≡ t.rooms) (λ z. refl) (λ z c. c.rooms)
+  pub give_step : {t' : Table} {x : ℕ} → index_of (data_in e.content) ≡ x → (x ≡ no_index → t' ≡ t)
+      → (x ≢ no_index → IsClosed t t' x) → {e' : StorageEntry T} → is_free (data_in e'.content) ≡ true → Steps t t' es i e'
+  give_step {x = x} is none some free = ⊎_elim
+      (λ last. rw (none last) (same_step (free_none _ free ∙ sym (is ∙ last)) (free_listed _ free)))
+      (λ index. close_step is index (some index) free) (cases_eq x no_index)
 
   -- a reader is taken away from a value
   module _ {kd : Kind} {x : ℕ} {v : T} (is : data_in e.content ≡ slot.Read kd x v) where
-    own : index_of (data_in e.content) ≡ x
-    own = rw is refl
+    pub release_step : {t' : Table} (y : ℕ) (left : List Borrow) → Releases t t' x y left → {e' : StorageEntry T}
+        → data_in e'.content ≡ unread_data (slot.Read kd y v) → Steps t t' es i e'
+    release_step y [] r e'_is =
+        close_step (rw is refl) (has_place a is) r.1 (rw (e'_is, eq-eqb y no_index r.0) refl)
+    release_step y (b ∷ bs) r e'_is =
+        let some = has_place a is in
+        list_step (rw is refl) some (λ z. none_some b bs z) r.1
+        (rw (e'_is, ne_eqb y no_index (λ z. some (sym r.0 ∙ z))) r.0)
 
-    some : x ≢ no_index
-    some = has_place a is
-
-    pub release_lists : (t' : Table) (y : ℕ) (left : List Borrow) → Releases t t' x y left
-        → SameLists t.lists t'.lists es i
-    release_lists t' y [] r = close_lists x own some r.1
-    release_lists t' y (b ∷ bs) r = list_lists x own some (b ∷ bs) (λ z. none_some b bs z) r.1
-
-    pub release_indexed : (t' : Table) (y : ℕ) (left : List Borrow) → Releases t t' x y left
-        → (e' : StorageEntry T) → data_in e'.content ≡ unread_data (slot.Read kd y v)
-        → AreIndexed t' (slice_set es i e')
-    release_indexed t' y [] r e' is =
-        let none : data_in e'.content ≡ slot.Data kd v = is ∙ rw (eq-eqb y no_index r.0) refl in
-        close_indexed x own some r.1 e' (rw none tt) (rw none refl)
-    release_indexed t' y (b ∷ bs) r e' is =
-        let still : data_in e'.content ≡ slot.Read kd y v =
-        is ∙ rw (ne_eqb y no_index (λ z. some (sym r.0 ∙ z))) refl in
-        list_indexed x own some (b ∷ bs) (λ z. none_some b bs z) r.1 e' (rw still r.0)
-
-    -- what is left of the cell, and of its borrows
-    pub release_borrows : (r' : LastBorrow) → is_noted_at r' i ≡ false → (t' : Table) (y : ℕ)
-        (left : List Borrow) → Releases t t' x y left
-        → borrows_of r' t'.lists i (index_of (unread_data (slot.Read kd y v))) ≡ left
-    release_borrows r' away t' y [] r = rw (eq-eqb y no_index r.0, away) refl
-    release_borrows r' away t' y (b ∷ bs) r =
+    -- what contracts see of its borrows afterwards
+    pub release_seen : (r' : LastBorrow) (t' : Table) (y : ℕ) (left : List Borrow) → is_noted_at r' i ≡ false
+        → Releases t t' x y left → (l : Location)
+        → kept_data (borrows_of r' t'.lists i (index_of (unread_data (slot.Read kd y v)))) l (unread_data (slot.Read kd y v))
+        ≡ Live kd (Here v left) l
+    release_seen r' t' y [] away r l = rw (eq-eqb y no_index r.0, away)
+    release_seen r' t' y (b ∷ bs) away r l =
+        let some = has_place a is in
         rw (
           ne_eqb y no_index (λ z. some (sym r.0 ∙ z)),
           r.0,
           r.1,
           ne_eqb x no_index some,
-          get_or-set_same t.lists x (b ∷ bs) [] (used_x x own some).within,
+          get_or-set_same t.lists x (b ∷ bs) [] (used_at a is).within,
         )
-
-    pub release_kept : (y : ℕ) (left : List Borrow) (l : Location)
-        → kept_data left l (unread_data (slot.Read kd y v)) ≡ Live kd (Here v left) l
-    release_kept y left l = grind arith
-
-    pub release_written : (r' : LastBorrow) (y : ℕ)
-        → HasWriter r' i (unread_data (slot.Read kd y v))
-    release_written r' y = ⊎_elim (λ none. rw (eq-eqb y no_index none) tt)
-        (λ other. rw (ne_eqb y no_index other) tt) (cases_eq y no_index)
 
 -- ---- the noted borrow is listed
 
-module _ {T : Type 0} {r : LastBorrow} {t : Table} {es : List (StorageEntry T)} {i : ℕ}
-    {e : StorageEntry T} (a : IsSlot r t es i e) (on : is_noted_at r i ≡ true) where
-  own_near : IsNear r i
-  own_near = near_own r i (noted_slot r i on)
+-- a cell whose borrows have an index needs no noted writer
+written_index : {T : Type 0} (r : LastBorrow) (k : ℕ) (d : SlotData T) → index_of d ≢ no_index → HasWriter r k d
+written_index r k d some = grind arith
 
-  none_near : IsNear (cleared r) i
-  none_near k other = refl
+-- the slot whose borrow is noted, where it is read
+pub noted_is : {T : Type 0} {r : LastBorrow} {t : Table} {es : List (StorageEntry T)} → IsListable r t es
+    → is_noted r.noted ≡ true → {e : StorageEntry T} → e ≡ get_or es r.slot e
+    → (is_noted_at r r.slot ≡ true) × IsSlot r t es r.slot e
+noted_is {r = r} {t = t} {es = es} base some {e} is =
+    let on : is_noted_at r r.slot ≡ true = rw (some, eq-eqb r.slot r.slot refl) refl in
+    let x = noted_there r t.lists r.slot _ base.noted.noted on in (
+      on,
+      record {
+        base = base;
+        there = slice_get_read es (length es) r.slot e refl (slice_get_within es r.slot x.0 x.1) is;
+      },
+    )
 
-  -- what contracts see of such a store
-  seen : (ds : List EntryDetails) → length ds ≡ length es
-      → IsAt r t es ds (record { slots = entries_of r t.lists es ds; rooms = 0 }) i e
-  seen ds made =
-      record { store = record { base = a.base; slots = refl; made = made }; at = a }
+pub listed_after : {T : Type 0} {r : LastBorrow} {t t' : Table} {es : List (StorageEntry T)} {i : ℕ} {e e' : StorageEntry T}
+    → IsSlot r t es i e → is_noted_at r i ≡ true → Steps t t' es i e' → HasWriter (cleared r) i (data_in e'.content)
+    → ((d : EntryDetails) → entry_of (cleared r) t'.lists i e' d ≡ entry_of r t.lists i e d)
+    → IsListed r (cleared r) t t' es (slice_set es i e')
+listed_after {r = r} {t = t} {es = es} {i = i} {e = e} {e' = e'} a on s written same = record {
+  slots = λ ds made.
+      let d = there_is ds i (omega (arith, made, slice_get_within es i e a.there)) in
+      let at : IsAt r t es ds (record { slots = entries_of r t.lists es ds; rooms = 0 }) (length es) (length es) (length es) i e d.0 =
+      record { at = a; made = d.1; holds = (a.base.indexed, a.base.noted, made, omega (arith, a.base)); view = refl } in
+      (wrote_cell at s (ends refl on) written (λ e. e) (same d.0)).view ∙ rw (seen at) (set-own _ i _ (seen at));
+  indexed = s.indexed;
+  noted = noted_after (set_written es i e' e a.there) a.base.noted s.lists (ends refl on) written;
+  rooms = s.rooms;
+  same = length-set es i e';
+}
 
+module _ {T : Type 0} {r : LastBorrow} {t : Table} {es : List (StorageEntry T)} {i : ℕ} {e : StorageEntry T}
+    (a : IsSlot r t es i e) (on : is_noted_at r i ≡ true) where
   -- it gets an index
-  pub listed_opened : (t' : Table) {y : ℕ} → index_of (data_in e.content) ≡ no_index
-      → Opens t t' y (r.borrow ∷ []) → t'.rooms ≡ t.rooms → (e' : StorageEntry T)
-      → index_of (data_in e'.content) ≡ y
+  pub listed_opened : {t' : Table} {q : ℕ} → index_of (data_in e.content) ≡ no_index → Opens t t' q (r.borrow ∷ [])
+      → t'.rooms ≡ t.rooms → (e' : StorageEntry T) → index_of (data_in e'.content) ≡ q
       → ((d : EntryDetails) → entry_with (r.borrow ∷ []) e' d ≡ entry_with (r.borrow ∷ []) e d)
       → IsListed r (cleared r) t t' es (slice_set es i e')
-  listed_opened t' {y} none o rooms e' at same =
-      let below = open_below a none o in
-      let some : y ≢ no_index = λ z. omega (arith, z, below) in
-      record {
-        slots = λ ds made. unchanged (seen ds made) (cleared r) t'.lists e'
-            (same_near a (cleared r) t'.lists own_near none_near (open_lists a none o))
-            (rw (none, on) refl)
-            (rw (at, ne_eqb y no_index some) (opened_list o)) same;
-        indexed = open_indexed a none o e' at;
-        noted = near_noted a (cleared r) t'.lists e' own_near none_near (λ z. absurd cc)
-            (written_index (cleared r) i (data_in e'.content) (λ z. some (sym at ∙ z)));
-        rooms = rooms;
-        same = length-set es i e';
-      }
+  listed_opened {q = q} none o rooms e' at same =
+      let some = open_some a none o in
+      listed_after a on (open_step a none o rooms at) (written_index (cleared r) i (data_in e'.content) (rw at some))
+      (λ d. rw (at, ne_eqb q no_index some, opened_list o, none, on) (same d))
 
   -- it has one
-  pub listed_there : index_of (data_in e.content) ≢ no_index
-      → IsListed r (cleared r) t t es (slice_set es i e)
-  listed_there some =
-      let place = ne_eqb (index_of (data_in e.content)) no_index some in
-      record {
-        slots = λ ds made. unchanged (seen ds made) (cleared r) t.lists e
-            {bs = list_at t.lists (index_of (data_in e.content))}
-            {bs' = list_at t.lists (index_of (data_in e.content))}
-            (same_near a (cleared r) t.lists own_near none_near (λ k other. refl))
-            (rw place refl) (rw place refl) (λ d. refl);
-        indexed = rw (set-own es i e a.there) a.base.indexed;
-        noted = near_noted a (cleared r) t.lists e own_near none_near (λ z. absurd cc)
-            (written_index (cleared r) i (data_in e.content) some);
-        rooms = refl;
-        same = length-set es i e;
-      }
+  pub listed_there : index_of (data_in e.content) ≢ no_index → IsListed r (cleared r) t t es (slice_set es i e)
+  listed_there some = listed_after a on (same_step a refl (has_listed _ some))
+      (written_index (cleared r) i (data_in e.content) some)
+      (λ d. rw (ne_eqb (index_of (data_in e.content)) no_index some) refl)
+
+-- ---- writes that leave the table
+
+module _ {T : Type 0} {r : LastBorrow} {t : Table} {es : List (StorageEntry T)} {ds : List EntryDetails}
+    {now : EntryList T} {room x y i : ℕ} {e : StorageEntry T} {d : EntryDetails}
+    (a : IsAt r t es ds now room x y i e d) where
+  -- a cell without borrows is written where none stood
+  module _ (q : (is_noted_at r i ≡ false) × (is_free (data_in e.content) ≡ true)) (e' : StorageEntry T)
+      (free : is_free (data_in e'.content) ≡ true) where
+    wrote_free : (f : Entry T → Entry T) → entry_with [] e' d ≡ f (entry_with [] e d)
+        → Writes r t (slice_set es i e') ds room x y (change_entry now.slots i f)
+    wrote_free f becomes =
+        wrote_cell a (free_step a.at q.1 free) (stays refl q.0) (free_written _ free r i) f
+        (rw (free_none _ free, free_none _ q.1, q.0) becomes)
+
+    pub free_holds : Holds r t (slice_set es i e') ds room x y
+    free_holds = (wrote_free (λ z. entry_with [] e' d) refl).holds
+
+    pub free_view : (f : Entry T → Entry T) → ((d : EntryDetails) → entry_with [] e' d ≡ f (entry_with [] e d))
+        → entries_of r t.lists (slice_set es i e') ds ≡ change_entry now.slots i f
+    free_view f becomes = (wrote_free f (becomes d)).view
+
+  -- a reference is changed
+  pub redirected : {k : StorageEntryData T} {q g : ℕ} → IfSome (slice_get now.slots i) (λ e. is_some (target_in (cell_of e.kept)) ≡ true)
+      → k ≡ content.Reference q g → Writes r t (slice_set es i (record e { content = k })) ds room x y
+      (change_entry now.slots i (λ e. record e { kept = referring (record { slot = q; generation = g }) e.kept }))
+  redirected refers is =
+      let own = refers_is (data_in e.content) _ d.created_at (rw (seen a) at refers) in
+      wrote_free (quiet a (rw own.2 refl)) _ (rw is refl) _ (rw (is, own.2) refl)
+    where
+      refers_is : (c : SlotData T) (bs : List Borrow) (l : Location) → is_some (target_in (cell_of (kept_data bs l c))) ≡ true
+          → (q : ℕ) × (g : ℕ) × (c ≡ slot.Reference q g)
+      refers_is c bs l has = grind arith
+
+  -- a cell without borrows stands where none was
+  pub refilled : IfSome (slice_get now.slots i) (λ e. e.kept ≡ Empty) → (g : ℕ) (k : StorageEntryData T) (l : Location)
+      → IsUnborrowed (data_in k)
+      → Writes r t (slice_set es i (record { generation = g; content = k }))
+      (slice_set ds i (record { created_at = l; references = 0 })) room x y
+      (slice_set now.slots i (record { generation = g; kept = kept_data [] l (data_in k); references = 0 }))
+  refilled empty g k l unborrowed =
+      let none : write_refusal (content_in (entry_of r t.lists i e d).kept) ≡ None =
+      ap (λ k. write_refusal (content_in k)) (rw (seen a) at empty) in
+      let q = quiet a none in let free = unborrowed_free (data_in k) unborrowed in
+      rw (free_none _ free, q.0) at (wrote a (record { created_at = l; references = 0 })
+      (free_step a.at q.1 {e' = record { generation = g; content = k }} free) (stays refl q.0) (free_written _ free r i))
+
+  -- a cell ends with its borrows
+  pub ended : {r' : LastBorrow} {t' : Table} {q : ℕ} → r' ≡ cond (is_noted_at r i) (cleared r) r
+      → index_of (data_in e.content) ≡ q → (q ≡ no_index → t' ≡ t) → (q ≢ no_index → IsClosed t t' q)
+      → Writes r' t' (slice_set es i (record e { content = content.Empty })) ds room x y
+      (change_entry now.slots i (λ e. record e { kept = Empty }))
+  ended {r'} {t'} forgets is none some = wrote_cell a (give_step a.at is none some refl) notes tt _ refl
+    where
+      notes : Notes r r' t'.lists i (record e { content = content.Empty })
+      notes = elim (cases_Bool (is_noted_at r i)) [
+        | inl on ↦ ends (forgets ∙ rw on refl) on
+        | inr off ↦ stays (forgets ∙ rw off refl) off
+      ]
+
+  -- the noted reader ends
+  pub read_ended : (n : ℕ) → (is_reader r.noted && nat_eq r.slot i && nat_eq r.borrow.ticket n) ≡ true
+      → is_some (unread_in (data_in e.content)) ≡ true
+      → IfSome (slice_get now.slots i) (λ e. true ≡ has_reader (content_in e.kept) n)
+      × Writes (cleared r) t es ds room x y (change_entry now.slots i (λ e. record e { kept = without_reader_in n e.kept }))
+  read_ended n reads unread =
+      let is = reads_at r i n reads in
+      let own = unread_is (data_in e.content) unread in (
+        rw (seen a, own.2, is.0, eq-eqb r.borrow.ticket n is.1) refl,
+        borrowed a (same_step a.at refl (rw own.2 tt)) (ends refl is.0) (rw own.2 tt) _
+            (rw (own.2, is.0, eq-eqb r.borrow.ticket n is.1) refl),
+      )
+    where
+      unread_is : (c : SlotData T) → is_some (unread_in c) ≡ true → (kd : Kind) × (v : T) × (c ≡ slot.Data kd v)
+      unread_is c some = grind arith
+
+  -- the noted writer ends
+  pub write_ended : (n : ℕ) (v : T) (k : StorageEntryData T)
+      → (is_writer r.noted && nat_eq r.slot i && nat_eq r.borrow.ticket n) ≡ true
+      → data_in k ≡ full_data v (data_in e.content)
+      → Writes (cleared r) t (slice_set es i (record e { content = k })) ds room x y
+      (change_entry now.slots i (λ e. record e { kept = with_value v e.kept }))
+  write_ended n v k writes back =
+      let is = writes_at r i n writes in
+      let own = (noted_lent a.at is.0 is.1).1 in
+      wrote_cell a (same_step a.at (rw (back, own) refl) (rw (back, own) tt)) (ends refl is.0) (rw (back, own) tt) _
+      (rw (back, own, is.0) refl)
+
+  -- ---- where no borrow is noted
+
+  module _ (nobody : is_noted r.noted ≡ false) where
+    away : is_noted_at r i ≡ false
+    away = rw nobody refl
+
+    -- a listed reader ends
+    pub released : {kd : Kind} {q : ℕ} {v : T} → data_in e.content ≡ slot.Read kd q v → (p n : ℕ) {t' : Table} (k : StorageEntryData T)
+        → Releases t t' q p (filter (λ b. not (nat_eq b.ticket n)) (list_at t.lists q))
+        → data_in k ≡ unread_data (slot.Read kd p v)
+        → Writes r t' (slice_set es i (record e { content = k })) ds room x y
+        (change_entry now.slots i (λ e. record e { kept = without_reader_in n e.kept }))
+    released {kd} {q} {v} is p n k left same =
+        wrote_cell a (release_step a.at is p _ left same) (stays refl away) (rw same (unread_written kd p v)) _
+        (rw (same, release_seen a.at is r _ p _ away left d.created_at, is, ne_eqb q no_index (has_place a.at is)) refl)
+      where
+        unread_written : (kd : Kind) (p : ℕ) (v : T) → HasWriter r i (unread_data (slot.Read kd p v))
+        unread_written kd p v = grind arith
+
+    -- where no reader is listed, none stands or ends
+    pub unread : NotRead (data_in e.content) → (n : ℕ) → IfSome (slice_get now.slots i) (λ e. false ≡ has_reader (content_in e.kept) n)
+        × (entries_of r t.lists es ds ≡ change_entry now.slots i (λ e. record e { kept = without_reader_in n e.kept }))
+    unread none n = rw (seen a) (own.0, a.view ∙ sym (rw (← own.1) (set-own now.slots i _ (seen a))))
+      where
+        own : (false ≡ has_reader (content_in (entry_of r t.lists i e d).kept) n)
+            × ((entry_of r t.lists i e d).kept ≡ without_reader_in n (entry_of r t.lists i e d).kept)
+        own = (grind (arith, away, none), grind (arith, away, none))
+
+    -- a listed writer ends
+    pub written_back : {kd : Kind} {q : ℕ} {w : Borrow} → data_in e.content ≡ slot.Lent kd q → q ≢ no_index
+        → slice_get (list_at t.lists q) 0 ≡ Some w → {t' : Table} → IsClosed t t' q → (v : T) (k : StorageEntryData T)
+        → data_in k ≡ slot.Data kd v
+        → Writes r t' (slice_set es i (record e { content = k })) ds room x y
+        (change_entry now.slots i (λ e. record e { kept = with_value v e.kept }))
+    written_back is some first gone v k back =
+        let was = lent_seen a.at is (λ z. absurd (some z)) (λ z. first) d.created_at in
+        wrote_cell a (close_step a.at (rw is refl) some gone (rw back refl)) (stays refl away) (rw back tt) _
+        (rw (was, back, away) refl)
+
+    module _ (g : ℕ) (free : IsAlone g (slice_get now.slots i)) where
+      pub lone : (is_noted_at r i ≡ false) × ((kd : Kind) × (v : T) × (data_in e.content ≡ slot.Data kd v))
+      lone = alone a (rw (seen a) at free).1
+
+      -- the value is lent to a writer that is noted
+      pub lent_to : (k : StorageEntryData T) → data_in k ≡ lent_data (data_in e.content) → (w : Borrow)
+          → Writes (record { noted = noted.Writer; slot = i; generation = g; borrow = w }) t
+          (slice_set es i (record e { content = k })) ds room x y
+          (change_entry now.slots i (λ e. record e { kept = lend_to w e.kept }))
+      lent_to k lends w =
+          let own = lone.1.2 in
+          wrote_cell a (same_step a.at (rw (lends, own) refl) (rw (lends, own) tt))
+          (begins nobody refl ((rw (seen a) at free).0, rw (lends, own) refl))
+          (rw (lends, own) (λ z. rw (eq-eqb i i refl) refl)) _ (rw (lends, own, eq-eqb i i refl) refl)
+
+      pub value_there : {v : T} → unread_in (data_in e.content) ≡ Some v
+          → IfSome (slice_get now.slots i) (λ e. content_in e.kept ≡ Some (Here v []))
+      value_there value = let same = rw lone.1.2 at value in rw (seen a, lone.1.2, away) cc
 
 -- ---- a reader begins at a value that isn't lent
 
--- where a cell is readable
-readable_cases : {T : Type 0} (d : SlotData T) (bs : List Borrow) (l : Location)
-    → is_some (value_of (content_in (kept_data bs l d))) ≡ true
-    → ((kd : Kind) × (v : T) × (d ≡ slot.Data kd v))
-    ⊎ ((kd : Kind) × (x : ℕ) × (v : T) × (d ≡ slot.Read kd x v))
-readable_cases d bs l has = grind arith
-
-any_last : (n : ℕ) (bs : List Borrow) (b : Borrow) → b.ticket ≡ n
-    → list_any (λ r. nat_eq r.ticket n) (bs ++ b ∷ []) ≡ true
-any_last n bs b same = grind (arith, nat_tests, common_steps)
-
--- the table, the slots and the note afterwards
-pub record Begins {T : Type 0} (r : LastBorrow) (t t' : Table) (es : List (StorageEntry T))
-    (ds : List EntryDetails) (now : EntryList T) (i : ℕ) (b : Borrow) : Type 0 where
-  pub indexed : AreIndexed t' es
-  pub noted : AreNoted r t'.lists es
-  pub view : entries_of r t'.lists es ds
-      ≡ change_entry now.slots i (λ e. record e { kept = with_reader b e.kept })
-  pub rooms : t'.rooms ≡ t.rooms
-
-module _ {T : Type 0} {r : LastBorrow} {t : Table} {es : List (StorageEntry T)}
-    {ds : List EntryDetails} {now : EntryList T} {i : ℕ} {e : StorageEntry T}
-    (a : IsAt r t es ds now i e) (g : ℕ) (there : IsReadable g (slice_get now.slots i)) where
+module _ {T : Type 0} {r : LastBorrow} {t : Table} {es : List (StorageEntry T)} {ds : List EntryDetails}
+    {now : EntryList T} {room x y i : ℕ} {e : StorageEntry T} {d : EntryDetails}
+    (a : IsAt r t es ds now room x y i e d) (g : ℕ) (there : IsReadable g (slice_get now.slots i)) where
   readable_here : ((kd : Kind) × (v : T) × (data_in e.content ≡ slot.Data kd v))
-      ⊎ ((kd : Kind) × (x : ℕ) × (v : T) × (data_in e.content ≡ slot.Read kd x v))
-  readable_here = readable_cases (data_in e.content) _ (location a).0.created_at
-      (rw (slot_seen a) at there).1
+      ⊎ ((kd : Kind) × (q : ℕ) × (v : T) × (data_in e.content ≡ slot.Read kd q v))
+  readable_here = cases (data_in e.content) _ d.created_at (rw (seen a) at there).1
+    where
+      cases : (c : SlotData T) (bs : List Borrow) (l : Location) → is_some (value_of (content_in (kept_data bs l c))) ≡ true
+          → ((kd : Kind) × (v : T) × (c ≡ slot.Data kd v)) ⊎ ((kd : Kind) × (q : ℕ) × (v : T) × (c ≡ slot.Read kd q v))
+      cases c bs l has = grind arith
 
   -- its ticket is beyond those of the listed readers
-  pub listed_below : (n : ℕ) → IfSome (slice_get now.slots i)
-      (λ e. AreBelow n (readers_of (content_in e.kept)))
+  pub listed_below : {n : ℕ} → IfSome (slice_get now.slots i) (λ e. AreBelow n (readers_of (content_in e.kept)))
       → index_of (data_in e.content) ≢ no_index → AreBelow n (list_at t.lists (index_of (data_in e.content)))
-  listed_below n h some = elim readable_here [
+  listed_below h some = elim readable_here [
     | inl own ↦ absurd (some (rw own.2 refl))
-    | inr own ↦ subst (AreBelow n) (
-        ap (λ d. readers_of (content_in (kept_data (borrows_of r t.lists i (index_of (data_in e.content)))
-        (location a).0.created_at d))) own.3
-        ∙ read_borrows a.at own.3 ∙ ap (λ d. list_at t.lists (index_of d)) (sym own.3))
-        (hears a (λ e. AreBelow n (readers_of (content_in e.kept))) h)
+    | inr own ↦ rw own.3 (rw (seen a, own.3, ne_eqb own.1 no_index (has_place a.at own.3)) at h)
   ]
 
-  pub begun : is_noted r.noted ≡ false → (b : Borrow) (t' : Table)
-      → t' ≡ listed_beside b (index_of (data_in e.content)) t
-      → Begins (record { noted = noted.Reader; slot = i; generation = g; borrow = b })
-      t t' es ds now i b
-  begun nobody b t' is = elim readable_here [
-    | inl own ↦ alone_begun own.0 own.1 own.2
-    | inr own ↦ beside_begun own.0 own.1 own.2 own.3
-  ]
+  pub begun : is_noted r.noted ≡ false → (b : Borrow) {t' : Table} → t' ≡ listed_beside b (index_of (data_in e.content)) t
+      → Writes (record { noted = noted.Reader; slot = i; generation = g; borrow = b }) t' es ds room x y
+      (change_entry now.slots i (λ e. record e { kept = with_reader b e.kept }))
+  begun nobody b is =
+      let same_cell = (rw (seen a) at there).0 in
+      elim readable_here [
+        | inl own ↦
+            rw (is, own.2) (borrowed a (same_step a.at refl (rw own.2 tt))
+            (begins nobody refl (same_cell, rw own.2 refl)) (rw own.2 tt) _
+            (rw (own.2, nobody, eq-eqb i i refl)))
+        | inr own ↦
+            let place = has_place a.at own.3 in
+            let set = get_or-set_same t.lists own.1 (list_at t.lists own.1 ++ b ∷ []) [] (used_at a.at own.3).within in
+            rw (is, own.3, ne_eqb own.1 no_index place) (borrowed a
+            (list_step a.at (rw own.3 refl) place (not_empty _ b) refl (rw own.3 refl))
+            (begins nobody refl (same_cell, rw (own.3, set) (any_last b.ticket _ b refl))) (rw own.3 tt) _
+            (rw (own.3, ne_eqb own.1 no_index place, set)))
+      ]
     where
-      note : LastBorrow
-      note = record { noted = noted.Reader; slot = i; generation = g; borrow = b }
+      any_last : (n : ℕ) (bs : List Borrow) (b : Borrow) → b.ticket ≡ n
+          → list_any (λ r. nat_eq r.ticket n) (bs ++ b ∷ []) ≡ true
+      any_last n bs b same = grind (arith, nat_tests, common_steps)
 
-      near : IsNear r i
-      near = near_none r i nobody
-
-      own_note : IsNear note i
-      own_note = near_own note i refl
-
-      away : is_noted_at r i ≡ false
-      away = rw nobody refl
-
-      alone_begun : (kd : Kind) (v : T) → data_in e.content ≡ slot.Data kd v
-          → Begins note t t' es ds now i b
-      alone_begun kd v own =
-          let none : index_of (data_in e.content) ≡ no_index = rw own refl in
-          let same : t' ≡ t = is ∙ rw none refl in
-          rw same (record {
-            indexed = a.at.base.indexed;
-            noted = own_noted a.at note t.lists near own_note
-                (λ z. (readable_generation a g there, rw own refl)) (rw own tt);
-            view = reborrowed a note t.lists _ {bs = []} {bs' = b ∷ []}
-                (same_near a.at note t.lists near own_note (λ k other. refl))
-                (unborrowed a.at none away) (rw (none, eq-eqb i i refl) refl) (λ d. rw own);
-            rooms = refl;
-          })
-
-      beside_begun : (kd : Kind) (x : ℕ) (v : T) → data_in e.content ≡ slot.Read kd x v
-          → Begins note t t' es ds now i b
-      beside_begun kd x v own =
-          let place = has_place a.at own in
-          let index : index_of (data_in e.content) ≡ x = rw own refl in
-          let all = list_at t.lists x ++ b ∷ [] in
-          let same : t' ≡ record t { lists = slice_set t.lists x all } =
-          is ∙ rw (own, ne_eqb x no_index place) refl in
-          let set : list_at t'.lists x ≡ all =
-          rw same (get_or-set_same t.lists x all [] (used_at a.at own).within) in
-          let lists = list_lists a.at x index place all (not_empty _ b) same in
-          record {
-            indexed = rw (set-own es i e a.at.there)
-                at (list_indexed a.at x index place all (not_empty _ b) same e index);
-            noted = own_noted a.at note t'.lists near own_note
-                (λ z. (readable_generation a g there, rw (own, set) (any_last b.ticket _ b refl)))
-                (rw own tt);
-            view = reborrowed a note t'.lists _ {bs = list_at t.lists x} {bs' = all}
-                (same_near a.at note t'.lists near own_note lists) (read_borrows a.at own)
-                (rw (own, ne_eqb x no_index place, set) refl) (λ d. rw own);
-            rooms = rw same refl;
-          }
-
-  -- where no borrow stands, the table stays as it is
   pub begun_alone : is_noted r.noted ≡ false → (b : Borrow) → IsAlone g (slice_get now.slots i)
-      → Begins (record { noted = noted.Reader; slot = i; generation = g; borrow = b })
-      t t es ds now i b
-  begun_alone nobody b free =
-      let none : index_of (data_in e.content) ≡ no_index = rw (alone a (alone_free a g free)).2 refl in
-      begun nobody b t (rw none refl)
+      → Writes (record { noted = noted.Reader; slot = i; generation = g; borrow = b }) t es ds room x y
+      (change_entry now.slots i (λ e. record e { kept = with_reader b e.kept }))
+  begun_alone nobody b free = begun nobody b (rw (lone a nobody g free).1.2 refl)
+
+-- ---- a slot more, with a cell without borrows
+
+module _ {T : Type 0} {r : LastBorrow} {t : Table} {es : List (StorageEntry T)} {ds : List EntryDetails}
+    {now : EntryList T} {room x y : ℕ} (s : IsKept r t es ds now room x y) (e : StorageEntry T) (l : Location) where
+  abbrev fresh : EntryDetails
+  fresh = record { created_at = l; references = 0 }
+
+  -- no borrow is noted beyond the last
+  away_end : is_noted_at r (length es) ≡ false
+  away_end = false_from_ne_true _ (λ on.
+      let e = noted_there r t.lists (length es) _ s.holds.1.noted on in
+      omega (arith, slice_get_within es r.slot e.0 e.1, noted_slot r (length es) on))
+
+  pub pushed : IsUnborrowed (data_in e.content) → length now.slots < now.rooms
+      → AreIndexed t (es ++ e ∷ []) × AreNoted r t.lists (es ++ e ∷ [])
+      × (length (ds ++ fresh ∷ []) ≡ length (es ++ e ∷ [])) × (length (es ++ e ∷ []) ≤ room)
+      × (entries_of r t.lists (es ++ e ∷ []) (ds ++ fresh ∷ []) ≡ now.slots
+      ++ record { generation = e.generation; kept = kept_data [] l (data_in e.content); references = 0 } ∷ [])
+  pushed unborrowed left =
+      let w = push_written es e in let free = unborrowed_free (data_in e.content) unborrowed in
+      let long = length-append es (e ∷ []) in let long' = length-append ds (fresh ∷ []) in
+      let slots = entries_of r t.lists es ds in let new = entry_of r t.lists (length es) e fresh in
+      let rooms = ap (λ (x : EntryList _). x.rooms) s.view in (
+        indexed_free w s.holds.0 free (omega arith) (rw (slice_get_past es (length es) (omega arith)) refl),
+        noted_after w s.holds.1 (λ k other. refl) (stays refl away_end) (free_written _ free r (length es)),
+        omega (arith, s.holds.2),
+        omega (arith, many s, rooms),
+        rw (← same_slots s) (rw (free_none _ free, away_end) at (entries_written r r t.lists t.lists w
+            (rw s.holds.2 at (push_written ds fresh))
+            (rw (entries_len r t.lists es ds s.holds.2) at (push_written slots new)) (λ k other. refl))),
+      )

@@ -1,15 +1,12 @@
 -- One reference less names a slot's cell.
-use Rattle.store_cells.proofs.{arith, details_at, details_changed, hears_of, kept}
-use Rattle.store_cells.proofs.{length-set, read_details, refl, ◌-◌, ◌<◌, ◌∙◌}
+use Rattle.store_cells.proofs.{arith, length-set, refl, ◌-◌, ◌∙◌}
+use Rattle.store_cells.proofs.{found_details, kept, seen, wrote_details}
 use Rattle.store_cells.proofs.entries.Entries.count_down.Goals as goal
 
 pub overflow_sub-index_mut : goal.overflow_sub-index_mut
 overflow_sub-index_mut g c =
-    let s = kept c.self.view_is c.self.invariant in
-    let a = details_at s c.requires.within in
-    let few = hears_of a.1 (read_details s c.requires.within c.index_mut.ensures.value)
-    (λ e. 0 < e.references) c.requires.some in
-    omega (arith, few)
+    let a = (found_details (kept c.self.view_is c.self.invariant) c.requires.within c.index_mut.ensures.value).1 in
+    omega (arith, rw (seen a) at c.requires.some)
 
 pub invariant_of-self : goal.invariant_of-self
 invariant_of-self g c =
@@ -18,7 +15,5 @@ invariant_of-self g c =
 
 pub returns-clause-slots : goal.returns-clause-slots
 returns-clause-slots g c =
-    let s = kept c.self.view_is c.self.invariant in
-    let a = details_at s c.requires.within in
-    details_changed a.1 (read_details s c.requires.within c.index_mut.ensures.value) _
-    (λ e. record e { references = e.references - 1 }) refl
+    let a = (found_details (kept c.self.view_is c.self.invariant) c.requires.within c.index_mut.ensures.value).1 in
+    wrote_details a _ (λ e. record e { references = e.references - 1 }) refl

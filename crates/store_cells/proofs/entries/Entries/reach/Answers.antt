@@ -1,17 +1,15 @@
 -- What a box of a name reaches.
-use Rattle.store_cells.proofs.{arith, here, kept, lead_seen, lent, location}
-use Rattle.store_cells.proofs.{name_of_cell, past, refl, slice_get_read, slot_seen, ◌∙◌}
+use Rattle.store_cells.proofs.{arith, name_of_cell, refl, ◌∙◌}
+use Rattle.store_cells.proofs.{found_in, kept, lead_seen, past}
 use Rattle.store_cells.proofs.entries.Entries.reach.Goals as goal
 
 pub returns-in-Some : goal.returns-in-Some
 returns-in-Some g c =
     let found = rw c.deref.ensures.value at c.in-Some.ensures.lookup in
-    let a = here (kept c.self.view_is c.self.invariant) (slice_get_read
-    c.self.inside.entries.items _ c.args.name.slot c.in-Some.entry.now refl found.3.0 found.1) in
-    rw (slot_seen a) (c.reach.ensures
-    ∙ lead_seen c.in-Some.entry.now (location a).0 _ (lent a.at) (name_of_cell c.args.name))
+    let a = (found_in (kept c.self.view_is c.self.invariant) found.3.0 found.1).1 in
+    c.reach.ensures ∙ lead_seen a (name_of_cell c.args.name)
 
 pub returns-in-None : goal.returns-in-None
 returns-in-None g c =
-    let found = rw c.deref.ensures.value at c.in-None.ensures.lookup in
-    rw (past (kept c.self.view_is c.self.invariant) c.args.name.slot (omega (arith, found.3))) refl
+    let none = rw c.deref.ensures.value at c.in-None.ensures.lookup in
+    rw (past (kept c.self.view_is c.self.invariant) c.args.name.slot (omega (arith, none.3))) refl

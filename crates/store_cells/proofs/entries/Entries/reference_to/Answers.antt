@@ -1,6 +1,7 @@
 -- A reference to a slot's cell.
-use Rattle.store_cells.proofs.{found, refl, says}
+use Rattle.store_cells.proofs.{refl}
+use Rattle.store_cells.proofs.{found, kept, seen}
 use Rattle.store_cells.proofs.entries.Entries.reference_to.Goals as goal
 
 pub returns : goal.returns
-returns g c = says (found c.self.view_is c.self.invariant c.requires c.index.ensures) _ (λ d. refl)
+returns g c = rw (seen (found (kept c.self.view_is c.self.invariant) c.requires c.index.ensures).1) refl

@@ -1,17 +1,15 @@
 -- What the reference of a name names.
-use Rattle.store_cells.proofs.{arith, here, kept, lent, location, past, refl}
-use Rattle.store_cells.proofs.{slice_get_read, slot_seen, target_seen, ◌∙◌}
+use Rattle.store_cells.proofs.{arith, refl, ◌∙◌}
+use Rattle.store_cells.proofs.{found_in, kept, past, target_seen}
 use Rattle.store_cells.proofs.entries.Entries.target.Goals as goal
 
 pub returns-in-Some : goal.returns-in-Some
 returns-in-Some g c =
     let found = rw c.deref.ensures.value at c.in-Some.ensures.lookup in
-    let a = here (kept c.self.view_is c.self.invariant) (slice_get_read
-    c.self.inside.entries.items _ c.args.name.slot c.in-Some.entry.now refl found.3.0 found.1) in
-    rw (slot_seen a) (c.target.ensures
-    ∙ target_seen c.in-Some.entry.now (location a).0 _ (lent a.at) c.args.name.generation)
+    let a = (found_in (kept c.self.view_is c.self.invariant) found.3.0 found.1).1 in
+    c.target.ensures ∙ target_seen a c.args.name.generation
 
 pub returns-in-None : goal.returns-in-None
 returns-in-None g c =
-    let found = rw c.deref.ensures.value at c.in-None.ensures.lookup in
-    rw (past (kept c.self.view_is c.self.invariant) c.args.name.slot (omega (arith, found.3))) refl
+    let none = rw c.deref.ensures.value at c.in-None.ensures.lookup in
+    rw (past (kept c.self.view_is c.self.invariant) c.args.name.slot (omega (arith, none.3))) refl
