@@ -46,8 +46,7 @@ none_apart : (t : ℕ) (ps : List Place) → IsApart t ps → list_any (has t) (
 none_apart t [] apart = refl
 none_apart t (p ∷ ps) apart =
     let rest = none_apart t ps (λ k d within. apart (suc k) d (omega arith)) in
-    ⊎_elim (λ yes. rw (yes, ne_eqb p.borrow.ticket t (apart 0 p (omega arith))) rest)
-    (λ no. rw no rest) (cases_Bool p.stands)
+    let other = apart 0 p (omega arith) in grind (arith, nat_tests)
 
 -- where no borrow has the ticket, all are left
 pub none_left : (t : ℕ) (bs : List Borrow) → list_any (has t) bs ≡ false → without t bs ≡ bs
@@ -64,16 +63,10 @@ pub stands_there : (t : ℕ) (ps : List Place) (i : ℕ) (d : Place) → Tickets
     → HasTicketAt t ps i → list_any (has t) (standing_at ps) ≡ (get_or ps i d).stands
 stands_there t [] i d up within own = absurd (omega arith)
 stands_there t (p ∷ ps) zero d up within own =
-    let apart = rw (own p) at (behind_apart p ps up) in
-    ⊎_elim (λ yes. rw yes (ap (λ b. b || list_any (has t) (standing_at ps))
-    (eq-eqb p.borrow.ticket t (own p)))) (λ no. rw no (none_apart t ps apart)) (cases_Bool p.stands)
+    let none = none_apart t ps (rw (own p) at (behind_apart p ps up)) in let here = own p in grind (arith, nat_tests)
 stands_there t (p ∷ ps) (suc i) d up within own =
     let rest = stands_there t ps i d (tail_ascends p ps up) (omega arith) own in
-    let below = first_below p ps up i p (omega arith) in
-    let there = own p in
-    let other : p.borrow.ticket ≢ t = λ e. omega arith in
-    ⊎_elim (λ yes. rw yes (ap (λ b. b || list_any (has t) (standing_at ps))
-    (ne_eqb p.borrow.ticket t other) ∙ rest)) (λ no. rw no rest) (cases_Bool p.stands)
+    let below = first_below p ps up i p (omega arith) in let there = own p in grind (arith, nat_tests)
 
 module _ (t : ℕ) (ps : List Place) (up : TicketsAscend ps) where
   -- the comparisons with t rise along the places, as a binary search asks
@@ -121,19 +114,9 @@ module _ {F : Type 0} {g : Mut F (Bor Place × Unit {0}) ℕ} {f : F} (t : ℕ) 
       none_apart t ps (gap_apart t ps up i
       (position (λ p. p.borrow.ticket) (answers_always g _ f calls)))
 
--- a place at the beginning, which lives or is dead
-standing_first : (p : Place) (ps : List Place) → p.stands ≡ true
-    → standing_at (p ∷ ps) ≡ p.borrow ∷ standing_at ps
-standing_first p ps on = rw on refl
-
-pub first_dropped : (p : Place) (ps : List Place) → p.stands ≡ false
-    → standing_at (p ∷ ps) ≡ standing_at ps
+-- a dead place at the beginning
+first_dropped : (p : Place) (ps : List Place) → p.stands ≡ false → standing_at (p ∷ ps) ≡ standing_at ps
 first_dropped p ps off = rw off refl
-
--- a first borrow with another ticket is left
-without_other : (t : ℕ) (b : Borrow) (bs : List Borrow) → b.ticket ≢ t
-    → without t (b ∷ bs) ≡ b ∷ without t bs
-without_other t b bs other = rw (ne_eqb b.ticket t other) refl
 
 -- a place that dies takes its ticket's borrow away, and no other
 module _ (t : ℕ) (b : Borrow) where
@@ -142,32 +125,11 @@ module _ (t : ℕ) (b : Borrow) where
       × (length (standing_at (slice_set ps i (dead b))) + 1 ≡ length (standing_at ps))
   dies [] i up own = absurd (omega (arith, own.0))
   dies (p ∷ ps) zero up own =
-      let apart = rw (own.1 p) at (behind_apart p ps up) in
-      let same = eq-eqb p.borrow.ticket t (own.1 p) in
-      rw (own.2 p (omega arith), same) (sym (all_left t ps apart), omega arith)
+      let all = all_left t ps (rw (own.1 p) at (behind_apart p ps up)) in let here = own.1 p in
+      let stands = own.2 p (omega arith) in grind (arith, nat_tests)
   dies (p ∷ ps) (suc i) up own =
-      let rest = dies ps i (tail_ascends p ps up)
-      (omega (arith, own.0), own.1, λ d within. own.2 d (omega arith)) in
-      let below = first_below p ps up i p (omega (arith, own.0)) in
-      let there = own.1 p in
-      let other : p.borrow.ticket ≢ t = λ e. omega arith in
-      let after = slice_set ps i (dead b) in
-      ⊎_elim (λ on.
-      let before_is = standing_first p ps on in
-      let after_is = standing_first p after on in
-      let before_length = ap (λ bs. length bs) before_is in
-      let after_length = ap (λ bs. length bs) after_is in (
-        after_is ∙ ap (λ bs. p.borrow ∷ bs) rest.0
-            ∙ sym (ap (without t) before_is ∙ without_other t p.borrow (standing_at ps) other),
-        omega (arith, before_length, after_length, rest.1),
-      )) (λ off.
-      let before_is = first_dropped p ps off in
-      let after_is = first_dropped p after off in
-      let before_length = ap (λ bs. length bs) before_is in
-      let after_length = ap (λ bs. length bs) after_is in (
-        after_is ∙ rest.0 ∙ sym (ap (without t) before_is),
-        omega (arith, before_length, after_length, rest.1),
-      )) (cases_Bool p.stands)
+      let rest = dies ps i (tail_ascends p ps up) (omega (arith, own.0), own.1, λ d within. own.2 d (omega arith)) in
+      let below = first_below p ps up i p (omega (arith, own.0)) in let there = own.1 p in grind (arith, nat_tests)
 
 -- a place more at the end
 standing_pushed : (ps : List Place) (p : Place)
@@ -179,9 +141,7 @@ standing_pushed ps p =
 -- a dead place at the end
 module _ (ps : List Place) (p : Place) where
   pub last_dropped : p.stands ≡ false → standing_at (ps ++ p ∷ []) ≡ standing_at ps
-  last_dropped off =
-      standing_pushed ps p ∙ ap (λ bs. standing_at ps ++ bs) (first_dropped p [] off)
-      ∙ append-nil (standing_at ps)
+  last_dropped off = standing_pushed ps p ∙ rw off (append-nil (standing_at ps))
 
   pub front_ascends : TicketsAscend (ps ++ p ∷ []) → TicketsAscend ps
   front_ascends up i j d before within =
@@ -201,43 +161,22 @@ module _ (ps : List Place) (p : Place) where
 abbrev kept : List Place → List Place
 kept = filter (λ p. p.stands)
 
-kept_first : (p : Place) (ps : List Place) → p.stands ≡ true → kept (p ∷ ps) ≡ p ∷ kept ps
-kept_first p ps on = rw on refl
-
-kept_rest : (p : Place) (ps : List Place) → p.stands ≡ false → kept (p ∷ ps) ≡ kept ps
-kept_rest p ps off = rw off refl
-
 pub standing_kept : (ps : List Place) → standing_at (kept ps) ≡ standing_at ps
 standing_kept [] = refl
-standing_kept (p ∷ ps) =
-    ⊎_elim (λ on. ap (λ qs. standing_at qs) (kept_first p ps on) ∙ standing_first p (kept ps) on
-    ∙ ap (λ bs. p.borrow ∷ bs) (standing_kept ps) ∙ sym (standing_first p ps on))
-    (λ off. ap (λ qs. standing_at qs) (kept_rest p ps off) ∙ standing_kept ps
-    ∙ sym (first_dropped p ps off)) (cases_Bool p.stands)
+standing_kept (p ∷ ps) = let rest = standing_kept ps in grind arith
 
-each_stands : (p : Place) (qs : List Place) (d : Place) → p.stands ≡ true
-    → ((j : ℕ) → j < length qs → (get_or qs j d).stands ≡ true)
-    → (i : ℕ) → i < length (p ∷ qs) → (get_or (p ∷ qs) i d).stands ≡ true
-each_stands p qs d on rest zero within = on
-each_stands p qs d on rest (suc j) within = rest j (omega arith)
-
-all_stand : (ps : List Place) (i : ℕ) (d : Place) → i < length (kept ps)
-    → (get_or (kept ps) i d).stands ≡ true
-all_stand [] i d = λ within. absurd (omega arith)
-all_stand (p ∷ ps) i d =
-    ⊎_elim (λ on. subst (λ qs. i < length qs → (get_or qs i d).stands ≡ true)
-    (sym (kept_first p ps on)) (each_stands p (kept ps) d on (λ j. all_stand ps j d) i))
-    (λ off. subst (λ qs. i < length qs → (get_or qs i d).stands ≡ true)
-    (sym (kept_rest p ps off)) (all_stand ps i d)) (cases_Bool p.stands)
+all_stand : (ps : List Place) (i : ℕ) (d : Place) → i < length (kept ps) → (get_or (kept ps) i d).stands ≡ true
+all_stand [] i d within = absurd (omega arith)
+all_stand (p ∷ ps) zero d within = let rest = all_stand ps zero d in grind arith
+all_stand (p ∷ ps) (suc i) d within =
+    let here = all_stand ps i d in let rest = all_stand ps (suc i) d in grind arith
 
 kept_length : (ps : List Place) → length (kept ps) ≡ length (standing_at ps)
 kept_length ps = sym (length-map (kept ps) (λ p. p.borrow))
 
 pub standing_within : (ps : List Place) → length (standing_at ps) ≤ length ps
 standing_within [] = omega arith
-standing_within (p ∷ ps) =
-    ⊎_elim (λ yes. rw yes (omega (arith, standing_within ps)))
-    (λ no. rw no (omega (arith, standing_within ps))) (cases_Bool p.stands)
+standing_within (p ∷ ps) = let rest = standing_within ps in grind arith
 
 -- what a place's index reads is no matter of the default
 same_at : (ps : List Place) (i : ℕ) (d e : Place) → i < length ps → get_or ps i d ≡ get_or ps i e
