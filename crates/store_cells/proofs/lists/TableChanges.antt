@@ -1,10 +1,9 @@
 -- A table of borrows that changes at one index, and what that leaves of the others.
 use Rattle.store_cells.proofs.Common
-use Common.{arith, Borrow, cond, contains-insert_at, contains-remove_at}
-use Common.{eq-eqb, false, get_or-append, get_or-append_seam, get_or-eq_default, get_or-set_other}
-use Common.{get_or-set_same, IsClosed, IsUsed, IsVacant, length, length-append}
-use Common.{length-set, List, list_at, nat_cmp, nat_cmp_total, nat_eq, nat_tests, ne_eqb, put_list}
-use Common.{refl, slice_set, sym, Table, true, ℕ, [], ◌++◌, ◌+◌, ◌<◌, ◌∙◌, ◌∷◌, ◌≡◌, ◌≢◌, ◌≤◌}
+use Common.{arith, Borrow, cond, contains-insert_at, contains-remove_at, eq-eqb, false, get_or-append}
+use Common.{get_or-append_seam, get_or-eq_default, get_or-set_other, get_or-set_same, IsClosed, IsUsed, IsVacant}
+use Common.{length, length-append, length-set, List, list_at, nat_cmp, nat_cmp_total, nat_eq, nat_tests, ne_eqb}
+use Common.{put_list, refl, slice_set, sym, Table, true, [], ℕ, ◌++◌, ◌+◌, ◌<◌, ◌∙◌, ◌∷◌, ◌≡◌, ◌≢◌, ◌≤◌}
 use Rattle.std.specs.FinSet as set
 
 pub none_some : (b : Borrow) (bs : List Borrow) → b ∷ bs ≡ [] → ⊥

@@ -1,6 +1,9 @@
 -- What a slot's content says, by its form.
-use Rattle.store_cells.proofs.Common.{Borrow, Kind, LastBorrow, List, Location, None, StorageEntry, StorageEntryData, Table, ap, arith, content_in, data_in, false, has_writer, index_of, inl, inr, is_noted_at, kept_data, may_note, ne_eqb, no_index, read_refusal, refl, true, unread_data, value_of, ℕ, ◌≡◌, ◌≢◌, ◌⊎◌}
-use Rattle.store_cells.proofs.states.Entries.{IsSlot, NotRead, has_place, is_free, lent, noted_here}
+use Rattle.store_cells.proofs.Common.{ap, arith, Borrow, content_in, data_in, false, has_writer, index_of, inl, inr}
+use Rattle.store_cells.proofs.Common.{is_noted_at, kept_data, Kind, LastBorrow, List, Location, may_note, ne_eqb}
+use Rattle.store_cells.proofs.Common.{no_index, None, read_refusal, refl, StorageEntry, StorageEntryData, Table, true}
+use Rattle.store_cells.proofs.Common.{unread_data, value_of, ℕ, ◌≡◌, ◌≢◌, ◌⊎◌}
+use Rattle.store_cells.proofs.states.Entries.{has_place, is_free, IsSlot, lent, noted_here, NotRead}
 use Rattle.store_cells.specs.Data.{SlotData as slot}
 use Rattle.store_cells.specs.declared.entry.Kind.TheVariants as kind
 use Rattle.store_cells.specs.declared.entry.StorageEntryData.TheVariants as content

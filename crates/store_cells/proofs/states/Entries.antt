@@ -1,5 +1,17 @@
 -- The slots of a store with the table of their borrows and the noted one, as methods find them.
-use Rattle.store_cells.proofs.Common.{AreIndexed, AreNoted, AreRoomy, Bool, Borrow, BorrowMutError, Entry, EntryDetails, EntryList, Err, FoundBorrowed, FoundReaders, GenerationalBoxId, HasListIndex, HasWriter, HasWriterAt, IfSome, IsAlone, IsListable, IsListed, IsNoted, IsReadable, IsUnborrowed, IsUsed, IsWritten, Kind, LastBorrow, Lent, List, Live, Location, Name, None, Option, Refused, SlotData, Some, StorageEntry, Table, [], ap, arith, borrows_of, cases_eq, cell_in, cell_of, change_entry, cleared, cond, content_in, content_of, content_rows, data_in, entries_from, entries_of, entry_of, eq-eqb, false, false_from_ne_true, get_or, has_no_borrow, index_in, index_of, inl, inr, is_lent_data, is_none, is_noted, is_noted_at, is_reader, is_some, is_unborrowed_data, is_unborrowed_value, is_writer, kept_data, kind_in, kind_of, lead_of, leads_to, length, length-set, lent_kept, list_at, location_of, may_note, named_by, nat_eq, nat_tests, ne_eqb, no_index, not, noted_at, refl, set-own, set_written, slice_get, slice_get_cases, slice_get_past, slice_get_read, slice_get_within, slice_set, suc, sym, target_in, true, value_for, value_of, write_refusal, zero, ℕ, ⊎_elim, ◌&&◌, ◌+◌, ◌<◌, ◌∙◌, ◌∷◌, ◌≡◌, ◌≢◌, ◌≤◌}
+use Rattle.store_cells.proofs.Common
+use Common.{ap, AreIndexed, AreNoted, AreRoomy, arith, Bool, Borrow, BorrowMutError, borrows_of, cases_eq, cell_in}
+use Common.{cell_of, change_entry, cleared, cond, content_in, content_of, content_rows, data_in, entries_from}
+use Common.{entries_of, Entry, entry_of, EntryDetails, EntryList, eq-eqb, Err, false, false_from_ne_true}
+use Common.{FoundBorrowed, FoundReaders, GenerationalBoxId, get_or, has_no_borrow, HasListIndex, HasWriter}
+use Common.{HasWriterAt, IfSome, index_in, index_of, inl, inr, is_lent_data, is_none, is_noted, is_noted_at}
+use Common.{is_reader, is_some, is_unborrowed_data, is_unborrowed_value, is_writer, IsAlone, IsListable, IsListed}
+use Common.{IsNoted, IsReadable, IsUnborrowed, IsUsed, IsWritten, kept_data, Kind, kind_in, kind_of, LastBorrow}
+use Common.{lead_of, leads_to, length, length-set, Lent, lent_kept, List, list_at, Live, Location, location_of}
+use Common.{may_note, Name, named_by, nat_eq, nat_tests, ne_eqb, no_index, None, not, noted_at, Option, refl, Refused}
+use Common.{set-own, set_written, slice_get, slice_get_cases, slice_get_past, slice_get_read, slice_get_within}
+use Common.{slice_set, SlotData, Some, StorageEntry, suc, sym, Table, target_in, true, value_for, value_of}
+use Common.{write_refusal, zero, [], ℕ, ⊎_elim, ◌&&◌, ◌+◌, ◌<◌, ◌∙◌, ◌∷◌, ◌≡◌, ◌≢◌, ◌≤◌}
 use Rattle.store_cells.proofs.lists.TableChanges.{none_some}
 use Rattle.store_cells.specs.Data.{SlotData as slot}
 

@@ -1,5 +1,8 @@
 -- At which indexes of the table the borrows of a store's slots stand, and what is left of that where a slot is written.
-use Rattle.store_cells.proofs.Common.{AreIndexed, AreNoted, Borrow, HasListIndex, IsUsed, IsWritten, LastBorrow, List, Option, SlotData, Some, StorageEntry, Table, [], ap, arith, data_in, false, has_index, how_many, index_in, index_of, is_noted, length, nat_cmp, nat_tests, no_index, passes, refl, slice_get, true, ℕ, ◌+◌, ◌≡◌, ◌≢◌, ◌≤◌}
+use Rattle.store_cells.proofs.Common.{ap, AreIndexed, AreNoted, arith, Borrow, data_in, false, has_index}
+use Rattle.store_cells.proofs.Common.{HasListIndex, how_many, index_in, index_of, is_noted, IsUsed, IsWritten}
+use Rattle.store_cells.proofs.Common.{LastBorrow, length, List, nat_cmp, nat_tests, no_index, Option, passes, refl}
+use Rattle.store_cells.proofs.Common.{slice_get, SlotData, Some, StorageEntry, Table, true, [], ℕ, ◌+◌, ◌≡◌, ◌≢◌, ◌≤◌}
 use Rattle.store_cells.proofs.states.Entries.{free_listed, free_none, here, is_free}
 use Rattle.std.specs.FinSet as set
 use Rattle.store_cells.specs.declared.latest.Noted.TheVariants as noted

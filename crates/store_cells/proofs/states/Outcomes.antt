@@ -1,7 +1,6 @@
 -- What is known of a call's result, and of a content that no borrow keeps from a read or a write.
-use Rattle.store_cells.proofs.Common
-use Common.{Content, None, OnErr, OnOk, Result, Some, arith, has_no_borrow, is_some, read_refusal}
-use Common.{true, value_of, write_refusal, ◌≡◌}
+use Rattle.store_cells.proofs.Common.{arith, Content, has_no_borrow, is_some, None, OnErr, OnOk, read_refusal, Result}
+use Rattle.store_cells.proofs.Common.{Some, true, value_of, write_refusal, ◌≡◌}
 
 pub ok_then : {A E : Type 0} (r : Result A E) {P Q : Type 0} → (P → Q) → OnOk r P → OnOk r Q
 ok_then r f p = grind arith

@@ -1,8 +1,26 @@
 -- The table of borrows where a slot is written, and what that leaves of the store.
-use Rattle.store_cells.proofs.Common.{AreBelow, AreIndexed, AreNoted, Borrow, Empty, Entry, EntryDetails, EntryList, HasListIndex, HasWriter, Here, IfSome, IsAlone, IsClosed, IsListable, IsListed, IsReadable, IsUnborrowed, IsUsed, Kind, LastBorrow, List, Live, Location, None, Releases, SlotData, Some, StorageEntry, StorageEntryData, Table, [], ap, arith, bit, borrows_of, cases_Bool, cases_eq, cell_of, change_entry, cleared, common_steps, cond, content_in, data_in, entries_of, entry_of, entry_with, eq-eqb, false, false_from_ne_true, fewer_within, filter, full_data, get_or, get_or-set_same, has_index, has_reader, how_many, index_in, index_of, inl, inr, is_noted, is_noted_at, is_reader, is_some, is_writer, kept_data, lend_to, length, length-append, length-set, lent_data, list_any, list_at, listed_beside, nat_cmp, nat_eq, nat_tests, ne_eqb, no_index, not, push_written, readers_of, referring, refl, set-own, set_written, slice_get, slice_get_past, slice_get_read, slice_get_within, slice_set, sym, target_in, true, unread_data, unread_in, value_of, with_reader, with_value, without_reader_in, write_refusal, ℕ, ⊎_elim, ◌&&◌, ◌++◌, ◌+◌, ◌<◌, ◌∙◌, ◌∷◌, ◌≡◌, ◌≢◌, ◌≤◌, ◌⊎◌}
-use Rattle.store_cells.proofs.lists.TableChanges.{Changes, Opens, closed, closed_count, list_changed, none_some, not_empty, opened, opened_count, opened_few, opened_list, opened_used, used_still}
+use Rattle.store_cells.proofs.Common
+use Common.{ap, AreBelow, AreIndexed, AreNoted, arith, bit, Borrow, borrows_of, cases_Bool, cases_eq, cell_of}
+use Common.{change_entry, cleared, common_steps, cond, content_in, data_in, Empty, entries_of, Entry, entry_of}
+use Common.{entry_with, EntryDetails, EntryList, eq-eqb, false, false_from_ne_true, fewer_within, filter, full_data}
+use Common.{get_or, get_or-set_same, has_index, has_reader, HasListIndex, HasWriter, Here, how_many, IfSome, index_in}
+use Common.{index_of, inl, inr, is_noted, is_noted_at, is_reader, is_some, is_writer, IsAlone, IsClosed, IsListable}
+use Common.{IsListed, IsReadable, IsUnborrowed, IsUsed, kept_data, Kind, LastBorrow, lend_to, length, length-append}
+use Common.{length-set, lent_data, List, list_any, list_at, listed_beside, Live, Location, nat_cmp, nat_eq, nat_tests}
+use Common.{ne_eqb, no_index, None, not, push_written, readers_of, referring, refl, Releases, set-own, set_written}
+use Common.{slice_get, slice_get_past, slice_get_read, slice_get_within, slice_set, SlotData, Some, StorageEntry}
+use Common.{StorageEntryData, sym, Table, target_in, true, unread_data, unread_in, value_of, with_reader, with_value}
+use Common.{without_reader_in, write_refusal, [], ℕ, ⊎_elim, ◌&&◌, ◌++◌, ◌+◌, ◌<◌, ◌∙◌, ◌∷◌, ◌≡◌, ◌≢◌, ◌≤◌, ◌⊎◌}
+use Rattle.store_cells.proofs.lists.TableChanges.{Changes, closed, closed_count, list_changed, none_some, not_empty}
+use Rattle.store_cells.proofs.lists.TableChanges.{opened, opened_count, opened_few, opened_list, opened_used, Opens}
+use Rattle.store_cells.proofs.lists.TableChanges.{used_still}
 use Rattle.store_cells.proofs.states.Indexes.{has_listed, indexed, indexed_free}
-use Rattle.store_cells.proofs.states.Entries.{Holds, IsAt, IsKept, IsSlot, NotRead, Notes, Steps, Writes, alone, base, begins, borrowed, ends, entries_len, entries_written, free_listed, free_none, free_written, has_place, here, is_free, lent_seen, many, noted_after, noted_lent, noted_slot, noted_there, quiet, reads_at, same_slots, seen, stays, there_is, unborrowed_free, used_at, used_here, writes_at, wrote, wrote_cell}
+use Rattle.store_cells.proofs.states.Entries.{alone, base, begins, borrowed, ends, entries_len, entries_written}
+use Rattle.store_cells.proofs.states.Entries.{free_listed, free_none, free_written, has_place, here, Holds, is_free}
+use Rattle.store_cells.proofs.states.Entries.{IsAt, IsKept, IsSlot, lent_seen, many, noted_after, noted_lent}
+use Rattle.store_cells.proofs.states.Entries.{noted_slot, noted_there, Notes, NotRead, quiet, reads_at, same_slots}
+use Rattle.store_cells.proofs.states.Entries.{seen, stays, Steps, there_is, unborrowed_free, used_at, used_here}
+use Rattle.store_cells.proofs.states.Entries.{Writes, writes_at, wrote, wrote_cell}
 use Rattle.store_cells.proofs.states.Entries.Notes.{begins, ends, stays}
 use Rattle.std.specs.FinSet as set
 use Rattle.store_cells.specs.declared.latest.Noted.TheVariants as noted

@@ -1,9 +1,6 @@
 -- The noted borrow is listed.
-use Rattle.store_cells.proofs.{ap, data_in, refl}
-use Rattle.store_cells.proofs.{opens_one}
-use Rattle.store_cells.proofs.{noted_index}
-use Rattle.store_cells.proofs.{listed_opened, listed_there, noted_is, room_left, small_left}
-use Rattle.store_cells.proofs.{noted_placed}
+use Rattle.store_cells.proofs.{ap, data_in, listed_opened, listed_there, noted_index, noted_is, noted_placed}
+use Rattle.store_cells.proofs.{opens_one, refl, room_left, small_left}
 use Rattle.store_cells.proofs.entries.list_last.Goals as goal
 
 pub open-requires : goal.open-requires
@@ -19,7 +16,8 @@ open-requires-in-Shared g c =
 pub open-requires-in-Lent : goal.open-requires-in-Lent
 open-requires-in-Lent g c =
     let a = noted_is c.requires.fits c.requires.noted c.index_mut.ensures.value in
-    record { room = room_left a.1 (rw c.in-Lent.is (noted_index a.1 a.0 (ap data_in c.in-Lent.is))); small = small_left a.1 (rw c.in-Lent.is (noted_index a.1 a.0 (ap data_in c.in-Lent.is))) }
+    let none = noted_index a.1 a.0 (ap data_in c.in-Lent.is) in
+    record { room = room_left a.1 (rw c.in-Lent.is none); small = small_left a.1 (rw c.in-Lent.is none) }
 
 pub returns-in-Data-clause-listed : goal.returns-in-Data-clause-listed
 returns-in-Data-clause-listed g c =
@@ -39,8 +37,8 @@ pub returns-in-Lent-clause-listed : goal.returns-in-Lent-clause-listed
 returns-in-Lent-clause-listed g c =
     let a = noted_is c.requires.fits c.requires.noted c.index_mut.ensures.value in
     let o = c.open-in-Lent.ensures in
-    listed_opened a.1 a.0 (rw c.in-Lent.is (noted_index a.1 a.0 (ap data_in c.in-Lent.is))) (opens_one o.vacant o.lists o.free) o.rooms _
-    refl (λ d. rw c.in-Lent.is refl)
+    listed_opened a.1 a.0 (rw c.in-Lent.is (noted_index a.1 a.0 (ap data_in c.in-Lent.is)))
+    (opens_one o.vacant o.lists o.free) o.rooms _ refl (λ d. rw c.in-Lent.is refl)
 
 pub returns-in_default-clause-listed : goal.returns-in_default-clause-listed
 returns-in_default-clause-listed g c =

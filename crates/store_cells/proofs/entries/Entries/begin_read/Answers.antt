@@ -1,8 +1,6 @@
 -- A reader that begins is noted, and listed first beside others.
-use Rattle.store_cells.proofs.{arith}
-use Rattle.store_cells.proofs.{base, found, found_there, kept, listed, many, readable_within, seen, stopped, used_here}
-use Rattle.store_cells.proofs.{begun, begun_alone, listed_below}
-use Rattle.store_cells.proofs.{err_then}
+use Rattle.store_cells.proofs.{arith, base, begun, begun_alone, err_then, found, found_there, kept, listed}
+use Rattle.store_cells.proofs.{listed_below, many, readable_within, seen, stopped, used_here}
 use Rattle.store_cells.proofs.entries.Entries.begin_read.Goals as goal
 use goal.{else-not-is_unborrowed, then-not-is_unborrowed+in_ok-list_beside}
 

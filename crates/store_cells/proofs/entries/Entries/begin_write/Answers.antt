@@ -1,7 +1,6 @@
 -- A writer that begins is noted.
-use Rattle.store_cells.proofs.{arith, refl}
-use Rattle.store_cells.proofs.{alone_readable, base, found, kept, listed, many, readable_within}
-use Rattle.store_cells.proofs.{lent_to, lone, value_there}
+use Rattle.store_cells.proofs.{alone_readable, arith, base, found, kept, lent_to, listed, lone, many, readable_within}
+use Rattle.store_cells.proofs.{refl, value_there}
 use Rattle.store_cells.proofs.entries.Entries.begin_write.Goals as goal
 
 pub list_noted-requires : goal.list_noted-requires
@@ -10,7 +9,8 @@ list_noted-requires g c = base (kept c.self.view_is c.self.invariant)
 pub index_mut-requires : goal.index_mut-requires
 index_mut-requires g c =
     let l = c.list_noted.ensures in let s = listed (kept c.self.view_is c.self.invariant) l.listed l.capacity in
-    omega (arith, many s, readable_within c.args.self.now.slots c.args.name.slot c.args.name.generation (alone_readable _ _ c.requires.free))
+    omega (arith, many s, readable_within c.args.self.now.slots c.args.name.slot c.args.name.generation
+    (alone_readable _ _ c.requires.free))
 
 pub lend-value-requires : goal.lend-value-requires
 lend-value-requires g c =

@@ -1,7 +1,5 @@
 -- The writer that stands in the way of a read.
-use Rattle.store_cells.proofs.{ap, data_in, refl}
-use Rattle.store_cells.proofs.{found, kept, lent_seen, lent_used, seen}
-use Rattle.store_cells.proofs.{no_refusal}
+use Rattle.store_cells.proofs.{ap, data_in, found, kept, lent_seen, lent_used, no_refusal, refl, seen}
 use Rattle.store_cells.proofs.entries.Entries.borrow_error.Goals as goal
 
 pub writer_at-writer-requires : goal.writer_at-writer-requires

@@ -1,8 +1,7 @@
 -- The borrows that stand in the way of a write or an end.
-use Rattle.store_cells.proofs.{[], ap, data_in, refl, sym, ◌∙◌, ◌∷◌}
-use Rattle.store_cells.proofs.{none_some}
-use Rattle.store_cells.proofs.{found, hindered, kept, lent_seen, lent_used, noted_data, read_borrows, seen, unhindered, used_at}
-use Rattle.store_cells.proofs.{index_form, no_borrow}
+use Rattle.store_cells.proofs.{ap, data_in, found, hindered, index_form, kept, lent_seen, lent_used, no_borrow}
+use Rattle.store_cells.proofs.{none_some, noted_data, read_borrows, refl, seen, sym, unhindered, used_at, [], ◌∙◌}
+use Rattle.store_cells.proofs.{◌∷◌}
 use Rattle.store_cells.proofs.entries.Entries.borrow_mut_error.Goals as goal
 
 pub writer_at-requires : goal.writer_at-requires
@@ -25,7 +24,8 @@ pub returns-in-Read : goal.returns-in-Read
 returns-in-Read g c =
     let a = (found (kept c.self.view_is c.self.invariant) c.requires c.index.ensures).1 in
     let own = (index_form c.in-Read.is).2 in
-    rw (seen a) (hindered a (read_borrows a.at own) (used_at a.at own).some (rw own refl) (rw own refl) _ c.readers_error.ensures)
+    rw (seen a) (hindered a (read_borrows a.at own) (used_at a.at own).some
+    (rw own refl) (rw own refl) _ c.readers_error.ensures)
 
 pub returns-then-is_at : goal.returns-then-is_at
 returns-then-is_at g c =
@@ -33,7 +33,8 @@ returns-then-is_at g c =
     let on = sym c.is_at.ensures ∙ c.if-is_at.true in
     let free = no_borrow c.in_default.not-Lent c.in_default.not-Read c.in_default.not-SharedRead in
     let own = (noted_data a.at on free).2 in
-    rw (seen a) (hindered a {bs = c.self.inside.last.borrow ∷ []} (rw (own, on) refl) (none_some _ []) (rw own refl) (rw own refl) _ c.reader_error.ensures)
+    rw (seen a) (hindered a {bs = c.self.inside.last.borrow ∷ []} (rw (own, on) refl) (none_some _ [])
+    (rw own refl) (rw own refl) _ c.reader_error.ensures)
 
 pub returns-else-is_at : goal.returns-else-is_at
 returns-else-is_at g c =

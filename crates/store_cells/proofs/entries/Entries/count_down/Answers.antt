@@ -1,6 +1,5 @@
 -- One reference less names a slot's cell.
-use Rattle.store_cells.proofs.{arith, length-set, refl, ◌-◌, ◌∙◌}
-use Rattle.store_cells.proofs.{found_details, kept, seen, wrote_details}
+use Rattle.store_cells.proofs.{arith, found_details, kept, length-set, refl, seen, wrote_details, ◌-◌, ◌∙◌}
 use Rattle.store_cells.proofs.entries.Entries.count_down.Goals as goal
 
 pub overflow_sub-index_mut : goal.overflow_sub-index_mut

@@ -1,6 +1,5 @@
 -- Where a slot's cell was made, and how many references name it.
-use Rattle.store_cells.proofs.{refl}
-use Rattle.store_cells.proofs.{created_there, found_details, kept, seen}
+use Rattle.store_cells.proofs.{created_there, found_details, kept, refl, seen}
 use Rattle.store_cells.proofs.entries.Entries.details.Goals as goal
 
 pub returns : goal.returns

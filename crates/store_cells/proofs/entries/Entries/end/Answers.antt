@@ -1,7 +1,5 @@
 -- A cell's end, with the borrows that stand there.
-use Rattle.store_cells.proofs.{refl, sym}
-use Rattle.store_cells.proofs.{found, kept, quiet, seen}
-use Rattle.store_cells.proofs.{ended, free_holds, free_view, used_x}
+use Rattle.store_cells.proofs.{ended, found, free_holds, free_view, kept, quiet, refl, seen, sym, used_x}
 use Rattle.store_cells.proofs.entries.Entries.end.Goals as goal
 
 pub give_back-requires : goal.give_back-requires

@@ -1,6 +1,5 @@
 -- The generation of a slot's last cell.
-use Rattle.store_cells.proofs.{refl}
-use Rattle.store_cells.proofs.{found, kept, seen}
+use Rattle.store_cells.proofs.{found, kept, refl, seen}
 use Rattle.store_cells.proofs.entries.Entries.generation.Goals as goal
 
 pub returns : goal.returns

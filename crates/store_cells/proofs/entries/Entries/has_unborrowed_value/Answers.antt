@@ -1,6 +1,5 @@
 -- Whether the value of a name is its own and has no borrow.
-use Rattle.store_cells.proofs.{arith, refl}
-use Rattle.store_cells.proofs.{found_in, kept, past, unborrowed_seen}
+use Rattle.store_cells.proofs.{arith, found_in, kept, past, refl, unborrowed_seen}
 use Rattle.store_cells.proofs.entries.Entries.has_unborrowed_value.Goals as goal
 
 pub returns-then-not-has_unborrowed_value : goal.returns-then-not-has_unborrowed_value

@@ -1,6 +1,5 @@
 -- Whether a name is a value's.
-use Rattle.store_cells.proofs.{sym, ◌∙◌}
-use Rattle.store_cells.proofs.{found_noted, kept, noted_seen}
+use Rattle.store_cells.proofs.{found_noted, kept, noted_seen, sym, ◌∙◌}
 use Rattle.store_cells.proofs.entries.Entries.holds.Goals as goal
 
 pub returns-then-self-name : goal.returns-then-self-name

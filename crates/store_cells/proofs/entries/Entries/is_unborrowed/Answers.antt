@@ -1,7 +1,5 @@
 -- Whether no borrow stands at a cell.
-use Rattle.store_cells.proofs.{refl, sym, ◌∙◌}
-use Rattle.store_cells.proofs.{found, found_noted, kept, noted_busy, seen, write_seen}
-use Rattle.store_cells.proofs.{no_borrow}
+use Rattle.store_cells.proofs.{found, found_noted, kept, no_borrow, noted_busy, refl, seen, sym, write_seen, ◌∙◌}
 use Rattle.store_cells.proofs.entries.Entries.is_unborrowed.Goals as goal
 
 pub returns-then-is_at : goal.returns-then-is_at

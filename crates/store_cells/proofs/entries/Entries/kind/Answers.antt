@@ -1,6 +1,5 @@
 -- Whose the value of a name is.
-use Rattle.store_cells.proofs.{arith, refl, ◌∙◌}
-use Rattle.store_cells.proofs.{found_in, kept, kind_seen, past}
+use Rattle.store_cells.proofs.{arith, found_in, kept, kind_seen, past, refl, ◌∙◌}
 use Rattle.store_cells.proofs.entries.Entries.kind.Goals as goal
 
 pub returns-in-Some : goal.returns-in-Some

@@ -1,6 +1,5 @@
 -- A store's first slots: there are none.
-use Rattle.store_cells.proofs.{ap, arith, entries_from, length, refl}
-use Rattle.store_cells.proofs.{indexed_none, noted_none}
+use Rattle.store_cells.proofs.{ap, arith, entries_from, indexed_none, length, noted_none, refl}
 use Rattle.store_cells.proofs.entries.Entries.new.Goals as goal
 
 pub invariant_of-result : goal.invariant_of-result

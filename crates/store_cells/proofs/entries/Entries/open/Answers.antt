@@ -1,7 +1,6 @@
 -- The value, where the reader stands.
-use Rattle.store_cells.proofs.{eq-eqb, refl, sym, ◌∙◌}
-use Rattle.store_cells.proofs.{found, kept, noted_else, noted_opens, read_borrows, reads_at, seen, used_at}
-use Rattle.store_cells.proofs.{data_form, no_read, read_form}
+use Rattle.store_cells.proofs.{data_form, eq-eqb, found, kept, no_read, noted_else, noted_opens, read_borrows}
+use Rattle.store_cells.proofs.{read_form, reads_at, refl, seen, sym, used_at, ◌∙◌}
 use Rattle.store_cells.proofs.entries.Entries.open.Goals as goal
 
 pub returns-in-Data : goal.returns-in-Data

@@ -1,7 +1,5 @@
 -- The slot's value, unless a writer has it.
-use Rattle.store_cells.proofs.{refl}
-use Rattle.store_cells.proofs.{found, kept, says, seen}
-use Rattle.store_cells.proofs.{data_form, no_value}
+use Rattle.store_cells.proofs.{data_form, found, kept, no_value, refl, says, seen}
 use Rattle.store_cells.proofs.entries.Entries.peek.Goals as goal
 
 pub returns-in-Data : goal.returns-in-Data

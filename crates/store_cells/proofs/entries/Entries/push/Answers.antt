@@ -1,7 +1,5 @@
 -- A slot more, with a cell without borrows.
-use Rattle.store_cells.proofs.{arith}
-use Rattle.store_cells.proofs.{kept}
-use Rattle.store_cells.proofs.{pushed}
+use Rattle.store_cells.proofs.{arith, kept, pushed}
 use Rattle.store_cells.proofs.entries.Entries.push.Goals as goal
 
 pub invariant_of-self : goal.invariant_of-self

@@ -1,7 +1,6 @@
 -- The rows of a value's borrows.
-use Rattle.store_cells.proofs.{ap, append-nil, data_in, sym, ◌∙◌}
-use Rattle.store_cells.proofs.{found, kept, lent_seen, lent_used, noted_data, read_borrows, rowless, seen, used_at}
-use Rattle.store_cells.proofs.{index_form, no_borrow}
+use Rattle.store_cells.proofs.{ap, append-nil, data_in, found, index_form, kept, lent_seen, lent_used, no_borrow}
+use Rattle.store_cells.proofs.{noted_data, read_borrows, rowless, seen, sym, used_at, ◌∙◌}
 use Rattle.store_cells.proofs.entries.Entries.push_borrows.Goals as goal
 
 pub writer_at-requires : goal.writer_at-requires

@@ -1,6 +1,5 @@
 -- What a box of a name reaches.
-use Rattle.store_cells.proofs.{arith, name_of_cell, refl, ◌∙◌}
-use Rattle.store_cells.proofs.{found_in, kept, lead_seen, past}
+use Rattle.store_cells.proofs.{arith, found_in, kept, lead_seen, name_of_cell, past, refl, ◌∙◌}
 use Rattle.store_cells.proofs.entries.Entries.reach.Goals as goal
 
 pub returns-in-Some : goal.returns-in-Some

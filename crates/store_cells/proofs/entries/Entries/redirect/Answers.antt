@@ -1,6 +1,5 @@
 -- A reference that names another cell.
-use Rattle.store_cells.proofs.{found, kept, seen}
-use Rattle.store_cells.proofs.{redirected}
+use Rattle.store_cells.proofs.{found, kept, redirected, seen}
 use Rattle.store_cells.proofs.entries.Entries.redirect.Goals as goal
 
 pub invariant_of-self : goal.invariant_of-self

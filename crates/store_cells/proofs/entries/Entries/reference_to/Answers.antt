@@ -1,6 +1,5 @@
 -- A reference to a slot's cell.
-use Rattle.store_cells.proofs.{refl}
-use Rattle.store_cells.proofs.{found, kept, seen}
+use Rattle.store_cells.proofs.{found, kept, refl, seen}
 use Rattle.store_cells.proofs.entries.Entries.reference_to.Goals as goal
 
 pub returns : goal.returns

@@ -1,6 +1,5 @@
 -- A cell without borrows in a slot that has none, under the next generation.
-use Rattle.store_cells.proofs.{found, kept, seen}
-use Rattle.store_cells.proofs.{refilled}
+use Rattle.store_cells.proofs.{found, kept, refilled, seen}
 use Rattle.store_cells.proofs.entries.Entries.refill.Goals as goal
 
 pub refill-generation-requires : goal.refill-generation-requires

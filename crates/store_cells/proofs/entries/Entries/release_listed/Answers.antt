@@ -1,8 +1,6 @@
 -- A listed reader ends.
-use Rattle.store_cells.proofs.{EntryList, ap, data_in, set-own}
-use Rattle.store_cells.proofs.{base, found, kept, listed, read_borrows, seen, used_at}
-use Rattle.store_cells.proofs.{released, unread}
-use Rattle.store_cells.proofs.{no_read, still_read}
+use Rattle.store_cells.proofs.{ap, base, data_in, EntryList, found, kept, listed, no_read, read_borrows, released}
+use Rattle.store_cells.proofs.{seen, set-own, still_read, unread, used_at}
 use Rattle.store_cells.specs.declared.entry.Kind.TheVariants as kind
 use Rattle.store_cells.proofs.entries.Entries.release_listed.Goals as goal
 
@@ -65,7 +63,8 @@ pub invariant_of-self-in-SharedRead : goal.invariant_of-self-in-SharedRead
 invariant_of-self-in-SharedRead g c =
     let l = c.list_noted.ensures in let s = listed (kept c.self.view_is c.self.invariant) l.listed l.capacity in
     let a = (found s c.requires c.index_mut.ensures.value).1 in
-    (released a l.nobody (ap data_in c.in-SharedRead.is) _ _ _ c.release-known-in-SharedRead.ensures.after c.unlist-in-SharedRead.ensures).holds
+    (released a l.nobody (ap data_in c.in-SharedRead.is) _ _ _ c.release-known-in-SharedRead.ensures.after
+    c.unlist-in-SharedRead.ensures).holds
 
 pub returns-then-shared_index : goal.returns-then-shared_index
 returns-then-shared_index g c =

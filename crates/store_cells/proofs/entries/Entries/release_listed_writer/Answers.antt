@@ -1,8 +1,6 @@
 -- A listed writer ends.
-use Rattle.store_cells.proofs.{EntryList, ap, data_in, eq-eqb, eqb-true, refl, set-own}
-use Rattle.store_cells.proofs.{base, found, kept, lent_listed, lent_seen, lent_used, listed, seen}
-use Rattle.store_cells.proofs.{written_back}
-use Rattle.store_cells.proofs.{no_writer}
+use Rattle.store_cells.proofs.{ap, base, data_in, EntryList, eq-eqb, eqb-true, found, kept, lent_listed, lent_seen}
+use Rattle.store_cells.proofs.{lent_used, listed, no_writer, refl, seen, set-own, written_back}
 use Rattle.store_cells.proofs.entries.Entries.release_listed_writer.Goals as goal
 
 pub list_noted-requires : goal.list_noted-requires

@@ -1,7 +1,5 @@
 -- A reader that is noted ends, and one that is listed.
-use Rattle.store_cells.proofs.{EntryList, ap, sym, ◌∙◌}
-use Rattle.store_cells.proofs.{found, kept}
-use Rattle.store_cells.proofs.{read_ended}
+use Rattle.store_cells.proofs.{ap, EntryList, found, kept, read_ended, sym, ◌∙◌}
 use Rattle.store_cells.proofs.entries.Entries.release_read.Goals as goal
 
 pub invariant_of-self : goal.invariant_of-self

@@ -1,7 +1,5 @@
 -- A writer that is noted ends, and one that is listed.
-use Rattle.store_cells.proofs.{eq-eqb, refl, sym, ◌∙◌}
-use Rattle.store_cells.proofs.{found, kept, noted_lent, seen, writes_at}
-use Rattle.store_cells.proofs.{write_ended}
+use Rattle.store_cells.proofs.{eq-eqb, found, kept, noted_lent, refl, seen, sym, write_ended, writes_at, ◌∙◌}
 use Rattle.store_cells.proofs.entries.Entries.release_write.Goals as goal
 
 pub put_back-requires : goal.put_back-requires

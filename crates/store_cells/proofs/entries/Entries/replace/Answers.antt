@@ -1,8 +1,5 @@
 -- Another value in the place of one without borrows: its index and the table stay.
-use Rattle.store_cells.proofs.{refl}
-use Rattle.store_cells.proofs.{alone, found, kept, says, seen}
-use Rattle.store_cells.proofs.{free_holds, free_view}
-use Rattle.store_cells.proofs.{no_data}
+use Rattle.store_cells.proofs.{alone, found, free_holds, free_view, kept, no_data, refl, says, seen}
 use Rattle.store_cells.proofs.entries.Entries.replace.Goals as goal
 use goal.{in-Data, in-Shared}
 

@@ -1,6 +1,5 @@
 -- What the reference of a name names.
-use Rattle.store_cells.proofs.{arith, refl, ◌∙◌}
-use Rattle.store_cells.proofs.{found_in, kept, past, target_seen}
+use Rattle.store_cells.proofs.{arith, found_in, kept, past, refl, target_seen, ◌∙◌}
 use Rattle.store_cells.proofs.entries.Entries.target.Goals as goal
 
 pub returns-in-Some : goal.returns-in-Some
