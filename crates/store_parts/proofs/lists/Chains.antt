@@ -59,25 +59,21 @@ pub last_pushed : (x : ℕ) (xs : List ℕ) (y : ℕ) → last_of x (xs ++ y ∷
 last_pushed x [] y = refl
 last_pushed x (z ∷ zs) y = last_pushed z zs y
 
--- the last slot's link leads to one more
-pub chain_extended : (links : List ℕ) (first n last slot : ℕ)
-    → IsPool (chain links first (suc n)) (length links)
-    → last_of last (chain links first (suc n)) ≡ last
-    → chain (slice_set links last slot) first (suc (suc n))
-    ≡ chain links first (suc n) ++ slot ∷ []
-chain_extended links first zero last slot p ends =
-    let within = first_within links first 1 (omega arith) p in
-    rw (sym ends) (ap (λ x. first ∷ x ∷ []) (get_or-set_same links first slot 0 within))
-chain_extended links first (suc n) last slot p ends =
+-- a slot behind the last one, whose link leads to it
+pub chain_put_last : (links : List ℕ) (first n last slot : ℕ) → 0 < n
+    → IsPool (chain links first n) (length links) → last_of last (chain links first n) ≡ last
+    → chain (slice_set links last slot) first (n + 1) ≡ chain links first n ++ slot ∷ []
+chain_put_last links first zero last slot some p ends = absurd (omega arith)
+chain_put_last links first (suc zero) last slot some p ends =
+    rw (sym ends) (ap (λ x. first ∷ x ∷ []) (get_or-set_same links first slot 0 (first_within links first 1 some p)))
+chain_put_last links first (suc (suc n)) last slot some p ends =
     let next = get_or links first 0 in
-    rw (
-      get_or-set_other links last first slot 0 (λ e. cc (
-        last_there next (chain links (get_or links next 0) n),
-        members-holds (chain links next (suc n)) first,
-        head_absent p,
-      )),
-      chain_extended links next n last slot (pool_take p) ends,
-    )
+    let other = get_or-set_other links last first slot 0 (λ e. cc (
+      last_there next (chain links (get_or links next 0) n),
+      members-holds (chain links next (suc n)) first,
+      head_absent p,
+    )) in
+    let rest = chain_put_last links next (suc n) last slot (omega arith) (pool_take p) ends in grind (arith, other, rest)
 
 -- a slot before the first one, to which its link leads, unless there was none
 pub chain_put : (links after : List ℕ) (first n slot : ℕ) → slot < length links
@@ -105,15 +101,6 @@ pub chain_room : (links : List ℕ) (first n slot : ℕ) → IsPool (chain links
     → n < length links
 chain_room links first n slot p within absent =
     omega (arith, pool_length (pool_put p within absent), chain_length links first n)
-
--- a slot behind the last one, whose link leads to it
-pub chain_put_last : (links : List ℕ) (first n last slot : ℕ) → 0 < n
-    → IsPool (chain links first n) (length links) → last_of last (chain links first n) ≡ last
-    → chain (slice_set links last slot) first (n + 1) ≡ chain links first n ++ slot ∷ []
-chain_put_last links first zero last slot some p ends = absurd (omega arith)
-chain_put_last links first (suc n) last slot some p ends =
-    let e : suc n + 1 ≡ suc (suc n) = omega arith in
-    rw e (chain_extended links first n last slot p ends)
 
 -- the last of them has a link
 pub last_within : (links : List ℕ) (first n last : ℕ) → 0 < n

@@ -14,8 +14,7 @@ pub number_test : (a b : ℕ) → eq_by_cmp nat_cmp a b ≡ nat_eq a b
 number_test a b = grind (arith, nat_tests)
 
 pub cond_same : {A : Type 0} (b : Bool) (x : A) → cond b x x ≡ x
-cond_same true x = refl
-cond_same false x = refl
+cond_same b x = grind arith
 
 -- one where a test is passed
 abbrev pub bit : Bool → ℕ

@@ -279,22 +279,22 @@ popped before after end p items some off up first =
     )
 
 -- what is left of a queue when a borrow ends
-module _ (ps qs : List Place) (n i t : ℕ) (b : Borrow) (q : IsQueue ps n) (own : IsOwnPlace t ps i)
-    (same : standing_at qs ≡ standing_at (slice_set ps i (dead b))) where
-  pub left_standing : standing_at qs ≡ without t (standing_at ps)
-  left_standing = same ∙ (dies t b ps i q.ascend own).0
+pub record Left (ps qs : List Place) (n t : ℕ) : Type 0 where
+  pub standing : standing_at qs ≡ without t (standing_at ps)
+  pub count : n - 1 ≡ length (standing_at qs)
+  pub others : length (standing_at ps) ≤ length (standing_at qs) + 1
+  pub within : n - 1 ≤ length qs
 
-  one_fewer : length (standing_at qs) + 1 ≡ length (standing_at ps)
-  one_fewer = ap (λ bs. length bs + 1) same ∙ (dies t b ps i q.ascend own).1
-
-  pub left_count : n - 1 ≡ length (standing_at qs)
-  left_count = omega (arith, q.count, one_fewer)
-
-  pub left_others : length (standing_at ps) ≤ length (standing_at qs) + 1
-  left_others = omega (arith, one_fewer)
-
-  pub left_within : n - 1 ≤ length qs
-  left_within = omega (arith, left_count, standing_within qs)
+pub left : (ps qs : List Place) (n i t : ℕ) (b : Borrow) → IsQueue ps n → IsOwnPlace t ps i
+    → standing_at qs ≡ standing_at (slice_set ps i (dead b)) → Left ps qs n t
+left ps qs n i t b q own same =
+    let dead = dies t b ps i q.ascend own in
+    let fewer = ap (λ bs. length bs + 1) same ∙ dead.1 in record {
+      standing = same ∙ dead.0;
+      count = omega (arith, q.count, fewer);
+      others = omega (arith, fewer);
+      within = omega (arith, q.count, fewer, standing_within qs);
+    }
 
 -- one borrow is the first
 pub only_first : (bs : List Borrow) (b : Borrow) → length bs ≡ 1 → slice_get bs 0 ≡ Some b

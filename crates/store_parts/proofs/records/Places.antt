@@ -119,74 +119,65 @@ pooled_written : {xs ys : List Place} {i : ℕ} {x : Place} (v w : set.FinSet na
     → (k : ℕ) → set.contains w k ≡ is_vacant (slice_get ys k)
 pooled_written v w wr pooled new k = rw (new k, wr.at k) (grind (arith, pooled k))
 
--- a record is written where no other of its key stands
-module _ {xs ys : List Place} {i : ℕ} (r : KeyedOwnership) (w : IsWritten xs ys i (Some r))
-    (apart : HasDistinctKeys xs) (alone : (j : ℕ) → HasRecord r.key (slice_get xs j) → j ≡ i)
-    (others : (q : ℕ) → q ≢ r.key → find_in q ys ≡ find_in q xs) where
-  record_apart : HasDistinctKeys ys
-  record_apart = apart_written w apart
-      (λ q j hq hj. alone j (rw (key_is q r hq) at hj))
-
-  record_written : owners_of ys ≡ map.insert (owners_of xs) r.key r.ownership
-  record_written =
-      map.same_map nat_cmp_total map.nat_cmp-IsAntisymmetric _ _ (λ q.
-      updated xs ys r.key (Some r.ownership) (find_one ys record_apart r.key i r.ownership
-      (rw (w.at i, eq-eqb i i refl) (own_key r))) others q
-      ∙ sym (map.get-insert nat_cmp_total (owners_of xs) r.key r.ownership q))
+-- what a record that is written leaves
+record Puts (vacant : set.FinSet nat_cmp) (rooms : ℕ) (xs ys : List Place) (r : KeyedOwnership) : Type 0 where
+  owners : owners_of ys ≡ map.insert (owners_of xs) r.key r.ownership
+  placed : ArePlaced vacant rooms ys
 
 module _ {vacant : set.FinSet nat_cmp} {rooms : ℕ} {xs : List Place}
     (placed : ArePlaced vacant rooms xs) where
+  -- where no other of its key stands
+  puts : (r : KeyedOwnership) {ys : List Place} {i : ℕ} → IsWritten xs ys i (Some r)
+      → ((j : ℕ) → HasRecord r.key (slice_get xs j) → j ≡ i)
+      → ((q : ℕ) → q ≢ r.key → find_in q ys ≡ find_in q xs) → (left : set.FinSet nat_cmp) (more : ℕ)
+      → ((k : ℕ) → set.contains left k ≡ cond (nat_eq k i) false (set.contains vacant k)) → length ys ≤ more
+      → Puts left more xs ys r
+  puts r {ys} {i} w alone others left more pooled roomy =
+      let apart = apart_written w placed.apart (λ q j hq hj. alone j (rw (key_is q r hq) at hj)) in record {
+        owners = map.same_map nat_cmp_total map.nat_cmp-IsAntisymmetric _ _ (λ q.
+            updated xs ys r.key (Some r.ownership)
+            (find_one ys apart r.key i r.ownership (rw (w.at i, eq-eqb i i refl) (own_key r))) others q
+            ∙ sym (map.get-insert nat_cmp_total (owners_of xs) r.key r.ownership q));
+        placed = record {
+          pooled = pooled_written vacant left w placed.pooled pooled;
+          roomy = roomy;
+          apart = apart;
+        };
+      }
+
   pub none_apart : (q i : ℕ) → map.get (owners_of xs) q ≡ None → HasRecord q (slice_get xs i) → ⊥
   none_apart q i absent has = let one = get_one placed.apart q i in grind arith
 
   -- a record under a key that has none, at a vacant place
   module _ (i : ℕ) (member : set.contains vacant i ≡ true) (r : KeyedOwnership)
       (absent : map.get (owners_of xs) r.key ≡ None) where
-    was : slice_get xs i ≡ Some None
-    was = vacant_is (slice_get xs i) (sym (placed.pooled i) ∙ member)
+    filled : Puts (set.remove vacant i) rooms xs (slice_set xs i (Some r)) r
+    filled =
+        let was = vacant_is (slice_get xs i) (sym (placed.pooled i) ∙ member) in
+        puts r (set_written xs i (Some r) None was) (λ j has. absurd (none_apart r.key j absent has))
+        (λ q ne. find_set xs i q (Some r) (rw was) (other_key q r ne)) _ rooms (contains-remove_at vacant i)
+        (rw (length-set xs i (Some r)) placed.roomy)
 
-    w : IsWritten xs (slice_set xs i (Some r)) i (Some r)
-    w = set_written xs i (Some r) None was
-
-    alone : (j : ℕ) → HasRecord r.key (slice_get xs j) → j ≡ i
-    alone j has = absurd (none_apart r.key j absent has)
-
-    others : (q : ℕ) → q ≢ r.key → find_in q (slice_set xs i (Some r)) ≡ find_in q xs
-    others q ne = find_set xs i q (Some r) (rw was) (other_key q r ne)
-
-    pub filled_owners : owners_of (slice_set xs i (Some r))
-        ≡ map.insert (owners_of xs) r.key r.ownership
-    filled_owners = record_written r w placed.apart alone others
+    pub filled_owners : owners_of (slice_set xs i (Some r)) ≡ map.insert (owners_of xs) r.key r.ownership
+    filled_owners = filled.owners
 
     pub filled_placed : ArePlaced (set.remove vacant i) rooms (slice_set xs i (Some r))
-    filled_placed = record {
-      pooled = pooled_written vacant (set.remove vacant i) w placed.pooled
-          (contains-remove_at vacant i);
-      roomy = rw (length-set xs i (Some r)) placed.roomy;
-      apart = record_apart r w placed.apart alone others;
-    }
+    filled_placed = filled.placed
 
   -- the same at a new place
   module _ (r : KeyedOwnership) (absent : map.get (owners_of xs) r.key ≡ None) where
-    new_others : (q : ℕ) → q ≢ r.key → find_in q (xs ++ Some r ∷ []) ≡ find_in q xs
-    new_others q ne = find_push xs q (Some r) (other_key q r ne)
+    added : (more : ℕ) → length xs < more → Puts vacant more xs (xs ++ Some r ∷ []) r
+    added more room = puts r (push_written xs (Some r)) (λ j has. absurd (none_apart r.key j absent has))
+        (λ q ne. find_push xs q (Some r) (other_key q r ne)) vacant more
+        (contains_own vacant (length xs)
+        (placed.pooled (length xs) ∙ ap is_vacant (slice_get_past xs (length xs) (omega arith))))
+        (let long = length-append xs (Some r ∷ []) in omega arith)
 
-    new_alone : (j : ℕ) → HasRecord r.key (slice_get xs j) → j ≡ length xs
-    new_alone j has = absurd (none_apart r.key j absent has)
+    pub pushed_owners : owners_of (xs ++ Some r ∷ []) ≡ map.insert (owners_of xs) r.key r.ownership
+    pushed_owners = (added (length xs + 1) (omega arith)).owners
 
-    pub pushed_owners : owners_of (xs ++ Some r ∷ [])
-        ≡ map.insert (owners_of xs) r.key r.ownership
-    pushed_owners = record_written r (push_written xs (Some r)) placed.apart new_alone new_others
-
-    pub pushed_placed : (more : ℕ) → length xs < more
-        → ArePlaced vacant more (xs ++ Some r ∷ [])
-    pushed_placed more room = record {
-      pooled = pooled_written vacant vacant (push_written xs (Some r)) placed.pooled
-          (contains_own vacant (length xs)
-          (placed.pooled (length xs) ∙ ap is_vacant (slice_get_past xs (length xs) (omega arith))));
-      roomy = let long = length-append xs (Some r ∷ []) in omega arith;
-      apart = record_apart r (push_written xs (Some r)) placed.apart new_alone new_others;
-    }
+    pub pushed_placed : (more : ℕ) → length xs < more → ArePlaced vacant more (xs ++ Some r ∷ [])
+    pushed_placed more room = (added more room).placed
 
   -- the place of the record under a key
   module _ (k i : ℕ) (has : HasRecord k (slice_get xs i)) where
@@ -207,65 +198,45 @@ module _ {vacant : set.FinSet nat_cmp} {rooms : ℕ} {xs : List Place}
         → IfSome (slice_get xs i) (λ place. IfSome place (λ r. P r.ownership))
     holds_there P holds = rw there.1 (rw get_there at holds)
 
-    module _ (g : KeyedOwnership → KeyedOwnership) (same : (g there.0).key ≡ there.0.key) where
-      abbrev r : KeyedOwnership
-      r = g there.0
-
-      key_kept : k ≡ r.key
-      key_kept = there.2 ∙ sym same
-
-      changed_is : change_record xs i g ≡ slice_set xs i (Some r)
-      changed_is = ap (change_record_if xs i g) there.1
-
-      changed_written : IsWritten xs (slice_set xs i (Some r)) i (Some r)
-      changed_written = set_written xs i (Some r) (Some there.0) there.1
-
-      changed_alone : (j : ℕ) → HasRecord r.key (slice_get xs j) → j ≡ i
-      changed_alone j hj =
-          placed.apart.one r.key j i hj (rw key_kept at has)
-
-      changed_others : (q : ℕ) → q ≢ r.key → find_in q (slice_set xs i (Some r)) ≡ find_in q xs
-      changed_others q ne =
-          find_set xs i q (Some r) (at_key (λ e. ne (e ∙ key_kept))) (other_key q r ne)
-
-      written_owners : owners_of (change_record xs i g) ≡ map.insert (owners_of xs) k r.ownership
-      written_owners = rw changed_is
-          (record_written r changed_written placed.apart changed_alone changed_others
-          ∙ ap (λ q. map.insert (owners_of xs) q r.ownership) (sym key_kept))
-
-      written_placed : ArePlaced vacant rooms (change_record xs i g)
-      written_placed = rw changed_is (record {
-        pooled = pooled_written vacant vacant changed_written placed.pooled
-            (contains_own vacant i (placed.pooled i ∙ ap is_vacant there.1));
-        roomy = rw (length-set xs i (Some r)) placed.roomy;
-        apart = record_apart r changed_written placed.apart changed_alone changed_others;
-      })
+    module _ (g : KeyedOwnership → KeyedOwnership) (same : (g there.0).key ≡ k) where
+      written : Puts vacant rooms xs (change_record xs i g) (g there.0)
+      written = rw (ap (change_record_if xs i g) there.1) (puts (g there.0)
+          (set_written xs i (Some (g there.0)) (Some there.0) there.1) (λ j hj. placed.apart.one k j i (rw same at hj) has)
+          (λ q ne. find_set xs i q (Some (g there.0)) (at_key (λ e. ne (e ∙ sym same))) (other_key q (g there.0) ne))
+          vacant rooms (contains_own vacant i (placed.pooled i ∙ ap is_vacant there.1))
+          (rw (length-set xs i (Some (g there.0))) placed.roomy))
 
       written_there : HasRecord k (slice_get (change_record xs i g) i)
-      written_there =
-          rw (changed_is, changed_written.at i, eq-eqb i i refl, eq-eqb k r.key key_kept)
+      written_there = rw (
+        ap (change_record_if xs i g) there.1,
+        (set_written xs i (Some (g there.0)) (Some there.0) there.1).at i,
+        eq-eqb i i refl,
+        eq-eqb k (g there.0).key (sym same),
+      )
 
     module _ (f : Ownership → Ownership) where
       pub changed_owners : owners_of (change_place xs i f) ≡ change (owners_of xs) k f
       changed_owners =
-          written_owners (with_ownership f) refl
+          (written (with_ownership f) (sym there.2)).owners
+          ∙ (λ j. map.insert (owners_of xs) (sym there.2 j) (f there.0.ownership))
           ∙ sym (changed_there by_number (owners_of xs) k f there.0.ownership get_there)
 
       pub changed_placed : ArePlaced vacant rooms (change_place xs i f)
-      changed_placed = written_placed (with_ownership f) refl
+      changed_placed = (written (with_ownership f) (sym there.2)).placed
 
     -- room for more names changes no record
     module _ (more : ℕ) where
       pub roomed_owners : owners_of (change_record xs i (with_rooms more)) ≡ owners_of xs
       roomed_owners =
-          written_owners (with_rooms more) refl
+          (written (with_rooms more) (sym there.2)).owners
+          ∙ (λ j. map.insert (owners_of xs) (sym there.2 j) there.0.ownership)
           ∙ insert_there by_number (owners_of xs) k there.0.ownership get_there
 
       pub roomed_placed : ArePlaced vacant rooms (change_record xs i (with_rooms more))
-      roomed_placed = written_placed (with_rooms more) refl
+      roomed_placed = (written (with_rooms more) (sym there.2)).placed
 
       pub roomed_there : HasRecord k (slice_get (change_record xs i (with_rooms more)) i)
-      roomed_there = written_there (with_rooms more) refl
+      roomed_there = written_there (with_rooms more) (sym there.2)
 
     w_taken : IsWritten xs (slice_set xs i None) i None
     w_taken = set_written xs i None (Some there.0) there.1
