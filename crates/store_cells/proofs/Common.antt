@@ -38,7 +38,7 @@ pub use specs.Entries.{index_in, index_of, is_unborrowed_data, IsUnborrowed}
 pub use specs.Entries.{kept_data, kind_of, lead_of, lent_kept, named_by, unread_data, unread_in}
 pub use specs.Entry.{cell_in, cell_of, change_entry, content_in, Entry}
 pub use specs.Entry.{FoundBorrowed, FoundReaders, has_no_borrow, is_unborrowed_value}
-pub use specs.Entry.{IsAlone, IsReadable, kind_in, lend_to, readers_of, referring, target_in}
+pub use specs.Entry.{IsAlone, IsReadable, Kept, kind_in, lend_to, readers_of, referring, target_in}
 pub use specs.Entry.{value_for}
 pub use specs.Entry.Kept.{Empty, Live}
 pub use specs.Latest.{AreNoted, borrows_of, cleared, HasWriter, HasWriterAt, is_noted, is_noted_at}

@@ -6,12 +6,12 @@ use Common.{entries_of, Entry, entry_of, EntryDetails, EntryList, eq-eqb, Err, f
 use Common.{FoundBorrowed, FoundReaders, GenerationalBoxId, get_or, has_no_borrow, HasListIndex, HasWriter}
 use Common.{HasWriterAt, IfSome, index_in, index_of, inl, inr, is_lent_data, is_none, is_noted, is_noted_at}
 use Common.{is_reader, is_some, is_unborrowed_data, is_unborrowed_value, is_writer, IsAlone, IsListable, IsListed}
-use Common.{IsNoted, IsReadable, IsUnborrowed, IsUsed, IsWritten, kept_data, Kind, kind_in, kind_of, LastBorrow}
+use Common.{IsNoted, IsReadable, IsUnborrowed, IsUsed, IsWritten, Kept, kept_data, Kind, kind_in, kind_of, LastBorrow}
 use Common.{lead_of, leads_to, length, length-set, Lent, lent_kept, List, list_at, Live, Location, location_of}
 use Common.{may_note, Name, named_by, nat_eq, nat_tests, ne_eqb, no_index, None, not, noted_at, Option, refl, Refused}
 use Common.{set-own, set_written, slice_get, slice_get_cases, slice_get_past, slice_get_read, slice_get_within}
-use Common.{slice_set, SlotData, Some, StorageEntry, suc, sym, Table, target_in, true, value_for, value_of}
-use Common.{write_refusal, zero, [], ℕ, ⊎_elim, ◌&&◌, ◌+◌, ◌<◌, ◌∙◌, ◌∷◌, ◌≡◌, ◌≢◌, ◌≤◌}
+use Common.{slice_set, SlotData, Some, StorageEntry, StorageEntryData, suc, sym, Table, target_in, true, value_for}
+use Common.{value_of, write_refusal, zero, [], ℕ, ⊎_elim, ◌&&◌, ◌+◌, ◌<◌, ◌∙◌, ◌∷◌, ◌≡◌, ◌≢◌, ◌≤◌}
 use Rattle.store_cells.proofs.lists.TableChanges.{none_some}
 use Rattle.store_cells.specs.Data.{SlotData as slot}
 
@@ -59,12 +59,14 @@ module _ {T : Type 0} where
   SameBorrows r r' before after es i = (k : ℕ) → k ≢ i
       → borrows_of r' after k (index_in (slice_get es k)) ≡ borrows_of r before k (index_in (slice_get es k))
 
-  both_same : (r r' : LastBorrow) (before after : List (List Borrow)) (k : ℕ) (o : Option (StorageEntry T)) (p : Option EntryDetails)
+  both_same : (r r' : LastBorrow) (before after : List (List Borrow)) (k : ℕ)
+      (o : Option (StorageEntry T)) (p : Option EntryDetails)
       → borrows_of r' after k (index_in o) ≡ borrows_of r before k (index_in o) → both r' after k o p ≡ both r before k o p
   both_same r r' before after k o p same = grind arith
 
   -- a slot that is written with its details, or a slot more
-  module _ (r r' : LastBorrow) (before after : List (List Borrow)) {es es' : List (StorageEntry T)} {ds ds' : List EntryDetails} {i : ℕ} {e : StorageEntry T} {d : EntryDetails} {seen : List (Entry T)}
+  module _ (r r' : LastBorrow) (before after : List (List Borrow)) {es es' : List (StorageEntry T)}
+      {ds ds' : List EntryDetails} {i : ℕ} {e : StorageEntry T} {d : EntryDetails} {seen : List (Entry T)}
       (w : IsWritten es es' i e) (v : IsWritten ds ds' i d)
       (s : IsWritten (entries_of r before es ds) seen i (entry_of r' after i e d))
       (same : SameBorrows r r' before after es i) where
@@ -409,6 +411,14 @@ module _ {T : Type 0} {r : LastBorrow} {t : Table} {es : List (StorageEntry T)} 
 
   pub seen : slice_get now.slots i ≡ Some (entry_of r t.lists i e d)
   seen = rw (← a.view) seen_own
+
+  -- another content stands in its cell, or other borrows, and what it keeps changes so
+  abbrev pub Rewrites : LastBorrow → Table → StorageEntryData T → (Kept T → Kept T) → Type 0
+  Rewrites r' t' k f = Writes r' t' (slice_set es i (record e { content = k })) ds room x y
+      (change_entry now.slots i (λ e. record e { kept = f e.kept }))
+
+  abbrev pub Reborrows : LastBorrow → Table → (Kept T → Kept T) → Type 0
+  Reborrows r' t' f = Writes r' t' es ds room x y (change_entry now.slots i (λ e. record e { kept = f e.kept }))
 
   -- the slot is written, with its details
   pub wrote : {r' : LastBorrow} {t' : Table} {e' : StorageEntry T} (d' : EntryDetails) → Steps t t' es i e'

@@ -18,9 +18,9 @@ use Rattle.store_cells.proofs.states.Indexes.{has_listed, indexed, indexed_free}
 use Rattle.store_cells.proofs.states.Entries.{alone, base, begins, borrowed, ends, entries_len, entries_written}
 use Rattle.store_cells.proofs.states.Entries.{free_listed, free_none, free_written, has_place, here, Holds, is_free}
 use Rattle.store_cells.proofs.states.Entries.{IsAt, IsKept, IsSlot, lent_seen, many, noted_after, noted_lent}
-use Rattle.store_cells.proofs.states.Entries.{noted_slot, noted_there, Notes, NotRead, quiet, reads_at, same_slots}
-use Rattle.store_cells.proofs.states.Entries.{seen, stays, Steps, there_is, unborrowed_free, used_at, used_here}
-use Rattle.store_cells.proofs.states.Entries.{Writes, writes_at, wrote, wrote_cell}
+use Rattle.store_cells.proofs.states.Entries.{noted_slot, noted_there, Notes, NotRead, quiet, reads_at, Reborrows}
+use Rattle.store_cells.proofs.states.Entries.{Rewrites, same_slots, seen, stays, Steps, there_is, unborrowed_free}
+use Rattle.store_cells.proofs.states.Entries.{used_at, used_here, Writes, writes_at, wrote, wrote_cell}
 use Rattle.store_cells.proofs.states.Entries.Notes.{begins, ends, stays}
 use Rattle.std.specs.FinSet as set
 use Rattle.store_cells.specs.declared.latest.Noted.TheVariants as noted
@@ -239,9 +239,9 @@ module _ {T : Type 0} {r : LastBorrow} {t : Table} {es : List (StorageEntry T)} 
     free_view f becomes = (wrote_free f (becomes d)).view
 
   -- a reference is changed
-  pub redirected : {k : StorageEntryData T} {q g : ℕ} → IfSome (slice_get now.slots i) (λ e. is_some (target_in (cell_of e.kept)) ≡ true)
-      → k ≡ content.Reference q g → Writes r t (slice_set es i (record e { content = k })) ds room x y
-      (change_entry now.slots i (λ e. record e { kept = referring (record { slot = q; generation = g }) e.kept }))
+  pub redirected : {k : StorageEntryData T} {q g : ℕ}
+      → IfSome (slice_get now.slots i) (λ e. is_some (target_in (cell_of e.kept)) ≡ true)
+      → k ≡ content.Reference q g → Rewrites a r t k (referring (record { slot = q; generation = g }))
   redirected refers is =
       let own = refers_is (data_in e.content) _ d.created_at (rw (seen a) at refers) in
       wrote_free (quiet a (rw own.2 refl)) _ (rw is refl) _ (rw (is, own.2) refl)
@@ -266,8 +266,7 @@ module _ {T : Type 0} {r : LastBorrow} {t : Table} {es : List (StorageEntry T)} 
   -- a cell ends with its borrows
   pub ended : {r' : LastBorrow} {t' : Table} {q : ℕ} → r' ≡ cond (is_noted_at r i) (cleared r) r
       → index_of (data_in e.content) ≡ q → (q ≡ no_index → t' ≡ t) → (q ≢ no_index → IsClosed t t' q)
-      → Writes r' t' (slice_set es i (record e { content = content.Empty })) ds room x y
-      (change_entry now.slots i (λ e. record e { kept = Empty }))
+      → Rewrites a r' t' content.Empty (λ k. Empty)
   ended {r'} {t'} forgets is none some = wrote_cell a (give_step a.at is none some refl) notes tt _ refl
     where
       notes : Notes r r' t'.lists i (record e { content = content.Empty })
@@ -280,7 +279,7 @@ module _ {T : Type 0} {r : LastBorrow} {t : Table} {es : List (StorageEntry T)} 
   pub read_ended : (n : ℕ) → (is_reader r.noted && nat_eq r.slot i && nat_eq r.borrow.ticket n) ≡ true
       → is_some (unread_in (data_in e.content)) ≡ true
       → IfSome (slice_get now.slots i) (λ e. true ≡ has_reader (content_in e.kept) n)
-      × Writes (cleared r) t es ds room x y (change_entry now.slots i (λ e. record e { kept = without_reader_in n e.kept }))
+      × Reborrows a (cleared r) t (without_reader_in n)
   read_ended n reads unread =
       let is = reads_at r i n reads in
       let own = unread_is (data_in e.content) unread in (
@@ -295,9 +294,7 @@ module _ {T : Type 0} {r : LastBorrow} {t : Table} {es : List (StorageEntry T)} 
   -- the noted writer ends
   pub write_ended : (n : ℕ) (v : T) (k : StorageEntryData T)
       → (is_writer r.noted && nat_eq r.slot i && nat_eq r.borrow.ticket n) ≡ true
-      → data_in k ≡ full_data v (data_in e.content)
-      → Writes (cleared r) t (slice_set es i (record e { content = k })) ds room x y
-      (change_entry now.slots i (λ e. record e { kept = with_value v e.kept }))
+      → data_in k ≡ full_data v (data_in e.content) → Rewrites a (cleared r) t k (with_value v)
   write_ended n v k writes back =
       let is = writes_at r i n writes in
       let own = (noted_lent a.at is.0 is.1).1 in
@@ -311,11 +308,10 @@ module _ {T : Type 0} {r : LastBorrow} {t : Table} {es : List (StorageEntry T)} 
     away = rw nobody refl
 
     -- a listed reader ends
-    pub released : {kd : Kind} {q : ℕ} {v : T} → data_in e.content ≡ slot.Read kd q v → (p n : ℕ) {t' : Table} (k : StorageEntryData T)
+    pub released : {kd : Kind} {q : ℕ} {v : T} → data_in e.content ≡ slot.Read kd q v
+        → (p n : ℕ) {t' : Table} (k : StorageEntryData T)
         → Releases t t' q p (filter (λ b. not (nat_eq b.ticket n)) (list_at t.lists q))
-        → data_in k ≡ unread_data (slot.Read kd p v)
-        → Writes r t' (slice_set es i (record e { content = k })) ds room x y
-        (change_entry now.slots i (λ e. record e { kept = without_reader_in n e.kept }))
+        → data_in k ≡ unread_data (slot.Read kd p v) → Rewrites a r t' k (without_reader_in n)
     released {kd} {q} {v} is p n k left same =
         wrote_cell a (release_step a.at is p _ left same) (stays refl away) (rw same (unread_written kd p v)) _
         (rw (same, release_seen a.at is r _ p _ away left d.created_at, is, ne_eqb q no_index (has_place a.at is)) refl)
@@ -324,7 +320,8 @@ module _ {T : Type 0} {r : LastBorrow} {t : Table} {es : List (StorageEntry T)} 
         unread_written kd p v = grind arith
 
     -- where no reader is listed, none stands or ends
-    pub unread : NotRead (data_in e.content) → (n : ℕ) → IfSome (slice_get now.slots i) (λ e. false ≡ has_reader (content_in e.kept) n)
+    pub unread : NotRead (data_in e.content) → (n : ℕ)
+        → IfSome (slice_get now.slots i) (λ e. false ≡ has_reader (content_in e.kept) n)
         × (entries_of r t.lists es ds ≡ change_entry now.slots i (λ e. record e { kept = without_reader_in n e.kept }))
     unread none n = rw (seen a) (own.0, a.view ∙ sym (rw (← own.1) (set-own now.slots i _ (seen a))))
       where
@@ -335,9 +332,7 @@ module _ {T : Type 0} {r : LastBorrow} {t : Table} {es : List (StorageEntry T)} 
     -- a listed writer ends
     pub written_back : {kd : Kind} {q : ℕ} {w : Borrow} → data_in e.content ≡ slot.Lent kd q → q ≢ no_index
         → slice_get (list_at t.lists q) 0 ≡ Some w → {t' : Table} → IsClosed t t' q → (v : T) (k : StorageEntryData T)
-        → data_in k ≡ slot.Data kd v
-        → Writes r t' (slice_set es i (record e { content = k })) ds room x y
-        (change_entry now.slots i (λ e. record e { kept = with_value v e.kept }))
+        → data_in k ≡ slot.Data kd v → Rewrites a r t' k (with_value v)
     written_back is some first gone v k back =
         let was = lent_seen a.at is (λ z. absurd (some z)) (λ z. first) d.created_at in
         wrote_cell a (close_step a.at (rw is refl) some gone (rw back refl)) (stays refl away) (rw back tt) _
@@ -349,9 +344,7 @@ module _ {T : Type 0} {r : LastBorrow} {t : Table} {es : List (StorageEntry T)} 
 
       -- the value is lent to a writer that is noted
       pub lent_to : (k : StorageEntryData T) → data_in k ≡ lent_data (data_in e.content) → (w : Borrow)
-          → Writes (record { noted = noted.Writer; slot = i; generation = g; borrow = w }) t
-          (slice_set es i (record e { content = k })) ds room x y
-          (change_entry now.slots i (λ e. record e { kept = lend_to w e.kept }))
+          → Rewrites a (record { noted = noted.Writer; slot = i; generation = g; borrow = w }) t k (lend_to w)
       lent_to k lends w =
           let own = lone.1.2 in
           wrote_cell a (same_step a.at (rw (lends, own) refl) (rw (lends, own) tt))
@@ -384,8 +377,7 @@ module _ {T : Type 0} {r : LastBorrow} {t : Table} {es : List (StorageEntry T)} 
   ]
 
   pub begun : is_noted r.noted ≡ false → (b : Borrow) {t' : Table} → t' ≡ listed_beside b (index_of (data_in e.content)) t
-      → Writes (record { noted = noted.Reader; slot = i; generation = g; borrow = b }) t' es ds room x y
-      (change_entry now.slots i (λ e. record e { kept = with_reader b e.kept }))
+      → Reborrows a (record { noted = noted.Reader; slot = i; generation = g; borrow = b }) t' (with_reader b)
   begun nobody b is =
       let same_cell = (rw (seen a) at there).0 in
       elim readable_here [
@@ -407,8 +399,7 @@ module _ {T : Type 0} {r : LastBorrow} {t : Table} {es : List (StorageEntry T)} 
       any_last n bs b same = grind (arith, nat_tests, common_steps)
 
   pub begun_alone : is_noted r.noted ≡ false → (b : Borrow) → IsAlone g (slice_get now.slots i)
-      → Writes (record { noted = noted.Reader; slot = i; generation = g; borrow = b }) t es ds room x y
-      (change_entry now.slots i (λ e. record e { kept = with_reader b e.kept }))
+      → Reborrows a (record { noted = noted.Reader; slot = i; generation = g; borrow = b }) t (with_reader b)
   begun_alone nobody b free = begun nobody b (rw (lone a nobody g free).1.2 refl)
 
 -- ---- a slot more, with a cell without borrows

@@ -9,8 +9,12 @@ list_noted-requires g c = base (kept c.self.view_is c.self.invariant)
 pub index_mut-requires : goal.index_mut-requires
 index_mut-requires g c =
     let l = c.list_noted.ensures in let s = listed (kept c.self.view_is c.self.invariant) l.listed l.capacity in
-    omega (arith, many s, readable_within c.args.self.now.slots c.args.name.slot c.args.name.generation
-    (alone_readable _ _ c.requires.free))
+    omega (
+      arith,
+      many s,
+      readable_within c.args.self.now.slots c.args.name.slot c.args.name.generation
+          (alone_readable _ _ c.requires.free),
+    )
 
 pub lend-value-requires : goal.lend-value-requires
 lend-value-requires g c =

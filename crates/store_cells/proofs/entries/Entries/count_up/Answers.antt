@@ -6,8 +6,12 @@ use Rattle.store_cells.proofs.entries.Entries.count_up.Goals as goal
 pub overflow_add-index_mut : goal.overflow_add-index_mut
 overflow_add-index_mut g c =
     let a = (found_details (kept c.self.view_is c.self.invariant) c.requires.within c.index_mut.ensures.value).1 in
-    omega (arith, rw (seen a) at c.requires.few,
-    many (kept c.self.view_is c.self.invariant), (base (kept c.self.view_is c.self.invariant)).small)
+    omega (
+      arith,
+      rw (seen a) at c.requires.few,
+      many (kept c.self.view_is c.self.invariant),
+      (base (kept c.self.view_is c.self.invariant)).small,
+    )
 
 pub invariant_of-self : goal.invariant_of-self
 invariant_of-self g c =
