@@ -2,15 +2,15 @@
 -- after a push, after a release, and where dead places are taken away.
 use Rattle.store_parts.proofs.Common
 use Common.{AllPairs-filter, all_pairs_push, answers_always, ap, append-nil, AreBelow, arith, Bool}
-use Common.{Bor, Borrow, Called, cases_Bool, cases_lt, ComputesKey, eq-eqb, Equal, Err}
+use Common.{Bor, Borrow, Called, cases_lt, ComputesKey, Equal, Err}
 use Common.{false, filter, filter-append, get_or}
 use Common.{get_or_append_left, Greater, HasTicketAt, HoldsAt, IsBinarySearchResult}
 use Common.{IsNonDecreasingBy, IsPartitionPoint, IsOwnPlace, IsQueue, length, length-append}
 use Common.{length-map, Less, List, list_any, map, map-append, Mut, nat_cmp}
-use Common.{nat_eq, nat_tests, ne_eqb, not, Ok, or_parts, ordering_index, ranked, refl, slice_set}
+use Common.{nat_eq, nat_tests, not, Ok, or_parts, ordering_index, ranked, refl, slice_set}
 use Common.{false≢true, AreKept, option_to_list, Option, slice_get, Some, standing_at, StandsAt}
-use Common.{subst, suc, sym, TicketsAscend, true, zero, ℕ, [], ⊎_elim, ◌++◌, ◌+◌}
-use Common.{◌-◌, ◌<◌, ◌||◌, ◌∙◌, ◌∷◌, ◌≡◌, ◌≢◌, ◌≤◌}
+use Common.{suc, sym, TicketsAscend, true, zero, ℕ, [], ⊎_elim, ◌++◌, ◌+◌}
+use Common.{◌-◌, ◌<◌, ◌∙◌, ◌∷◌, ◌≡◌, ◌≢◌, ◌≤◌}
 use Rattle.store_parts.specs.declared.queue.Place.{Place}
 
 abbrev has : ℕ → Borrow → Bool

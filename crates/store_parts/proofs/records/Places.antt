@@ -1,5 +1,6 @@
 -- The map for which places of records stand, and what is written to them.
 use Rattle.store_parts.proofs.Common
+use Common.{get_or, slice_get_read}
 use Common.{add_to_list_in, ap, ArePlaced, arith, by_number, change, change_place, change_record}
 use Common.{change_record_if, changed_there, cond, eq-eqb, eq_by_cmp, false, false≢true}
 use Common.{get-changed_none, HasDistinctKeys, HasRecord, HasRoom, IfSome, insert_there, is_some}
@@ -304,17 +305,13 @@ pub vacant_through : (xs : List Place) (n : ℕ) (x : Place)
     → is_some x ≡ false → (i : ℕ) → i < n + 1 → slice_get xs i ≡ Some None
 vacant_through xs n x before there vacant i within = grind (arith, before i)
 
--- a change where there is no record changes nothing
-pub change_vacant : (xs : List Place) (i : ℕ) (x : Place) (g : KeyedOwnership → KeyedOwnership)
-    → slice_get xs i ≡ Some x → x ≡ None → slice_set xs i x ≡ change_record xs i g
-change_vacant xs i x g there vacant = grind (arith, set-own)
+-- a change where there is no record changes nothing, and the place stays vacant
+module _ (xs : List Place) (i : ℕ) (x : Place) (within : i < length xs) (read : x ≡ get_or xs i x) (vacant : x ≡ None) where
+  pub change_vacant : (g : KeyedOwnership → KeyedOwnership) → slice_set xs i x ≡ change_record xs i g
+  change_vacant g = let there = slice_get_read xs (length xs) i x refl within read in grind (arith, set-own)
 
--- a vacant place stays so
-pub vacant_stays : (xs : List Place) (i : ℕ) (x : Place) (P : KeyedOwnership → Type 0)
-    → slice_get xs i ≡ Some x → x ≡ None
-    → IfSome (slice_get (slice_set xs i x) i) (λ kept. IfSome kept P)
-vacant_stays xs i x P there vacant =
-    rw (set-own xs i x there, there, vacant) tt
+  pub vacant_stays : (P : KeyedOwnership → Type 0) → IfSome (slice_get (slice_set xs i x) i) (λ kept. IfSome kept P)
+  vacant_stays P = let there = slice_get_read xs (length xs) i x refl within read in rw (set-own xs i x there, there, vacant) tt
 
 -- a record with room is at its place, and has a key
 pub room_within : (xs : List Place) (i : ℕ) → HasRoom (slice_get xs i) → i < length xs
@@ -366,9 +363,9 @@ module _ (number : ℕ) (S : Owners) (o : OwnerName) where
 
     module _ {vacant : set.FinSet nat_cmp} {rooms : ℕ} (placed : ArePlaced vacant rooms xs)
         (i : ℕ) (has : HasRecord o.key (slice_get xs i)) where
-      pub record_found : (x : Place) → slice_get xs i ≡ Some x
-          → option_map (λ r. r.ownership) x ≡ record_of number S o
-      record_found x there =
+      pub record_found : (x : Place) → x ≡ get_or xs i x → option_map (λ r. r.ownership) x ≡ record_of number S o
+      record_found x read =
+          let there = slice_get_read xs (length xs) i x refl (record_within placed o.key i has) read in
           let r = standing o.key (slice_get xs i) has in
           let same : x ≡ Some r.0 = cc (there, r.1) in
           rw (same, seen, get_there placed o.key i has)

@@ -1,7 +1,7 @@
 -- The rows of owners' records: the place of each record by its key, and that the records in the
 -- order of these are the map's.
 use Rattle.store_parts.proofs.Common
-use Common.{All, AllByRecursion, ap, append-nil, arith, BaseRow, CellName}
+use Common.{All, AllByRecursion, ap, arith, BaseRow, CellName}
 use Common.{HasDistinctKeys, HasRecord, is_at, IsPlaceOf, IsStrictlySortedBy, keys_of}
 use Common.{length, Less, List, lookup, Name, name_of_cell, nat_cmp, nat_cmp_total, None}
 use Common.{Option, option_map, owner_rows, owners_of, Ownership, Place, place_rows, record_at}
@@ -110,12 +110,3 @@ owned_all row_of [] n all = rw (take-nil n) refl
 owned_all row_of (c ∷ cells) zero all = absurd (omega arith)
 owned_all row_of (c ∷ cells) (suc n) all =
     rw (owned_all row_of cells n (omega arith))
-
--- no rows of a place without a record, or past the last one
-pub no_rows : (rows : List BaseRow) (places : List Place) (number i : ℕ)
-    → slice_get places i ≡ None → rows ≡ rows ++ place_rows number (slice_get places i)
-no_rows rows places number i none = rw (none, append-nil rows)
-
-pub no_rows_vacant : (rows : List BaseRow) (places : List Place) (number i : ℕ)
-    → slice_get places i ≡ Some None → rows ≡ rows ++ place_rows number (slice_get places i)
-no_rows_vacant rows places number i vacant = rw (vacant, append-nil rows)

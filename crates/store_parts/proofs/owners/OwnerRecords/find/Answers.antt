@@ -1,18 +1,12 @@
-use Rattle.store_parts.proofs.{ap, KeyedOwnership, length, option_map, owners_is}
-use Rattle.store_parts.proofs.{record_found, record_missing, record_within, refl}
-use Rattle.store_parts.proofs.{slice_get_read, sym, ◌∙◌}
+use Rattle.store_parts.proofs.{ap, KeyedOwnership, option_map, owners_is, record_found, record_missing, sym, ◌∙◌}
 use Rattle.store_parts.proofs.owners.OwnerRecords.find.Goals as goal
 
 pub returns-in-Some : goal.returns-in-Some
 returns-in-Some c =
-    let items = c.self.inside.places.items in
-    let found = c.in-Some.ensures.found in
     ap (option_map (λ (r : KeyedOwnership). r.ownership)) c.as_ref.ensures.value
-    ∙ record_found c.args.number _ c.args.owner.now items (owners_is c.self.view_is)
-    (sym c.number_of.ensures ∙ c.if-number_of-number.false) c.self.invariant c.in-Some.place found
-    c.index.result.now
-    (slice_get_read items (length items) c.in-Some.place c.index.result.now refl
-    (record_within c.self.invariant _ _ found) c.index.ensures)
+    ∙ record_found c.args.number _ c.args.owner.now _ (owners_is c.self.view_is)
+    (sym c.number_of.ensures ∙ c.if-number_of-number.false) c.self.invariant c.in-Some.place
+    c.in-Some.ensures.found c.index.result.now c.index.ensures
 
 pub returns-in-None : goal.returns-in-None
 returns-in-None c =

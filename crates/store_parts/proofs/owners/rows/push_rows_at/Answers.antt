@@ -1,11 +1,11 @@
-use Rattle.store_parts.proofs.{ap, arith, no_rows, no_rows_vacant, refl, slice_get_past}
-use Rattle.store_parts.proofs.{slice_get_read, Some, ◌∙◌}
+use Rattle.store_parts.proofs.{append-nil, ap, arith, refl, slice_get_past, slice_get_read, Some, ◌∙◌}
 use Rattle.store_parts.proofs.owners.rows.push_rows_at.Goals as goal
 
 pub returns-in_default : goal.returns-in_default
-returns-in_default c =
-    no_rows c.args.rows.now.items c.args.places.now c.args.number c.args.place
-    (slice_get_past c.args.places.now c.args.place (omega (arith, c.in_default.ensures.lookup.3)))
+returns-in_default c = rw (
+  slice_get_past c.args.places.now c.args.place (omega (arith, c.in_default.ensures.lookup.3)),
+  append-nil c.args.rows.now.items,
+) refl
 
 pub returns-in-Some-found : goal.returns-in-Some-found
 returns-in-Some-found c =
@@ -16,6 +16,7 @@ returns-in-Some-found c =
 pub returns-in-None : goal.returns-in-None
 returns-in-None c =
     let found = c.in-Some.ensures.lookup in
-    no_rows_vacant c.args.rows.now.items c.args.places.now c.args.number c.args.place
-    (slice_get_read c.args.places.now _ c.args.place c.in-Some.found.now refl found.3.0 found.1
-    ∙ ap Some c.in-None.is)
+    rw (
+      slice_get_read c.args.places.now _ c.args.place c.in-Some.found.now refl found.3.0 found.1 ∙ ap Some c.in-None.is,
+      append-nil c.args.rows.now.items,
+    ) refl
