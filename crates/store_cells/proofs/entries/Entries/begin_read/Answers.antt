@@ -1,11 +1,8 @@
 -- A reader that begins is noted, and listed first beside others.
-use Rattle.store_cells.proofs.{arith, base, begun, begun_alone, err_then, found, found_there, kept, listed}
+use Rattle.store_cells.proofs.{arith, begun, begun_alone, err_then, found, found_there, kept, listed}
 use Rattle.store_cells.proofs.{listed_below, many, readable_within, seen, stopped, used_here}
 use Rattle.store_cells.proofs.entries.Entries.begin_read.Goals as goal
 use goal.{else-not-is_unborrowed, then-not-is_unborrowed+in_ok-list_beside}
-
-pub list_noted-requires : goal.list_noted-requires
-list_noted-requires g c = base (kept c.self.view_is c.self.invariant)
 
 pub index-requires : goal.index-requires
 index-requires g c =

@@ -1,10 +1,7 @@
 -- A writer that begins is noted.
-use Rattle.store_cells.proofs.{alone_readable, arith, base, found, kept, lent_to, listed, lone, many, readable_within}
+use Rattle.store_cells.proofs.{alone_readable, arith, found, kept, lent_to, listed, lone, many, readable_within}
 use Rattle.store_cells.proofs.{refl, value_there}
 use Rattle.store_cells.proofs.entries.Entries.begin_write.Goals as goal
-
-pub list_noted-requires : goal.list_noted-requires
-list_noted-requires g c = base (kept c.self.view_is c.self.invariant)
 
 pub index_mut-requires : goal.index_mut-requires
 index_mut-requires g c =

@@ -1,9 +1,6 @@
 -- The noted borrow is listed, and contracts see no change.
-use Rattle.store_cells.proofs.{base, kept, listed}
+use Rattle.store_cells.proofs.{kept, listed}
 use Rattle.store_cells.proofs.entries.Entries.list_noted.Goals as goal
-
-pub list_noted-requires : goal.list_noted-requires
-list_noted-requires g c = base (kept c.self.view_is c.self.invariant)
 
 pub invariant_of-self : goal.invariant_of-self
 invariant_of-self g c =

@@ -1,11 +1,8 @@
 -- A listed reader ends.
-use Rattle.store_cells.proofs.{ap, base, data_in, EntryList, found, kept, listed, no_read, read_borrows, released}
+use Rattle.store_cells.proofs.{ap, data_in, EntryList, found, kept, listed, no_read, read_borrows, released}
 use Rattle.store_cells.proofs.{seen, set-own, still_read, unread, used_at}
 use Rattle.store_cells.specs.declared.entry.Kind.TheVariants as kind
 use Rattle.store_cells.proofs.entries.Entries.release_listed.Goals as goal
-
-pub list_noted-requires : goal.list_noted-requires
-list_noted-requires g c = base (kept c.self.view_is c.self.invariant)
 
 pub release-known-requires : goal.release-known-requires
 release-known-requires g c =

@@ -1,10 +1,7 @@
 -- A listed writer ends.
-use Rattle.store_cells.proofs.{ap, base, data_in, EntryList, eq-eqb, eqb-true, found, kept, lent_listed, lent_seen}
+use Rattle.store_cells.proofs.{ap, data_in, EntryList, eq-eqb, eqb-true, found, kept, lent_listed, lent_seen}
 use Rattle.store_cells.proofs.{lent_used, listed, no_writer, refl, seen, set-own, written_back}
 use Rattle.store_cells.proofs.entries.Entries.release_listed_writer.Goals as goal
-
-pub list_noted-requires : goal.list_noted-requires
-list_noted-requires g c = base (kept c.self.view_is c.self.invariant)
 
 pub first-requires : goal.first-requires
 first-requires g c =
