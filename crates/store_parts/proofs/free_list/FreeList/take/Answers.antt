@@ -1,9 +1,8 @@
-use Rattle.store_parts.proofs.{arith, chain, chain_read, contains-insert_at, eq-eqb}
-use Rattle.store_parts.proofs.{first_within, IsPool, length, members_take, pool_take}
-use Rattle.store_parts.proofs.{refl, ◌-◌, ◌<◌, ◌∷◌, ◌≡◌, ◌≤◌}
+-- The first slot is taken, and its link leads to the others.
+use Rattle.store_parts.proofs.{arith, chain, chain_read, contains-insert_at, eq-eqb, first_within, members_take}
+use Rattle.store_parts.proofs.{pool_take, refl, ◌-◌, ◌<◌, ◌∷◌, ◌≡◌}
 use Rattle.store_parts.proofs.free_list.FreeList.take.Goals as goal
-use Rattle.store_parts.proofs.free_list.FreeList.take.Goals.{else-self-gt1}
-use Rattle.store_parts.proofs.free_list.FreeList.take.Goals.{then-self-gt1}
+use Rattle.store_parts.proofs.free_list.FreeList.take.Goals.{else-self-gt1, Joined-self-gt1, then-self-gt1}
 
 pub index-requires : goal.index-requires
 index-requires c =
@@ -11,33 +10,13 @@ index-requires c =
     let some : 0 < l.count = omega (arith, c.if-self-eq0.false) in
     omega (arith, first_within l.links.items l.first l.count some c.self.invariant.0, l.links.ok.0)
 
-pub invariant_of-self : goal.invariant_of-self
-invariant_of-self c =
+begins : (c : Joined-self-gt1)
+    → (chain c.self.inside.links.items c.self.inside.first c.self.inside.count ≡ c.self.inside.first
+    ∷ chain c.if-self-gt1.self-inside.links.items c.if-self-gt1.self-inside.first (c.if-self-gt1.self-inside.count - 1))
+    × (c.if-self-gt1.self-inside.links ≡ c.self.inside.links)
+begins c =
     let l = c.self.inside in
-    let rest = c.if-self-gt1.self-inside in
     let some : 0 < l.count = omega (arith, c.if-self-eq0.false) in
-    let pool : IsPool (l.first ∷ chain rest.links.items rest.first (rest.count - 1))
-    (length rest.links.items) × (length rest.links.items ≤ 4294967295) =
-    elim c.if-self-gt1.branch [
-      | then-self-gt1 w ↦ rw w.self-inside-is (
-        rw (chain_read l.links.items _ _ _ some c.self.invariant.0 (λ more. w.index.ensures))
-            at c.self.invariant.0,
-        c.self.invariant.1,
-      )
-      | else-self-gt1 w ↦ rw w.self-inside-is (
-        rw (chain_read l.links.items _ _ l.first some c.self.invariant.0
-            (λ more. absurd (omega (arith, more, w.if-self-gt1.false)))) at c.self.invariant.0,
-        c.self.invariant.1,
-      )
-    ] in (pool_take pool.0, pool.1)
-
-pub returns : goal.returns
-returns c =
-    let l = c.self.inside in
-    let rest = c.if-self-gt1.self-inside in
-    let some : 0 < l.count = omega (arith, c.if-self-eq0.false) in
-    let begins : (chain l.links.items l.first l.count
-    ≡ l.first ∷ chain rest.links.items rest.first (rest.count - 1)) × (rest.links ≡ l.links) =
     elim c.if-self-gt1.branch [
       | then-self-gt1 w ↦ rw w.self-inside-is
           (chain_read l.links.items _ _ _ some c.self.invariant.0 (λ more. w.index.ensures), refl)
@@ -46,11 +25,20 @@ returns c =
             (λ more. absurd (omega (arith, more, w.if-self-gt1.false))),
         refl,
       )
-    ] in
-    rw (← c.self.view_is, begins.0) (record {
+    ]
+
+pub invariant_of-self : goal.invariant_of-self
+invariant_of-self c =
+    let b = begins (goal.at.invariant_of-self c).Joined-self-gt1 in
+    rw b.1 (pool_take (rw (b.0, b.1) at c.self.invariant.0), c.self.invariant.1)
+
+pub returns : goal.returns
+returns c =
+    let b = begins (goal.at.returns c).Joined-self-gt1 in
+    rw (← c.self.view_is, b.0) (record {
       first = refl;
       rest = refl;
-      rooms = rw begins.1 refl;
-      member = rw (contains-insert_at, eq-eqb l.first l.first refl);
-      taken = members_take (rw begins.0 at c.self.invariant.0);
+      rooms = rw b.1 refl;
+      member = rw (contains-insert_at, eq-eqb c.self.inside.first c.self.inside.first refl);
+      taken = members_take (rw b.0 at c.self.invariant.0);
     })
