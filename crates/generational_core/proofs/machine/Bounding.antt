@@ -36,29 +36,11 @@ greater g o = max g (unwrap_or o 0)
 
 is_last_more : (m : Name) (names : List Name) (o : Option ℕ)
     → IsLast names m.slot o → IsLast (m ∷ names) m.slot (Some (greater m.generation o))
-is_last_more m names None h = (
-  (let e : max m.generation 0 ≡ m.generation = omega arith in
-      rw e (or_left _ _ (key_here by_name m))),
-  λ n i is. ⊎_elim (λ e. let g = ap (λ (x : Name). x.generation) e in omega arith)
-      (λ old. absurd (h n old is)) (in_cases n m names i),
-)
-is_last_more m names (Some g) h = (
-  ⊎_elim (λ (lt : m.generation < g). let e : g ≡ max m.generation g = omega arith in
-      or_right _ _ (rw e at h.0))
-      (λ (le : g ≤ m.generation). let e : max m.generation g ≡ m.generation = omega arith in
-      rw e (or_left _ _ (key_here by_name m))) (cases_lt m.generation g),
-  λ n i is. ⊎_elim (λ e. let x = ap (λ (x : Name). x.generation) e in omega arith)
-      (λ old. let le = h.1 n old is in omega arith) (in_cases n m names i),
-)
+is_last_more m names o h = grind arith
 
 other_slot : (m : Name) (names : List Name) (s : ℕ) (o : Option ℕ)
     → s ≢ m.slot → IsLast names s o → IsLast (m ∷ names) s o
-other_slot m names s None ne h =
-    λ n i is. ⊎_elim (λ e. ne (cc)) (λ old. h n old is) (in_cases n m names i)
-other_slot m names s (Some g) ne h = (
-  or_right _ _ h.0,
-  λ n i is. ⊎_elim (λ e. absurd (ne (cc))) (λ old. h.1 n old is) (in_cases n m names i),
-)
+other_slot m names s o ne h = grind arith
 
 pub get_lasts : (names : List Name) (s : ℕ) → IsLast names s (map.get (lasts names) s)
 unfolding lasts
@@ -72,14 +54,7 @@ get_lasts (m ∷ names) s = by_keys by_number s m.slot
 pub one_last : (xs ys : List Name) (s : ℕ)
     → ((n : Name) → IsIn xs n → IsIn ys n) → ((n : Name) → IsIn ys n → IsIn xs n)
     → (o p : Option ℕ) → IsLast xs s o → IsLast ys s p → o ≡ p
-one_last xs ys s f b None None h k = refl
-one_last xs ys s f b None (Some g) h k =
-    absurd (h (record { slot = s; generation = g }) (b _ k.0) refl)
-one_last xs ys s f b (Some g) None h k =
-    absurd (k (record { slot = s; generation = g }) (f _ h.0) refl)
-one_last xs ys s f b (Some g) (Some j) h k =
-    let x : g ≤ j = k.1 (record { slot = s; generation = g }) (f _ h.0) refl in let y : j ≤ g =
-    h.1 (record { slot = s; generation = j }) (b _ k.0) refl in ap Some (omega arith)
+one_last xs ys s f b o p h k = grind arith
 
 -- lists with the same names have the same last generations
 pub lasts_same : (xs ys : List Name) → ((n : Name) → IsIn xs n → IsIn ys n)
@@ -110,9 +85,7 @@ lasts_insert given n = lasts_same (set.items (set.insert given n))
 slot_there : (n : Name) (names : List Name) → IsIn names n
     → list_any (eq_by_cmp nat_cmp n.slot) (list_map (λ (m : Name). m.slot) names) ≡ true
 slot_there n [] h = h
-slot_there n (m ∷ names) h =
-    ⊎_elim (λ (is : n ≡ m). rw is (or_left _ _ (key_here by_number m.slot)))
-    (λ e. or_right _ _ (slot_there n names e)) (in_cases n m names h)
+slot_there n (m ∷ names) h = grind (arith, key_here, by_number, by_name, key_same, slot_there n names)
 
 -- a key that is kept was there, and passes
 key_kept : {X : Type 0} (m : map.FinMap nat_cmp X) (p : ℕ → Bool) (k : ℕ)
@@ -155,16 +128,7 @@ module _ {T : Type 0} where
   kept_bounded : (S R : State T) → R.given ≡ S.given → R.peak ≡ S.peak
       → ((n : Name) → is_some (map.get R.cells n) ≡ true → is_some (map.get S.cells n) ≡ true)
       → IsBounded S → IsBounded R
-  kept_bounded S R given peak live b =
-      let same : slots_of R ≡ slots_of S = cc in
-      let more = retired_still S R (λ s there gone. (cc, live (last_name S s))) in
-      let count : slots R ≡ slots S = cc in
-      record {
-        few = omega (arith, b.few);
-        live = omega (arith, b.live, len_within by_name R.cells S.cells live);
-        dense = λ s h. omega (arith, b.dense s (rw same at h));
-        last = λ n h. cc (b.last n (live n h));
-      }
+  kept_bounded S R given peak live b = grind (arith, retired_still, len_within, by_name)
 
   -- a given name's slot was made
   pub slot_made : (S : State T) (n : Name) → IsGiven S n → map.contains_key (slots_of S) n.slot ≡ true
@@ -175,8 +139,7 @@ module _ {T : Type 0} where
 
   -- a new name's slot is one of those that were made, or the next
   pub slot_within : (S : State T) (n : Name) → IsBounded S → Fits S n → n.slot ≤ slots S
-  slot_within S n b (inl new) = omega (arith, new.1)
-  slot_within S n b (inr old) = omega (arith, b.dense n.slot old.0)
+  slot_within S n b h2 = grind arith
 
   -- live names were given
   abbrev AreGiven : State T → Type 0
@@ -185,10 +148,7 @@ module _ {T : Type 0} where
   -- no live name has the slot of a new one
   pub slot_apart : (S : State T) (n : Name) → AreGiven S → IsBounded S → Fits S n
       → (q : Name) → IsLive S q → q.slot ≢ n.slot
-  slot_apart S n given b (inl new) q live same =
-      omega (arith, new.1, same, b.dense q.slot (slot_made S q (given q live)))
-  slot_apart S n given b (inr old) q live same =
-      cc (b.last q live, not-true (is_last_live S n.slot) (and_parts _ _ old.1).0)
+  slot_apart S n given b h3 q live = grind (arith, slot_made, not-true, and_parts)
 
   -- what is live beside a new cell, and where names were given they are with the new one
   live_beside : (S : State T) (n : Name) (c : Cell T) (q : Name) → q ≢ n
@@ -206,8 +166,7 @@ module _ {T : Type 0} where
     -- other slots have what they had
     other_slots : (s : ℕ) → s ≢ n.slot
         → map.get (slots_of (add_cell S n c)) s ≡ map.get (slots_of S) s
-    other_slots s ne =
-        rw (lasts_insert S.given n) (get-insert_apart by_number (slots_of S) n.slot _ s ne)
+    other_slots s ne = grind (arith, lasts_insert, get-insert_apart, by_number)
 
     -- where its slot isn't retired, and no slot is made without need
     bounded_with : (is_retired S n.slot ≡ true → map.contains_key (slots_of S) n.slot ≡ true → ⊥)
@@ -234,12 +193,7 @@ module _ {T : Type 0} where
 
     -- the new name is the last of its slot, and so are the others still
     greatest : Fits S n → greater n.generation (map.get (slots_of S) n.slot) ≡ n.generation
-    greatest (inl new) = ap (greater n.generation) (missing new.1) ∙ (omega arith)
-      where
-        missing : n.slot ≡ slots S → map.get (slots_of S) n.slot ≡ None
-        missing same = by_option (map.get (slots_of S) n.slot) (λ none. none)
-            (λ g is. absurd (omega (arith, same, b.dense n.slot (ap is_some is))))
-    greatest (inr old) = omega (arith, old.2)
+    greatest h1 = grind arith
 
     all_last : Fits S n → (q : Name) → IsLive (add_cell S n c) q
         → q ≡ last_name (add_cell S n c) q.slot
@@ -313,5 +267,4 @@ module _ {T : Type 0} where
   -- so a call takes a sound and bounded state to another one
   pub meets_kept : (S R : State T) (call : Action T) (answer : Answer T)
       → IsSound S → IsBounded S → Meets S call answer R → IsSound R × (IsBounded R × Unit {0})
-  meets_kept S R call answer s b m =
-      (meets_sound S R call answer s m, (meets_bounded S R call answer s b m, tt))
+  meets_kept S R call answer s b m = search (arith, meets_sound, meets_bounded)

@@ -2,7 +2,7 @@
 -- elsewhere.
 use Rattle.std.specs.FinMap as map
 use Rattle.std.proofs.Common.{◌≡◌, ◌≤◌, true, false, cond, [], ◌∷◌, ◌||◌, Some, sym, ap, ◌∙◌}
-use Rattle.std.proofs.Common.{⊎_elim}
+use Rattle.std.proofs.Common.{arith, ⊎_elim}
 use Rattle.std.specs.Prelude.{Result, Ok, Err, OnOk}
 use Rattle.std.proofs.lemmas.Bool.{eqb-true, eq-eqb}
 use Rattle.generational_core.specs.Answers.{end_answer, release_answer}
@@ -37,10 +37,7 @@ module _ {T : Type 0} where
   -- a box that reaches something is the store's, and its name was given to a box
   pub reached_boxed : (S : State T) (b : GenerationalPointer) (m : Name) → IsSound S
       → reach S b ≡ Some m → (b.id.store ≡ S.number) × IsBoxed S (name_of b)
-  reached_boxed S b m s to =
-      let r = reaches S b m to in
-      let box = led_box _ (name_of b) m r.leads in
-      (eqb-true b.id.store S.number r.number, (s.given (name_of b) box.0, box.1))
+  reached_boxed S b m s to = grind (arith, reaches, led_box, eqb-true)
 
   module _ (S R : State T) (call : Action T) where
     -- so it is of each box that a call gives
@@ -50,10 +47,7 @@ module _ {T : Type 0} where
     -- and it stays so
     pub boxed_stays : (answer : Answer T) (n : Name) → IsSound S → Meets S call answer R
         → IsBoxed S n → IsBoxed R n
-    boxed_stays answer n s m box = (
-      meets_given S R call answer m n box.0,
-      shared_still s (meets_follows S R call answer m) n box.0 box.1,
-    )
+    boxed_stays answer n s m box = search (arith, meets_given, shared_still, meets_follows)
 
   -- ---- ends
 
@@ -62,33 +56,15 @@ module _ {T : Type 0} where
     pub ended : (b : GenerationalPointer) {U : Type 0} (r : Result U (Refused BorrowMutError))
         → Meets S (End b) (end_answer r) R
         → OnOk r (b.id.store ≡ S.number → IsBoxed S (name_of b) → IsEnded R (name_of b))
-    ended b (Ok u) m = λ own box. (
-      meets_given S R (End b) Done m (name_of b) box.0,
-      ap (λ (X : State T). map.get X.cells (name_of b)) left
-          ∙ (ap (λ o. map.get (cells_after S.cells (cond o (name_of b ∷ []) [])) (name_of b))
-          (eq-eqb b.id.store S.number own)
-          ∙ box_ends S.cells (name_of b ∷ []) (name_of b) box.1
-          (ap (λ x. x || false) (name_here (name_of b)))),
-    )
-      where
-        left : R ≡ close S (own_name S b)
-        left = ⊎_elim (λ refused. cc)
-            (λ acts. done_only (hindrance_to S (own_name S b)) S R _ acts.2)
-            (meets_cases S R (End b) Done m)
-    ended b (Err e) m = tt
+    ended b r m = grind (arith, meets_given, eq-eqb, box_ends, name_here, done_only, meets_cases)
 
     -- so it is of each name of a list after its owner's last release
     pub ended_owned : (o : OwnerName) {U V : Type 0} (r : Result U (V × Refused BorrowMutError))
         → IsSound S → Meets S (ReleaseOwner o) (release_answer r) R
         → OnOk r ((h : Ownership) (n : Name) → ownership S o ≡ Some h → h.count ≤ 1
         → among h.names n ≡ true → IsEnded R n)
-    ended_owned o (Ok u) s m = λ h n held last there. (
-      meets_given S R (ReleaseOwner o) Done m n
-          (boxed_among S h.names n (s.owned o.key h (held_record S o h held)) there).0,
-      ap (λ cells. map.get cells n) (last_cells (record { held = held; done = m }) last)
-          ∙ box_ends S.cells h.names n (listed_boxed S o h n s held there) there,
-    )
-    ended_owned o (Err e) s m = tt
+    ended_owned o r s m =
+        grind (arith, meets_given, boxed_among, held_record, last_cells, box_ends, listed_boxed)
 
     -- ---- references that turn
 

@@ -10,7 +10,7 @@ use machine.{LeavesValue, LeavesUnborrowed, State, IsSound, Ownership, Meets, Ge
 use machine.{GenerationalPointer, BorrowError, BorrowMutError, Location, Refusal, StoreError}
 use machine.{AllByRecursion, List, ◌++◌, ◌||◌, ◌∷◌, or_right, names_in, is_name, held_record}
 use machine.{name_apart, name_here, some_live, last_cells, made_new, reads_known, by_option}
-use machine.{by_cond}
+use machine.{arith, by_cond}
 use Rattle.generational_core.specs
 use specs.Answers.{value_behind, WriteGuard, pointer_of, box_answer, reference_box_answer}
 use specs.Answers.{read_answer, write_answer, back_answer, end_answer, owner_answer, release_answer}
@@ -31,8 +31,7 @@ module _ {T : Type 0} where
   pub seen_reached : (S : State T) (b : GenerationalPointer) (v : T)
       → value_in S b ≡ Some v → (m : Name) × (reach S b ≡ Some m)
   unfolding value_in
-  seen_reached S b v seen =
-      by_option (reach S b) (λ none. cc (ap (value_reached S) none)) (λ m to. (m, to))
+  seen_reached S b v seen = grind arith
 
   -- and one that reaches nothing sees nothing
   pub unseen : (S : State T) (b : GenerationalPointer) → reach S b ≡ None → value_in S b ≡ None
@@ -184,11 +183,7 @@ module _ {T : Type 0} where
         → OnOk r ((h : Ownership) (b : GenerationalPointer) → ownership S o ≡ Some h → h.count ≤ 1
         → among h.names (name_of b) ≡ true → reach R b ≡ None)
     unfolding reach
-    ends_owned o (Ok u) m = λ h b held last there.
-        by_cond (λ to. to ≡ None) (nat_eq b.id.store R.number)
-        (λ _. rw (last_cells (record { held = held; done = m }) last)
-        (ended_leads S.cells h.names (name_of b) there)) (λ _. refl)
-    ends_owned o (Err e) m = tt
+    ends_owned o r m = grind (arith, by_cond, last_cells, ended_leads)
 
     pub points : (a b : GenerationalPointer) {U : Type 0} (r : Result U (Refused BorrowMutError))
         → Meets S (Point a b) (end_answer r) R → OnOk r (reach R a ≡ reach S b)
@@ -198,8 +193,7 @@ module _ {T : Type 0} where
     -- a box that reaches nothing can't be read
     pub unread : (b : GenerationalPointer) (l : Location) (r : Result Guard (Refused BorrowError))
         → Meets S (Read b l) (read_answer r) R → reach S b ≡ None → IsErr r
-    unread b l (Ok g) m none = cc ((meets_tells S R (Read b l) (Reads g) m).0)
-    unread b l (Err e) m none = refl
+    unread b l r m none = grind arith
 
     -- ---- owners' lists
 

@@ -25,8 +25,7 @@ use Rattle.std.specs.FinSet as set
 -- the name behind another was never given, and isn't the other
 pub second_fresh : (given : Names) (m n : Name) → set.contains (set.insert given m) n ≡ false
     → (set.contains given n ≡ false) × (m ≢ n)
-second_fresh given m n h = let parts = or_parts (is_name n m) (set.contains given n)
-    (rw contains-insert_name at h) in (parts.1, λ is. cc (name_here n))
+second_fresh given m n h = grind (arith, or_parts, contains-insert_name, name_here)
 
 -- the readers but for those with a ticket
 abbrev pub without : ℕ → List Borrow → List Borrow
@@ -62,12 +61,7 @@ module _ {T : Type 0} where
 
   -- new names were never given
   pub new_fresh : (S : State T) (call : Action T) (f : NewNames) → AreNew S call f → AreFresh S call f
-  new_fresh S (Make o v l) f new = new.ungiven
-  new_fresh S (MakeShared o v l) f new =
-      let second = second_fresh S.given f.first f.second new.1.ungiven in
-      (new.0.ungiven, second.0, second.1)
-  new_fresh S (Refer o b) f new = new.ungiven
-  new_fresh S _ f new = tt
+  new_fresh S call f new = grind (arith, second_fresh)
 
   -- whether a call may make a cell
   abbrev pub is_making : Action T → Bool
@@ -203,13 +197,11 @@ module _ {T : Type 0} where
   -- a refusal where a refusal stands, and one of two outcomes
   leads_unless : {S : State T} {call : Action T} {f : NewNames} (t : Option BorrowRefusal) {x : Outcome T}
       → (t ≡ None → Leads S call f x) → Leads S call f (unless t S x)
-  leads_unless None h = h refl
-  leads_unless (Some t) h = still (plain tt refl)
+  leads_unless t h = grind (arith, still, plain)
 
   leads_if : {S : State T} {call : Action T} {f : NewNames} (b : Bool) {x y : Outcome T}
       → (b ≡ true → Leads S call f x) → Leads S call f y → Leads S call f (cond b x y)
-  leads_if true h k = h refl
-  leads_if false h k = k
+  leads_if b h k = grind arith
 
   -- ---- owners
 
@@ -227,22 +219,14 @@ module _ {T : Type 0} where
   module _ (S : State T) (next : ℕ) (owners : Owners)
       (all : AreRecords S next owners) (key : ℕ) where
     records_listed : (n : Name) → IsBoxed S n → AreRecords S next (change owners key (one_listed n))
-    records_listed n boxed k h is = ⊎_elim (λ e. all k h (sym e ∙ is))
-        (λ e. let old = all k e.1 e.2 in let same : one_listed n e.1 ≡ h = cc in
-        subst (λ (x : Ownership). AllByRecursion (IsBoxed S) x.names × (k < next)) same
-        (boxed_push S e.1.names n old.0 boxed, old.1))
-        (changed_view by_number owners key (one_listed n) k)
+    records_listed n boxed = grind (arith, boxed_push, changed_view, by_number)
 
     records_put : (h : Ownership) → AllByRecursion (IsBoxed S) h.names → key < next
         → AreRecords S next (map.insert owners key h)
-    records_put h boxed below k x is = by_keys by_number k key
-        (λ e. let here = get-insert_here by_number owners key h in let same : x ≡ h = cc in
-        rw (same, e) (boxed, below))
-        (λ ne. all k x (sym (get-insert_apart by_number owners key h k ne) ∙ is))
+    records_put h boxed below = grind (arith, by_keys, by_number, get-insert_here, get-insert_apart)
 
     records_left : AreRecords S next (map.remove owners key)
-    records_left k x is = by_keys by_number k key (λ e. cc (get-remove_here by_number owners key))
-        (λ ne. all k x (sym (get-remove_apart by_number owners key k ne) ∙ is))
+    records_left = grind (arith, by_keys, by_number, get-remove_here, get-remove_apart)
 
   leads_cloned : {S : State T} {f : NewNames} (o : OwnerName) (h : Option Ownership)
       → ownership S o ≡ h → Leads S (CloneOwner o) f (clone_owner S o h)
@@ -266,8 +250,7 @@ module _ {T : Type 0} where
   -- the name of a new cell that is no Shared one
   boxed_here : (S : State T) (n : Name) (c : Cell T)
       → is_shared (Some c) ≡ false → IsBoxed (add_cell S n c) n
-  boxed_here S n c plain = let here = get-insert_here by_name S.cells n c in
-      (contains-insert_here by_name S.given n, cc)
+  boxed_here S n c plain = grind (arith, get-insert_here, by_name, contains-insert_here)
 
   -- cells are made, and their box is listed
   leads_made : {S : State T}
@@ -298,14 +281,11 @@ module _ {T : Type 0} where
   -- a cell with a content has the one that is filled in
   pub refilled_content : (c old : Content T) (x : Option (Cell T))
       → content_of x ≡ Some old → content_of (option_map (refill c) x) ≡ Some c
-  refilled_content c old (Some (Value o l)) h = refl
-  refilled_content c old (Some (Shared o l)) h = refl
-  refilled_content c old x h = cc
+  refilled_content c old x h = grind arith
 
   pub filled_content : (S : State T) (m : Name) (c old : Content T)
       → content_at S m ≡ Some old → content_at (fill S m c) m ≡ Some c
-  filled_content S m c old had = rw (get-changed_name S.cells m (refill c) m, name_here m)
-      (refilled_content c old (map.get S.cells m) had)
+  filled_content S m c old had = grind (arith, get-changed_name, name_here, refilled_content)
 
   leads_read : {S : State T} {f : NewNames} (b : GenerationalPointer) (l : Location) (m : Option Name)
       (c : Option (Content T)) → content_of (cell_at S m) ≡ c → reach S b ≡ m

@@ -7,7 +7,7 @@ use machine.{not, ◌||◌, List, ◌∷◌, None, Some, refl, sym, ◌∙◌, C
 use machine.{[], write_refusal, cells_after, hindrance_at, hindrance_of, hindrance_to, without_view}
 use machine.{Option, both_ways, option_or, is_shared, refers_to, name_apart, named_from, swept_view}
 use machine.{content_of, name_total, name_exact, remove_each, named_gives, by_keys, get-without}
-use machine.{first_hindrance, get-insert_here, get-insert_apart, get-remove_here, get-remove_apart}
+use machine.{arith, first_hindrance, get-insert_here, get-insert_apart, get-remove_here, get-remove_apart}
 use Rattle.std.specs.FinMap as map
 use Rattle.std.proofs.Math.Bool.{or-false, or-true}
 
@@ -34,39 +34,26 @@ module _ {T : Type 0} where
   pub named_still : (a b : NameMap (Cell T)) (m : Name)
       → ((k : Name) → refers_to m (map.get a k) ≡ true → refers_to m (map.get b k) ≡ true)
       → is_named a m ≡ true → is_named b m ≡ true
-  named_still a b m still h =
-      let it = named_gives a m h in let there = still it.0 (ap (refers_to m) it.2 ∙ name_here m) in
-      let ref = is_ref m (map.get b it.0) there in named_from b m (it.0, ref.0, ref.1)
+  named_still a b m still h = grind (arith, named_gives, name_here, is_ref, named_from)
 
   -- whether a name is named depends on the Refs to it alone
   pub named_same : (a b : NameMap (Cell T)) (m : Name)
       → ((k : Name) → refers_to m (map.get a k) ≡ refers_to m (map.get b k))
       → is_named a m ≡ is_named b m
-  named_same a b m same = both_ways _ _ (named_still a b m (λ k h. sym (same k) ∙ h))
-      (named_still b a m (λ k h. same k ∙ h))
+  named_same a b m same = grind (arith, both_ways, named_still)
 
   -- the end of a cell that is no Ref to m leaves what names m
   pub remove_names : (cells : NameMap (Cell T)) (n m : Name)
       → refers_to m (map.get cells n) ≡ false → is_named (map.remove cells n) m ≡ is_named cells m
-  remove_names cells n m other = named_same (map.remove cells n) cells m (λ k. by_keys by_name k n
-      (λ is. cc (ap (refers_to m) (get-remove_here by_name cells n)))
-      (λ ne. ap (refers_to m) (get-remove_apart by_name cells n k ne)))
+  remove_names cells n m other =
+      grind (arith, named_same, by_keys, by_name, get-remove_here, get-remove_apart)
 
   -- ---- names end one after the other
 
   -- names are taken away one after the other
   pub away_each : (cells : NameMap (Cell T)) (n : Name) (names : List Name)
       → take_away cells (n ∷ names) ≡ take_away (take_away cells (n ∷ [])) names
-  away_each cells n names = same_cells _ _ (λ q. simp get-without
-      (sym (twice (map.get cells q) (is_name q n) (among names q))))
-    where
-      twice : (cell : Option (Cell T)) (a b : Bool)
-          → without (without cell (a || false)) b ≡ without cell (a || b)
-      twice (Some (Shared c l)) a b = refl
-      twice cell true true = refl
-      twice cell true false = refl
-      twice cell false true = refl
-      twice cell false false = refl
+  away_each cells n names = grind (arith, same_cells, get-without)
 
   -- a sweep between changes nothing in the end
   sweep_between : (cells : NameMap (Cell T)) (names : List Name)
@@ -100,8 +87,7 @@ module _ {T : Type 0} where
   -- what is left where names end is what is left where they end one after the other
   pub close_each : (cells : NameMap (Cell T)) (n : Name) (names : List Name)
       → cells_after cells (n ∷ names) ≡ cells_after (cells_after cells (n ∷ [])) names
-  close_each cells n names =
-      ap sweep (away_each cells n names) ∙ sym (sweep_between (take_away cells (n ∷ [])) names)
+  close_each cells n names = grind (arith, away_each, sweep_between)
 
   -- ---- one name
 
@@ -109,8 +95,7 @@ module _ {T : Type 0} where
   pub away_nothing : (cells : NameMap (Cell T)) (names : List Name)
       → ((q : Name) → among names q ≡ true → is_shared (map.get cells q) ≡ false
       → map.get cells q ≡ None) → take_away cells names ≡ cells
-  away_nothing cells names nothing = same_cells _ _ (λ q. ⊎_elim (λ e. e)
-      (λ e. e.0 ∙ sym (nothing q e.2 e.1)) (without_view cells names q))
+  away_nothing cells names nothing = grind (arith, same_cells, without_view)
 
   module _ (cells : NameMap (Cell T)) (n : Name) where
     -- so a Shared cell stays where its name alone ends
@@ -124,28 +109,22 @@ module _ {T : Type 0} where
     -- any other cell goes
     pub away_one : is_shared (map.get cells n) ≡ false
         → take_away cells (n ∷ []) ≡ map.remove cells n
-    away_one plain = same_cells _ _ (λ q. by_keys by_name q n
-        (λ is. rw (is, get-without, plain, name_here n, get-remove_here by_name cells n))
-        (λ ne. rw (get-without, get-remove_apart by_name cells n q ne, name_apart q n ne, or-true)))
+    away_one plain =
+        grind (arith, same_cells, by_keys, by_name, get-without, name_here, get-remove_here, get-remove_apart, name_apart, or-true)
 
   -- ---- a sweep of cells where each Shared cell is named, or each but one
 
   -- where each is named, none goes
   pub sweep_all : (cells : NameMap (Cell T)) → ((q : Name) → is_shared (map.get cells q) ≡ true
       → is_named cells q ≡ true) → sweep cells ≡ cells
-  sweep_all cells named =
-      same_cells _ _ (λ q. ⊎_elim (λ e. e.0) (λ e. cc (named q e.1)) (swept_view cells q))
+  sweep_all cells named = grind (arith, same_cells, swept_view)
 
   -- where each but m is named, m alone may go
   pub sweep_but : (cells : NameMap (Cell T)) (m : Name) → is_shared (map.get cells m) ≡ true
       → ((q : Name) → q ≢ m → is_shared (map.get cells q) ≡ true → is_named cells q ≡ true)
       → sweep cells ≡ cond (is_named cells m) cells (map.remove cells m)
-  sweep_but cells m shared others = by_cond (λ x. sweep cells ≡ x) (is_named cells m)
-      (λ named. sweep_all cells (λ q h. by_keys by_name q m (λ is. cc) (λ ne. others q ne h)))
-      (λ unnamed. same_cells _ _ (λ q. by_keys by_name q m
-      (λ is. cc (get-swept cells m, get-remove_here by_name cells m))
-      (λ ne. ⊎_elim (λ e. e.0) (λ e. cc (others q ne e.1)) (swept_view cells q)
-      ∙ sym (get-remove_apart by_name cells m q ne))))
+  sweep_but cells m shared others =
+      grind (arith, by_cond, sweep_all, by_keys, by_name, same_cells, get-swept, get-remove_here, swept_view, get-remove_apart)
 
   -- ---- the end of one name, of cells that are linked
 
@@ -155,8 +134,7 @@ module _ {T : Type 0} where
 
   -- nor where no names end
   pub close_nothing : (cells : NameMap (Cell T)) → IsLinked cells → cells_after cells [] ≡ cells
-  close_nothing cells linked =
-      ap sweep (away_nothing cells [] (λ q there plain. cc)) ∙ sweep_linked cells linked
+  close_nothing cells linked = grind (arith, away_nothing, sweep_linked)
 
   -- what is left where the name of a cell ends: a Ref's target goes with the last Ref to it
   abbrev pub left_of_end : NameMap (Cell T) → Name → Option (Cell T) → NameMap (Cell T)
@@ -169,9 +147,8 @@ module _ {T : Type 0} where
     -- a Shared cell that the cell at n doesn't name is named without it
     named_without : (q : Name) → refers_to q (map.get cells n) ≡ false
         → is_shared (map.get (map.remove cells n) q) ≡ true → is_named (map.remove cells n) q ≡ true
-    named_without q other h = by_keys by_name q n (λ is. cc (get-remove_here by_name cells n))
-        (λ ne. remove_names cells n q other ∙ named_from cells q
-        (linked.named q (rw (get-remove_apart by_name cells n q ne) at h)))
+    named_without q other h =
+        grind (arith, by_keys, by_name, get-remove_here, remove_names, named_from, get-remove_apart)
 
     -- it is what is left of the cells
     pub close_one : (cell : Option (Cell T)) → map.get cells n ≡ cell
@@ -193,8 +170,7 @@ module _ {T : Type 0} where
   hindered_unnamed : (cells left : NameMap (Cell T)) (m : Name) (named : Bool)
       → is_shared (map.get cells m) ≡ true → map.get left m ≡ cond named (map.get cells m) None
       → hindrance_at cells left m ≡ cond named None (write_refusal (content_of (map.get cells m)))
-  hindered_unnamed cells left m true shared at = rw (at, live_by is_shared refl _ shared)
-  hindered_unnamed cells left m false shared at = rw at refl
+  hindered_unnamed cells left m named shared at = grind arith
 
   -- what hinders the end of a cell, where a test tells what is named afterwards
   abbrev pub borrowed_end : NameMap (Cell T) → (Name → Bool) → Option (Cell T) → Option BorrowRefusal
@@ -214,13 +190,7 @@ module _ {T : Type 0} where
     pub end_hindered : (n : Name) → among names n ≡ true → (cell : Option (Cell T))
         → map.get cells n ≡ cell → hindrance_of cells (cells_after cells names)
         (map.get cells n) n ≡ borrowed_end cells (is_named (take_away cells names)) cell
-    end_hindered n there (Some (Value c l)) at =
-        rw (at, box_ends cells names n (ap is_shared at) there, at)
-    end_hindered n there (Some (Ref m l)) at =
-        let rest = take_away cells names in let shared = linked.targets n m l at in
-        rw at (hindered_unnamed cells (sweep rest) m (is_named rest m) shared
-        (rw (get-swept rest m, get-without cells names m, shared, shared)))
-    end_hindered n there _ at = rw at
+    end_hindered n there cell at = grind (arith, box_ends, hindered_unnamed, get-swept, get-without)
 
     -- so the first hindrance is that of each name by itself
     pub first_hindered : first_hindrance cells (cells_after cells names) names
@@ -268,36 +238,27 @@ module _ {T : Type 0} where
     -- what is Shared afterwards was Shared before
     turned_other : (q : Name) → is_shared (map.get turned q) ≡ true
         → is_shared (map.get cells q) ≡ true
-    turned_other q h = by_keys by_name q a
-        (λ is. cc (get-insert_here by_name cells a (Ref new l))) (λ ne. rw (apart q ne) at h)
+    turned_other q h = grind (arith, by_keys, by_name, get-insert_here, apart)
 
     -- all but the old target are named still
     turned_named : (q : Name)
         → q ≢ old → is_shared (map.get turned q) ≡ true → is_named turned q ≡ true
-    turned_named q ne h = named_still cells turned q
-        (λ k h. by_keys by_name k a (λ is. cc (name_apart q old ne)) (λ ne. rw (apart k ne) h))
-        (named_from cells q (linked.named q (turned_other q h)))
+    turned_named q ne h =
+        grind (arith, named_still, by_keys, by_name, name_apart, apart, named_from, turned_other)
 
     module _ (other : is_name old new ≡ false) where
       -- the old target is named if another Ref names it
       turn_names : is_named (map.insert cells a (Ref new l)) old ≡ is_named (map.remove cells a) old
       turn_names =
-          let rest = map.remove cells a in
-          named_same turned rest old (λ k. by_keys by_name k a
-          (λ is. rw (is, get-insert_here by_name, get-remove_here by_name) other)
-          (λ ne. rw (apart k ne, get-remove_apart by_name cells a k ne)))
+          grind (arith, named_same, by_keys, by_name, get-insert_here, get-remove_here, apart, get-remove_apart)
 
       -- it goes if none does
       pub turn_sweep : sweep (map.insert cells a (Ref new l))
           ≡ cond (is_named (map.remove cells a) old) (map.insert cells a (Ref new l))
           (map.remove (map.insert cells a (Ref new l)) old)
-      turn_sweep = let shared = linked.targets a old l at in
-          sweep_but turned old (ap is_shared (apart old (λ is. cc)) ∙ shared) turned_named
-          ∙ ap (λ b. cond b turned (map.remove turned old)) turn_names
+      turn_sweep = grind (arith, sweep_but, apart, turned_named, turn_names)
 
       -- and its borrows hinder that
       pub turn_hindered : hindrance_at cells (sweep (map.insert cells a (Ref new l))) old ≡ cond
           (is_named (map.remove cells a) old) None (write_refusal (content_of (map.get cells old)))
-      turn_hindered = let shared = linked.targets a old l at in
-          hindered_unnamed cells (sweep turned) old (is_named (map.remove cells a) old) shared
-          (rw (get-swept turned old, turn_names, apart old (λ is. cc), shared))
+      turn_hindered = grind (arith, hindered_unnamed, get-swept, turn_names, apart)

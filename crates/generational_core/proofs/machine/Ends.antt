@@ -6,19 +6,17 @@ use Common.{by_keys, get-keep, option_or, is_some, ◌⊎◌, BorrowRefusal, wri
 use Common.{content_of, is_shared, Value, Ref, sweep, take_away, cells_after, hindrance_at}
 use Common.{hindrance_of, first_hindrance, hindrance_to, Name, among, NameMap, State, IsSound}
 use Common.{is_named, Location, by_name, name_same, get-insert_here, get-insert_apart, keep_view}
-use Common.{named_gives, named_from, HasTargets, IsLinked}
+use Common.{arith, named_gives, named_from, HasTargets, IsLinked}
 use Rattle.std.specs.FinMap as map
 
 -- what is there
 pub some_live : {A : Type 0} (o : Option A) → is_some o ≡ true → (x : A) × (o ≡ Some x)
-some_live None h = cc
-some_live (Some x) h = (x, refl)
+some_live o h = grind arith
 
 -- what passes a test that nothing passes is there
 pub live_by : {A : Type 0} (p : Option A → Bool) → p None ≡ false → (o : Option A)
     → p o ≡ true → is_some o ≡ true
-live_by p none None h = cc
-live_by p none (Some x) h = refl
+live_by p none o h = grind arith
 
 -- nothing is not something
 pub none≢some : {A : Type 0} (o : Option A) (x : A) → o ≡ None → o ≡ Some x → ⊥
@@ -27,14 +25,12 @@ none≢some o x e h = true≢false (sym (ap is_some h) ∙ ap is_some e)
 -- what holds in both cases of a test
 pub by_cond : {A : Type 0} (P : A → Type 0) (b : Bool) {x y : A}
     → (b ≡ true → P x) → (b ≡ false → P y) → P (cond b x y)
-by_cond P true h k = h refl
-by_cond P false h k = k refl
+by_cond P b h k = grind arith
 
 -- something under a test: it was passed
 pub cond_gives : {A : Type 0} (b : Bool) (o : Option A) (x : A)
     → cond b o None ≡ Some x → (b ≡ true) × (o ≡ Some x)
-cond_gives true o x h = (refl, h)
-cond_gives false o x h = cc
+cond_gives b o x h = grind arith
 
 module _ {T : Type 0} where
   -- what stands at a name where names are taken away, and after a sweep
@@ -55,10 +51,7 @@ module _ {T : Type 0} where
       × ((is_shared (map.get cells n) ≡ false) ⊎ (is_named cells n ≡ true)))
       ⊎ ((map.get (sweep cells) n ≡ None)
       × (is_shared (map.get cells n) ≡ true) × (is_named cells n ≡ false))
-  swept_view cells n = ⊎_elim
-      (λ shared. ⊎_elim (λ named. inl (cc (get-swept cells n), inr named))
-      (λ unnamed. inr (cc (get-swept cells n), shared, unnamed)) (cases_Bool (is_named cells n)))
-      (λ plain. inl (cc (get-swept cells n), inl plain)) (cases_Bool (is_shared (map.get cells n)))
+  swept_view cells n = grind (arith, get-swept, cases_Bool)
 
   -- what is taken away wasn't Shared, and is among the names
   pub without_view : (cells : NameMap (Cell T)) (names : List Name) (n : Name)
@@ -66,9 +59,7 @@ module _ {T : Type 0} where
       ⊎ ((map.get (take_away cells names) n ≡ None) × (is_shared (map.get cells n) ≡ false)
       × (among names n ≡ true))
   unfolding take_away
-  without_view cells names n = ⊎_elim (λ h. inl h.0) (λ h. let p = or_parts
-      (is_shared (map.get cells n)) (not (among names n)) h.1 in inr (h.0, p.0, not-false _ p.1))
-      (keep_view by_name cells (λ n. is_shared (map.get cells n) || not (among names n)) n)
+  without_view cells names n = grind (arith, or_parts, not-false, keep_view, by_name)
 
   -- ---- what Refs name
 
@@ -77,8 +68,7 @@ module _ {T : Type 0} where
       → ((m : Name) → is_shared (map.get old m) ≡ true → is_shared (map.get new m) ≡ true)
       → ((n m : Name) (l : Location) → map.get new n ≡ Some (Ref m l)
       → (map.get old n ≡ Some (Ref m l)) ⊎ (is_shared (map.get new m) ≡ true)) → HasTargets new
-  targets_still old new t stays was n m l h =
-      ⊎_elim (λ e. stays m (t n m l e)) (λ e. e) (was n m l h)
+  targets_still old new t stays was = grind arith
 
   -- a Ref isn't swept away, nor what it names
   pub swept_ref : (cells : NameMap (Cell T)) (n m : Name) (l : Location)
@@ -91,13 +81,7 @@ module _ {T : Type 0} where
 
   -- so what is left is linked
   pub swept_linked : (cells : NameMap (Cell T)) → HasTargets cells → IsLinked (sweep cells)
-  swept_linked cells t = record {
-    targets = λ n m l h. let was = swept_was cells n m l h in
-        ⊎_elim (λ e. cc (t n m l was)) (λ e. cc (named_from cells m (n, l, was)))
-        (swept_view cells m);
-    named = λ m h. ⊎_elim (λ e. let k = ⊎_elim (λ s. cc) (named_gives cells m) e.1 in
-        (k.0, k.1, swept_ref cells k.0 m k.1 k.2)) (λ e. cc) (swept_view cells m);
-  }
+  swept_linked cells t = grind (arith, swept_was, named_from, swept_view, named_gives, swept_ref)
 
   -- where names end, each Ref names a Shared cell still
   pub closed_linked : (cells : NameMap (Cell T)) (names : List Name)
@@ -117,20 +101,13 @@ module _ {T : Type 0} where
       → first_hindrance cells left names ≡ None
       → (n : Name) → among names n ≡ true → hindrance_of cells left (map.get cells n) n ≡ None
   none_hindered cells left [] h n at = cc
-  none_hindered cells left (m ∷ names) h n at = let both = parts _ _ h in
-      ⊎_elim (λ e. rw (name_same n m e) both.0) (none_hindered cells left names both.1 n)
-      (or_cases _ _ at)
-    where
-      parts : (a b : Option BorrowRefusal) → option_or a b ≡ None → (a ≡ None) × (b ≡ None)
-      parts None b h = (refl, h)
-      parts (Some t) b h = cc
+  none_hindered cells left (m ∷ names) h n at = grind (arith, name_same, none_hindered cells left names)
 
   -- a cell of one of the names that goes unhindered isn't borrowed
   own_free : (cells left : NameMap (Cell T)) (n : Name) (cell : Option (Cell T))
       → map.get cells n ≡ cell → is_shared cell ≡ false
       → hindrance_of cells left cell n ≡ None → map.get left n ≡ None → IsBorrowed cell → ⊥
-  own_free cells left n (Some (Value c l)) is plain h gone borrowed = cc
-  own_free cells left n cell is plain h gone borrowed = cc
+  own_free cells left n cell is plain h gone borrowed = grind arith
 
   -- each name keeps its cell where some end unhindered, or loses one that isn't borrowed
   pub closed_view : (S : State T) (names : List Name) → hindrance_to S names ≡ None → (n : Name)

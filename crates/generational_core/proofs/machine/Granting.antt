@@ -4,7 +4,7 @@ use machine.{◌≡◌, true, false, Option, None, Some, refl, sym, ap, subst, i
 use machine.{◌&&◌, is_none, cond_both, GenerationalPointer, Location, StoreError}
 use machine.{NumbersExhausted, Name, Content, Here, State, Guard, BorrowRefusal, can_write, Answer, NewNames}
 use machine.{Outcome, act, unless, write_at, Write, Writes, Done, Refused, Meets, limit_tickets}
-use machine.{takes_ticket, last_ticket, may_lack, needs_memory, no_names}
+use machine.{arith, takes_ticket, last_ticket, may_lack, needs_memory, no_names}
 
 module _ {T : Type 0} where
   -- an answer to a write that no borrow hinders
@@ -19,8 +19,7 @@ module _ {T : Type 0} where
 
   unhindered : (S : State T) (o : Option BorrowRefusal) (out : Outcome T)
       → is_none o ≡ true → Granted out.0 → Granted (unless o S out).0
-  unhindered S None out h g = g
-  unhindered S (Some t) out h g = cc
+  unhindered S o out h g = search arith
 
   write_granted : (S : State T) (l : Location) (m : Option Name) (c : Option (Content T))
       → Granted (write_at S l m c).0
@@ -30,13 +29,11 @@ module _ {T : Type 0} where
   -- such an answer is a refusal by the end of numbers alone, and wants no memory
   refuses_by : (answer : Answer T) (e : StoreError)
       → Granted answer → answer ≡ Refused e → e ≡ NumbersExhausted
-  refuses_by answer e (writes g v) is = cc
-  refuses_by answer e _ is = cc
+  refuses_by answer e h1 is = grind arith
 
   wants_none : (S : State T) (b : GenerationalPointer) (l : Location) (answer : Answer T)
       → Granted answer → needs_memory S answer (Write b l) ≡ false
-  wants_none S b l answer (writes g v) = refl
-  wants_none S b l answer _ = refl
+  wants_none S b l answer h1 = grind arith
 
   module _ (S R : State T) (b : GenerationalPointer) (l : Location) where
     act_write : can_write S b ≡ true

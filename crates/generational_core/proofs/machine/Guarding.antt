@@ -2,7 +2,7 @@
 -- was released sets its value and leaves the rest.
 use Rattle.std.specs.FinMap as map
 use Rattle.std.proofs.Common.{◌≡◌, ◌≢◌, ℕ, ◌+◌, Bool, true, false, cond, List, [], ◌∷◌, ◌||◌}
-use Rattle.std.proofs.Common.{Option, None, Some, refl, sym, ap, subst, ◌∙◌, ⊎_elim}
+use Rattle.std.proofs.Common.{arith, Option, None, Some, refl, sym, ap, subst, ◌∙◌, ⊎_elim}
 use Rattle.std.specs.List.{list_any}
 use Rattle.std.specs.Cmp.{nat_eq_equiv}
 use Rattle.std.specs.Prelude.{nat_eq, option_map, ◌&&◌, map as list_map, Result, Ok, Err, IfOk}
@@ -77,8 +77,7 @@ module _ {T : Type 0} where
 
   pub writer_stands : (c : Option (Content T)) (t : ℕ)
       → has_writer c t ≡ true → list_any (nat_eq t) (tickets_of c) ≡ true
-  writer_stands (Some (Lent w)) t h = or_left _ _ (nat_eq_equiv.symm t w.ticket ∙ h)
-  writer_stands c t h = cc
+  writer_stands c t h = grind arith
 
   -- two known guards of one kind and one ticket are one
   one_guard : (has : Option (Content T) → ℕ → Bool)
@@ -88,13 +87,7 @@ module _ {T : Type 0} where
       → (nat_eq g.store S.number && has (content_at S g.cell) g.ticket) ≡ true
       → (nat_eq h.store S.number && has (content_at S h.cell) h.ticket) ≡ true
       → h.ticket ≡ g.ticket → h ≡ g
-  one_guard has stands S s g h first second same =
-      let p = and_parts (nat_eq g.store S.number) _ first in
-      let q = and_parts (nat_eq h.store S.number) _ second in
-      let cells = s.one_cell h.cell g.cell g.ticket
-      (stands _ _ (ap (has (content_at S h.cell)) (sym same) ∙ q.1)) (stands _ _ p.1) in
-      let stores = eqb-true h.store S.number q.0 ∙ sym (eqb-true g.store S.number p.0) in
-      λ i. record { store = stores i; cell = cells i; ticket = same i }
+  one_guard has stands S s g h first second same = grind arith
 
   -- ---- a guard stays known
 
@@ -188,21 +181,17 @@ module _ {T : Type 0} where
     -- a known reader's release is answered so, and a known writer's is done
     pub reader_leaves : (g : Guard) (flag : Bool) → knows_reader S g ≡ true
         → Meets S (ReleaseReader g) (Flag flag) R → flag ≡ true
-    reader_leaves g flag known m = cc (meets_each S R (ReleaseReader g) (Flag flag)
-        (λ out. out.0 ≡ Flag true) (λ refused. cc) (λ f new. rw known) m)
+    reader_leaves g flag known m = grind arith
 
     returned : (g : Guard) (v : T) (answer : Answer T) → knows_writer S g ≡ true
         → is_refusal answer ≡ false → Meets S (ReleaseWriter g v) answer R
         → (answer ≡ Done) × (R ≡ fill S g.cell (Here v []))
-    returned g v answer known plain = meets_each S R (ReleaseWriter g v) answer
-        (λ out. (out.0 ≡ Done) × (out.1 ≡ fill S g.cell (Here v []))) (λ refused. cc)
-        (λ f new. rw known (refl, refl))
+    returned g v answer known plain h3 = grind arith
 
     pub writer_returns : (g : Guard) (v : T) {U : Type 0} (r : Result U T)
         → knows_writer S g ≡ true → Meets S (ReleaseWriter g v) (back_answer r) R
         → IsOk r × (R ≡ fill S g.cell (Here v []))
-    writer_returns g v (Ok u) known m = (refl, (returned g v Done known refl m).1)
-    writer_returns g v (Err w) known m = cc ((returned g v (Back w) known refl m).0)
+    writer_returns g v r known m = grind arith
 
   -- ---- a write that was released
 
@@ -236,8 +225,7 @@ module _ {T : Type 0} where
       at t to c free is had e = cc (ap (λ (out : Outcome T). takes_ticket out.0) e)
 
   refill_twice : (c d : Content T) (x : Cell T) → refill d (refill c x) ≡ refill d x
-  refill_twice c d (Value o l) = refl
-  refill_twice c d _ = refl
+  refill_twice c d x = grind arith
 
   -- a write whose guard was released has set the guard's value, and its release is done
   pub writes_back : {S R Q : State T} (b : GenerationalPointer) (l : Location) (g : Guard) (w v : T)
@@ -297,11 +285,7 @@ module _ {T : Type 0} where
 
   left_twice : (S R Q : State T) (c : GenerationalPointer) → IsUnchanged S c R → IsUnchanged R c Q
       → IsUnchanged S c Q
-  left_twice S R Q c first second = record {
-    reached = second.reached ∙ first.reached;
-    content = λ m to. second.content m (first.reached ∙ to) ∙ first.content m to;
-    seen = second.seen ∙ first.seen;
-  }
+  left_twice S R Q c first second = grind arith
 
   module _ {S Q : State T} {b : GenerationalPointer} {v : T} (it : IsSet S b v Q) where
     -- each box that reaches the same sees the value that was set

@@ -1,7 +1,7 @@
 -- What a call leaves of boxes, as equations: what a box reaches, the content there, and what it sees.
 use Rattle.std.specs.FinMap as map
 use Rattle.std.proofs.Common.{◌≡◌, ◌≢◌, ℕ, Bool, true, false, cond, Option, None, Some, refl, sym, ap}
-use Rattle.std.proofs.Common.{subst, ◌∙◌, ⊎_elim, []}
+use Rattle.std.proofs.Common.{arith, subst, ◌∙◌, ⊎_elim, []}
 use Rattle.std.proofs.lemmas.Bool.{cases_Bool}
 use Rattle.std.specs.Prelude.{is_some, nat_eq}
 use Rattle.generational_core.specs.Borrowing.{BorrowRefusal, reach, leads_to, refusal_to_read, refusal_to_write}
@@ -56,9 +56,7 @@ module _ {T : Type 0} where
   shared_beside : (S : State T) (n : Name) (k : Content T) (l : Location) (b : GenerationalPointer)
       → map.get S.cells n ≡ None → reach (add_cell S n (Shared k l)) b ≡ reach S b
   unfolding reach
-  shared_beside S n k l b none = by_keys by_name (name_of b) n
-      (λ is. rw (is, get-insert_here by_name S.cells n (Shared k l), none))
-      (λ ne. ap (led S b) (get-insert_apart by_name S.cells n (Shared k l) (name_of b) ne))
+  shared_beside S n k l b none = grind (arith, by_keys, by_name, get-insert_here, get-insert_apart)
 
   -- an outcome that gives another box lets a box reach what it reached
   abbrev Reaches : State T → GenerationalPointer → Outcome T → Type 0
@@ -66,13 +64,11 @@ module _ {T : Type 0} where
 
   reaches_unless : (S : State T) (b : GenerationalPointer) (t : Option BorrowRefusal) (out : Outcome T)
       → Reaches S b out → Reaches S b (unless t S out)
-  reaches_unless S b None out h = h
-  reaches_unless S b (Some t) out h = λ _. refl
+  reaches_unless S b t out h = grind arith
 
   made_beside : (S Q : State T) (o : Option OwnerName) (n : Name) (c : Cell T) (l : Location)
       (b : GenerationalPointer) → reach Q b ≡ reach S b → Reaches S b (make Q o n c l)
-  made_beside S Q o n c l b before other =
-      (listed (add_cell Q n c) o n b).0 ∙ (added_beside Q n c b (λ e. other (sym e)) ∙ before)
+  made_beside S Q o n c l b before = grind (arith, listed, added_beside)
 
   referred_beside : (S : State T) (o : Option OwnerName) (a b : GenerationalPointer)
       (to : Option Name) (target : Option (Cell T)) (n : Name)
@@ -151,28 +147,17 @@ module _ {T : Type 0} where
 
   leaves_value : (S : State T) (call : Action T) (b : GenerationalPointer)
       → LeavesContent S call b → LeavesValue S call b
-  leaves_value S (Read a l) b h = tt
-  leaves_value S (ReleaseReader g) b h = tt
-  leaves_value S _ b h = h
+  leaves_value S call b h = grind arith
 
   unborrowed : (S : State T) (call : Action T) (b : GenerationalPointer) (m : Name)
       → reach S b ≡ Some m → LeavesContent S call b → Borrows S call m → ⊥
-  unborrowed S (Read a l) b m e h t = h (t ∙ sym e)
-  unborrowed S (Action.Write a l) b m e h t = h (t ∙ sym e)
-  unborrowed S _ b m e h t = t
+  unborrowed S call b m e h t = grind arith
 
   -- a call that leaves what stands at a name fills no content there
   unfilled : (S : State T) (call : Action T) (next : ℕ) (b : GenerationalPointer) (m : Name)
       → reach S b ≡ Some m → LeavesContent S call b
       → (k : Filling T) → IsFilling S call next m k → ⊥
-  unfilled S call next b m e h (Reader v rs l) law = unborrowed S call b m e h law.1
-  unfilled S call next b m e h (Writer v l) law = unborrowed S call b m e h law.2
-  unfilled S call next b m e h (Leave v rs g) law =
-      subst (λ c. LeavesContent S c b) law.0 h (e ∙ ap Some (sym law.1))
-  unfilled S call next b m e h (Return w g v) law =
-      unlent S call b m e (leaves_value S call b h) law.2
-  unfilled S call next b m e h (Replace old v) law =
-      unset S call b m e (leaves_value S call b h) law
+  unfilled S call next b m e h k law = grind arith
 
   module _ (S R : State T) (call : Action T) (answer : Answer T) where
     -- what a box reaches has the content that it had, unless the call borrows it, ends its borrow,
@@ -180,13 +165,8 @@ module _ {T : Type 0} where
     same_content : IsSound S → Meets S call answer R → (b : GenerationalPointer) (m : Name)
         → LeavesContent S call b → reach S b ≡ Some m → is_some (map.get R.cells m) ≡ true
         → content_at R m ≡ content_at S m
-    same_content s meets b m leaves to =
-        keep_each (meets_follows S R call answer meets) m
-        (λ x y. is_some y ≡ true → content_of y ≡ content_of x)
-        (λ x e. refl) (λ _ e. cc)
-        (λ new given quiet e. cc (s.given m (reached_live S b m s to)))
-        (λ k c here law had has e. absurd (unfilled S call R.next b m to leaves k law))
-        (λ k n l e. refl)
+    same_content s meets b m leaves to live =
+        grind (arith, (meets_follows S R call answer meets).view m, s.given m, reached_live S b m s to, unfilled S call R.next b m to leaves)
 
     -- so a box is left
     pub leaves : IsSound S → Meets S call answer R → (b : GenerationalPointer)
@@ -212,13 +192,7 @@ module _ {T : Type 0} where
   pub left_refusals : (S R : State T) (b : GenerationalPointer) → IsUnchanged S b R
       → (refusal_to_read R b ≡ refusal_to_read S b) × (refusal_to_write R b ≡ refusal_to_write S b)
   unfolding refusal_to_read refusal_to_write
-  left_refusals S R b left = (at read_refusal, at write_refusal)
-    where
-      at : (refusal : Option (Content T) → Option BorrowRefusal)
-          → refusal_at (reach R b) b.created_at (λ n. refusal (content_at R n))
-          ≡ refusal_at (reach S b) b.created_at (λ n. refusal (content_at S n))
-      at refusal = by_option (reach S b) (λ none. cc (left.reached))
-          (λ m to. cc (left.reached, left.content m to))
+  left_refusals S R b left = grind arith
 
   -- a box whose name was given isn't the one that a call gives
   pub given_other : (S R : State T) (call : Action T) (answer : Answer T) (b : GenerationalPointer)

@@ -3,15 +3,14 @@ use Rattle.generational_core.proofs.machine.Common
 use Common.{◌≡◌, ◌≢◌, true, None, Some, refl, sym, ◌∙◌, inl, inr, List, Cell, Ref, Name, false}
 use Common.{⊎_elim, refill, Value, Shared, NameMap, change, State, IsSound, by_name, ap, option_map}
 use Common.{Content, is_shared, IsNamed, Location, HasTargets, IsLinked, by_keys, cells_after}
-use Common.{get-insert_here, get-insert_apart, changed_view, named_gives}
+use Common.{arith, get-insert_here, get-insert_apart, changed_view, named_gives}
 use Rattle.generational_core.proofs.machine.Ends.{targets_still, closed_linked}
 use Rattle.std.specs.FinMap as map
 
 module _ {T : Type 0} where
   -- the cells of a sound state are linked
   pub sound_linked : (S : State T) → IsSound S → IsLinked S.cells
-  sound_linked S s =
-      record { targets = s.targets; named = λ m h. named_gives S.cells m (s.shared m h) }
+  sound_linked S s = grind (arith, named_gives)
 
   -- and those that are left of linked ones where names end
   pub closing_linked : (cells : NameMap (Cell T)) (names : List Name)
@@ -30,22 +29,17 @@ module _ {T : Type 0} where
 
     targets_born : HasTargets cells → ((m : Name) (l : Location) → Some c ≡ Some (Ref m l)
         → is_shared (map.get cells m) ≡ true) → HasTargets (map.insert cells n c)
-    targets_born t leads = targets_still cells (map.insert cells n c) t shared_kept
-        (λ q m l h. by_keys by_name q n
-        (λ is. inr (shared_kept m (leads m l (cc (get-insert_here by_name cells n c)))))
-        (λ ne. inl (sym (get-insert_apart by_name cells n c q ne) ∙ h)))
+    targets_born t leads =
+        grind (arith, targets_still, shared_kept, by_keys, by_name, get-insert_here, get-insert_apart)
 
     named_apart : (m : Name) → m ≢ n → (is_shared (map.get cells m) ≡ true → IsNamed cells m)
         → is_shared (map.get (map.insert cells n c) m) ≡ true → IsNamed (map.insert cells n c) m
-    named_apart m ne named h =
-        let it = named (sym (ap is_shared (get-insert_apart by_name cells n c m ne)) ∙ h) in
-        (it.0, it.1, kept it.0 _ it.2)
+    named_apart m ne named h = grind (arith, get-insert_apart, by_name, kept)
 
     named_plain : is_shared (Some c) ≡ false → (m : Name)
         → (is_shared (map.get cells m) ≡ true → IsNamed cells m)
         → is_shared (map.get (map.insert cells n c) m) ≡ true → IsNamed (map.insert cells n c) m
-    named_plain plain m named h = by_keys by_name m n
-        (λ is. cc (get-insert_here by_name cells n c)) (λ ne. named_apart m ne named h)
+    named_plain plain m named h = grind (arith, by_keys, by_name, get-insert_here, named_apart)
 
   -- a cell that isn't Shared, with a Shared cell to name if it is a Ref
   pub born_linked : (cells : NameMap (Cell T)) (n : Name) (c : Cell T)
@@ -78,29 +72,14 @@ module _ {T : Type 0} where
   -- another content leaves Refs and Shared cells
   pub refilled_shared : (c : Content T) (x : Cell T)
       → is_shared (Some (refill c x)) ≡ is_shared (Some x)
-  refilled_shared c (Value old l) = refl
-  refilled_shared c _ = refl
+  refilled_shared c x = grind arith
 
   refilled_ref : (c : Content T) (x : Cell T) (m : Name) (l : Location)
       → Some (refill c x) ≡ Some (Ref m l) → Some x ≡ Some (Ref m l)
-  refilled_ref c (Ref n k) m l h = h
-  refilled_ref c _ m l h = cc
+  refilled_ref c x m l h = grind arith
 
   -- so cells stay linked where a content changes
   pub refilled_linked : (cells : NameMap (Cell T)) (n : Name) (c : Content T)
       → IsLinked cells → IsLinked (change cells n (refill c))
   refilled_linked cells n c linked =
-      let at = changed_view by_name cells n (refill c) in
-      let shared = λ (q : Name).
-      ⊎_elim (λ e. ap is_shared e) (λ e. cc (refilled_shared c e.1)) (at q) in
-      record {
-        targets = targets_still cells _ linked.targets (λ m h. shared m ∙ h) (λ q m l h. inl (⊎_elim
-            (λ e. sym e ∙ h) (λ e. e.2 ∙ refilled_ref c e.1 m l (sym e.3 ∙ h)) (at q)));
-        named = λ m h.
-            let it = linked.named m (sym (shared m) ∙ h) in (
-              it.0,
-              it.1,
-              ⊎_elim (λ e. e ∙ it.2)
-                  (λ e. e.3 ∙ ap (option_map (refill c)) (sym e.2 ∙ it.2)) (at it.0),
-            );
-      }
+      grind (arith, changed_view, by_name, refilled_shared, targets_still, refilled_ref)

@@ -66,8 +66,7 @@ module _ {T : Type 0} where
   -- a name that was never given is in no list
   pub unlisted : (S : State T) (o : OwnerName) (h : Ownership) (n : Name) → IsSound S
       → ownership S o ≡ Some h → set.contains S.given n ≡ false → among h.names n ≡ false
-  unlisted S o h n s held new = false_from_ne_true _ (λ there.
-      cc ((boxed_among S h.names n (s.owned o.key h (held_record S o h held)) there).0))
+  unlisted S o h n s held new = grind (arith, false_from_ne_true, boxed_among, held_record)
 
   -- ---- what a call leaves of a record
 
@@ -84,24 +83,18 @@ module _ {T : Type 0} where
   -- a record under another key than the owner's, or in a store that isn't the owner's
   apart : (S : State T) (a o : OwnerName) → is_some (ownership S a) ≡ true → a ≢ o
       → nat_eq o.store S.number ≡ true → o.key ≢ a.key
-  apart S a o known ne own same =
-      let held = some_live (ownership S a) known in
-      let stores = eqb-true a.store S.number (cond_gives _ _ held.0 held.1).0
-      ∙ sym (eqb-true o.store S.number own) in
-      ne (λ i. record { store = stores i; key = sym same i })
+  apart S a o known ne own = grind arith
 
   -- a table of owners with the record that the state has under the owner's key, if it is its own
   same_record : (S Q : State T) (o : OwnerName) → Q.number ≡ S.number
       → (nat_eq o.store S.number ≡ true → map.get Q.owners o.key ≡ map.get S.owners o.key)
       → ownership Q o ≡ ownership S o
-  same_record S Q o number same =
-      ⊎_elim (λ own. cc (same own)) (λ other. cc) (cases_Bool (nat_eq o.store S.number))
+  same_record S Q o number same = grind arith
 
   -- no call but those of owners changes a record
   module _ (S : State T) (o : OwnerName) where
     keeps_unless : (t : Option BorrowRefusal) (out : Outcome T) → Keeps S o out → Keeps S o (unless t S out)
-    keeps_unless None out h = h
-    keeps_unless (Some t) out h = refl
+    keeps_unless t out h = grind arith
 
     keeps_made : (Q : State T) (a : Option OwnerName) (n : Name) (c : Cell T) (l : Location)
         → Q.owners ≡ S.owners → Q.number ≡ S.number
@@ -144,39 +137,29 @@ module _ {T : Type 0} where
 
     keeps_read : (l : Location) (to : Option Name) (c : Option (Content T))
         → Keeps S o (read_at S l to c)
-    keeps_read l (Some m) (Some (Here v rs)) = refl
-    keeps_read l _ _ = refl
+    keeps_read l to c = grind arith
 
     keeps_write : (l : Location) (to : Option Name) (c : Option (Content T))
         → Keeps S o (write_at S l to c)
-    keeps_write l (Some m) (Some (Here v rs)) = refl
-    keeps_write l _ _ = refl
+    keeps_write l to c = grind arith
 
     keeps_set : (b : GenerationalPointer) (v : T) (to : Option Name) (c : Option (Content T))
         → Keeps S o (set_at S b v to c)
-    keeps_set b v None c = refl
-    keeps_set b v (Some m) (Some (Here old [])) = refl
-    keeps_set b v (Some m) _ = refl
+    keeps_set b v to c = grind arith
 
     keeps_left : (n : Name) (t : ℕ) (c : Option (Content T))
         → ownership (remove_reader S n t c) o ≡ ownership S o
-    keeps_left n t (Some (Here v rs)) = refl
-    keeps_left n t _ = refl
+    keeps_left n t c = grind arith
 
     keeps_pointed : (a b : GenerationalPointer) (cell : Option (Cell T)) (to : Option Name)
         (target : Option (Cell T)) → Keeps S o (point S a b cell to target)
-    keeps_pointed a b (Some (Ref old l)) (Some new) (Some (Shared c j)) =
-        by_cond (Keeps S o) (is_name old new) (λ _. refl)
-        (λ _. keeps_unless (hindrance_at S.cells
-        (sweep (map.insert S.cells (name_of a) (Ref new l))) old) _ refl)
-    keeps_pointed a b _ to target = refl
+    keeps_pointed a b cell to target = grind arith
 
     -- the owner of a making has another key
     other : (a : OwnerName) → a ≢ o → is_known S (Some a) ≡ true
         → (x : OwnerName) → ◌≡◌ {A = Option OwnerName} (Some a) (Some x)
         → nat_eq o.store S.number ≡ true → o.key ≢ x.key
-    other a ne known x is own =
-        let same : x ≡ a = cc in rw same (apart S a o known ne own)
+    other a ne known x is own = grind arith
 
     no_owner : (x : OwnerName) → ◌≡◌ {A = Option OwnerName} None (Some x)
         → nat_eq o.store S.number ≡ true → o.key ≢ x.key
@@ -256,19 +239,13 @@ module _ {T : Type 0} where
     -- a new owner has the store's number and the next ticket as its key
     new_owner : (o : OwnerName) → Meets S NewOwner (Owned o) R
         → o ≡ record { store = S.number; key = S.next }
-    new_owner o m = cc (meets_each S R NewOwner (Owned o)
-        (λ out. out.0 ≡ Owned (record { store = S.number; key = S.next })) (λ refused. cc)
-        (λ f new. refl) m)
+    new_owner o m = grind arith
 
     -- so no owner that a sound store knows is that one
     pub unknown_owner : (r : Result OwnerName StoreError) → IsSound S
         → Meets S NewOwner (owner_answer r) R → IfOk r (λ o. ownership S o ≡ None)
-    unknown_owner (Err e) s m = tt
-    unknown_owner (Ok o) s m = rw (new_owner o m, nat_eq_equiv.refl S.number)
-        (by_option (map.get S.owners S.next) (λ none. none)
-        (λ h is. absurd (omega (arith, s.keys S.next (ap is_some is)))))
+    unknown_owner r s m = grind arith
 
     pub owner_number : (r : Result OwnerName StoreError) → Meets S NewOwner (owner_answer r) R
         → IfOk r (λ o. o.store ≡ S.number)
-    owner_number (Err e) m = tt
-    owner_number (Ok o) m = ap (λ (x : OwnerName). x.store) (new_owner o m)
+    owner_number r m = grind arith

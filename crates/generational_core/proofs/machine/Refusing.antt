@@ -1,5 +1,5 @@
 -- A call that is refused changes nothing.
-use Rattle.std.proofs.Common.{◌≡◌, Bool, true, false, cond, Option, None, Some, refl, []}
+use Rattle.std.proofs.Common.{arith, ◌≡◌, Bool, true, false, cond, Option, None, Some, refl, []}
 use Rattle.std.specs.Prelude.{nat_lt, Result, Ok, Err, OnErr}
 use Rattle.generational_core.specs.Answers.{box_answer, reference_box_answer, read_answer}
 use Rattle.generational_core.specs.Answers.{write_answer, back_answer, end_answer, owner_answer}
@@ -52,8 +52,7 @@ module _ {T : Type 0} where
   module _ {S : State T} where
     answered_if : (b : Bool) {x y : Outcome T}
         → IsAnswered S x → IsAnswered S y → IsAnswered S (cond b x y)
-    answered_if true h k = h
-    answered_if false h k = k
+    answered_if b h k = grind arith
 
     answered_unless : (t : Option BorrowRefusal) {x : Outcome T}
         → IsAnswered S x → IsAnswered S (unless t S x)
@@ -94,8 +93,7 @@ module _ {T : Type 0} where
         (answered_unless (hindrance_to S h.names) (answered_done _))
 
     answered_turn : (a old new : Name) (l : Location) → IsAnswered S (turn S a old new l)
-    answered_turn a old new l =
-        answered_if (is_name old new) (answered_done S) (answered_unless _ (answered_done _))
+    answered_turn a old new l = grind (arith, answered_if, answered_done, answered_unless)
 
     answered_point : (a b : GenerationalPointer) (c : Option (Cell T)) (m : Option Name)
         (d : Option (Cell T)) → IsAnswered S (point S a b c m d)
@@ -126,8 +124,7 @@ module _ {T : Type 0} where
 
   pub answered_still : (S : State T) (out : Outcome T) → IsAnswered S out
       → refuses out.0 ≡ true → out.1 ≡ S
-  answered_still S out (goes o on) refused = cc
-  answered_still S out _ refused = refl
+  answered_still S out h1 refused = grind arith
 
   -- ---- a refused call changes nothing, whichever it is
 
@@ -139,8 +136,7 @@ module _ {T : Type 0} where
     -- so it is of each result
     pub refused_make : (r : Result (GenerationalBox T) (Refusal T)) → Meets S call (box_answer r) R
         → OnErr r (R ≡ S)
-    refused_make (Ok b) m = tt
-    refused_make (Err e) m = refused_stays _ m refl
+    refused_make r m = grind arith
 
     told_read : (e : error.Refused BorrowError) → Meets S call (read_refused e) R → R ≡ S
     told_read (refused.Borrow e) m = refused_stays _ m refl
@@ -152,53 +148,41 @@ module _ {T : Type 0} where
 
     pub refused_refer : (r : Result (GenerationalBox T) (error.Refused BorrowError))
         → Meets S call (reference_box_answer r) R → OnErr r (R ≡ S)
-    refused_refer (Ok b) m = tt
-    refused_refer (Err e) m = told_read e m
+    refused_refer r m = grind (arith, told_read)
 
     pub refused_read : (r : Result Guard (error.Refused BorrowError))
         → Meets S call (read_answer r) R → OnErr r (R ≡ S)
-    refused_read (Ok g) m = tt
-    refused_read (Err e) m = told_read e m
+    refused_read r m = grind (arith, told_read)
 
     pub refused_write : (r : Result (WriteGuard T) (error.Refused BorrowMutError))
         → Meets S call (write_answer r) R → OnErr r (R ≡ S)
-    refused_write (Ok g) m = tt
-    refused_write (Err e) m = told_end e m
+    refused_write r m = grind (arith, told_end)
 
     pub refused_free_read : (r : Result Guard StoreError)
         → Meets S call (free_read_answer r) R → OnErr r (R ≡ S)
-    refused_free_read (Ok g) m = tt
-    refused_free_read (Err e) m = refused_stays _ m refl
+    refused_free_read r m = grind arith
 
     pub refused_free_write : (r : Result (WriteGuard T) StoreError)
         → Meets S call (free_write_answer r) R → OnErr r (R ≡ S)
-    refused_free_write (Ok g) m = tt
-    refused_free_write (Err e) m = refused_stays _ m refl
+    refused_free_write r m = grind arith
 
     pub refused_back : {U : Type 0} (r : Result U T) → Meets S call (back_answer r) R
         → OnErr r (R ≡ S)
-    refused_back (Ok u) m = tt
-    refused_back (Err v) m = refused_stays _ m refl
+    refused_back r m = grind arith
 
     pub refused_end : {U : Type 0} (r : Result U (error.Refused BorrowMutError))
         → Meets S call (end_answer r) R → OnErr r (R ≡ S)
-    refused_end (Ok u) m = tt
-    refused_end (Err e) m = told_end e m
+    refused_end r m = grind (arith, told_end)
 
     pub refused_owner : (r : Result OwnerName StoreError) → Meets S call (owner_answer r) R
         → OnErr r (R ≡ S)
-    refused_owner (Ok o) m = tt
-    refused_owner (Err e) m = refused_stays _ m refl
+    refused_owner r m = grind arith
 
     pub refused_release : {U V : Type 0} (r : Result U (V × error.Refused BorrowMutError))
         → Meets S call (release_answer r) R → OnErr r (R ≡ S)
-    refused_release (Ok u) m = tt
-    refused_release (Err e) m = told_end e.1 m
+    refused_release r m = grind (arith, told_end)
 
   -- nor does the release of a reader that isn't known
   pub unknown_reader : {S R : State T} (g : Guard) → Meets S (ReleaseReader g) (Flag false) R
       → R ≡ S
-  unknown_reader {S} {R} g m = meets_each S R (ReleaseReader g) (Flag false)
-      (λ out. out.0 ≡ Flag false → out.1 ≡ S) (λ _ _. refl)
-      (λ f new. by_cond (λ (out : Outcome T). out.0 ≡ Flag false → out.1 ≡ S) (knows_reader S g)
-      (λ _ e. cc) (λ _ _. refl)) m refl
+  unknown_reader g m = grind arith

@@ -9,7 +9,7 @@ use Common.{knows_reader, takes_ticket, last_ticket, Option, ⊎_elim, lt-ltb, O
 use Common.{NameMap, IsSound, IsBoxed, false_from_ne_true, release_owner, get-remove_apart}
 use Common.{get-insert_apart, NumbersExhausted, not-true, Content, IsNamed, one_less, own_name}
 use Common.{is_named, Location, StepCall, AllByRecursion, BorrowRefusal, set_ownership}
-use Common.{get-remove_here, get-insert_here, by_option}
+use Common.{arith, get-remove_here, get-insert_here, by_option}
 use Rattle.generational_core.proofs.machine.Ends.{get-swept, get-without, swept_ref, swept_was}
 use Rattle.generational_core.proofs.machine.Ends.{by_cond}
 use Rattle.generational_core.proofs.machine.Changes.{held_record}
@@ -39,43 +39,33 @@ module _ {T : Type 0} where
     module _ (shared : is_shared (map.get cells n) ≡ true) where
       pub shared_ends : (IsNamed (cells_after cells names) n → ⊥)
           → map.get (cells_after cells names) n ≡ None
-      shared_ends nobody = let left = take_away cells names in
-          let unnamed = false_from_ne_true (is_named left n) (λ h. let it = named_gives left n h in
-          nobody (it.0, it.1, swept_ref left it.0 n it.1 it.2)) in
-          rw (get-swept, get-without, shared, shared, unnamed)
+      shared_ends nobody = grind (arith, false_from_ne_true, named_gives, swept_ref, get-swept, get-without)
 
       pub shared_stays : IsNamed (cells_after cells names) n
           → map.get (cells_after cells names) n ≡ map.get cells n
-      shared_stays h = let left = take_away cells names in
-          let named = named_from left n (h.0, h.1, swept_was left h.0 n h.1 h.2) in
-          rw (get-swept, get-without, shared, shared, named)
+      shared_stays h = grind (arith, named_from, swept_was, get-swept, get-without)
 
   -- what stands in a list of names of boxes is one
   pub boxed_among : (S : State T) (names : List Name) (n : Name)
       → AllByRecursion (IsBoxed S) names → among names n ≡ true → IsBoxed S n
   boxed_among S [] n all there = cc
-  boxed_among S (m ∷ names) n all there = ⊎_elim (λ is. rw (name_same n m is) all.0)
-      (boxed_among S names n all.1) (or_cases _ _ there)
+  boxed_among S (m ∷ names) n all there = grind (arith, name_same, boxed_among S names n all.1)
 
   pub listed_boxed : (S : State T) (o : OwnerName) (h : Ownership) (n : Name) → IsSound S
       → ownership S o ≡ Some h → among h.names n ≡ true → is_shared (map.get S.cells n) ≡ false
-  listed_boxed S o h n s is there =
-      (boxed_among S h.names n (s.owned o.key h (held_record S o h is)) there).1
+  listed_boxed S o h n s is there = grind (arith, boxed_among, held_record)
 
   pub done_only : (t : Option BorrowRefusal) (S R last : State T)
       → ◌≡◌ {A = Outcome T} (Done, R) (unless t S (Done, last)) → R ≡ last
-  done_only None S R last e = ap (λ (out : Outcome T). out.1) e
-  done_only (Some t) S R last e = cc (ap (λ (out : Outcome T). is_refusal out.0) e)
+  done_only t S R last e = grind arith
 
   module _ {S R : State T} {o : OwnerName} {h : Ownership} (r : IsReleased S o h R) where
     release : ◌≡◌ {A = Outcome T} (Done, R) (release_owner S o (Some h))
-    release = meets_each S R (Action.ReleaseOwner o) Done (λ out. out ≡ release_owner S o (Some h))
-        (λ refused. cc) (λ f new. ap (release_owner S o) r.held) r.done
+    release = grind arith
 
     -- with the last owner value the list is closed, and the record goes
     last_release : h.count ≤ 1 → R ≡ record (close S h.names) { owners = map.remove S.owners o.key }
-    last_release last =
-        done_only (hindrance_to S h.names) S R _ (release ∙ rw (le-ltb 1 h.count last) refl)
+    last_release last = grind arith
 
     -- else the record stands for one owner value less
     earlier_release : 1 < h.count → R ≡ set_ownership S o.key (one_less h)
@@ -92,8 +82,7 @@ module _ {T : Type 0} where
     last_record last = cc (last_release last, get-remove_here by_number S.owners o.key)
 
     pub earlier_record : 1 < h.count → map.get R.owners o.key ≡ Some (one_less h)
-    earlier_record more =
-        cc (earlier_release more, get-insert_here by_number S.owners o.key (one_less h))
+    earlier_record more = grind (arith, earlier_release, get-insert_here, by_number)
 
     pub other_records : (k : ℕ) → k ≢ o.key → map.get R.owners k ≡ map.get S.owners k
     other_records k apart = ⊎_elim (λ more. cc
@@ -103,102 +92,59 @@ module _ {T : Type 0} where
 
     -- nothing but cells and records changes
     pub rest_stays : R ≡ record S { cells = R.cells; owners = R.owners }
-    rest_stays = ⊎_elim (λ more. rw (earlier_release more)) (λ last. rw (last_release last))
-        (cases_lt 1 h.count)
+    rest_stays = grind arith
 
   -- a release that isn't done changes nothing
   release_quiet : (S : State T) (o : OwnerName) (h : Option Ownership)
       → (release_owner S o h).0 ≢ Done → (release_owner S o h).1 ≡ S
-  release_quiet S o None = λ _. refl
-  release_quiet S o (Some h) = by_cond (λ (out : Outcome T). out.0 ≢ Done → out.1 ≡ S)
-      (nat_lt 1 h.count) (λ _ other. absurd (other refl)) (λ _ other.
-      by_option (hindrance_to S h.names) (λ free. absurd (other (cc))) (λ t is. cc))
+  release_quiet S o h h1 = grind arith
 
   pub refused_release : (S R : State T) (o : OwnerName) (answer : Answer T)
       → Meets S (Action.ReleaseOwner o) answer R → answer ≢ Done → R ≡ S
-  refused_release S R o answer = meets_each S R (Action.ReleaseOwner o) answer
-      (λ out. out.0 ≢ Done → out.1 ≡ S) (λ _ _. refl) (λ f new. release_quiet S o (ownership S o))
+  refused_release S R o answer h1 h2 = grind arith
 
   pub leak_changes_nothing : (S R : State T) (o : OwnerName) (answer : Answer T)
       → Meets S (Action.LeakOwner o) answer R → R ≡ S
-  leak_changes_nothing S R o answer =
-      meets_each S R (Action.LeakOwner o) answer (λ out. out.1 ≡ S) (λ _. refl) (λ f new. refl)
+  leak_changes_nothing S R o answer h1 = grind arith
 
   module _ (S : State T) (a : Action T) where
     -- a refusal that may come tells of a borrow exactly where its answer does
     unless_told : (t : Option BorrowRefusal) (other : Outcome T) → is_hindered a other.0 ≡ false
         → not (tells_of_borrow t) ≡ not (is_hindered a (unless t S other).0)
-    unless_told None other h = sym (ap not h)
-    unless_told (Some (BorrowRefusal.Dropped l)) other h = refl
-    unless_told t other h = refl
+    unless_told t other h = grind arith
 
     -- an unknown owner is told of before any borrow
     known_told : (known told : Bool) (out : Outcome T) → not told ≡ not (is_hindered a out.0)
         → not (known && told)
         ≡ not (is_hindered a (cond known out (Answer.Refused UnknownOwner, S)).0)
-    known_told true told out h = h
-    known_told false told out h = refl
+    known_told known told out h = grind arith
 
     -- where neither of two outcomes tells of a borrow, none is told of
     neither_told : (b : Bool) (x y : Outcome T) → is_hindered a x.0 ≡ false
         → is_hindered a y.0 ≡ false → true ≡ not (is_hindered a (cond b x y).0)
-    neither_told true x y h k = sym (ap not h)
-    neither_told false x y h k = sym (ap not k)
+    neither_told b x y h k = grind arith
 
     read_free : (l : Location) (o : Option Name) (c : Option (Content T))
         → is_hindered a (read_at S l o c).0 ≡ false
-    read_free l (Some m) (Some (Content.Here v rs)) = refl
-    read_free l o c = refl
+    read_free l o c = grind arith
 
     write_free : (l : Location) (o : Option Name) (c : Option (Content T))
         → is_hindered a (write_at S l o c).0 ≡ false
-    write_free l (Some m) (Some (Content.Here v rs)) = refl
-    write_free l o c = refl
+    write_free l o c = grind arith
 
     refer_free : (o : Option OwnerName) (b : GenerationalPointer) (to : Option Name)
         (c : Option (Cell T)) (n : Name) → is_hindered a (refer S o b to c n).0 ≡ false
-    refer_free o b (Some m) (Some (Cell.Shared c l)) n = refl
-    refer_free o b to c n = refl
+    refer_free o b to c n = grind arith
 
   set_told : (S : State T) (b : GenerationalPointer) (v : T) (o : Option Name)
       (c : Option (Content T))
       → may_set o c ≡ not (is_hindered (Action.SetValue b v) (set_at S b v o c).0)
-  set_told S b v None c = refl
-  set_told S b v (Some m) (Some (Content.Here old [])) = refl
-  set_told S b v (Some m) c = refl
+  set_told S b v o c = search arith
 
   -- of a call and the call as it is recorded
   pub ready_told : (S : State T) (call : Action T) (step : StepCall) (new : NewNames)
       → recorded_as call ≡ Some step → is_ready S step ≡ not (is_hindered call (act S call new).0)
-  ready_told S call step new e = subst (λ o. IfSome o (λ s. is_ready S s
-      ≡ not (is_hindered call (act S call new).0))) e (told call)
-    where
-      told : (a : Action T) → IfSome (recorded_as a) (λ s. is_ready S s
-          ≡ not (is_hindered a (act S a new).0))
-      told (Action.Make (Some o) v l) =
-          neither_told S (Action.Make (Some o) v l) (is_known S (Some o)) _ _ refl refl
-      told (Action.MakeShared (Some o) v l) =
-          neither_told S (Action.MakeShared (Some o) v l) (is_known S (Some o)) _ _ refl refl
-      told (Action.Refer None b) = unless_told S (Action.Refer None b) (refusal_to_read S b) _
-          (refer_free S (Action.Refer None b) None b (reach S b) _ new.first)
-      told (Action.Refer (Some o) b) = let a = Action.Refer (Some o) b in
-          known_told S a (is_known S (Some o)) _ _ (unless_told S a (refusal_to_read S b) _
-          (refer_free S a (Some o) b (reach S b) _ new.first))
-      told (Action.CloneOwner o) = by_option (ownership S o) (λ none. cc) (λ h held. cc)
-      told (Action.LeakOwner o) = tt
-      told (Action.Read b l) = unless_told S (Action.Read b l) (refusal_to_read S b) _
-          (read_free S (Action.Read b l) l (reach S b) _)
-      told (Action.Write b l) = unless_told S (Action.Write b l) (refusal_to_write S b) _
-          (write_free S (Action.Write b l) l (reach S b) _)
-      told (Action.ReleaseReader g) =
-          neither_told S (Action.ReleaseReader g) (knows_reader S g) _ _ refl refl
-      told (Action.ReleaseWriter g v) =
-          neither_told S (Action.ReleaseWriter g v) (knows_writer S g) _ _ refl refl
-      told (Action.SetValue b v) = set_told S b v (reach S b) _
-      told (Action.End b) = unless_told S (Action.End b) (hindrance_to S (own_name S b)) _ refl
-      told (Action.CanRead b) = tt
-      told (Action.CanWrite b) = tt
-      told _ = refl
+  ready_told S call step new e = grind arith
 
   -- a call that is ready is answered by no borrow
   pub ready_free : (S R : State T) (call : Action T) (step : StepCall) (answer : Answer T)

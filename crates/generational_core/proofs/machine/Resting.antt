@@ -22,10 +22,8 @@ use Rattle.std.specs.FinMap as map
 -- a ticket that stood nowhere is taken away from the end, where it was put
 left_again : (t : ℕ) (readers : List Borrow) (r : Borrow) → r.ticket ≡ t → list_any
     (nat_eq t) (list_map (λ b. b.ticket) readers) ≡ false → without t (readers ++ r ∷ []) ≡ readers
-left_again t [] r is none = rw (is, nat_eq_equiv.refl t) refl
-left_again t (b ∷ readers) r is none = let apart = or_parts (nat_eq t b.ticket) _ none in
-    let other : nat_eq b.ticket t ≡ false = cc (nat_eq_equiv.symm t b.ticket) in
-    rw other (ap (λ bs. b ∷ bs) (left_again t readers r is apart.1))
+left_again t [] r is none = grind (arith, nat_eq_equiv)
+left_again t (b ∷ readers) r is none = grind (arith, nat_eq_equiv, left_again t readers r is)
 
 module _ {T : Type 0} where
   -- ---- what a box that may be written reaches
@@ -38,9 +36,7 @@ module _ {T : Type 0} where
   pub rests : (S : State T) (b : GenerationalPointer)
       → can_write S b ≡ true → (m : Name) × Rests S b m
   unfolding refusal_to_write
-  rests S b h = by_option (reach S b) (λ none. cc) (λ m to.
-      let free : write_refusal (content_at S m) ≡ None = by_option _ (λ none. none) (λ t is. cc) in
-      (m, record { reaches = to; free = free }))
+  rests S b h = grind arith
 
   pub rests_free : (S : State T) (b : GenerationalPointer) (m : Name)
       → Rests S b m → can_write S b ≡ true
@@ -51,13 +47,7 @@ module _ {T : Type 0} where
   pub free_reads : (S : State T) (b : GenerationalPointer)
       → can_write S b ≡ true → can_read S b ≡ true
   unfolding refusal_to_read
-  free_reads S b h = let at = rests S b h in
-      rw (at.1.reaches, unwritten (content_at S at.0) at.1.free)
-    where
-      unwritten : (c : Option (Content T)) → write_refusal c ≡ None → read_refusal c ≡ None
-      unwritten (Some (Here v rs)) e = refl
-      unwritten (Some (Lent w)) e = e
-      unwritten None e = refl
+  free_reads S b h = grind (arith, rests, reaches)
 
   -- and it sees a value
   pub free_sees : (S : State T) (b : GenerationalPointer)
@@ -75,15 +65,11 @@ module _ {T : Type 0} where
 
   leaves_box : (S : State T) (call : Action T) (b : GenerationalPointer)
       → LeavesUnborrowed S call b → LeavesBox S call b
-  leaves_box S (Read a l) b h = tt
-  leaves_box S (Write a l) b h = tt
-  leaves_box S _ b h = h
+  leaves_box S call b h = grind arith
 
   unborrowed : (S : State T) (call : Action T) (b : GenerationalPointer) (m : Name)
       → reach S b ≡ Some m → LeavesUnborrowed S call b → Borrows S call m → ⊥
-  unborrowed S (Read a l) b m e h t = h (t ∙ sym e)
-  unborrowed S (Write a l) b m e h t = h (t ∙ sym e)
-  unborrowed S _ b m e h t = t
+  unborrowed S call b m e h t = grind arith
 
   -- no borrow stands where none stood, unless the call asks for one there, ends the box or points
   -- it elsewhere
@@ -116,26 +102,18 @@ module _ {T : Type 0} where
   unhindered_leads : (S : State T) (left : NameMap (Cell T)) (c : Option (Cell T)) (n m : Name)
       → map.get S.cells n ≡ c → leads_to c n ≡ Some m → write_refusal (content_at S m) ≡ None
       → hindrance_of S.cells left c n ≡ None
-  unhindered_leads S left (Some (Value c l)) n m is e free =
-      by_cond (λ o. o ≡ None) (not (is_some (map.get left n))) (λ _. cc) (λ _. refl)
-  unhindered_leads S left (Some (Ref k l)) n m is e free =
-      by_cond (λ o. o ≡ None) (not (is_some (map.get left k))) (λ _. cc) (λ _. refl)
-  unhindered_leads S left _ n m is e free = refl
+  unhindered_leads S left c n m is e free = grind arith
 
   unhindered : (S : State T) (b : GenerationalPointer)
       → can_write S b ≡ true → hindrance_to S (own_name S b) ≡ None
   unfolding hindrance_to
-  unhindered S b h = let at = rests S b h in let r = reaches S b at.0 at.1.reaches in
-      rw (r.number, unhindered_leads S _ _ (name_of b) at.0 refl r.leads at.1.free)
+  unhindered S b h = search (arith, rests, reaches, unhindered_leads)
 
   -- an end of it is answered Ok
   pub free_ends : (S R : State T) (b : GenerationalPointer) (answer : Answer T)
       → can_write S b ≡ true → Meets S (End b) answer R → answer ≡ Done
   unfolding may_lack
-  free_ends S R b answer h (inl m) =
-      ap (λ (out : Outcome T). out.0) (rw (unhindered S b h) at m.2)
-  free_ends S R b answer h (inr m) = cc (ap (λ t. needs_memory S
-      (limit_tickets S (unless t S (Done, close S (own_name S b)))).0 (End b)) (unhindered S b h))
+  free_ends S R b answer h h2 = grind (arith, unhindered)
 
   -- ---- a read that was released
 
@@ -169,18 +147,11 @@ module _ {T : Type 0} where
   -- a cell that is filled and filled again with what it held
   refilled_back : (S : State T) (m : Name) (c d : Content T) → content_at S m ≡ Some d
       → change (change S.cells m (refill c)) m (refill d) ≡ S.cells
-  refilled_back S m c d had = by_option (map.get S.cells m) (λ none. cc)
-      (λ x is. changed_back by_name S.cells m (refill c) (refill d) x is (same x (rw is at had)))
-    where
-      same : (x : Cell T) → content_of (Some x) ≡ Some d → refill d (refill c x) ≡ x
-      same (Value o l) e = cc
-      same x e = cc
+  refilled_back S m c d had = grind (arith, by_option, changed_back, by_name)
 
   released : (R Q : State T) (g : Guard) (flag : Bool) → knows_reader R g ≡ true → Meets R
       (ReleaseReader g) (Flag flag) Q → Q ≡ remove_reader R g.cell g.ticket (content_at R g.cell)
-  released R Q g flag known = meets_each R Q (ReleaseReader g) (Flag flag)
-      (λ out. out.1 ≡ remove_reader R g.cell g.ticket (content_at R g.cell)) (λ refused. cc)
-      (λ f new. rw known)
+  released R Q g flag known h2 = grind arith
 
   -- the state is as it was, but for a ticket
   pub read_released : (S R Q : State T) (b : GenerationalPointer) (l : Location) (g : Guard)

@@ -46,12 +46,10 @@ AreApart R [] = Unit {0}
 AreApart R (e ∷ es) = (map.find R e.0 es ≡ None) × AreApart R es
 
 shadowed : {A : Type 0} (b : Bool) (x y z : A) → cond b x (cond b y z) ≡ cond b x z
-shadowed true x y z = refl
-shadowed false x y z = refl
+shadowed b x y z = grind arith
 
 or_none : {A : Type 0} (x : Option A) → option_or x None ≡ x
-or_none None = refl
-or_none (Some x) = refl
+or_none x = grind arith
 
 module _ {K X : Type 0} {R : K → K → Ordering} (o : IsKeyOrder R) where
   put_twice : (m : map.FinMap R X) (k : K) (x y : X)
@@ -69,15 +67,7 @@ module _ {K X : Type 0} {R : K → K → Ordering} (o : IsKeyOrder R) where
       → map.get (put m es) q ≡ option_or (map.find R q es) (map.get m q)
   get_put m [] apart q = refl
   get_put m (e ∷ es) apart q =
-      get_put (map.insert m e.0 e.1) es apart.1 q
-      ∙ ap (option_or (map.find R q es)) (map.get-insert o.total m e.0 e.1 q)
-      ∙ at (eq_by_cmp R q e.0) refl
-    where
-      at : (b : Bool) → eq_by_cmp R q e.0 ≡ b
-          → option_or (map.find R q es) (cond b (Some e.1) (map.get m q))
-          ≡ option_or (cond b (Some e.1) (map.find R q es)) (map.get m q)
-      at true is = cc (key_same o q e.0 is, apart.0)
-      at false is = refl
+      grind (arith, get_put (map.insert m e.0 e.1) es apart.1 q, map.get-insert {X = X} o.total, key_same o)
 
   -- what is put where nothing stood
   pub put_new : (es : List (K × X)) → AreApart R es → put (map.empty {R = R}) es ≡ map.from_entries es
@@ -147,33 +137,9 @@ cell_read P number n (Ref m l) = refl
 pub contains_up_to : (slot g : ℕ) (given : Names) (q : Name)
     → set.contains (give_up_to slot g given) q
     ≡ ((nat_eq q.slot slot && (leb 1 q.generation && leb q.generation g)) || set.contains given q)
-contains_up_to slot zero given q = none (nat_eq q.slot slot) q.generation
-  where
-    none : (a : Bool) (x : ℕ)
-        → set.contains given q ≡ ((a && (leb 1 x && leb x 0)) || set.contains given q)
-    none true x =
-        let e : (leb 1 x && leb x 0) ≡ false = grind (arith, nat_tests) in
-        ap (λ b. b || set.contains given q) (sym e)
-    none false x = refl
+contains_up_to slot zero given q = grind (arith, nat_tests)
 contains_up_to slot (suc g) given q =
-    contains-insert_name (give_up_to slot g given) (record { slot = slot; generation = suc g }) q
-    ∙ (λ i. name_test q (record { slot = slot; generation = suc g }) i
-    || contains_up_to slot g given q i)
-    ∙ one (nat_eq q.slot slot) q.generation (set.contains given q)
-  where
-    joined : (x g : ℕ) → (nat_eq x (suc g) || (leb 1 x && leb x g)) ≡ (leb 1 x && leb x (suc g))
-    joined x g = grind (arith, nat_tests)
-
-    split : (a b c : Bool) → (a || (b || c)) ≡ ((a || b) || c)
-    split true b c = refl
-    split false b c = refl
-
-    one : (a : Bool) (x : ℕ) (c : Bool)
-        → ((a && nat_eq x (suc g)) || ((a && (leb 1 x && leb x g)) || c))
-        ≡ ((a && (leb 1 x && leb x (suc g))) || c)
-    one true x c =
-        split (nat_eq x (suc g)) (leb 1 x && leb x g) c ∙ ap (λ b. b || c) (joined x g)
-    one false x c = refl
+    grind (arith, nat_tests, contains-insert_name, name_test, contains_up_to slot g given q)
 
 -- ---- owners' records
 
@@ -184,13 +150,9 @@ names_read : (P : Plain) (number k c : ℕ) (done rest : List Name)
     → read_rows (owning P k (record { names = done; count = c }))
     (list_map (λ n. row.Owned k (id_of number n)) rest)
     ≡ owning P k (record { names = done ++ rest; count = c })
-names_read P number k c done [] =
-    ap (λ ns. owning P k (record { names = ns; count = c })) (sym (append-nil done))
+names_read P number k c done [] = grind (arith, append-nil)
 names_read P number k c done (n ∷ rest) =
-    ap (λ m. read_rows (record P { owners = m }) (list_map (λ n. row.Owned k (id_of number n)) rest))
-    (changed_put by_number P.owners k (record { names = done; count = c }) (one_listed n))
-    ∙ names_read P number k c (done ++ n ∷ []) rest
-    ∙ ap (λ ns. owning P k (record { names = ns; count = c })) (append_assoc done (n ∷ []) rest)
+    grind (arith, names_read P number k c (done ++ n ∷ []) rest, changed_put, by_number, append_assoc)
 
 pub owners_read : (P : Plain) (number : ℕ) (es : List (ℕ × Ownership))
     → read_rows P (owner_rows number es) ≡ record P { owners = put P.owners es }
@@ -213,14 +175,7 @@ all_owners_read P number owners none =
 pub find_bare : {T : Type 0} (q : Name) (es : List (Name × Cell T))
     → map.find name_cmp q (list_map bare_entry es) ≡ option_map bare_cell (map.find name_cmp q es)
 find_bare q [] = refl
-find_bare q (e ∷ es) =
-    ap (cond (eq_by_cmp name_cmp q e.0) (Some (bare_cell e.1))) (find_bare q es)
-    ∙ at (eq_by_cmp name_cmp q e.0)
-  where
-    at : (b : Bool) → cond b (Some (bare_cell e.1)) (option_map bare_cell (map.find name_cmp q es))
-        ≡ option_map bare_cell (cond b (Some e.1) (map.find name_cmp q es))
-    at true = refl
-    at false = refl
+find_bare q (e ∷ es) = grind (arith, find_bare q es)
 
 pub get_bare_cell : {T : Type 0} (cells : NameMap (Cell T)) (n : Name)
     → map.get (bare_cells cells) n ≡ option_map bare_cell (map.get cells n)

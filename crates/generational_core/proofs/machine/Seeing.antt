@@ -9,7 +9,7 @@ use machine.{State, IsSound, IsGiven, AreNew, Meets, GenerationalPointer, by_nam
 use machine.{changed_view, name_apart, Change, Filling, IsFilling, IsLawful, after, old_content}
 use machine.{new_content, act_leads, second_fresh, Stay, Birth, Pair, Fill, Close, Turn, Writer}
 use machine.{Return, Replace, by_cond, cond_gives, live_by, swept_view, box_stays, keep_each, last}
-use machine.{same_store, meets_each, meets_follows, meets_sound, content_at}
+use machine.{arith, same_store, meets_each, meets_follows, meets_sound, content_at}
 use Rattle.std.specs.FinMap as map
 
 module _ {T : Type 0} where
@@ -33,29 +33,16 @@ module _ {T : Type 0} where
   -- what leads somewhere is a Value or a Ref, and a filled one leads to the same
   pub led_box : (c : Option (Cell T)) (q m : Name) → leads_to c q ≡ Some m
       → (is_some c ≡ true) × (is_shared c ≡ false)
-  led_box (Some (Value c l)) q m e = (refl, refl)
-  led_box (Some (Ref n l)) q m e = (refl, refl)
-  led_box _ q m e = cc
+  led_box c q m e = grind arith
 
   pub refilled_leads : (k : Content T) (c : Cell T) (q : Name)
       → leads_to (Some (refill k c)) q ≡ leads_to (Some c) q
-  refilled_leads k (Value c l) q = refl
-  refilled_leads k _ q = refl
+  refilled_leads k c q = grind arith
 
   -- a content stands where a box reaches
   pub reached_content : (S : State T) (b : GenerationalPointer) (m : Name)
       → IsSound S → reach S b ≡ Some m → is_some (content_at S m) ≡ true
-  reached_content S b m s e = at (map.get S.cells (name_of b)) refl (reaches S b m e).leads
-    where
-      held : (c : Option (Cell T)) → is_shared c ≡ true → is_some (content_of c) ≡ true
-      held (Some (Shared c l)) h = refl
-      held _ h = cc
-
-      at : (c : Option (Cell T)) → map.get S.cells (name_of b) ≡ c → leads_to c (name_of b) ≡ Some m
-          → is_some (content_at S m) ≡ true
-      at (Some (Value c l)) is e = cc
-      at (Some (Ref n l)) is e = held _ (cc (s.targets (name_of b) n l is))
-      at _ is e = cc
+  reached_content S b m s e = grind (arith, reaches)
 
   -- so what stands there is live
   pub reached_live : (S : State T) (b : GenerationalPointer) (m : Name)
@@ -70,60 +57,32 @@ module _ {T : Type 0} where
       (on : among (ending S call) q ≡ false) (unturned : Turns call q → ⊥) where
     kept_cell : (c : Change T) → IsLawful S call f next c
         → leads_to (map.get (after S f c).cells q) q ≡ leads_to (map.get S.cells q) q
-    kept_cell Stay law = refl
-    kept_cell (Birth c) law =
-        rw (get-insert_apart by_name S.cells f.first c q (λ is. cc ((law.2 new).ungiven)))
-    kept_cell (Pair v l) law =
-        let names = law.1 new in
-        let second = second_fresh S.given f.first f.second names.1.ungiven in
-        let one = add_cell S f.first (Shared (Here v []) l) in
-        ap (λ x. leads_to x q)
-        (get-insert_apart by_name one.cells f.second (Ref f.first l) q (λ is. cc (second.0))
-        ∙ get-insert_apart by_name S.cells f.first _ q (λ is. cc (names.0.ungiven)))
-    kept_cell (Fill n k) law =
-        ⊎_elim (ap (λ x. leads_to x q)) (λ e. cc (refilled_leads (new_content S k) e.1 q))
-        (changed_view by_name S.cells n (refill (new_content S k)) q)
-    kept_cell (Close names) law = rw (box_stays S.cells names q box (rw law.1 on))
-    kept_cell (Turn a old to l) law =
-        let other = get-insert_apart by_name S.cells a (Ref to l) q
-        (λ is. unturned (rw is law.3)) in
-        ap (λ x. leads_to x q)
-        (⊎_elim (λ e. e.0 ∙ other) (λ e. cc) (swept_view (map.insert S.cells a (Ref to l)) q))
+    kept_cell c law =
+        grind (arith, get-insert_apart, by_name, second_fresh, refilled_leads, changed_view, box_stays, swept_view)
 
   -- a call that leaves a box ends no such name, and turns no such Ref
   unended : (S : State T) (call : Action T) (b : GenerationalPointer)
       → LeavesBox S call b → among (ending S call) (name_of b) ≡ false
-  unended S (End a) b h = by_cond (λ names. among names (name_of b) ≡ false)
-      (nat_eq a.id.store S.number)
-      (λ _. ap (λ x. x || false) (name_apart (name_of b) (name_of a) (λ e. h (sym e)))) (λ _. refl)
-  unended S (ReleaseOwner o) b h = h
-  unended S _ b h = refl
+  unended S call b h = grind (arith, by_cond, name_apart)
 
   unturned : (S : State T) (call : Action T) (b : GenerationalPointer)
       → LeavesBox S call b → Turns call (name_of b) → ⊥
-  unturned S (Point a c) b h t = h t
-  unturned S _ b h t = t
+  unturned S call b h t = grind arith
 
   -- ---- the value that it reaches
 
   -- a call that leaves the value that a box reaches leaves the box, and doesn't lend or set it
   pub leaves_box : (S : State T) (call : Action T) (b : GenerationalPointer)
       → LeavesValue S call b → LeavesBox S call b
-  leaves_box S (Write a l) b h = tt
-  leaves_box S (ReleaseWriter g v) b h = tt
-  leaves_box S (SetValue a v) b h = tt
-  leaves_box S _ b h = h
+  leaves_box S call b h = grind arith
 
   pub unlent : (S : State T) (call : Action T) (b : GenerationalPointer) (m : Name)
       → reach S b ≡ Some m → LeavesValue S call b → Lends S call m → ⊥
-  unlent S (Write a l) b m e h t = h (t ∙ sym e)
-  unlent S (ReleaseWriter g v) b m e h t = h (e ∙ ap Some (sym t))
-  unlent S _ b m e h t = t
+  unlent S call b m e h t = grind arith
 
   pub unset : (S : State T) (call : Action T) (b : GenerationalPointer) (m : Name)
       → reach S b ≡ Some m → LeavesValue S call b → Sets S call m → ⊥
-  unset S (SetValue a v) b m e h t = h (t ∙ sym e)
-  unset S _ b m e h t = t
+  unset S call b m e h t = grind arith
 
   pub value_in_reached : (S : State T) (b : GenerationalPointer) (m : Name)
       → reach S b ≡ Some m → value_in S b ≡ value_at S m

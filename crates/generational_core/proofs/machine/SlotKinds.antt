@@ -17,28 +17,20 @@ module _ {K : Type 0} (e : K → K → Bool) where
   any_false : (x : K) (ys : List K) → (list_any (e x) ys ≡ true → ⊥)
       → AllByRecursion (λ y. e x y ≡ false) ys
   any_false x [] never = tt
-  any_false x (y ∷ ys) never = (
-    ⊎_elim (λ yes. absurd (never (or_left _ _ yes))) (λ other. other) (cases_Bool (e x y)),
-    any_false x ys (λ any. never (or_right _ _ any)),
-  )
+  any_false x (y ∷ ys) never = grind (arith, any_false x ys)
 
   no_any : (x : K) (ys : List K) → AllByRecursion (λ y. e x y ≡ false) ys
       → list_any (e x) ys ≡ true → ⊥
   no_any x [] all any = cc
-  no_any x (y ∷ ys) all any =
-      ⊎_elim (λ (yes : e x y ≡ true). cc) (no_any x ys all.1) (or_cases _ _ any)
+  no_any x (y ∷ ys) all any = grind (arith, no_any x ys all.1)
 
   -- two lists that have nothing in common, each of which has each once, do so in a row
   distinct_both : ((x : K) → e x x ≡ true) → (xs ys : List K) → IsDistinct e xs → IsDistinct e ys
       → ((q : K) → list_any (e q) xs ≡ true → list_any (e q) ys ≡ true → ⊥) → IsDistinct e (xs ++ ys)
   unfolding IsDistinct
   distinct_both here [] ys dx dy apart = dy
-  distinct_both here (x ∷ xs) ys dx dy apart = (
-    any_false x (xs ++ ys) (λ any. ⊎_elim (λ a. no_any x xs dx.0 a)
-        (λ b. apart x (or_left _ _ (here x)) b)
-        (or_cases _ _ (sym (list_any-append (e x) xs ys) ∙ any))),
-    distinct_both here xs ys dx.1 dy (λ q a b. apart q (or_right _ _ a) b),
-  )
+  distinct_both here (x ∷ xs) ys dx dy apart =
+      (any_false x (xs ++ ys) (grind (arith, no_any, list_any-append, apart x, here x)), distinct_both here xs ys dx.1 dy (λ q a b. grind (arith, apart q)))
 
 abbrev slots_in : List Name → List ℕ
 slots_in names = list_map (λ (n : Name). n.slot) names
@@ -56,15 +48,8 @@ module _ {T : Type 0} (S : State T) (s : IsSound S) (b : IsBounded S) where
       → IsDistinct (eq_by_cmp name_cmp) names → IsDistinct (eq_by_cmp nat_cmp) (slots_in names)
   unfolding IsDistinct
   slots_apart [] live d = tt
-  slots_apart (n ∷ names) live d = (
-    any_false (eq_by_cmp nat_cmp) n.slot (slots_in names) (λ any.
-        let m = found_slot names n.slot any in
-        let same = b.last n (live n (or_left _ _ (key_here by_name n)))
-        ∙ (ap (last_name S) m.2 ∙ sym (b.last m.0 (live m.0 (or_right _ _ m.1)))) in
-        no_any (eq_by_cmp name_cmp) n names d.0
-        (subst (λ q. list_any (eq_by_cmp name_cmp q) names ≡ true) (sym same) m.1)),
-    slots_apart names (λ q any. live q (or_right _ _ any)) d.1,
-  )
+  slots_apart (n ∷ names) live d =
+      (any_false (eq_by_cmp nat_cmp) n.slot (slots_in names) (λ any. grind (arith, found_slot, no_any, key_here, by_name, live, b.last)), slots_apart names (grind (arith, live)) d.1)
 
   abbrev live_slots : List ℕ
   live_slots = slots_in (map.keys S.cells)
@@ -78,12 +63,7 @@ module _ {T : Type 0} (S : State T) (s : IsSound S) (b : IsBounded S) where
   -- what stands in these lists
   is_live_slot : (q : ℕ) → list_any (eq_by_cmp nat_cmp q) live_slots ≡ true
       → (is_last_live S q ≡ true) × (map.contains_key (slots_of S) q ≡ true)
-  is_live_slot q any =
-      let m = found_slot (map.keys S.cells) q any in
-      let live = live_key m.0 m.1 in (
-        cc (m.2, b.last m.0 live),
-        ap (map.contains_key (slots_of S)) m.2 ∙ slot_made S m.0 (s.given m.0 live),
-      )
+  is_live_slot q any = grind (arith, found_slot, live_key, slot_made)
 
   is_kept_slot : (p : ℕ → Bool) (q : ℕ) → list_any (eq_by_cmp nat_cmp q) (kept_slots p) ≡ true
       → (p q ≡ true) × (map.contains_key (slots_of S) q ≡ true)
@@ -99,31 +79,17 @@ module _ {T : Type 0} (S : State T) (s : IsSound S) (b : IsBounded S) where
   unkept low q live kept = true≢false (sym live ∙ not-true _ (and_parts _ _ kept).0)
 
   rest_apart : IsDistinct (eq_by_cmp nat_cmp) (kept_slots (is_free S) ++ kept_slots (is_retired S))
-  rest_apart = distinct_both (eq_by_cmp nat_cmp) (key_here by_number) (kept_slots (is_free S))
-      (kept_slots (is_retired S)) (keys_apart nat_cmp (map.retain_keys (slots_of S) (is_free S)))
-      (keys_apart nat_cmp (map.retain_keys (slots_of S) (is_retired S)))
-      (λ q a b. one_kind q (is_kept_slot (is_free S) q a).0 (is_kept_slot (is_retired S) q b).0)
+  rest_apart = grind (arith, distinct_both, key_here, by_number, keys_apart, one_kind, is_kept_slot)
 
   all_apart : IsDistinct (eq_by_cmp nat_cmp)
       (live_slots ++ (kept_slots (is_free S) ++ kept_slots (is_retired S)))
-  all_apart = distinct_both (eq_by_cmp nat_cmp) (key_here by_number) live_slots
-      (kept_slots (is_free S) ++ kept_slots (is_retired S))
-      (slots_apart (map.keys S.cells) live_key (keys_apart name_cmp S.cells)) rest_apart
-      (λ q a b. ⊎_elim
-      (λ f. unkept _ q (is_live_slot q a).0 (is_kept_slot (is_free S) q f).0)
-      (λ r. unkept _ q (is_live_slot q a).0 (is_kept_slot (is_retired S) q r).0)
-      (or_cases _ _ (sym (list_any-append (eq_by_cmp nat_cmp q) (kept_slots (is_free S))
-      (kept_slots (is_retired S))) ∙ b)))
+  all_apart =
+      grind (arith, distinct_both, key_here, by_number, slots_apart, live_key, keys_apart, rest_apart, unkept, is_live_slot, is_kept_slot, or_cases, list_any-append)
 
   all_slots : (q : ℕ) → list_any (eq_by_cmp nat_cmp q)
       (live_slots ++ (kept_slots (is_free S) ++ kept_slots (is_retired S))) ≡ true
       → map.contains_key (slots_of S) q ≡ true
-  all_slots q any = ⊎_elim (λ live. (is_live_slot q live).1)
-      (λ rest. ⊎_elim (λ f. (is_kept_slot (is_free S) q f).1) (λ r. (is_kept_slot (is_retired S) q r).1)
-      (or_cases _ _ (sym (list_any-append (eq_by_cmp nat_cmp q) (kept_slots (is_free S))
-      (kept_slots (is_retired S))) ∙ rest)))
-      (or_cases _ _ (sym (list_any-append (eq_by_cmp nat_cmp q) live_slots
-      (kept_slots (is_free S) ++ kept_slots (is_retired S))) ∙ any))
+  all_slots q any = grind (arith, is_live_slot, is_kept_slot, or_cases, list_any-append)
 
   -- each slot is live, free or retired, and is one of them
   pub slots_are : slots S ≡ map.len S.cells + free S + retired S

@@ -32,16 +32,13 @@ tickets rs = list_map (λ r. r.ticket) rs
 in_filter : (p : Borrow → Bool) (q : ℕ → Bool) (rs : List Borrow)
     → list_any q (tickets (filter p rs)) ≡ true → list_any q (tickets rs) ≡ true
 in_filter p q [] h = h
-in_filter p q (r ∷ rs) h = by_cond (λ ss. list_any q (tickets ss) ≡ true → (q r.ticket ||
-    list_any q (tickets rs)) ≡ true) (p r) (λ _ k. ⊎_elim (λ e. or_left _ _ e) (λ e. or_right _ _
-    (in_filter p q rs e)) (or_cases _ _ k)) (λ _ k. or_right _ _ (in_filter p q rs k)) h
+in_filter p q (r ∷ rs) h = grind (arith, in_filter p q rs)
 
 none_after : (p : Borrow → Bool) (t : ℕ) (rs : List Borrow)
     → AllByRecursion (λ y. nat_eq t y ≡ false) (tickets rs)
     → AllByRecursion (λ y. nat_eq t y ≡ false) (tickets (filter p rs))
 none_after p t [] h = h
-none_after p t (r ∷ rs) h = by_cond (λ ss. AllByRecursion (λ y. nat_eq t y ≡ false) (tickets ss))
-    (p r) (λ _. (h.0, none_after p t rs h.1)) (λ _. none_after p t rs h.1)
+none_after p t (r ∷ rs) h = grind (arith, none_after p t rs h.1)
 
 apart_filter : (p : Borrow → Bool) (rs : List Borrow)
     → IsDistinct nat_eq (tickets rs) → IsDistinct nat_eq (tickets (filter p rs))
@@ -77,8 +74,7 @@ module _ {T : Type 0} where
   -- a cell at a new name
   born_here : (S : State T) (n q : Name) (c : Cell T) → q ≡ n → tickets_of (content_of (Some c))
       ≡ [] → IsGiven (add_cell S n c) q × (tickets_at (add_cell S n c).cells q ≡ [])
-  born_here S n q c is quiet = rw is
-      (contains-insert_here by_name S.given n, rw (get-insert_here by_name S.cells n c) quiet)
+  born_here S n q c is quiet = grind (arith, contains-insert_here, by_name, get-insert_here)
 
   module _ (S : State T) (call : Action T) (f : NewNames) (owners : Owners) (next : ℕ)
       (new : AreNew S call f) (q : Name) where
@@ -115,16 +111,12 @@ module _ {T : Type 0} where
   -- no change takes a name back
   given_still : (S : State T) (f : NewNames) (c : Change T) (q : Name)
       → IsGiven S q → IsGiven (after S f c) q
-  given_still S f (Birth c) q h = contains-insert_old by_name S.given f.first q h
-  given_still S f (Pair v l) q h =
-      contains-insert_old by_name _ f.second q (contains-insert_old by_name S.given f.first q h)
-  given_still S f _ q h = h
+  given_still S f c q h = grind (arith, contains-insert_old, by_name)
 
   -- nor another store's number, or a slot's first generation; and none changes owners' records
   pub same_store : (S : State T) (f : NewNames) (c : Change T) → ((after S f c).number ≡ S.number)
       × ((after S f c).start ≡ S.start) × ((after S f c).owners ≡ S.owners)
-  same_store S f (Birth c) = (refl, refl, refl)
-  same_store S f _ = (refl, refl, refl)
+  same_store S f c = grind arith
 
   -- R comes after S by a call: nothing is taken back
   pub record Follows (S : State T) (call : Action T) (R : State T) : Type 0 where
@@ -173,34 +165,18 @@ module _ {T : Type 0} where
       → content_of (Some (refill (new_content S k) c)) ≡ Some (new_content S k)
       → P (Some c) (Some (refill (new_content S k) c))) → ((m n : Name) (l : Location)
       → P (Some (Ref m l)) (Some (Ref n l))) → P (map.get S.cells q) (map.get R.cells q)
-  keep_each {S} {R} {call} h q P same gone born filled turned = at (h.view q)
-    where
-      both : {x y : Option (Cell T)} → map.get S.cells q ≡ x → map.get R.cells q ≡ y
-          → P x y → P (map.get S.cells q) (map.get R.cells q)
-      both {x} {y} e f r = rw (e, f) r
-
-      at : View S R call h.spot q → P (map.get S.cells q) (map.get R.cells q)
-      at (Same e) = both refl e (same (map.get S.cells q))
-      at (Gone e free) = both refl e (gone free)
-      at (Born new given quiet) = born new given quiet
-      at (Filled k c here lawful old new had) =
-          both old new (filled k c here lawful had (refilled_content _ _ (Some c) had))
-      at (Turned m n l old new) = both old new (turned m n l)
+  keep_each h q P same gone born filled turned = grind (arith, h.view q, refilled_content)
 
   -- what is live was live, or is new
   pub live_before : {S R : State T} {call : Action T} (h : Follows S call R) (q : Name)
       → is_some (map.get R.cells q) ≡ true → (is_some (map.get S.cells q) ≡ true)
       ⊎ ((set.contains S.given q ≡ false) × IsGiven R q)
-  live_before {S} {R} h q = keep_each h q (λ x y. is_some y ≡ true
-      → (is_some x ≡ true) ⊎ ((set.contains S.given q ≡ false) × IsGiven R q)) (λ x live. inl live)
-      (λ free live. cc) (λ new given quiet live. inr (new, given))
-      (λ k c here law had has live. inl refl) (λ m n l live. inl refl)
+  live_before h q live = grind (arith, h.view q)
 
   -- an ended name has no cell again
   pub ended_still : {S R : State T} {call : Action T} (h : Follows S call R) (q : Name)
       → IsEnded S q → map.get R.cells q ≡ None
-  ended_still h q ended = keep_each h q (λ x y. x ≡ None → y ≡ None) (λ x e. e) (λ free e. refl)
-      (λ new given quiet e. cc) (λ k c here law had has e. cc) (λ m n l e. cc) ended.1
+  ended_still h q ended = grind (arith, h.view q)
 
   -- ---- tickets
 
@@ -239,13 +215,11 @@ module _ {T : Type 0} where
   -- nothing stands at a name that was never given, also beside another new one
   pub absent : (S : State T) → IsSound S → (n : Name)
       → set.contains S.given n ≡ false → map.get S.cells n ≡ None
-  absent S s n new =
-      by_option (map.get S.cells n) (λ none. none) (λ c is. cc (s.given n (ap is_some is)))
+  absent S s n new = grind arith
 
   pub absent_beside : (S : State T) → IsSound S → (m n : Name) (c : Cell T)
       → set.contains (add_cell S m c).given n ≡ false → map.get (add_cell S m c).cells n ≡ None
-  absent_beside S s m n c new = let apart = second_fresh S.given m n new in
-      get-insert_apart by_name S.cells m c n (λ is. apart.1 (sym is)) ∙ absent S s n apart.0
+  absent_beside S s m n c new = grind (arith, second_fresh, get-insert_apart, by_name, absent)
 
   -- after each change Refs name Shared cells, and Shared cells are named
   module _ (S : State T) (call : Action T) (f : NewNames) (next : ℕ)
@@ -269,26 +243,18 @@ module _ {T : Type 0} where
     pub shared_still : (q : Name)
         → IsGiven S q → is_shared (map.get S.cells q) ≡ false
         → is_shared (map.get R.cells q) ≡ false
-    shared_still q given = keep_each h q (λ x y. is_shared x ≡ false → is_shared y ≡ false)
-        (λ x e. e) (λ free e. refl) (λ new is quiet e. cc)
-        (λ k c here law had has e. refilled_shared _ c ∙ e) (λ m n l e. refl)
+    shared_still q given plain = grind (arith, h.view q, refilled_shared)
 
     each_boxed : (names : List Name)
         → AllByRecursion (IsBoxed S) names → AllByRecursion (IsBoxed R) names
     each_boxed [] all = tt
-    each_boxed (n ∷ names) all =
-        ((h.given n all.0.0, shared_still n all.0.0 all.0.1), each_boxed names all.1)
+    each_boxed (n ∷ names) all = grind (arith, h.given, shared_still, each_boxed names all.1)
 
     -- tickets stand apart, and each stood before, or is new
     tickets_still : (q : Name) → IsDistinct nat_eq (tickets_at R.cells q) × ((t : ℕ)
         → Stands R.cells q t → Stands S.cells q t ⊎ ((q ≡ h.spot) × (S.next ≤ t) × (t < R.next)))
     unfolding IsDistinct
-    tickets_still q =
-        let P = Renews S R.next h.spot q in
-        keep_each h q (λ x y. P (content_of x) (content_of y)) (λ x d low. (d, λ t e. inl e))
-        (λ free d low. (tt, λ t e. cc)) (λ new given quiet d low. rw quiet (tt, λ t e. cc))
-        (λ k c here law had has. rw (had, has) (renewed S call R.next h.spot q k here law))
-        (λ m n l d low. (tt, λ t e. cc)) (s.apart q) (s.below q)
+    tickets_still q = grind (arith, h.view q, renewed, s.apart q, s.below q, refilled_content)
 
     follows_sound : IsLinked R.cells → AreRecords R R.next R.owners → IsSound R
     follows_sound links records = record {
@@ -348,5 +314,4 @@ module _ {T : Type 0} where
       → b.id.store ≡ S.number → map.get S.cells (name_of b) ≡ Some (Ref m l)
       → (reach S b ≡ Some m) × (is_shared (map.get S.cells m) ≡ true)
   unfolding reach
-  ref_reaches S b m l s own is =
-      (rw (eq-eqb b.id.store S.number own, is) refl, s.targets (name_of b) m l is)
+  ref_reaches S b m l s own is = grind arith

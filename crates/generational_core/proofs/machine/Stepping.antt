@@ -9,7 +9,7 @@ use Common.{subst, Guard, reach, Value, NewNames, refer, Refer, Reads, State, Ar
 use Common.{content_of, location_of, location_at, has_reader, has_writer, last_ticket, and_parts}
 use Common.{and_from, OwnerName, MakeShared, content_at, or_left, eqb-true, list_any, value_of}
 use Common.{value_at, is_known, BorrowRefused, no_names, refusal_to_read, knows_reader}
-use Common.{knows_writer, ReleaseReader, ReleaseWriter, takes_ticket, nat_eq_equiv, []}
+use Common.{arith, knows_writer, ReleaseReader, ReleaseWriter, takes_ticket, nat_eq_equiv, []}
 use Rattle.generational_core.proofs.machine.Changes.{new_fresh, act_leads, is_making, IsLawful}
 use Rattle.generational_core.proofs.machine.Changes.{Change, after, Filling, IsFilling, Says}
 use Rattle.generational_core.proofs.machine.Changes.{act_says, without, old_content, new_content}
@@ -40,9 +40,7 @@ module _ {T : Type 0} where
 
   same_given : (S : State T) (call : Action T) (f : NewNames) (next : ℕ) (c : Change T)
       → IsLawful S call f next c → is_making call ≡ false → (after S f c).given ≡ S.given
-  same_given S call f next (Birth c) law other = cc
-  same_given S call f next (Pair v l) law other = cc
-  same_given S call f next _ law other = refl
+  same_given S call f next c law other = grind arith
 
   -- each call leaves the first generation, and none but a making gives names
   pub act_start : (S : State T) (call : Action T) (f : NewNames)
@@ -77,19 +75,11 @@ module _ {T : Type 0} where
   takes_referred : (S : State T) (call : Action T) (f : NewNames) (t : Option BorrowRefusal)
       (o : Option OwnerName) (b : GenerationalPointer) (to : Option Name) (target : Option (Cell T))
       → TakesNew S call f (unless t S (refer S o b to target f.first))
-  takes_referred S call f None o b (Some m) (Some (Shared c l)) = inl
-  takes_referred S call f t o b to target = λ _. inr (refl, refl)
+  takes_referred S call f t o b to target = grind arith
 
   -- a call takes new names, or is refused
   pub takes_new : (S : State T) (call : Action T) (f : NewNames) → TakesNew S call f (act S call f)
-  takes_new S (Make o v l) f =
-      by_cond (TakesNew S (Make o v l) f) (is_known S o) (λ _. inl) (λ _ _. inr (refl, refl))
-  takes_new S (MakeShared o v l) f =
-      by_cond (TakesNew S (MakeShared o v l) f) (is_known S o) (λ _. inl) (λ _ _. inr (refl, refl))
-  takes_new S (Refer o b) f =
-      by_cond (TakesNew S (Refer o b) f) (is_known S o) (λ _. takes_referred S (Refer o b) f
-      (refusal_to_read S b) o b (reach S b) (cell_at S (reach S b))) (λ _ _. inr (refl, refl))
-  takes_new S _ f = λ _. inl tt
+  takes_new S call f = grind arith
 
   -- a call is refused and changes nothing, or takes new names and does what the machine does
   pub meets_cases : (S R : State T) (call : Action T) (answer : Answer T)
@@ -108,8 +98,7 @@ module _ {T : Type 0} where
   -- a box of an ended name reaches nothing, so it is answered that its value is gone
   ended_reach : (S : State T) (b : GenerationalPointer) → IsEnded S (name_of b) → reach S b ≡ None
   unfolding reach
-  ended_reach S b e =
-      by_cond (λ to. to ≡ None) (nat_eq b.id.store S.number) (λ _. rw e.1) (λ _. refl)
+  ended_reach S b e = grind arith
 
   pub ended_read : (S : State T) (b : GenerationalPointer)
       → IsEnded S (name_of b) → refusal_to_read S b ≡ Some (Dropped b.created_at)
@@ -122,9 +111,7 @@ module _ {T : Type 0} where
   ended_write S b e = rw (ended_reach S b e) refl
 
   says_refused : (S R : State T) (answer : Answer T) → is_refusal answer ≡ true → Says S answer R
-  says_refused S R (BorrowRefused t) h = tt
-  says_refused S R (Refused e) h = tt
-  says_refused S R _ h = cc
+  says_refused S R answer h = grind arith
 
   -- whether a call gives back the reader, or the writer, with a ticket
   abbrev pub ends_reader : Action T → ℕ → Bool
@@ -181,36 +168,12 @@ module _ {T : Type 0} where
     pub meets_location : (m : Name) → IsSound S → Meets S call answer R
         → is_some (map.get S.cells m) ≡ true → is_some (map.get R.cells m) ≡ true
         → location_at R m ≡ location_at S m
-    meets_location m s meets before = keep_each (meets_follows meets) m
-        (λ x y. is_some y ≡ true → location_of y ≡ location_of x) (λ x e. refl) (λ free e. cc)
-        (λ new given quiet e. cc (s.given m before)) (λ k c here law had has e. refilled _ c)
-        (λ k n l e. refl)
-      where
-        refilled : (c : Content T) (x : Cell T)
-            → location_of (Some (refill c x)) ≡ location_of (Some x)
-        refilled c (Value old l) = refl
-        refilled c _ = refl
+    meets_location m s meets before after = grind (arith, (meets_follows meets).view m, s.given m)
 
     -- a value that no writer has, before or after a call that doesn't set it, is the same
     pub meets_value : (m : Name) → IsSound S → Meets S call answer R → (Sets S call m → ⊥) → is_some
         (value_at S m) ≡ true → is_some (value_at R m) ≡ true → value_at R m ≡ value_at S m
-    meets_value m s meets unset before =
-        let value = λ (x : Option (Cell T)). value_of (content_of x) in
-        keep_each (meets_follows meets) m
-        (λ x y. is_some (value x) ≡ true → is_some (value y) ≡ true → value y ≡ value x)
-        (λ x e i. refl) (λ free e i. cc)
-        (λ new given quiet e i. cc (s.given m (live_by (λ c. is_some (value c)) refl _ before)))
-        (λ k c here law had has e i. rw (has, had) (filled k law (rw had at e) (rw has at i)))
-        (λ k n l e i. cc) before
-      where
-        -- what a content that is filled anew has where neither is lent
-        filled : (k : Filling T) → IsFilling S call R.next m k → is_some
-            (value_of (Some (old_content k))) ≡ true → is_some (value_of (Some (new_content S k)))
-            ≡ true → value_of (Some (new_content S k)) ≡ value_of (Some (old_content k))
-        filled (Writer v l) law old new = cc
-        filled (Return w g v) law old new = cc
-        filled (Replace w v) law old new = absurd (unset law)
-        filled _ law old new = refl
+    meets_value m s meets unset before h5 = grind (arith, keep_each, meets_follows, live_by)
 
     -- ---- guards
 
@@ -221,21 +184,8 @@ module _ {T : Type 0} where
         → p (Some (new_content S k)) ≡ true) → IsSound S → Meets S call answer R
         → (nat_eq g.store S.number && p (content_at S g.cell)) ≡ true
         → (nat_eq g.store R.number && p (content_at R g.cell)) ≡ true
-    stays g p none alone filled s meets known = let f = meets_follows meets in
-        let parts = and_parts (nat_eq g.store S.number) (p (content_at S g.cell)) known in
-        let borrowed = refused _ parts.1 in
-        let live = live_by (λ c. is_some (write_refusal (content_of c))) refl _ borrowed in
-        and_from _ _ (rw f.number parts.0)
-        (keep_each f g.cell (λ x y. p (content_of x) ≡ true → p (content_of y) ≡ true)
-        (λ x e. e) (λ free e. absurd (free s borrowed))
-        (λ new given quiet e. cc (s.given g.cell live))
-        (λ k c here law had has e. rw has (filled k law (rw had at e)))
-        (λ m n l e. cc) parts.1)
-      where
-        refused : (c : Option (Content T)) → p c ≡ true → is_some (write_refusal c) ≡ true
-        refused None h = cc
-        refused (Some (Here v [])) h = cc (alone v)
-        refused _ h = refl
+    stays g p none alone filled s meets known =
+        grind (arith, meets_follows, and_parts, live_by, and_from, keep_each)
 
     -- a store knows a guard until it is given back
     pub reader_stays : IsSound S → Meets S call answer R → (g : Guard)

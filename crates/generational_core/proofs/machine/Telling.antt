@@ -14,7 +14,7 @@ use machine.{NameMap, among, is_name, value_in, State, IsSound, Ownership, conte
 use machine.{GenerationalPointer, Location, by_name, by_number, get-insert_here, get-insert_apart}
 use machine.{get-changed_here, changed_view, name_here, name_same, same_ids, filled_content}
 use machine.{AreFresh, new_fresh, by_cond, swept_view, swept_ref, box_ends, meets_each, is_refusal}
-use machine.{cond_gives, Refused, get-without, ◌++◌}
+use machine.{arith, cond_gives, Refused, get-without, ◌++◌}
 use Rattle.generational_core.proofs.machine.Resting.{rests_free}
 use Rattle.generational_core.proofs.machine.Seeing.{reach_by, value_in_reached, refilled_leads}
 use Rattle.std.specs.FinMap as map
@@ -55,16 +55,11 @@ module _ {T : Type 0} where
   -- a refusal tells nothing, and so does one that may come
   refused_tells : (S R : State T) (answer : Answer T) (call : Action T)
       → is_refusal answer ≡ true → Tells S call answer R
-  refused_tells S R (BorrowRefused t) (Make o v l) h = tt
-  refused_tells S R (BorrowRefused t) call h = tt
-  refused_tells S R (Refused e) (Make o v l) h = tt
-  refused_tells S R (Refused e) call h = tt
-  refused_tells S R answer call h = cc
+  refused_tells S R answer call h = grind arith
 
   unless_told : (S : State T) (call : Action T) (t : Option BorrowRefusal) (out : Outcome T)
       → TellsOf S call out → TellsOf S call (unless t S out)
-  unless_told S call None out told = told
-  unless_told S call (Some t) out told = refused_tells S S (BorrowRefused t) call refl
+  unless_told S call t out told = grind arith
 
   -- boxes of one id reach the same
   same_reach : (S : State T) (a b : GenerationalPointer) → a.id ≡ b.id → reach S a ≡ reach S b
@@ -79,8 +74,7 @@ module _ {T : Type 0} where
       × (value_in (add_to_list S o n) b ≡ value_in S b)
       × (can_write (add_to_list S o n) b ≡ can_write S b)
   unfolding value_in reach refusal_to_write
-  listed S None n b = (refl, refl, refl)
-  listed S (Some o) n b = (refl, refl, refl)
+  listed S o n b = grind arith
 
   in_list : (S : State T) (o : Option OwnerName) (n : Name) → Lists S o n (add_to_list S o n)
   in_list S None n a h is held = cc
@@ -145,9 +139,7 @@ module _ {T : Type 0} where
   pub filled_reach : (S : State T) (n : Name) (k : Content T) (b : GenerationalPointer)
       → reach (fill S n k) b ≡ reach S b
   unfolding reach
-  filled_reach S n k b = ap (λ to. cond (nat_eq b.id.store S.number) to None)
-      (⊎_elim (ap (λ x. leads_to x (name_of b))) (λ e. cc (refilled_leads k e.1 (name_of b)))
-      (changed_view by_name S.cells n (refill k) (name_of b)))
+  filled_reach S n k b = grind (arith, refilled_leads, changed_view, by_name)
 
   read_told : (S : State T) (b : GenerationalPointer) (l : Location) (m : Option Name)
       (c : Option (Content T)) → reach S b ≡ m → content_of (cell_at S m) ≡ c
@@ -188,23 +180,17 @@ module _ {T : Type 0} where
   -- ---- ends, and references that turn
 
   shared_leads : (c : Option (Cell T)) (n : Name) → is_shared c ≡ true → leads_to c n ≡ None
-  shared_leads (Some (Shared c l)) n h = refl
-  shared_leads _ n h = cc
+  shared_leads c n h = grind arith
 
   pub ended_leads : (cells : NameMap (Cell T)) (names : List Name) (n : Name)
       → among names n ≡ true → leads_to (map.get (cells_after cells names) n) n ≡ None
-  ended_leads cells names n there = ⊎_elim
-      (λ shared. let none = shared_leads (map.get cells n) n shared in ⊎_elim
-      (λ e. cc (get-without cells names n)) (λ e. cc) (swept_view (take_away cells names) n))
-      (λ box. cc (box_ends cells names n box there)) (cases_Bool (is_shared (map.get cells n)))
+  ended_leads cells names n there =
+      grind (arith, shared_leads, get-without, swept_view, box_ends, cases_Bool)
 
   ended_told : (S : State T) (b : GenerationalPointer)
       → TellsOf S (End b) (Done, close S (own_name S b))
   unfolding reach
-  ended_told S b = by_cond (λ names. cond (nat_eq b.id.store S.number)
-      (leads_to (map.get (cells_after S.cells names) (name_of b)) (name_of b)) None ≡ None)
-      (nat_eq b.id.store S.number) (λ own. rw own (ended_leads S.cells (name_of b ∷ [])
-      (name_of b) (ap (λ x. x || false) (name_here (name_of b))))) (λ other. rw other refl)
+  ended_told S b = grind (arith, by_cond, ended_leads, name_here)
 
   turned_told : (S : State T) (a b : GenerationalPointer) (own : Bool)
       (cell : Option (Cell T)) (to : Option Name) (target : Option (Cell T))

@@ -2,7 +2,7 @@
 -- what the tests of boxes say.
 use Rattle.std.specs.FinMap as map
 use Rattle.std.proofs.Common.{◌≡◌, ℕ, Bool, true, cond, List, [], ◌∷◌, Option, None, Some, refl}
-use Rattle.std.proofs.Common.{sym, ap, ◌∙◌, inl, inr}
+use Rattle.std.proofs.Common.{arith, sym, ap, ◌∙◌, inl, inr}
 use Rattle.std.specs.Cmp.{nat_eq_equiv}
 use Rattle.std.specs.Prelude.{is_some, is_none, nat_eq, nat_lt, ◌&&◌, Result, Ok, Err, IsOk}
 use Rattle.std.proofs.lemmas.Bool.{or_left, or_right}
@@ -65,9 +65,7 @@ module _ {T : Type 0} where
 
   -- no borrow hinders a write of a content where none stands
   unrefused : (c : Option (Content T)) → tickets_of c ≡ [] → write_refusal c ≡ None
-  unrefused None h = refl
-  unrefused (Some (Here v [])) h = refl
-  unrefused _ h = cc
+  unrefused c h = grind arith
 
   module _ (S : State T) (quiet : HasNoBorrows S) (b : GenerationalPointer) where
     -- a box that reaches something may be written
@@ -77,14 +75,12 @@ module _ {T : Type 0} where
 
     -- so one that sees nothing reaches nothing
     pub quiet_gone : IsSound S → value_in S b ≡ None → reach S b ≡ None
-    quiet_gone s none = by_option (reach S b) (λ gone. gone)
-        (λ m to. cc ((free_sees S b s (quiet_free m to)).1))
+    quiet_gone s none = grind (arith, by_option, free_sees, quiet_free)
 
     -- and a box may be written exactly where it sees a value
     pub quiet_sees : IsSound S → can_write S b ≡ is_some (value_in S b)
     unfolding refusal_to_write value_in
-    quiet_sees s = by_option (reach S b) (λ none. cc) (λ m to. let free = quiet_free m to in
-        let saw = (free_sees S b s free).1 in free ∙ sym (ap is_some saw))
+    quiet_sees s = grind (arith, by_option, quiet_free, free_sees)
 
   -- ---- which calls leave a store so
 
@@ -141,15 +137,7 @@ module _ {T : Type 0} where
   done_always : (S R : State T) (call : Action T) (answer : Answer T)
       → ((f : NewNames) → (act S call f).0 ≡ Done) → Meets S call answer R → answer ≡ Done
   unfolding may_lack
-  done_always S R call answer goes m = at m
-    where
-      limited : (f : NewNames) → (limit_tickets S (act S call f)).0 ≡ Done
-      limited f = ap (λ a. (cond {A = Outcome T} (takes_ticket a && nat_eq S.next last_ticket)
-          (Refused NumbersExhausted, S) (a, (act S call f).1)).0) (goes f)
-
-      at : Meets S call answer R → answer ≡ Done
-      at (inl m) = ap (λ (out : Outcome T). out.0) m.2 ∙ limited m.0
-      at (inr m) = cc (ap (λ a. needs_memory S a call) (limited no_names))
+  done_always S R call answer goes m = grind arith
 
   -- no borrow hinders names that are free
   unhindered : (S : State T) (names : List Name) → AreFree S names → hindrance_to S names ≡ None
@@ -194,15 +182,11 @@ module _ {T : Type 0} where
   -- results that are told as done are Ok
   ended_ok : {U : Type 0} (r : Result U (error.Refused BorrowMutError))
       → ◌≡◌ {A = Answer T} (end_answer r) Done → IsOk r
-  ended_ok (Ok u) e = refl
-  ended_ok (Err (refused.Borrow e)) is = cc
-  ended_ok (Err (refused.Store e)) is = cc
+  ended_ok r e = grind arith
 
   released_ok : {U V : Type 0} (r : Result U (V × error.Refused BorrowMutError))
       → ◌≡◌ {A = Answer T} (release_answer r) Done → IsOk r
-  released_ok (Ok u) e = refl
-  released_ok (Err (v, refused.Borrow e)) is = cc
-  released_ok (Err (v, refused.Store e)) is = cc
+  released_ok r e = grind arith
 
   module _ {S R : State T} where
     -- so a release of their owner is never refused
@@ -220,14 +204,9 @@ module _ {T : Type 0} where
     pub quiet_ends : (b : GenerationalPointer) {U : Type 0}
         (r : Result U (error.Refused BorrowMutError)) → HasNoBorrows S
         → Meets S (End b) (end_answer r) R → IsOk r
-    quiet_ends b {U} r quiet m = ended_ok {U = U} r (done_always S R (End b) _ goes m)
-      where
-        goes : (f : NewNames) → (act S (End b) f).0 ≡ Done
-        goes f =
-            rw (unhindered S (own_name S b) (λ a m there to gone. quiet_free S quiet a m to))
+    quiet_ends b r quiet m = search (arith, ended_ok, done_always, unhindered, quiet_free)
 
     pub quiet_releases : (o : OwnerName) (h : Ownership) {U V : Type 0}
         (r : Result U (V × error.Refused BorrowMutError)) → ownership S o ≡ Some h
         → HasNoBorrows S → Meets S (ReleaseOwner o) (release_answer r) R → IsOk r
-    quiet_releases o h {U} {V} r held quiet =
-        frees_owned o h {U = U} {V = V} r held (λ a m there to gone. quiet_free S quiet a m to)
+    quiet_releases o h r held quiet h3 = grind (arith, frees_owned, quiet_free)

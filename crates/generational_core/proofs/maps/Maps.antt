@@ -24,8 +24,7 @@ use Rattle.std.specs.FinSet as set
 
 -- names that compare alike are one
 pub name_exact : map.IsAntisymmetric name_cmp
-name_exact a b h = ap (λ (p : ℕ × ℕ). record { slot = p.0; generation = p.1 }) (exact_pairs nat_cmp
-    nat_cmp exact_unsigned exact_unsigned (a.slot, a.generation) (b.slot, b.generation) h)
+name_exact = grind arith
 
 -- names are ordered
 pub name_total : IsTotalOrder name_cmp
@@ -46,8 +45,7 @@ by_number = record { total = nat_cmp_total; exact = map.nat_cmp-IsAntisymmetric 
 
 -- what holds where there is nothing, and where there is a value
 pub by_option : {A B : Type 0} (x : Option A) → (x ≡ None → B) → ((a : A) → x ≡ Some a → B) → B
-by_option None none some = none refl
-by_option (Some a) none some = some a refl
+by_option x none some = grind arith
 
 -- ---- keys of any kind
 
@@ -107,8 +105,7 @@ module _ {K : Type 0} {R : K → K → Ordering} (o : IsKeyOrder R) where
     pub keep_view : (m : map.FinMap R X) (p : K → Bool) (q : K)
         → ((map.get (map.retain_keys m p) q ≡ map.get m q) × (p q ≡ true))
         ⊎ ((map.get (map.retain_keys m p) q ≡ None) × (p q ≡ false))
-    keep_view m p q = ⊎_elim (λ h. inl (cc (get-keep m p q), h))
-        (λ h. inr (cc (get-keep m p q), h)) (cases_Bool (p q))
+    keep_view m p q = grind (arith, get-keep, cases_Bool)
 
     pub get-changed_here : (m : map.FinMap R X) (k : K) (f : X → X) (x : X)
         → map.get m k ≡ Some x → map.get (change m k f) k ≡ Some (f x)
@@ -145,10 +142,8 @@ module _ {K : Type 0} {R : K → K → Ordering} (o : IsKeyOrder R) where
 
     pub get-changed : (m : map.FinMap R X) (k : K) (f : X → X) (q : K) → map.get (change m k f) q
         ≡ cond (eq_by_cmp R q k) (option_map f (map.get m q)) (map.get m q)
-    get-changed m k f q = by_keys q k
-        (λ is. by_option (map.get m k) (λ e. cc (key_here k, get-changed_none m k f e))
-        (λ x e. cc (key_here k, get-changed_here m k f x e)))
-        (λ ne. rw (key_apart q k ne) (get-changed_apart m k f q ne))
+    get-changed m k f q =
+        grind (arith, by_keys, by_option, key_here, get-changed_none, get-changed_here, key_apart, get-changed_apart)
 
     -- the one key that is changed, if anything stands there
     pub changed_view : (m : map.FinMap R X) (k : K) (f : X → X) (q : K)
@@ -209,23 +204,20 @@ contains-insert_name s k q = set.contains-insert name_total s k q
 -- ---- how many keys a map has
 
 less_apart : (r : Ordering) → is_lt r ≡ true → is_eq r ≡ false
-less_apart Equal h = cc
-less_apart r h = refl
+less_apart r h = grind arith
 
 -- the keys of a finite map are distinct
 module _ {K X : Type 0} (R : K → K → Ordering) where
   below_apart : (x : K) (es : List (K × X)) → map.Entries.below_all R x es ≡ true
       → AllByRecursion (λ y. eq_by_cmp R x y ≡ false) (list_map (λ (e : K × X). e.0) es)
   below_apart x [] h = tt
-  below_apart x (e ∷ es) h =
-      let p = and_parts (is_lt (R x e.0)) _ h in (less_apart (R x e.0) p.0, below_apart x es p.1)
+  below_apart x (e ∷ es) h = grind (arith, less_apart, below_apart x es)
 
   sorted_apart : (es : List (K × X))
       → map.is_sorted R es ≡ true → IsDistinct (eq_by_cmp R) (list_map (λ (e : K × X). e.0) es)
   unfolding IsDistinct
   sorted_apart [] h = tt
-  sorted_apart (e ∷ es) h = let p = and_parts (map.Entries.below_all R e.0 es) _ h in
-      (below_apart e.0 es p.0, sorted_apart es p.1)
+  sorted_apart (e ∷ es) h = grind (arith, below_apart, sorted_apart es)
 
   -- the keys of a map are distinct
   pub keys_apart : (m : map.FinMap R X) → IsDistinct (eq_by_cmp R) (map.keys m)
@@ -283,17 +275,7 @@ name_test a b = both_ways _ _
 
 -- boxes have the same id exactly where the ids are one
 pub same_ids : (a b : GenerationalPointer) → (has_same_id a b ≡ true) ↔ (a.id ≡ b.id)
-same_ids a b = (
-  λ h.
-      let p = and_parts (nat_eq a.id.store b.id.store) _ h in
-      let q = and_parts (nat_eq a.id.slot b.id.slot) _ p.1 in
-      let store = eqb-true a.id.store b.id.store p.0 in
-      let slot = eqb-true a.id.slot b.id.slot q.0 in
-      let generation = eqb-true a.id.generation b.id.generation q.1 in
-      λ i. record { store = store i; slot = slot i; generation = generation i },
-  λ e. rw e (and_from _ _ (nat_eq_equiv.refl b.id.store) (and_from _ _
-      (nat_eq_equiv.refl b.id.slot) (nat_eq_equiv.refl b.id.generation))),
-)
+same_ids a b = grind arith
 
 pub same_itself : (a : GenerationalPointer) → has_same_id a a ≡ true
 same_itself a = (same_ids a a).1 refl
@@ -303,8 +285,7 @@ pub same_onward : (a b c : GenerationalPointer)
 same_onward a b c h k = (same_ids a c).1 ((same_ids a b).0 h ∙ (same_ids b c).0 k)
 
 pub same_turned : (a b : GenerationalPointer) → has_same_id a b ≡ has_same_id b a
-same_turned a b = both_ways _ _ (λ h. (same_ids b a).1 (sym ((same_ids a b).0 h)))
-    (λ h. (same_ids a b).1 (sym ((same_ids b a).0 h)))
+same_turned a b = grind arith
 
 -- some element of a list passes
 one_passes : {A : Type 0} (p : A → Bool) (xs : List A)
@@ -316,8 +297,7 @@ one_passes p (x ∷ xs) h = ⊎_elim (λ e. (x, e)) (λ e. one_passes p xs e) (o
 pub passes_both : {A : Type 0} (p q : A → Bool) → ((x : A) → q x ≡ true → p x ≡ true)
     → (xs : List A) → list_any q xs ≡ true → list_any p xs ≡ true
 passes_both p q f [] h = h
-passes_both p q f (x ∷ xs) h =
-    ⊎_elim (λ e. or_left _ _ (f x e)) (λ e. or_right _ _ (passes_both p q f xs e)) (or_cases _ _ h)
+passes_both p q f (x ∷ xs) h = grind (arith, f x, passes_both p q f xs)
 
 module _ {T : Type 0} where
   -- what passes the test of a Ref is one
@@ -330,9 +310,7 @@ module _ {T : Type 0} where
   pub named_gives : (cells : NameMap (Cell T)) (m : Name)
       → is_named cells m ≡ true → IsNamed cells m
   unfolding is_named
-  named_gives cells m h =
-      let one = one_passes (λ n. refers_to m (map.get cells n)) (map.keys cells) h in
-      let it = is_ref m (map.get cells one.0) one.1 in (one.0, it.0, it.1)
+  named_gives cells m h = grind (arith, one_passes, is_ref)
 
   pub named_from : (cells : NameMap (Cell T)) (m : Name) → IsNamed cells m → is_named cells m ≡ true
   unfolding is_named
