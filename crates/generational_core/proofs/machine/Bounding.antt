@@ -10,7 +10,7 @@ use machine.{length-le_from_is_member, eq_by_cmp_equiv, get-insert_apart, arith,
 use machine.{nat_lt, Content, IsSound, by_name, key_same, key_here, cases_Bool, length-map}
 use machine.{keys_apart, meets_sound, live_before, or_left, nat_cmp_total, get-insert_here}
 use machine.{change_follows, absent_beside, and_parts, nat_cmp, eq_by_cmp, unwrap_or, IsBounded}
-use machine.{act_leads, len_within, name_total, IsGiven, by_keys, by_option, meets_each}
+use machine.{name_cases, act_leads, len_within, name_total, IsGiven, by_keys, by_option, meets_each}
 use Rattle.generational_core.specs.Conditions.{IsLive}
 use Rattle.generational_core.specs.Slots.{lasts, slots_of, last_name, is_last_live, is_free}
 use Rattle.generational_core.specs.Slots.{is_retired, slots, free, retired, last_generation, Fits}
@@ -44,11 +44,11 @@ other_slot m names s o ne h = grind arith
 
 pub get_lasts : (names : List Name) (s : ℕ) → IsLast names s (map.get (lasts names) s)
 unfolding lasts
-get_lasts [] s = rw (map.get-empty nat_cmp s) (λ n i is. cc)
-get_lasts (m ∷ names) s = by_keys by_number s m.slot
+get_lasts [] s = grind (arith, map.get-empty {X = ℕ} nat_cmp)
+get_lasts (m ∷ names) s =
+    by_keys by_number s m.slot
     (λ is. rw (is, get-insert_here by_number) (is_last_more m names _ (get_lasts names m.slot)))
-    (λ ne. rw (get-insert_apart by_number (lasts names) m.slot _ s ne)
-    (other_slot m names s _ ne (get_lasts names s)))
+    (λ ne. grind (arith, get-insert_apart, by_number, other_slot, get_lasts names s))
 
 -- two lists with the same names have the same last generations
 pub one_last : (xs ys : List Name) (s : ℕ)
@@ -115,14 +115,9 @@ module _ {T : Type 0} where
       → is_retired S s ≡ true → (map.get (slots_of R) s ≡ map.get (slots_of S) s)
       × (is_some (map.get R.cells (last_name S s)) ≡ true → is_last_live S s ≡ true))
       → retired S ≤ retired R
-  retired_still S R still = len_within by_number _ _
-      (λ s h. let it = key_kept (slots_of S) (is_retired S) s h in
-      let p = and_parts (not (is_last_live S s)) _ it.1 in let is = still s it.0 it.1 in
-      let name : last_name R s ≡ last_name S s = cc in
-      let gone : is_last_live R s ≡ false = false_from_ne_true _
-      (λ e. cc (is.1 (rw name at e), not-true _ p.0)) in
-      kept_key by_number (slots_of R) (is_retired R) s (ap is_some is.0 ∙ it.0)
-      (cc))
+  retired_still S R still =
+      len_within by_number _ _
+      (λ s h. grind (arith, key_kept (slots_of S) (is_retired S) s h, still s, kept_key, by_number))
 
   -- where nothing new is live and no name is given, the bound is kept
   kept_bounded : (S R : State T) → R.given ≡ S.given → R.peak ≡ S.peak
@@ -132,10 +127,7 @@ module _ {T : Type 0} where
 
   -- a given name's slot was made
   pub slot_made : (S : State T) (n : Name) → IsGiven S n → map.contains_key (slots_of S) n.slot ≡ true
-  slot_made S n given = by_option (map.get (slots_of S) n.slot)
-      (λ none. absurd (subst (IsLast (set.items S.given) n.slot) none
-      (get_lasts (set.items S.given) n.slot) n (sym (set.contains-items S.given n) ∙ given) refl))
-      (λ g is. ap is_some is)
+  slot_made S n given = grind (arith, get_lasts (set.items S.given) n.slot, set.contains-items S.given n)
 
   -- a new name's slot is one of those that were made, or the next
   pub slot_within : (S : State T) (n : Name) → IsBounded S → Fits S n → n.slot ≤ slots S
@@ -148,7 +140,7 @@ module _ {T : Type 0} where
   -- no live name has the slot of a new one
   pub slot_apart : (S : State T) (n : Name) → AreGiven S → IsBounded S → Fits S n
       → (q : Name) → IsLive S q → q.slot ≢ n.slot
-  slot_apart S n given b h3 q live = grind (arith, slot_made, not-true, and_parts)
+  slot_apart S n given b h3 q live = grind (arith, slot_made)
 
   -- what is live beside a new cell, and where names were given they are with the new one
   live_beside : (S : State T) (n : Name) (c : Cell T) (q : Name) → q ≢ n
@@ -156,9 +148,9 @@ module _ {T : Type 0} where
   live_beside S n c q ne live = rw (get-insert_apart by_name S.cells n c q ne) at live
 
   given_beside : (S : State T) (n : Name) (c : Cell T) → AreGiven S → AreGiven (add_cell S n c)
-  given_beside S n c given q live = rw (set.contains-insert name_total S.given n q)
-      (by_keys by_name q n (λ is. rw is (or_left _ _ (key_here by_name n)))
-      (λ ne. or_right _ _ (given q (live_beside S n c q ne live))))
+  given_beside S n c given q live =
+      let is = set.contains-insert name_total S.given n q in
+      grind (arith, is, live_beside S n c q, given q, name_cases q n, key_here by_name n)
 
   -- a new cell at a name that fits
   module _ (S : State T) (n : Name) (c : Cell T) (given : AreGiven S)
@@ -175,19 +167,14 @@ module _ {T : Type 0} where
         → ((q : Name) → IsLive (add_cell S n c) q → q ≡ last_name (add_cell S n c) q.slot)
         → IsBounded (add_cell S n c)
     bounded_with plain few up here named =
-        let R = add_cell S n c in
-        let more = retired_still S R (λ s there gone.
-        let ne : s ≢ n.slot = λ is. plain (rw is at gone) (rw is at there) in (
-          other_slots s ne,
-          live_beside S n c (last_name S s) (λ e. ne (ap (λ (m : Name). m.slot) e)),
-        )) in
-        let cells : map.len R.cells ≡ map.len S.cells + 1 =
+        let more = retired_still S (add_cell S n c)
+        (λ s there gone. grind (arith, plain, other_slots s, live_beside S n c (last_name S s))) in
+        let cells : map.len (add_cell S n c).cells ≡ map.len S.cells + 1 =
         rw (map.len-insert name_total S.cells n c, none) in
         record {
           few = omega arith;
           live = omega arith;
-          dense = λ s h. by_keys by_number s n.slot (λ is. omega arith)
-              (λ ne. omega (arith, b.dense s (rw (other_slots s ne) at h)));
+          dense = λ s h. grind (arith, b.dense s, other_slots s);
           last = named;
         }
 
@@ -197,31 +184,24 @@ module _ {T : Type 0} where
 
     all_last : Fits S n → (q : Name) → IsLive (add_cell S n c) q
         → q ≡ last_name (add_cell S n c) q.slot
-    all_last fits q live = by_keys by_name q n
-        (λ is. rw is (λ i. record { slot = n.slot; generation = new i }))
-        (λ ne. let old = live_beside S n c q ne live in
-        cc (b.last q old, other_slots q.slot (slot_apart S n given b fits q old)))
-      where
-        new : n.generation ≡ unwrap_or (map.get (slots_of (add_cell S n c)) n.slot) 0
-        new = rw (lasts_insert S.given n, get-insert_here by_number (slots_of S) n.slot)
-            (sym (greatest fits))
+    all_last fits q live =
+        let last = lasts_insert S.given n in
+        let apart = slot_apart S n given b fits q in
+        let old = live_beside S n c q in
+        grind (arith, greatest fits, last, get-insert_here, by_number, old, other_slots q.slot, apart, name_cases q n)
 
     born_bounded : Fits S n → IsBounded (add_cell S n c)
     born_bounded (inl new) =
-        let missing : map.contains_key (slots_of S) n.slot ≡ false =
-        false_from_ne_true _ (λ e. omega (arith, new.1, b.dense n.slot e)) in
+        let missing : map.contains_key (slots_of S) n.slot ≡ false = grind (arith, b.dense n.slot) in
         let more : slots (add_cell S n c) ≡ slots S + 1 =
         rw (lasts_insert S.given n, map.len-insert nat_cmp_total, missing) in
-        let bound = slots_bounded S in bounded_with (λ r e. cc) (omega (arith, new.0))
-        (omega arith) (omega (arith, new.1)) (all_last (inl new))
+        bounded_with (λ r e. cc) (omega (arith, new.0, slots_bounded S)) (omega arith)
+        (omega (arith, new.1)) (all_last (inl new))
     born_bounded (inr old) =
         let same : slots (add_cell S n c) ≡ slots S =
         rw (lasts_insert S.given n, map.len-insert nat_cmp_total, old.0) in
-        let few = b.few in let ended = not (is_last_live S n.slot) in
-        let low = nat_lt (last_name S n.slot).generation last_generation in
-        bounded_with (λ r e. let kept = (and_parts ended (not low) r).1 in
-        cc ((and_parts ended low old.1).1))
-        (omega arith) (omega arith) (omega (arith, b.dense n.slot old.0)) (all_last (inr old))
+        bounded_with (λ r e. grind arith) (omega (arith, b.few)) (omega arith)
+        (omega (arith, b.dense n.slot old.0)) (all_last (inr old))
 
   -- each change keeps the bound
   change_bounded : (S : State T) (call : Action T) (f : NewNames) (next : ℕ) (c : Change T)
@@ -253,16 +233,9 @@ module _ {T : Type 0} where
   -- a fresh store has no slots
   pub fresh_bounded : (number start next : ℕ) → IsBounded (fresh {T = T} number start next)
   fresh_bounded number start next =
-      let none : map.len (slots_of (fresh {T = T} number start next)) ≡ 0 =
-      ap map.len no_slots ∙ map.len-empty nat_cmp ℕ in
-      let nothing : map.len (fresh {T = T} number start next).cells ≡ 0 =
-      map.len-empty name_cmp (Cell T) in
-      record {
-        few = omega arith;
-        live = omega arith;
-        dense = λ s h. cc (no_slots, map.get-empty {X = ℕ} nat_cmp s);
-        last = λ n h. cc (map.get-empty {X = Cell T} name_cmp n);
-      }
+      let slot = map.get-empty {X = ℕ} nat_cmp in
+      let cell = map.get-empty {X = Cell T} name_cmp in
+      grind (arith, no_slots, map.len-empty nat_cmp ℕ, map.len-empty name_cmp (Cell T), slot, cell)
 
   -- so a call takes a sound and bounded state to another one
   pub meets_kept : (S R : State T) (call : Action T) (answer : Answer T)

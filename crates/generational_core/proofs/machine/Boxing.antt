@@ -37,12 +37,12 @@ module _ {T : Type 0} where
   -- a box that reaches something is the store's, and its name was given to a box
   pub reached_boxed : (S : State T) (b : GenerationalPointer) (m : Name) → IsSound S
       → reach S b ≡ Some m → (b.id.store ≡ S.number) × IsBoxed S (name_of b)
-  reached_boxed S b m s to = grind (arith, reaches, led_box, eqb-true)
+  reached_boxed S b m s to = grind (arith, reaches)
 
   module _ (S R : State T) (call : Action T) where
     -- so it is of each box that a call gives
     pub made_boxed : (b : GenerationalPointer) → Meets S call (Made b) R → IsBoxed R (name_of b)
-    made_boxed b m = (meets_says S R call (Made b) m).boxed
+    made_boxed b m = grind (arith, meets_says S R call (Made b) m)
 
     -- and it stays so
     pub boxed_stays : (answer : Answer T) (n : Name) → IsSound S → Meets S call answer R
@@ -56,26 +56,23 @@ module _ {T : Type 0} where
     pub ended : (b : GenerationalPointer) {U : Type 0} (r : Result U (Refused BorrowMutError))
         → Meets S (End b) (end_answer r) R
         → OnOk r (b.id.store ≡ S.number → IsBoxed S (name_of b) → IsEnded R (name_of b))
-    ended b r m = grind (arith, meets_given, eq-eqb, box_ends, name_here, done_only, meets_cases)
+    ended b r m = grind (arith, box_ends, name_here)
 
     -- so it is of each name of a list after its owner's last release
     pub ended_owned : (o : OwnerName) {U V : Type 0} (r : Result U (V × Refused BorrowMutError))
         → IsSound S → Meets S (ReleaseOwner o) (release_answer r) R
         → OnOk r ((h : Ownership) (n : Name) → ownership S o ≡ Some h → h.count ≤ 1
         → among h.names n ≡ true → IsEnded R n)
-    ended_owned o r s m =
-        grind (arith, meets_given, boxed_among, held_record, last_cells, box_ends, listed_boxed)
+    ended_owned o r s m = grind (arith, boxed_among, box_ends)
 
     -- ---- references that turn
 
     -- a box that was pointed elsewhere sees what the other saw
     pub points_seen : (a b : GenerationalPointer) {U : Type 0} (r : Result U (Refused BorrowMutError))
         → IsSound S → Meets S (Point a b) (end_answer r) R → OnOk r (value_in R a ≡ value_in S b)
+    unfolding value_in
     points_seen a b {U} (Ok u) s m =
-        let together = points a b {U = U} (Ok u) m in
-        by_option (reach S b) (λ is. unseen R a (together ∙ is) ∙ sym (unseen S b is))
-        (λ n is. let live = reached_live R a n (meets_sound S R (Point a b) Done s m)
-        (together ∙ is) in value_in_reached R a n (together ∙ is)
-        ∙ (kept_value S R (Point a b) Done n s m (λ lent. lent) (λ set. set)
-        (reached_live S b n s is) live ∙ sym (value_in_reached S b n is)))
+        let sound = meets_sound S R (Point a b) Done s m in
+        let kept = kept_value S R (Point a b) Done in
+        grind (arith, points a b {U = U} (Ok u) m, reached_live R a, reached_live S b, sound, kept)
     points_seen a b (Err e) s m = tt

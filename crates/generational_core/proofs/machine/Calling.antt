@@ -44,9 +44,8 @@ module _ {T : Type 0} where
     -- a new box has no name of one that sees a value
     new_apart : (call : Action T) (b : GenerationalPointer) → IsSound S → Meets S call (Made b) R
         → (c : GenerationalPointer) (v : T) → value_in S c ≡ Some v → name_of b ≢ name_of c
-    new_apart call b s m c v seen is = let to = seen_reached S c v seen in
-        let own = (led_box _ (name_of c) to.0 (reaches S c to.0 to.1).leads).0 in
-        cc (s.given (name_of c) own, (made_new S R call b m).1)
+    new_apart call b s m c v seen is =
+        grind (arith, seen_reached S c v seen, reaches S c, made_new S R call b m)
 
     module _ (o : Option OwnerName) (v : T) (l : Location) where
       pub made : (r : Result (GenerationalBox T) (Refusal T))
@@ -183,7 +182,7 @@ module _ {T : Type 0} where
         → OnOk r ((h : Ownership) (b : GenerationalPointer) → ownership S o ≡ Some h → h.count ≤ 1
         → among h.names (name_of b) ≡ true → reach R b ≡ None)
     unfolding reach
-    ends_owned o r m = grind (arith, by_cond, last_cells, ended_leads)
+    ends_owned o r m = grind (arith, ended_leads)
 
     pub points : (a b : GenerationalPointer) {U : Type 0} (r : Result U (Refused BorrowMutError))
         → Meets S (Point a b) (end_answer r) R → OnOk r (reach R a ≡ reach S b)
@@ -215,8 +214,8 @@ module _ {T : Type 0} where
     pub keeps : (call : Action T) (answer : Answer T) → IsSound S → Meets S call answer R
         → (b : GenerationalPointer) (v : T)
         → LeavesValue S call b → value_in S b ≡ Some v → value_in R b ≡ Some v
-    keeps call answer s m b v leaves seen = let to = seen_reached S b v seen in
-        value_stays S R call answer b to.0 s m leaves to.1 ∙ seen
+    keeps call answer s m b v leaves seen =
+        grind (arith, seen_reached S b v seen, value_stays S R call answer b)
 
     -- which is so of each box that isn't in the list, where an owner is released
     pub keeps_unowned : (o : OwnerName) (answer : Answer T) → IsSound S

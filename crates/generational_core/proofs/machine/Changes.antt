@@ -25,7 +25,7 @@ use Rattle.std.specs.FinSet as set
 -- the name behind another was never given, and isn't the other
 pub second_fresh : (given : Names) (m n : Name) → set.contains (set.insert given m) n ≡ false
     → (set.contains given n ≡ false) × (m ≢ n)
-second_fresh given m n h = grind (arith, or_parts, contains-insert_name, name_here)
+second_fresh given m n h = grind (arith, contains-insert_name, name_here)
 
 -- the readers but for those with a ticket
 abbrev pub without : ℕ → List Borrow → List Borrow
@@ -197,7 +197,7 @@ module _ {T : Type 0} where
   -- a refusal where a refusal stands, and one of two outcomes
   leads_unless : {S : State T} {call : Action T} {f : NewNames} (t : Option BorrowRefusal) {x : Outcome T}
       → (t ≡ None → Leads S call f x) → Leads S call f (unless t S x)
-  leads_unless t h = grind (arith, still, plain)
+  leads_unless t h = grind (arith, still)
 
   leads_if : {S : State T} {call : Action T} {f : NewNames} (b : Bool) {x y : Outcome T}
       → (b ≡ true → Leads S call f x) → Leads S call f y → Leads S call f (cond b x y)
@@ -223,10 +223,10 @@ module _ {T : Type 0} where
 
     records_put : (h : Ownership) → AllByRecursion (IsBoxed S) h.names → key < next
         → AreRecords S next (map.insert owners key h)
-    records_put h boxed below = grind (arith, by_keys, by_number, get-insert_here, get-insert_apart)
+    records_put h boxed below = grind (arith, by_number, get-insert_here, get-insert_apart)
 
     records_left : AreRecords S next (map.remove owners key)
-    records_left = grind (arith, by_keys, by_number, get-remove_here, get-remove_apart)
+    records_left = grind (arith, by_number, get-remove_here, get-remove_apart)
 
   leads_cloned : {S : State T} {f : NewNames} (o : OwnerName) (h : Option Ownership)
       → ownership S o ≡ h → Leads S (CloneOwner o) f (clone_owner S o h)
@@ -285,7 +285,7 @@ module _ {T : Type 0} where
 
   pub filled_content : (S : State T) (m : Name) (c old : Content T)
       → content_at S m ≡ Some old → content_at (fill S m c) m ≡ Some c
-  filled_content S m c old had = grind (arith, get-changed_name, name_here, refilled_content)
+  filled_content S m c old had = grind (arith, get-changed_name, name_here)
 
   leads_read : {S : State T} {f : NewNames} (b : GenerationalPointer) (l : Location) (m : Option Name)
       (c : Option (Content T)) → content_of (cell_at S m) ≡ c → reach S b ≡ m

@@ -40,13 +40,12 @@ module _ {T : Type 0} where
   pub named_same : (a b : NameMap (Cell T)) (m : Name)
       → ((k : Name) → refers_to m (map.get a k) ≡ refers_to m (map.get b k))
       → is_named a m ≡ is_named b m
-  named_same a b m same = grind (arith, both_ways, named_still)
+  named_same a b m same = grind (arith, named_still)
 
   -- the end of a cell that is no Ref to m leaves what names m
   pub remove_names : (cells : NameMap (Cell T)) (n m : Name)
       → refers_to m (map.get cells n) ≡ false → is_named (map.remove cells n) m ≡ is_named cells m
-  remove_names cells n m other =
-      grind (arith, named_same, by_keys, by_name, get-remove_here, get-remove_apart)
+  remove_names cells n m other = grind (arith, named_same, by_name, get-remove_here, get-remove_apart)
 
   -- ---- names end one after the other
 
@@ -58,31 +57,13 @@ module _ {T : Type 0} where
   -- a sweep between changes nothing in the end
   sweep_between : (cells : NameMap (Cell T)) (names : List Name)
       → sweep (take_away (sweep cells) names) ≡ sweep (take_away cells names)
-  sweep_between cells names = same_cells _ _ (λ q. simp (get-swept, names_same q, get-without)
-      (between (map.get cells q) (is_named cells q) (among names q) _ (fewer q)))
-    where
-      refers_same : (m : Name) (cell : Option (Cell T)) (named there : Bool)
-          → refers_to m (without (swept cell named) there) ≡ refers_to m (without cell there)
-      refers_same m (Some (Shared c l)) false true = refl
-      refers_same m (Some (Shared c l)) false false = refl
-      refers_same m cell named there = refl
-
-      names_same : (q : Name)
-          → is_named (take_away (sweep cells) names) q ≡ is_named (take_away cells names) q
-      names_same q = named_same _ _ q (λ k. simp (get-without, get-swept)
-          (refers_same q (map.get cells k) (is_named cells k) (among names k)))
-
-      fewer : (q : Name) → is_named (take_away cells names) q ≡ true → is_named cells q ≡ true
-      fewer q = named_still (take_away cells names) cells q (λ k h. ⊎_elim
-          (λ e. cc) (λ e. cc (ap (refers_to q) e.0)) (without_view cells names k))
-
-      between : (cell : Option (Cell T)) (before there after : Bool)
-          → (after ≡ true → before ≡ true)
-          → swept (without (swept cell before) there) after ≡ swept (without cell there) after
-      between (Some (Shared c l)) false there true h = cc (h refl)
-      between (Some (Shared c l)) false true false h = refl
-      between (Some (Shared c l)) false false false h = refl
-      between cell before there after h = refl
+  sweep_between cells names =
+      let first = take_away (sweep cells) names in
+      let second = take_away cells names in
+      same_cells _ _ (λ q.
+      let same = named_same first second q (λ k. grind (arith, get-without, get-swept)) in
+      let fewer = named_still second cells q (λ k. grind (arith, get-without)) in
+      grind (arith, get-swept, get-without, same, fewer))
 
   -- what is left where names end is what is left where they end one after the other
   pub close_each : (cells : NameMap (Cell T)) (n : Name) (names : List Name)
@@ -110,7 +91,7 @@ module _ {T : Type 0} where
     pub away_one : is_shared (map.get cells n) ≡ false
         → take_away cells (n ∷ []) ≡ map.remove cells n
     away_one plain =
-        grind (arith, same_cells, by_keys, by_name, get-without, name_here, get-remove_here, get-remove_apart, name_apart, or-true)
+        grind (arith, same_cells, by_name, get-without, name_here, get-remove_here, get-remove_apart, name_apart)
 
   -- ---- a sweep of cells where each Shared cell is named, or each but one
 
@@ -124,7 +105,7 @@ module _ {T : Type 0} where
       → ((q : Name) → q ≢ m → is_shared (map.get cells q) ≡ true → is_named cells q ≡ true)
       → sweep cells ≡ cond (is_named cells m) cells (map.remove cells m)
   sweep_but cells m shared others =
-      grind (arith, by_cond, sweep_all, by_keys, by_name, same_cells, get-swept, get-remove_here, swept_view, get-remove_apart)
+      grind (arith, sweep_all, by_keys, by_name, same_cells, get-swept, get-remove_here, swept_view, get-remove_apart)
 
   -- ---- the end of one name, of cells that are linked
 
@@ -148,21 +129,15 @@ module _ {T : Type 0} where
     named_without : (q : Name) → refers_to q (map.get cells n) ≡ false
         → is_shared (map.get (map.remove cells n) q) ≡ true → is_named (map.remove cells n) q ≡ true
     named_without q other h =
-        grind (arith, by_keys, by_name, get-remove_here, remove_names, named_from, get-remove_apart)
+        grind (arith, by_name, get-remove_here, remove_names, named_from, get-remove_apart)
 
     -- it is what is left of the cells
     pub close_one : (cell : Option (Cell T)) → map.get cells n ≡ cell
         → cells_after cells (n ∷ []) ≡ left_of_end cells n cell
-    close_one (Some (Value c l)) at = ap sweep (away_one cells n (ap is_shared at))
-        ∙ sweep_all (map.remove cells n) (λ q h. named_without q (ap (refers_to q) at) h)
-    close_one (Some (Ref m l)) at =
-        let rest = map.remove cells n in let target = linked.targets n m l at in
-        let still = get-remove_apart by_name cells n m (λ is. cc) in
-        ap sweep (away_one cells n (ap is_shared at)) ∙ (sweep_but rest m (rw still target)
-        (λ q ne h. named_without q (ap (refers_to q) at ∙ name_apart q m ne) h)
-        ∙ ap (cond (is_named rest m) rest) (remove_each by_name cells n m))
-    close_one cell at = ap sweep (away_nothing cells (n ∷ [])
-        (λ q there plain. cc (just_one n q there))) ∙ sweep_linked cells linked
+    close_one cell at =
+        let one = away_one cells n in
+        let all = sweep_linked cells linked in
+        grind (arith, one, all, away_nothing, sweep_all, sweep_but, named_without, get-remove_apart, by_name, name_apart, remove_each)
 
   -- ---- what hinders the end of names
 
@@ -190,7 +165,7 @@ module _ {T : Type 0} where
     pub end_hindered : (n : Name) → among names n ≡ true → (cell : Option (Cell T))
         → map.get cells n ≡ cell → hindrance_of cells (cells_after cells names)
         (map.get cells n) n ≡ borrowed_end cells (is_named (take_away cells names)) cell
-    end_hindered n there cell at = grind (arith, box_ends, hindered_unnamed, get-swept, get-without)
+    end_hindered n there cell at = grind (arith, get-swept, get-without)
 
     -- so the first hindrance is that of each name by itself
     pub first_hindered : first_hindrance cells (cells_after cells names) names
@@ -201,10 +176,7 @@ module _ {T : Type 0} where
             → first_hindrance cells (cells_after cells names) some
             ≡ first_borrowed_end cells (is_named (take_away cells names)) some
         of_some [] within = refl
-        of_some (n ∷ some) within =
-            let there = within n (or_left _ _ (name_here n)) in
-            let here = end_hindered n there (map.get cells n) refl in
-            let rest = of_some some (λ q h. within q (or_right _ _ h)) in cc
+        of_some (n ∷ some) within = grind (arith, within, name_here, end_hindered, of_some some)
 
   -- what hinders the end of one name
   pub one_hindered : (S : State T) (n : Name) → IsLinked S.cells
@@ -212,17 +184,7 @@ module _ {T : Type 0} where
       → hindrance_to S (n ∷ []) ≡ borrowed_end S.cells (is_named (map.remove S.cells n)) cell
   unfolding hindrance_to
   one_hindered S n linked cell at =
-      first_hindered S.cells (n ∷ []) linked ∙ (alone _ ∙ (rw at (by cell at)))
-    where
-      alone : (t : Option BorrowRefusal) → option_or t None ≡ t
-      alone None = refl
-      alone (Some t) = refl
-
-      by : (cell : Option (Cell T)) → map.get S.cells n ≡ cell
-          → borrowed_end S.cells (is_named (take_away S.cells (n ∷ []))) cell
-          ≡ borrowed_end S.cells (is_named (map.remove S.cells n)) cell
-      by (Some (Ref m l)) at = rw (away_one S.cells n (ap is_shared at))
-      by _ at = refl
+      grind (arith, first_hindered S.cells (n ∷ []) linked, away_one S.cells n)
 
   -- ---- a Ref that turns to another cell
 
@@ -238,19 +200,18 @@ module _ {T : Type 0} where
     -- what is Shared afterwards was Shared before
     turned_other : (q : Name) → is_shared (map.get turned q) ≡ true
         → is_shared (map.get cells q) ≡ true
-    turned_other q h = grind (arith, by_keys, by_name, get-insert_here, apart)
+    turned_other q h = grind (arith, by_name, get-insert_here, apart)
 
     -- all but the old target are named still
     turned_named : (q : Name)
         → q ≢ old → is_shared (map.get turned q) ≡ true → is_named turned q ≡ true
-    turned_named q ne h =
-        grind (arith, named_still, by_keys, by_name, name_apart, apart, named_from, turned_other)
+    turned_named q ne h = grind (arith, apart, named_from, turned_other)
 
     module _ (other : is_name old new ≡ false) where
       -- the old target is named if another Ref names it
       turn_names : is_named (map.insert cells a (Ref new l)) old ≡ is_named (map.remove cells a) old
       turn_names =
-          grind (arith, named_same, by_keys, by_name, get-insert_here, get-remove_here, apart, get-remove_apart)
+          grind (arith, named_same, by_name, get-insert_here, get-remove_here, apart, get-remove_apart)
 
       -- it goes if none does
       pub turn_sweep : sweep (map.insert cells a (Ref new l))
@@ -261,4 +222,4 @@ module _ {T : Type 0} where
       -- and its borrows hinder that
       pub turn_hindered : hindrance_at cells (sweep (map.insert cells a (Ref new l))) old ≡ cond
           (is_named (map.remove cells a) old) None (write_refusal (content_of (map.get cells old)))
-      turn_hindered = grind (arith, hindered_unnamed, get-swept, turn_names, apart)
+      turn_hindered = grind (arith, get-swept, turn_names, apart)

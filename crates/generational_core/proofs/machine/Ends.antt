@@ -51,7 +51,7 @@ module _ {T : Type 0} where
       × ((is_shared (map.get cells n) ≡ false) ⊎ (is_named cells n ≡ true)))
       ⊎ ((map.get (sweep cells) n ≡ None)
       × (is_shared (map.get cells n) ≡ true) × (is_named cells n ≡ false))
-  swept_view cells n = grind (arith, get-swept, cases_Bool)
+  swept_view cells n = grind (arith, get-swept)
 
   -- what is taken away wasn't Shared, and is among the names
   pub without_view : (cells : NameMap (Cell T)) (names : List Name) (n : Name)
@@ -59,7 +59,7 @@ module _ {T : Type 0} where
       ⊎ ((map.get (take_away cells names) n ≡ None) × (is_shared (map.get cells n) ≡ false)
       × (among names n ≡ true))
   unfolding take_away
-  without_view cells names n = grind (arith, or_parts, not-false, keep_view, by_name)
+  without_view cells names n = grind (arith, keep_view, by_name)
 
   -- ---- what Refs name
 
@@ -81,14 +81,14 @@ module _ {T : Type 0} where
 
   -- so what is left is linked
   pub swept_linked : (cells : NameMap (Cell T)) → HasTargets cells → IsLinked (sweep cells)
-  swept_linked cells t = grind (arith, swept_was, named_from, swept_view, named_gives, swept_ref)
+  swept_linked cells t = grind (arith, named_from, swept_view, named_gives)
 
   -- where names end, each Ref names a Shared cell still
   pub closed_linked : (cells : NameMap (Cell T)) (names : List Name)
       → HasTargets cells → IsLinked (cells_after cells names)
-  closed_linked cells names t = swept_linked _ (targets_still cells (take_away cells names) t
-      (λ m h. ⊎_elim (λ k. cc) (λ k. cc) (without_view cells names m))
-      (λ n m l h. ⊎_elim (λ e. inl (sym e ∙ h)) (λ e. cc) (without_view cells names n)))
+  closed_linked cells names t =
+      swept_linked _ (targets_still cells (take_away cells names) t
+      (grind (arith, without_view)) (grind (arith, without_view)))
 
   -- ---- what nothing hinders from ending isn't borrowed
 
@@ -155,10 +155,5 @@ module _ {T : Type 0} where
       → HasTargets cells → map.get cells a ≡ Some (Ref old l) → is_shared (map.get cells new) ≡ true
       → IsLinked (sweep (map.insert cells a (Ref new l)))
   turned_linked cells a old new l t at_a shared =
-      let one = map.insert cells a (Ref new l) in
-      let other = get-insert_apart by_name cells a (Ref new l) in
-      let still = λ (m : Name) (h : is_shared (map.get cells m) ≡ true).
-      ap is_shared (other m (λ is. cc)) ∙ h in
-      swept_linked one (targets_still cells one t still (λ n m k h. by_keys by_name n a
-      (λ is. inr (cc (get-insert_here by_name cells a (Ref new l), still new shared)))
-      (λ ne. inl (sym (other n ne) ∙ h))))
+      swept_linked _ (targets_still cells (map.insert cells a (Ref new l)) t
+      (grind (arith, get-insert_apart, by_name)) (grind (arith, get-insert_here, get-insert_apart, by_name)))

@@ -35,7 +35,7 @@ use Rattle.generational_core.proofs.maps.Maps.{by_name, get-changed_apart, get-c
 use Rattle.generational_core.proofs.maps.Maps.{name_exact, name_total, by_option}
 use Rattle.generational_core.proofs.machine.Calling.{opens, unseen, reads_back}
 use Rattle.generational_core.proofs.machine.Changes.{Filling, old_content, new_content}
-use Rattle.generational_core.proofs.machine.Changes.{filled_content}
+use Rattle.generational_core.proofs.machine.Changes.{refilled_content, filled_content}
 use Rattle.generational_core.proofs.machine.Changes.Filling.{Reader, Leave}
 use Rattle.generational_core.proofs.machine.Ends.{by_cond, live_by}
 use Rattle.generational_core.proofs.machine.Stepping.{meets_each, ends_reader, ends_writer}
@@ -49,15 +49,8 @@ use Rattle.generational_core.proofs.machine.Telling.{filled_reach}
 -- what is changed twice at one key
 changed_twice : {X : Type 0} (m : NameMap X) (k : Name) (f g h : X → X)
     → ((x : X) → g (f x) ≡ h x) → change (change m k f) k g ≡ change m k h
-changed_twice {X} m k f g h both = map.same_map name_total name_exact _ _ (λ q.
-    simp get-changed_name (twice (is_name q k) (map.get m q)))
-  where
-    twice : (e : Bool) (x : Option X)
-        → cond e (option_map g (cond e (option_map f x) x)) (cond e (option_map f x) x)
-        ≡ cond e (option_map h x) x
-    twice true None = refl
-    twice true (Some x) = ap Some (both x)
-    twice false x = refl
+changed_twice {X} m k f g h both =
+    map.same_map name_total name_exact _ _ (λ q. grind (arith, get-changed_name, both))
 
 module _ {T : Type 0} where
   -- ---- a guard is told by its ticket
@@ -67,13 +60,9 @@ module _ {T : Type 0} where
       → has_reader c t ≡ true → list_any (nat_eq t) (tickets_of c) ≡ true
   reader_stands None t h = h
   reader_stands (Some (Lent w)) t h = cc
-  reader_stands (Some (Here v readers)) t h = turn readers ∙ h
-    where
-      turn : (readers : List Borrow)
-          → list_any (nat_eq t) (list_map (λ (r : Borrow). r.ticket) readers)
-          ≡ list_any (λ r. nat_eq r.ticket t) readers
-      turn [] = refl
-      turn (r ∷ readers) = λ i. nat_eq_equiv.symm t r.ticket i || turn readers i
+  reader_stands (Some (Here v [])) t h = cc
+  reader_stands (Some (Here v (r ∷ readers))) t h =
+      grind (arith, nat_eq_equiv, reader_stands (Some (Here v readers)) t)
 
   pub writer_stands : (c : Option (Content T)) (t : ℕ)
       → has_writer c t ≡ true → list_any (nat_eq t) (tickets_of c) ≡ true
@@ -95,66 +84,33 @@ module _ {T : Type 0} where
     -- the release of another guard with its ticket changes nothing
     other_reader : IsSound S → Meets S call answer R → (g : Guard) → knows_reader S g ≡ true
         → LeavesGuard call g → ends_reader call g.ticket ≡ true → R ≡ S
-    other_reader s m g known leaves ends =
-        meets_each S R call answer (λ out. out.1 ≡ S) (λ _. refl) (λ f new. at call f leaves ends) m
-      where
-        at : (call : Action T) (f : NewNames) → LeavesGuard call g
-            → ends_reader call g.ticket ≡ true → (act S call f).1 ≡ S
-        at (ReleaseReader h) f leaves ends = by_cond (λ (out : Outcome T). out.1 ≡ S)
-            (knows_reader S h) (λ is. absurd (leaves (one_guard has_reader reader_stands S s g h
-            known is (eqb-true h.ticket g.ticket ends)))) (λ _. refl)
-        at _ f leaves ends = cc
+    other_reader s m g known leaves ends = grind (arith, one_guard has_reader reader_stands S s g)
 
     other_writer : IsSound S → Meets S call answer R → (g : Guard) → knows_writer S g ≡ true
         → LeavesGuard call g → ends_writer call g.ticket ≡ true → R ≡ S
-    other_writer s m g known leaves ends =
-        meets_each S R call answer (λ out. out.1 ≡ S) (λ _. refl) (λ f new. at call f leaves ends) m
-      where
-        at : (call : Action T) (f : NewNames) → LeavesGuard call g
-            → ends_writer call g.ticket ≡ true → (act S call f).1 ≡ S
-        at (ReleaseWriter h v) f leaves ends = by_cond (λ (out : Outcome T). out.1 ≡ S)
-            (knows_writer S h) (λ is. absurd (leaves (one_guard has_writer writer_stands S s g h
-            known is (eqb-true h.ticket g.ticket ends)))) (λ _. refl)
-        at _ f leaves ends = cc
+    other_writer s m g known leaves ends = grind (arith, one_guard has_writer writer_stands S s g)
 
     -- a store knows a guard until that guard is released
     pub reader_kept : IsSound S → Meets S call answer R → (g : Guard) → LeavesGuard call g
         → knows_reader S g ≡ true → knows_reader R g ≡ true
-    reader_kept s m g leaves known = ⊎_elim
-        (λ ends. rw (other_reader s m g known leaves ends) known)
-        (reader_stays S R call answer s m g known) (cases_Bool (ends_reader call g.ticket))
+    reader_kept s m g leaves known = grind (arith, other_reader s m g, reader_stays S R call answer s m g)
 
     pub writer_kept : IsSound S → Meets S call answer R → (g : Guard) → LeavesGuard call g
         → knows_writer S g ≡ true → knows_writer R g ≡ true
-    writer_kept s m g leaves known = ⊎_elim
-        (λ ends. rw (other_writer s m g known leaves ends) known)
-        (writer_stays S R call answer s m g known) (cases_Bool (ends_writer call g.ticket))
+    writer_kept s m g leaves known = grind (arith, other_writer s m g, writer_stays S R call answer s m g)
 
     -- the value at a cell stays while a reader stands there
     read_value_stays : IsSound S → Meets S call answer R → (n : Name) (t : ℕ)
         → has_reader (content_at S n) t ≡ true → has_reader (content_at R n) t ≡ true
         → value_at R n ≡ value_at S n
-    read_value_stays s m n t = keep_each (meets_follows S R call answer m) n
-        (λ x y. has_reader (content_of x) t ≡ true → has_reader (content_of y) t ≡ true
-        → value_of (content_of y) ≡ value_of (content_of x))
-        (λ x h k. refl) (λ free h k. cc) (λ new given quiet h k.
-        cc (s.given n (live_by (λ c. has_reader (content_of c) t) refl _ h)))
-        (λ k c here law had has h _. rw (has, had) (filled k (rw had at h))) (λ k j l h _. refl)
-      where
-        filled : (k : Filling T) → has_reader (Some (old_content k)) t ≡ true
-            → value_of (Some (new_content S k)) ≡ value_of (Some (old_content k))
-        filled (Reader v readers l) h = refl
-        filled (Leave v readers g) h = refl
-        filled _ h = cc
+    read_value_stays s m n t before after = grind (arith, (meets_follows S R call answer m).view n)
 
   -- so a known reader's guard opens the same value
   pub reader_sees : (S R : State T) (call : Action T) (answer : Answer T) → IsSound S
       → Meets S call answer R → (g : Guard) → LeavesGuard call g
       → knows_reader S g ≡ true → value_behind R g ≡ value_behind S g
   reader_sees S R call answer s m g leaves known =
-      let still = reader_kept S R call answer s m g leaves known in
-      rw (still, known) (read_value_stays S R call answer s m g.cell g.ticket
-      (and_parts _ _ known).1 (and_parts _ _ still).1)
+      grind (arith, reader_kept S R call answer s m g, read_value_stays S R call answer s m g.cell g.ticket)
 
   -- and there is one
   pub reader_opens : (S : State T) (g : Guard) → knows_reader S g ≡ true
@@ -173,10 +129,7 @@ module _ {T : Type 0} where
     pub opens_value : (b : GenerationalPointer) (l : Location) (r : Result Guard (Refused BorrowError))
         → Meets S (Read b l) (read_answer r) R
         → IfOk r (λ g. (v : T) × (value_behind R g ≡ Some v) × (value_in S b ≡ Some v))
-    opens_value b l (Ok g) m =
-        let there = reader_opens R g (reads_known S R (Read b l) g m).0 in
-        (there.0, there.1, sym (opens b l (Ok g) m) ∙ there.1)
-    opens_value b l (Err e) m = tt
+    opens_value b l r m = grind (arith, reads_known S R (Read b l), opens b l r m)
 
     -- a known reader's release is answered so, and a known writer's is done
     pub reader_leaves : (g : Guard) (flag : Bool) → knows_reader S g ≡ true
@@ -265,23 +218,13 @@ module _ {T : Type 0} where
   module _ (S : State T) (n : Name) (k : Content T) (c : GenerationalPointer) where
     filled_seen : (old : Content T) → content_at S n ≡ Some old → reach S c ≡ Some n
         → value_in (fill S n k) c ≡ value_of (Some k)
-    filled_seen old had to =
-        value_in_reached (fill S n k) c n (filled_reach S n k c ∙ to)
-        ∙ ap value_of (filled_content S n k old had)
+    unfolding value_in
+    filled_seen old had to = grind (arith, filled_reach S n k c, filled_content S n k old had)
 
     filled_beside : reach S c ≢ Some n → IsUnchanged S c (fill S n k)
+    unfolding value_in
     filled_beside apart =
-        record { reached = filled_reach S n k c; content = content; seen = seen }
-      where
-        content : (m : Name) → reach S c ≡ Some m → content_at (fill S n k) m ≡ content_at S m
-        content m to = ap content_of (get-changed_apart by_name S.cells n (refill k) m
-            (λ is. apart (to ∙ ap Some is)))
-
-        seen : value_in (fill S n k) c ≡ value_in S c
-        seen = by_option (reach S c) (λ none.
-            unseen (fill S n k) c (filled_reach S n k c ∙ none) ∙ sym (unseen S c none))
-            (λ m to. let after = value_in_reached (fill S n k) c m (filled_reach S n k c ∙ to) in
-            cc (content m to, value_in_reached S c m to))
+        grind (arith, filled_reach S n k c, get-changed_apart by_name S.cells n (refill k))
 
   left_twice : (S R Q : State T) (c : GenerationalPointer) → IsUnchanged S c R → IsUnchanged R c Q
       → IsUnchanged S c Q
@@ -298,10 +241,8 @@ module _ {T : Type 0} where
     -- another box is left
     pub set_beside : (c : GenerationalPointer) → reach S c ≢ reach S b → IsUnchanged S c Q
     set_beside c apart =
-        let filled = fill S it.name (Here v []) in
-        subst (IsUnchanged S c) (sym it.after) (left_twice S filled (take_ticket filled) c
-        (filled_beside S it.name (Here v []) c (λ to. apart (to ∙ sym it.reached)))
-        (ticket_leaves filled c))
+        let beside = filled_beside S it.name (Here v []) c (grind (arith, it.reached)) in
+        rw it.after (left_twice S _ _ c beside (ticket_leaves (fill S it.name (Here v [])) c))
 
     -- and so is each owner's record
     pub set_owners : (o : OwnerName) → ownership Q o ≡ ownership S o

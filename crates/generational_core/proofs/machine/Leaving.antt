@@ -56,7 +56,7 @@ module _ {T : Type 0} where
   shared_beside : (S : State T) (n : Name) (k : Content T) (l : Location) (b : GenerationalPointer)
       → map.get S.cells n ≡ None → reach (add_cell S n (Shared k l)) b ≡ reach S b
   unfolding reach
-  shared_beside S n k l b none = grind (arith, by_keys, by_name, get-insert_here, get-insert_apart)
+  shared_beside S n k l b none = grind (arith, by_name, get-insert_here, get-insert_apart)
 
   -- an outcome that gives another box lets a box reach what it reached
   abbrev Reaches : State T → GenerationalPointer → Outcome T → Type 0
@@ -98,50 +98,21 @@ module _ {T : Type 0} where
         → reach S b ≡ None → reach R b ≡ None
     unfolding reach
     nothing_comes m other b none =
-        ap (λ n. cond (nat_eq b.id.store n) (leads_to (map.get R.cells (name_of b)) (name_of b)) None)
-        (meets_number S R call answer m)
-        ∙ still (nat_eq b.id.store S.number) none
-      where
-        given : R.given ≡ S.given
-        given = meets_each S R call answer (λ out. out.1.given ≡ S.given) (λ _. refl)
-            (λ f new. (act_start S call f).given other) m
-
-        leads : leads_to (map.get S.cells (name_of b)) (name_of b) ≡ None
-            → leads_to (map.get R.cells (name_of b)) (name_of b) ≡ None
-        leads = keep_each (meets_follows S R call answer m) (name_of b)
-            (λ x y. leads_to x (name_of b) ≡ None → leads_to y (name_of b) ≡ None)
-            (λ x e. e) (λ free e. refl)
-            (λ new is quiet e. cc given)
-            (λ k c here law had has e. refilled_leads (new_content S k) c (name_of b) ∙ e)
-            (λ n k l e. cc)
-
-        still : (own : Bool) → cond own (leads_to (map.get S.cells (name_of b)) (name_of b)) None ≡ None
-            → cond own (leads_to (map.get R.cells (name_of b)) (name_of b)) None ≡ None
-        still true e = leads e
-        still false e = refl
+        let follows = meets_follows S R call answer m in
+        grind (arith, act_start S call, follows.view (name_of b), follows.number)
 
     -- a box reaches what it reached, unless the call ends it, points it elsewhere or makes it
     pub same_reach : IsSound S → Meets S call answer R → (b : GenerationalPointer)
         → LeavesBox S call b → GivesOther call answer b → reach R b ≡ reach S b
-    same_reach s m b leaves other = ⊎_elim made unmade (cases_Bool (is_making call))
-      where
-        made : is_making call ≡ true → reach R b ≡ reach S b
-        made making = ⊎_elim (λ refused. ap (λ (X : State T). reach X b) refused.1)
-            (λ acts. ap (λ (out : Outcome T). reach out.1 b) acts.2
-            ∙ making_beside S s call acts.0 acts.1 making b
-            (subst (λ (out : Outcome T). GivesOther call out.0 b) acts.2 other))
-            (meets_cases S R call answer m)
-
-        unmade : is_making call ≡ false → reach R b ≡ reach S b
-        unmade none = by_option (reach S b) (λ is. nothing_comes m none b is ∙ sym is)
-            (λ n is. reach_stays S R call answer b n s m leaves is ∙ sym is)
+    same_reach s m b leaves other =
+        let cases = meets_cases S R call answer m in
+        let stays = reach_stays S R call answer b in
+        grind (arith, nothing_comes m, cases, making_beside S s call, stays)
 
     -- and sees what it saw, unless the call lends its value or sets it, or takes it back
     pub same_value : IsSound S → Meets S call answer R → (b : GenerationalPointer)
         → LeavesValue S call b → GivesOther call answer b → value_in R b ≡ value_in S b
-    same_value s m b leaves other = by_option (reach S b)
-        (λ is. unseen R b (same_reach s m b (leaves_box S call b leaves) other ∙ is)
-        ∙ sym (unseen S b is)) (λ n is. value_stays S R call answer b n s m leaves is)
+    same_value s m b leaves other = grind (arith, same_reach s m b, unseen, value_stays S R call answer b)
 
   -- ---- the content there
 
@@ -166,20 +137,17 @@ module _ {T : Type 0} where
         → LeavesContent S call b → reach S b ≡ Some m → is_some (map.get R.cells m) ≡ true
         → content_at R m ≡ content_at S m
     same_content s meets b m leaves to live =
-        grind (arith, (meets_follows S R call answer meets).view m, s.given m, reached_live S b m s to, unfilled S call R.next b m to leaves)
+        let view = (meets_follows S R call answer meets).view m in
+        grind (arith, view, reached_live S b m s to, unfilled S call R.next b m)
 
     -- so a box is left
     pub leaves : IsSound S → Meets S call answer R → (b : GenerationalPointer)
         → LeavesContent S call b → GivesOther call answer b → IsUnchanged S b R
     leaves s m b h other =
-        let value = leaves_value S call b h in
-        let reach = same_reach S R call answer s m b (leaves_box S call b value) other in
-        record {
-          reached = reach;
-          content = λ n to. same_content s m b n h to
-              (reached_live R b n (meets_sound S R call answer s m) (reach ∙ to));
-          seen = same_value S R call answer s m b value other;
-        }
+        let reach = same_reach S R call answer s m b in
+        let value = same_value S R call answer s m b in
+        let sound = meets_sound S R call answer in
+        grind (arith, reach, leaves_box, same_content s m b, reached_live R b, sound, value)
 
   -- which is so of each box that isn't in the list, where an owner is released
   pub release_leaves : (S R : State T) (o : OwnerName) (answer : Answer T) → IsSound S
@@ -197,14 +165,4 @@ module _ {T : Type 0} where
   -- a box whose name was given isn't the one that a call gives
   pub given_other : (S R : State T) (call : Action T) (answer : Answer T) (b : GenerationalPointer)
       → Meets S call answer R → IsGiven S (name_of b) → GivesOther call answer b
-  given_other S R call answer b m given = other call
-    where
-      beside : (answer : Answer T) → Meets S call answer R → IsBeside answer b
-      beside (Made a) m = λ is. cc ((made_new S R call a m).1)
-      beside _ m = tt
-
-      other : (c : Action T) → GivesOther c answer b
-      other (Make o v l) = beside answer m
-      other (MakeShared o v l) = beside answer m
-      other (Refer o a) = beside answer m
-      other _ = tt
+  given_other S R call answer b m given = grind (arith, made_new S R call)

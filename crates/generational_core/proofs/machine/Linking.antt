@@ -29,27 +29,27 @@ module _ {T : Type 0} where
 
     targets_born : HasTargets cells → ((m : Name) (l : Location) → Some c ≡ Some (Ref m l)
         → is_shared (map.get cells m) ≡ true) → HasTargets (map.insert cells n c)
-    targets_born t leads =
-        grind (arith, targets_still, shared_kept, by_keys, by_name, get-insert_here, get-insert_apart)
+    targets_born t leads = grind (arith, shared_kept, by_name, get-insert_here, get-insert_apart)
 
     named_apart : (m : Name) → m ≢ n → (is_shared (map.get cells m) ≡ true → IsNamed cells m)
         → is_shared (map.get (map.insert cells n c) m) ≡ true → IsNamed (map.insert cells n c) m
-    named_apart m ne named h = grind (arith, get-insert_apart, by_name, kept)
+    named_apart m ne named h = grind (arith, get-insert_apart, by_name)
 
     named_plain : is_shared (Some c) ≡ false → (m : Name)
         → (is_shared (map.get cells m) ≡ true → IsNamed cells m)
         → is_shared (map.get (map.insert cells n c) m) ≡ true → IsNamed (map.insert cells n c) m
-    named_plain plain m named h = grind (arith, by_keys, by_name, get-insert_here, named_apart)
+    named_plain plain m named h = grind (arith, by_name, get-insert_here, named_apart)
 
   -- a cell that isn't Shared, with a Shared cell to name if it is a Ref
   pub born_linked : (cells : NameMap (Cell T)) (n : Name) (c : Cell T)
       → IsLinked cells → map.get cells n ≡ None → is_shared (Some c) ≡ false
       → ((m : Name) (l : Location) → Some c ≡ Some (Ref m l) → is_shared (map.get cells m) ≡ true)
       → IsLinked (map.insert cells n c)
-  born_linked cells n c linked none plain leads = record {
-    targets = targets_born cells n c none linked.targets leads;
-    named = λ m. named_plain cells n c none plain m (linked.named m);
-  }
+  born_linked cells n c linked none plain leads =
+      record {
+        targets = targets_born cells n c none linked.targets leads;
+        named = λ m. named_plain cells n c none plain m (linked.named m);
+      }
 
   -- a Shared cell and a Ref to it
   pub pair_linked : (cells : NameMap (Cell T)) (m n : Name) (c : Content T) (l j : Location)
@@ -81,5 +81,4 @@ module _ {T : Type 0} where
   -- so cells stay linked where a content changes
   pub refilled_linked : (cells : NameMap (Cell T)) (n : Name) (c : Content T)
       → IsLinked cells → IsLinked (change cells n (refill c))
-  refilled_linked cells n c linked =
-      grind (arith, changed_view, by_name, refilled_shared, targets_still, refilled_ref)
+  refilled_linked cells n c linked = grind (arith, changed_view, by_name)

@@ -66,7 +66,7 @@ module _ {T : Type 0} where
   -- a name that was never given is in no list
   pub unlisted : (S : State T) (o : OwnerName) (h : Ownership) (n : Name) → IsSound S
       → ownership S o ≡ Some h → set.contains S.given n ≡ false → among h.names n ≡ false
-  unlisted S o h n s held new = grind (arith, false_from_ne_true, boxed_among, held_record)
+  unlisted S o h n s held new = grind (arith, boxed_among)
 
   -- ---- what a call leaves of a record
 
@@ -135,26 +135,6 @@ module _ {T : Type 0} where
         (λ own. get-remove_apart by_number S.owners a.key o.key
         (apart S a o (ap is_some is) ne own))))
 
-    keeps_read : (l : Location) (to : Option Name) (c : Option (Content T))
-        → Keeps S o (read_at S l to c)
-    keeps_read l to c = grind arith
-
-    keeps_write : (l : Location) (to : Option Name) (c : Option (Content T))
-        → Keeps S o (write_at S l to c)
-    keeps_write l to c = grind arith
-
-    keeps_set : (b : GenerationalPointer) (v : T) (to : Option Name) (c : Option (Content T))
-        → Keeps S o (set_at S b v to c)
-    keeps_set b v to c = grind arith
-
-    keeps_left : (n : Name) (t : ℕ) (c : Option (Content T))
-        → ownership (remove_reader S n t c) o ≡ ownership S o
-    keeps_left n t c = grind arith
-
-    keeps_pointed : (a b : GenerationalPointer) (cell : Option (Cell T)) (to : Option Name)
-        (target : Option (Cell T)) → Keeps S o (point S a b cell to target)
-    keeps_pointed a b cell to target = grind arith
-
     -- the owner of a making has another key
     other : (a : OwnerName) → a ≢ o → is_known S (Some a) ≡ true
         → (x : OwnerName) → ◌≡◌ {A = Option OwnerName} (Some a) (Some x)
@@ -188,17 +168,7 @@ module _ {T : Type 0} where
         (λ i. record { store = sym (eqb-true o.store S.number own) i; key = sym is i })))
     act_keeps (CloneOwner a) f ne next = keeps_cloned a (ownership S a) refl ne
     act_keeps (ReleaseOwner a) f ne next = keeps_released a (ownership S a) refl ne
-    act_keeps (Read b l) f ne next = keeps_unless (refusal_to_read S b) _ (keeps_read l _ _)
-    act_keeps (Write b l) f ne next = keeps_unless (refusal_to_write S b) _ (keeps_write l _ _)
-    act_keeps (ReleaseReader g) f ne next = by_cond (Keeps S o) (knows_reader S g)
-        (λ _. keeps_left g.cell g.ticket _) (λ _. refl)
-    act_keeps (ReleaseWriter g v) f ne next = by_cond (Keeps S o) (knows_writer S g)
-        (λ _. refl) (λ _. refl)
-    act_keeps (SetValue b v) f ne next = keeps_set b v _ _
-    act_keeps (End b) f ne next = keeps_unless (hindrance_to S (own_name S b)) _ refl
-    act_keeps (Point a b) f ne next = by_cond (Keeps S o) (has_same_id a b) (λ _. refl)
-        (λ _. keeps_unless (refusal_to_read S b) _ (keeps_pointed a b _ _ _))
-    act_keeps _ f ne next = refl
+    act_keeps call f ne next = grind arith
 
   module _ {S R : State T} where
     -- which is so of each call, where it doesn't make the owner
@@ -206,35 +176,19 @@ module _ {T : Type 0} where
         → LeavesOwner call o
         → ((f : NewNames) → (answer, R) ≡ act S call f → IsNotNext S call o)
         → ownership R o ≡ ownership S o
-    kept call answer m o ne next =
-        ⊎_elim (λ refused. ap (λ (X : State T). ownership X o) refused.1)
-        (λ acts. ap (λ (out : Outcome T). ownership out.1 o) acts.2
-        ∙ act_keeps S o call acts.0 ne (next acts.0 acts.2))
-        (meets_cases S R call answer m)
+    kept call answer m o ne next = grind (arith, act_keeps S o call, meets_cases S R call answer m)
 
     -- a call leaves each record but that of the owner by which it goes, and of the one that it gives
     pub keeps_record : (call : Action T) (answer : Answer T) → Meets S call answer R
         → (o : OwnerName) → LeavesOwner call o → GivesOtherOwner call answer o
         → ownership R o ≡ ownership S o
-    keeps_record call answer m o ne gives = kept call answer m o ne (next call gives)
-      where
-        next : (call : Action T) → GivesOtherOwner call answer o → (f : NewNames)
-            → (answer, R) ≡ act S call f → IsNotNext S call o
-        next NewOwner gives f is = subst (λ (out : Outcome T). IsOtherOwner out.0 o) is gives
-        next _ gives f is = tt
+    keeps_record call answer m o ne gives = grind (arith, kept call answer m o ne)
 
     -- a known owner keeps its record, unless the call goes by it
     pub keeps_known : (call : Action T) (answer : Answer T) → IsSound S → Meets S call answer R
         → (o : OwnerName) (h : Ownership) → LeavesOwner call o
         → ownership S o ≡ Some h → ownership R o ≡ Some h
-    keeps_known call answer s m o h ne held = kept call answer m o ne (next call) ∙ held
-      where
-        next : (call : Action T) (f : NewNames) → (answer, R) ≡ act S call f → IsNotNext S call o
-        next NewOwner f is = λ same.
-            let low = s.keys o.key (ap is_some (held_record S o h held)) in
-            let key : S.next ≡ o.key = ap (λ (x : OwnerName). x.key) same in
-            omega arith
-        next _ f is = tt
+    keeps_known call answer s m o h ne held = grind (arith, kept call answer m o ne)
 
     -- a new owner has the store's number and the next ticket as its key
     new_owner : (o : OwnerName) → Meets S NewOwner (Owned o) R

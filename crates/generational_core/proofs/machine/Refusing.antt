@@ -49,78 +49,8 @@ module _ {T : Type 0} where
     back : (v : T) → IsAnswered S (Back v, S)
     goes : (out : Outcome T) → refuses out.0 ≡ false → IsAnswered S out
 
-  module _ {S : State T} where
-    answered_if : (b : Bool) {x y : Outcome T}
-        → IsAnswered S x → IsAnswered S y → IsAnswered S (cond b x y)
-    answered_if b h k = grind arith
-
-    answered_unless : (t : Option BorrowRefusal) {x : Outcome T}
-        → IsAnswered S x → IsAnswered S (unless t S x)
-    answered_unless None h = h
-    answered_unless (Some t) h = troubled t
-
-    answered_done : (R : State T) → IsAnswered S (Done, R)
-    answered_done R = goes (Done, R) refl
-
-    answered_refer : (o : Option OwnerName) (b : GenerationalPointer) (m : Option Name)
-        (c : Option (Cell T)) (n : Name) → IsAnswered S (refer S o b m c n)
-    answered_refer o b (Some m) (Some (Shared c l)) n = goes _ refl
-    answered_refer o b m c n = troubled (Dropped b.created_at)
-
-    answered_read : (l : Location) (m : Option Name) (c : Option (Content T))
-        → IsAnswered S (read_at S l m c)
-    answered_read l (Some m) (Some (Here v rs)) = goes _ refl
-    answered_read l m c = goes _ refl
-
-    answered_write : (l : Location) (m : Option Name) (c : Option (Content T))
-        → IsAnswered S (write_at S l m c)
-    answered_write l (Some m) (Some (Here v rs)) = goes _ refl
-    answered_write l m c = goes _ refl
-
-    answered_set : (b : GenerationalPointer) (v : T) (m : Option Name) (c : Option (Content T))
-        → IsAnswered S (set_at S b v m c)
-    answered_set b v None c = troubled (Dropped b.created_at)
-    answered_set b v (Some m) (Some (Here old [])) = goes _ refl
-    answered_set b v (Some m) c = back v
-
-    answered_clone : (o : OwnerName) (h : Option Ownership) → IsAnswered S (clone_owner S o h)
-    answered_clone o None = unknown
-    answered_clone o (Some h) = goes _ refl
-
-    answered_release : (o : OwnerName) (h : Option Ownership) → IsAnswered S (release_owner S o h)
-    answered_release o None = unknown
-    answered_release o (Some h) = answered_if (nat_lt 1 h.count) (answered_done _)
-        (answered_unless (hindrance_to S h.names) (answered_done _))
-
-    answered_turn : (a old new : Name) (l : Location) → IsAnswered S (turn S a old new l)
-    answered_turn a old new l = grind (arith, answered_if, answered_done, answered_unless)
-
-    answered_point : (a b : GenerationalPointer) (c : Option (Cell T)) (m : Option Name)
-        (d : Option (Cell T)) → IsAnswered S (point S a b c m d)
-    answered_point a b None m d = troubled (Dropped a.created_at)
-    answered_point a b (Some (Ref old l)) (Some new) (Some (Shared c k)) =
-        answered_turn (name_of a) old new l
-    answered_point a b (Some c) m d = troubled _
-
   pub act_answered : (S : State T) (call : Action T) (f : NewNames) → IsAnswered S (act S call f)
-  act_answered S (Make o v l) f = answered_if (is_known S o) (goes _ refl) unknown
-  act_answered S (MakeShared o v l) f = answered_if (is_known S o) (goes _ refl) unknown
-  act_answered S (Refer o b) f = answered_if (is_known S o) (answered_unless (refusal_to_read S b)
-      (answered_refer o b (reach S b) (cell_at S (reach S b)) f.first)) unknown
-  act_answered S (CloneOwner o) f = answered_clone o (ownership S o)
-  act_answered S (ReleaseOwner o) f = answered_release o (ownership S o)
-  act_answered S (Read b l) f = answered_unless (refusal_to_read S b)
-      (answered_read l (reach S b) _)
-  act_answered S (Write b l) f = answered_unless (refusal_to_write S b)
-      (answered_write l (reach S b) _)
-  act_answered S (ReleaseReader g) f = answered_if (knows_reader S g) (goes _ refl) (goes _ refl)
-  act_answered S (ReleaseWriter g v) f = answered_if (knows_writer S g) (goes _ refl) (back v)
-  act_answered S (SetValue b v) f = answered_set b v (reach S b) _
-  act_answered S (End b) f = answered_unless (hindrance_to S (own_name S b)) (goes _ refl)
-  act_answered S (Point a b) f = answered_if (has_same_id a b) (goes _ refl)
-      (answered_unless (refusal_to_read S b)
-      (answered_point a b (own_cell S a.id) (reach S b) (cell_at S (reach S b))))
-  act_answered S _ f = goes _ refl
+  act_answered S call f = grind (arith, troubled, unknown, back, goes)
 
   pub answered_still : (S : State T) (out : Outcome T) → IsAnswered S out
       → refuses out.0 ≡ true → out.1 ≡ S

@@ -39,11 +39,11 @@ module _ {T : Type 0} where
     module _ (shared : is_shared (map.get cells n) ≡ true) where
       pub shared_ends : (IsNamed (cells_after cells names) n → ⊥)
           → map.get (cells_after cells names) n ≡ None
-      shared_ends nobody = grind (arith, false_from_ne_true, named_gives, swept_ref, get-swept, get-without)
+      shared_ends nobody = grind (arith, named_gives, get-swept, get-without)
 
       pub shared_stays : IsNamed (cells_after cells names) n
           → map.get (cells_after cells names) n ≡ map.get cells n
-      shared_stays h = grind (arith, named_from, swept_was, get-swept, get-without)
+      shared_stays h = grind (arith, named_from, get-swept, get-without)
 
   -- what stands in a list of names of boxes is one
   pub boxed_among : (S : State T) (names : List Name) (n : Name)
@@ -53,7 +53,7 @@ module _ {T : Type 0} where
 
   pub listed_boxed : (S : State T) (o : OwnerName) (h : Ownership) (n : Name) → IsSound S
       → ownership S o ≡ Some h → among h.names n ≡ true → is_shared (map.get S.cells n) ≡ false
-  listed_boxed S o h n s is there = grind (arith, boxed_among, held_record)
+  listed_boxed S o h n s is there = grind (arith, boxed_among)
 
   pub done_only : (t : Option BorrowRefusal) (S R last : State T)
       → ◌≡◌ {A = Outcome T} (Done, R) (unless t S (Done, last)) → R ≡ last
@@ -97,7 +97,7 @@ module _ {T : Type 0} where
   -- a release that isn't done changes nothing
   release_quiet : (S : State T) (o : OwnerName) (h : Option Ownership)
       → (release_owner S o h).0 ≢ Done → (release_owner S o h).1 ≡ S
-  release_quiet S o h h1 = grind arith
+  release_quiet S o h other = grind arith
 
   pub refused_release : (S R : State T) (o : OwnerName) (answer : Answer T)
       → Meets S (Action.ReleaseOwner o) answer R → answer ≢ Done → R ≡ S
@@ -150,10 +150,4 @@ module _ {T : Type 0} where
   pub ready_free : (S R : State T) (call : Action T) (step : StepCall) (answer : Answer T)
       → recorded_as call ≡ Some step → is_ready S step ≡ true → Meets S call answer R
       → is_hindered call answer ≡ false
-  ready_free S R call step answer is ready (inl m) =
-      ap (λ (o : Outcome T). is_hindered call o.0) m.2
-      ∙ by_cond (λ (out : Outcome T). is_hindered call out.0 ≡ false)
-      (takes_ticket (act S call m.0).0 && nat_eq S.next last_ticket)
-      {x = (Answer.Refused NumbersExhausted, S)} {y = act S call m.0}
-      (λ _. refl) (λ _. not-true _ (sym (ready_told S call step m.0 is) ∙ ready))
-  ready_free S R call step answer is ready (inr m) = ap (is_hindered call) m.1
+  ready_free S R call step answer is ready m = grind (arith, ready_told S call step)

@@ -13,7 +13,7 @@ use machine.{reads_known, is_some, BorrowRefusal, can_read, own_name, value_in, 
 use machine.{nat_eq_equiv, read_refusal, refusal_to_read, hindrance_to, limit_tickets}
 use machine.{meets_follows, false_from_ne_true, LeavesUnborrowed, GenerationalPointer}
 use machine.{write_refusal, refusal_to_write, remove_reader, ReleaseReader, filled_content, by_cond}
-use machine.{by_option, meets_each, not, or_parts}
+use machine.{by_option, meets_each, not, or_parts, refilled_content}
 use Rattle.generational_core.proofs.machine.Seeing.{reaches, reached_live, reach_stays}
 use Rattle.generational_core.proofs.machine.Seeing.{value_in_reached}
 pub use Rattle.generational_core.proofs.machine.Seeing.{reached_content}
@@ -47,19 +47,12 @@ module _ {T : Type 0} where
   pub free_reads : (S : State T) (b : GenerationalPointer)
       → can_write S b ≡ true → can_read S b ≡ true
   unfolding refusal_to_read
-  free_reads S b h = grind (arith, rests, reaches)
+  free_reads S b h = grind (arith, rests)
 
   -- and it sees a value
   pub free_sees : (S : State T) (b : GenerationalPointer)
       → IsSound S → can_write S b ≡ true → (v : T) × (value_in S b ≡ Some v)
-  free_sees S b s h = let at = rests S b h in let there = reached_content S b at.0 s at.1.reaches in
-      let seen = value_in_reached S b at.0 at.1.reaches in
-      let it = value (content_at S at.0) there at.1.free in (it.0, seen ∙ it.1)
-    where
-      value : (c : Option (Content T)) → is_some c ≡ true → write_refusal c ≡ None
-          → (v : T) × (value_of c ≡ Some v)
-      value (Some (Here v rs)) there free = (v, refl)
-      value _ there free = cc
+  free_sees S b s h = grind (arith, rests S b h, reached_content S b, value_in_reached S b)
 
   -- ---- what calls leave
 
@@ -77,24 +70,11 @@ module _ {T : Type 0} where
       → IsSound S → Meets S call answer R → LeavesUnborrowed S call b
       → can_write S b ≡ true → can_write R b ≡ true
   free_stays S R call answer b s meets leaves h =
-      let m = (rests S b h).0 in let r = (rests S b h).1 in
-      let live = reached_live S b m s r.reaches in
-      let quiet = unborrowed S call b m r.reaches leaves in
-      let stays = reach_stays S R call answer b m s meets (leaves_box S call b leaves) r.reaches in
-      let free = keep_each (meets_follows S R call answer meets) m
-      (λ x y. write_refusal (content_of x) ≡ None → write_refusal (content_of y) ≡ None)
-      (λ x e. e) (λ _ e. refl) (λ new given still e. cc (s.given m live))
-      (λ k c here law had has e. rw has (filled m quiet k law (rw had at e))) (λ k n l e. refl)
-      r.free in rests_free R b m (record { reaches = stays; free = free })
-    where
-      filled : (m : Name) → (Borrows S call m → ⊥) → (k : Filling T) → IsFilling S call R.next m k
-          → write_refusal (Some (old_content k)) ≡ None
-          → write_refusal (Some (new_content S k)) ≡ None
-      filled m quiet (Reader v rs l) law e = absurd (quiet law.1)
-      filled m quiet (Writer v l) law e = absurd (quiet law.2)
-      filled m quiet (Leave v [] g) law e = refl
-      filled m quiet (Leave v (r ∷ rs) g) law e = cc
-      filled m quiet _ law e = refl
+      let stays = reach_stays S R call answer b in
+      let view = (meets_follows S R call answer meets).view in
+      let live = reached_live S b in
+      let quiet = unborrowed S call b in
+      grind (arith, rests S b h, rests_free R b, stays, leaves_box, view, live, quiet)
 
   -- ---- ends
 
@@ -107,7 +87,7 @@ module _ {T : Type 0} where
   unhindered : (S : State T) (b : GenerationalPointer)
       → can_write S b ≡ true → hindrance_to S (own_name S b) ≡ None
   unfolding hindrance_to
-  unhindered S b h = search (arith, rests, reaches, unhindered_leads)
+  unhindered S b h = search (arith, rests, reaches)
 
   -- an end of it is answered Ok
   pub free_ends : (S R : State T) (b : GenerationalPointer) (answer : Answer T)
@@ -147,7 +127,7 @@ module _ {T : Type 0} where
   -- a cell that is filled and filled again with what it held
   refilled_back : (S : State T) (m : Name) (c d : Content T) → content_at S m ≡ Some d
       → change (change S.cells m (refill c)) m (refill d) ≡ S.cells
-  refilled_back S m c d had = grind (arith, by_option, changed_back, by_name)
+  refilled_back S m c d had = grind (arith, changed_back, by_name)
 
   released : (R Q : State T) (g : Guard) (flag : Bool) → knows_reader R g ≡ true → Meets R
       (ReleaseReader g) (Flag flag) Q → Q ≡ remove_reader R g.cell g.ticket (content_at R g.cell)

@@ -90,9 +90,9 @@ module _ {K X : Type 0} {R : K → K → Ordering} (o : IsKeyOrder R) where
   -- all that a map has
   pub put_all : (m : map.FinMap R X) → put (map.empty {R = R}) (map.entries m) ≡ m
   put_all m =
-      put_new (map.entries m) (apart_of (map.entries m) (keys_apart R m))
-      ∙ map.same_map o.total o.exact _ _ (λ q.
-      map.get-from_entries o.total (map.entries m) q ∙ sym (map.get-entries m q))
+      let none = map.get-empty {X = X} R in
+      map.same_map o.total o.exact _ _
+      (λ q. grind (arith, get_put, apart_of, keys_apart, none, map.get-entries, or_none))
 
 -- ---- the cell of a name
 
@@ -158,17 +158,13 @@ pub owners_read : (P : Plain) (number : ℕ) (es : List (ℕ × Ownership))
     → read_rows P (owner_rows number es) ≡ record P { owners = put P.owners es }
 owners_read P number [] = refl
 owners_read P number (e ∷ es) =
-    read_append (record_rows number e) (owner_rows number es) P
-    ∙ ap (λ Q. read_rows Q (owner_rows number es)) (names_read P number e.0 e.1.count [] e.1.names)
-    ∙ owners_read (owning P e.0 e.1) number es
+    rw (read_append (record_rows number e) (owner_rows number es) P)
+    (rw (names_read P number e.0 e.1.count [] e.1.names) (owners_read (owning P e.0 e.1) number es))
 
 -- the records of a map, in the order of their keys
 pub all_owners_read : (P : Plain) (number : ℕ) (owners : Owners) → P.owners ≡ map.empty
     → read_rows P (owner_rows number (map.entries owners)) ≡ record P { owners = owners }
-all_owners_read P number owners none =
-    owners_read P number (map.entries owners)
-    ∙ ap (λ m. record P { owners = m })
-    (ap (λ m. put m (map.entries owners)) none ∙ put_all by_number owners)
+all_owners_read P number owners none = grind (arith, owners_read, put_all, by_number)
 
 -- ---- what stands under a name without its value
 
@@ -180,7 +176,5 @@ find_bare q (e ∷ es) = grind (arith, find_bare q es)
 pub get_bare_cell : {T : Type 0} (cells : NameMap (Cell T)) (n : Name)
     → map.get (bare_cells cells) n ≡ option_map bare_cell (map.get cells n)
 unfolding bare_cells
-get_bare_cell cells n =
-    map.get-from_entries name_total (list_map bare_entry (map.entries cells)) n
-    ∙ (find_bare n (map.entries cells)
-    ∙ ap (option_map bare_cell) (sym (map.get-entries cells n)))
+get_bare_cell cells n = let made = map.get-from_entries {X = Cell (Unit {0})} name_total in
+    grind (arith, made, find_bare, map.get-entries)

@@ -9,7 +9,7 @@ use machine.{State, IsSound, IsGiven, AreNew, Meets, GenerationalPointer, by_nam
 use machine.{changed_view, name_apart, Change, Filling, IsFilling, IsLawful, after, old_content}
 use machine.{new_content, act_leads, second_fresh, Stay, Birth, Pair, Fill, Close, Turn, Writer}
 use machine.{Return, Replace, by_cond, cond_gives, live_by, swept_view, box_stays, keep_each, last}
-use machine.{arith, same_store, meets_each, meets_follows, meets_sound, content_at}
+use machine.{refilled_content, arith, same_store, meets_each, meets_follows, meets_sound, content_at}
 use Rattle.std.specs.FinMap as map
 
 module _ {T : Type 0} where
@@ -58,12 +58,12 @@ module _ {T : Type 0} where
     kept_cell : (c : Change T) → IsLawful S call f next c
         → leads_to (map.get (after S f c).cells q) q ≡ leads_to (map.get S.cells q) q
     kept_cell c law =
-        grind (arith, get-insert_apart, by_name, second_fresh, refilled_leads, changed_view, box_stays, swept_view)
+        grind (arith, get-insert_apart, by_name, second_fresh, changed_view, box_stays, swept_view)
 
   -- a call that leaves a box ends no such name, and turns no such Ref
   unended : (S : State T) (call : Action T) (b : GenerationalPointer)
       → LeavesBox S call b → among (ending S call) (name_of b) ≡ false
-  unended S call b h = grind (arith, by_cond, name_apart)
+  unended S call b h = grind (arith, name_apart)
 
   unturned : (S : State T) (call : Action T) (b : GenerationalPointer)
       → LeavesBox S call b → Turns call (name_of b) → ⊥
@@ -112,18 +112,7 @@ module _ {T : Type 0} where
         → (Lends S call m → ⊥) → (Sets S call m → ⊥) → is_some (map.get S.cells m) ≡ true
         → is_some (map.get R.cells m) ≡ true → value_at R m ≡ value_at S m
     kept_value m s meets free quiet before after =
-        let value = λ (x : Option (Cell T)). value_of (content_of x) in
-        keep_each (meets_follows S R call answer meets) m
-        (λ x y. is_some y ≡ true → value y ≡ value x) (λ x e. refl) (λ _ e. cc)
-        (λ new given still e. cc (s.given m before))
-        (λ k c here law had has e. rw (has, had) (filled k law)) (λ k n l e. refl) after
-      where
-        filled : (k : Filling T) → IsFilling S call R.next m k
-            → value_of (Some (new_content S k)) ≡ value_of (Some (old_content k))
-        filled (Writer v l) law = absurd (free law.1)
-        filled (Return w g v) law = absurd (free law.2)
-        filled (Replace w v) law = absurd (quiet law)
-        filled _ law = refl
+        grind (arith, (meets_follows S R call answer meets).view m)
 
     -- a box sees what it saw, unless the call ends it, points it elsewhere, lends or sets its value
     pub value_stays : (b : GenerationalPointer) (m : Name) → IsSound S → Meets S call answer R

@@ -30,7 +30,8 @@ module _ {K : Type 0} (e : K → K → Bool) where
   unfolding IsDistinct
   distinct_both here [] ys dx dy apart = dy
   distinct_both here (x ∷ xs) ys dx dy apart =
-      (any_false x (xs ++ ys) (grind (arith, no_any, list_any-append, apart x, here x)), distinct_both here xs ys dx.1 dy (λ q a b. grind (arith, apart q)))
+      let first = any_false x (xs ++ ys) (grind (arith, no_any, list_any-append, apart x, here x)) in
+      (first, distinct_both here xs ys dx.1 dy (λ q a b. grind (arith, apart q)))
 
 abbrev slots_in : List Name → List ℕ
 slots_in names = list_map (λ (n : Name). n.slot) names
@@ -39,7 +40,7 @@ found_slot : (names : List Name) (s : ℕ) → list_any (eq_by_cmp nat_cmp s) (s
     → (m : Name) × (list_any (eq_by_cmp name_cmp m) names ≡ true) × (s ≡ m.slot)
 found_slot [] s any = cc
 found_slot (n ∷ names) s any = ⊎_elim
-    (λ yes. (n, or_left _ _ (key_here by_name n), key_same by_number s n.slot yes))
+    (λ yes. (n, grind (arith, key_here, by_name), key_same by_number s n.slot yes))
     (λ rest. let m = found_slot names s rest in (m.0, or_right _ _ m.1, m.2)) (or_cases _ _ any)
 
 module _ {T : Type 0} (S : State T) (s : IsSound S) (b : IsBounded S) where
@@ -49,7 +50,9 @@ module _ {T : Type 0} (S : State T) (s : IsSound S) (b : IsBounded S) where
   unfolding IsDistinct
   slots_apart [] live d = tt
   slots_apart (n ∷ names) live d =
-      (any_false (eq_by_cmp nat_cmp) n.slot (slots_in names) (λ any. grind (arith, found_slot, no_any, key_here, by_name, live, b.last)), slots_apart names (grind (arith, live)) d.1)
+      let first = any_false (eq_by_cmp nat_cmp) n.slot (slots_in names)
+      (λ any. grind (arith, found_slot, no_any, key_here, by_name, live, b.last)) in
+      (first, slots_apart names (grind (arith, live)) d.1)
 
   abbrev live_slots : List ℕ
   live_slots = slots_in (map.keys S.cells)
@@ -68,8 +71,7 @@ module _ {T : Type 0} (S : State T) (s : IsSound S) (b : IsBounded S) where
   is_kept_slot : (p : ℕ → Bool) (q : ℕ) → list_any (eq_by_cmp nat_cmp q) (kept_slots p) ≡ true
       → (p q ≡ true) × (map.contains_key (slots_of S) q ≡ true)
   is_kept_slot p q any =
-      let there = map.contains_key-keys (map.retain_keys (slots_of S) p) q ∙ any in
-      ⊎_elim (λ kept. (kept.1, cc)) (λ gone. cc) (keep_view by_number (slots_of S) p q)
+      grind (arith, keep_view by_number (slots_of S) p q, map.contains_key-keys (map.retain_keys (slots_of S) p) q)
 
   -- a slot isn't free and retired, nor live and one of these
   one_kind : (q : ℕ) → is_free S q ≡ true → is_retired S q ≡ true → ⊥
@@ -79,17 +81,18 @@ module _ {T : Type 0} (S : State T) (s : IsSound S) (b : IsBounded S) where
   unkept low q live kept = true≢false (sym live ∙ not-true _ (and_parts _ _ kept).0)
 
   rest_apart : IsDistinct (eq_by_cmp nat_cmp) (kept_slots (is_free S) ++ kept_slots (is_retired S))
-  rest_apart = grind (arith, distinct_both, key_here, by_number, keys_apart, one_kind, is_kept_slot)
+  rest_apart = grind (arith, distinct_both, keys_apart, is_kept_slot)
 
   all_apart : IsDistinct (eq_by_cmp nat_cmp)
       (live_slots ++ (kept_slots (is_free S) ++ kept_slots (is_retired S)))
   all_apart =
-      grind (arith, distinct_both, key_here, by_number, slots_apart, live_key, keys_apart, rest_apart, unkept, is_live_slot, is_kept_slot, or_cases, list_any-append)
+      let slots = slots_apart (map.keys S.cells) live_key (keys_apart name_cmp S.cells) in
+      grind (arith, distinct_both, by_number, slots, rest_apart, is_live_slot, is_kept_slot, list_any-append)
 
   all_slots : (q : ℕ) → list_any (eq_by_cmp nat_cmp q)
       (live_slots ++ (kept_slots (is_free S) ++ kept_slots (is_retired S))) ≡ true
       → map.contains_key (slots_of S) q ≡ true
-  all_slots q any = grind (arith, is_live_slot, is_kept_slot, or_cases, list_any-append)
+  all_slots q any = grind (arith, is_live_slot, is_kept_slot, list_any-append)
 
   -- each slot is live, free or retired, and is one of them
   pub slots_are : slots S ≡ map.len S.cells + free S + retired S

@@ -165,18 +165,18 @@ module _ {T : Type 0} where
       → content_of (Some (refill (new_content S k) c)) ≡ Some (new_content S k)
       → P (Some c) (Some (refill (new_content S k) c))) → ((m n : Name) (l : Location)
       → P (Some (Ref m l)) (Some (Ref n l))) → P (map.get S.cells q) (map.get R.cells q)
-  keep_each h q P same gone born filled turned = grind (arith, h.view q, refilled_content)
+  keep_each h q P same gone born filled turned = grind arith
 
   -- what is live was live, or is new
   pub live_before : {S R : State T} {call : Action T} (h : Follows S call R) (q : Name)
       → is_some (map.get R.cells q) ≡ true → (is_some (map.get S.cells q) ≡ true)
       ⊎ ((set.contains S.given q ≡ false) × IsGiven R q)
-  live_before h q live = grind (arith, h.view q)
+  live_before h q live = grind arith
 
   -- an ended name has no cell again
   pub ended_still : {S R : State T} {call : Action T} (h : Follows S call R) (q : Name)
       → IsEnded S q → map.get R.cells q ≡ None
-  ended_still h q ended = grind (arith, h.view q)
+  ended_still h q ended = grind arith
 
   -- ---- tickets
 
@@ -193,22 +193,10 @@ module _ {T : Type 0} where
       → Renews S next spot q (Some (old_content k)) (Some (new_content S k))
   unfolding IsDistinct
   renewed S call next spot q (Reader v rs l) here law d low =
-      let more = map-append (λ (r : Borrow). r.ticket) rs (next_borrow S l ∷ []) in (
-        rw more (IsDistinct-push nat_eq_equiv (tickets rs) S.next d
-            (false_from_ne_true _ (λ h. let lt = low S.next h in omega arith))),
-        λ t h. ⊎_elim inl
-            (λ e. let is = eqb-true t S.next (rw or-false at e) in
-            inr (here, omega arith, omega arith))
-            (or_cases _ _ (rw (more, list_any-append (nat_eq t) (tickets rs) (S.next ∷ [])) at h)),
-      )
-  renewed S call next spot q (Writer v l) here law d low = (
-    (tt, tt),
-    λ t h. let is = eqb-true t S.next (rw or-false at h) in
-        inr (here, omega arith, omega arith),
-  )
-  renewed S call next spot q (Leave v rs g) here law d low =
-      (apart_filter _ rs d, λ t h. inl (in_filter _ (nat_eq t) rs h))
-  renewed S call next spot q _ here law d low = (tt, λ t h. cc)
+      grind (arith, map-append, IsDistinct-push, nat_eq_equiv, list_any-append, eqb-true)
+  renewed S call next spot q (Writer v l) here law d low = grind (arith, eqb-true)
+  renewed S call next spot q (Leave v rs g) here law d low = grind (arith, apart_filter, in_filter)
+  renewed S call next spot q _ here law d low = grind arith
 
   -- ---- what Refs name
 
@@ -219,7 +207,7 @@ module _ {T : Type 0} where
 
   pub absent_beside : (S : State T) → IsSound S → (m n : Name) (c : Cell T)
       → set.contains (add_cell S m c).given n ≡ false → map.get (add_cell S m c).cells n ≡ None
-  absent_beside S s m n c new = grind (arith, second_fresh, get-insert_apart, by_name, absent)
+  absent_beside S s m n c new = grind (arith, second_fresh, get-insert_apart, by_name)
 
   -- after each change Refs name Shared cells, and Shared cells are named
   module _ (S : State T) (call : Action T) (f : NewNames) (next : ℕ)
@@ -243,7 +231,7 @@ module _ {T : Type 0} where
     pub shared_still : (q : Name)
         → IsGiven S q → is_shared (map.get S.cells q) ≡ false
         → is_shared (map.get R.cells q) ≡ false
-    shared_still q given plain = grind (arith, h.view q, refilled_shared)
+    shared_still q given plain = grind arith
 
     each_boxed : (names : List Name)
         → AllByRecursion (IsBoxed S) names → AllByRecursion (IsBoxed R) names
@@ -254,23 +242,21 @@ module _ {T : Type 0} where
     tickets_still : (q : Name) → IsDistinct nat_eq (tickets_at R.cells q) × ((t : ℕ)
         → Stands R.cells q t → Stands S.cells q t ⊎ ((q ≡ h.spot) × (S.next ≤ t) × (t < R.next)))
     unfolding IsDistinct
-    tickets_still q = grind (arith, h.view q, renewed, s.apart q, s.below q, refilled_content)
+    tickets_still q = grind (arith, renewed)
 
     follows_sound : IsLinked R.cells → AreRecords R R.next R.owners → IsSound R
     follows_sound links records = record {
-      given = λ n live. ⊎_elim (λ e. h.given n (s.given n e)) (λ e. e.1) (live_before h n live);
+      given = λ n live. grind (arith, live_before h n live, s.given n, h.given n);
       owned = λ k x is. (records k x is).0;
       targets = links.targets;
       shared = λ m e. named_from R.cells m (links.named m e);
-      below = λ n t e. ⊎_elim (λ e. let b = s.below n t e in let up = h.next in omega arith)
-          (λ e. e.2) ((tickets_still n).1 t e);
+      below = λ n t e. grind (arith, s.below n t, (tickets_still n).1 t e, h.next);
       apart = λ n. (tickets_still n).0;
       one_cell = λ n m t a b.
-          ⊎_elim (λ e. ⊎_elim (λ k. s.one_cell n m t e k) (λ k. let low = s.below n t e in
-          let high = k.1 in absurd (omega arith)) ((tickets_still m).1 t b))
-          (λ e. ⊎_elim (λ k. let low = s.below m t k in let high = e.1 in absurd (omega arith))
-          (λ k. e.0 ∙ sym k.0) ((tickets_still m).1 t b)) ((tickets_still n).1 t a);
-      keys = λ k live. let x = some_live _ live in (records k x.0 x.1).1;
+          let first = (tickets_still n).1 t a in
+          let second = (tickets_still m).1 t b in
+          grind (arith, first, second, s.below n t, s.below m t, s.one_cell n m t);
+      keys = λ k live. grind (arith, some_live (map.get R.owners k) live, records k);
     }
 
   -- each call, with new names, leads from a sound state to a sound state
@@ -291,18 +277,7 @@ module _ {T : Type 0} where
   pub fresh_sound : (number start next : ℕ) → IsSound (fresh {T = T} number start next)
   unfolding IsDistinct
   fresh_sound number start next =
-      let none = map.get-empty {X = Cell T} name_cmp in
-      let unknown = map.get-empty {X = Ownership} nat_cmp in
-      record {
-        given = λ n live. cc (none n);
-        owned = λ k h is. cc (unknown k);
-        targets = λ n m l is. cc (none n);
-        shared = λ m h. cc (none m);
-        below = λ n t h. cc (none n);
-        apart = λ n. rw (none n) tt;
-        one_cell = λ n m t h k. cc (none n);
-        keys = λ k live. cc (unknown k);
-      }
+      grind (arith, map.get-empty {X = Cell T} name_cmp, map.get-empty {X = Ownership} nat_cmp)
 
   -- a Shared cell is live exactly while a live Ref names it
   pub named_shared : (S : State T)

@@ -12,7 +12,7 @@ use Common.{value_at, is_known, BorrowRefused, no_names, refusal_to_read, knows_
 use Common.{arith, knows_writer, ReleaseReader, ReleaseWriter, takes_ticket, nat_eq_equiv, []}
 use Rattle.generational_core.proofs.machine.Changes.{new_fresh, act_leads, is_making, IsLawful}
 use Rattle.generational_core.proofs.machine.Changes.{Change, after, Filling, IsFilling, Says}
-use Rattle.generational_core.proofs.machine.Changes.{act_says, without, old_content, new_content}
+use Rattle.generational_core.proofs.machine.Changes.{refilled_content, act_says, without, old_content, new_content}
 use Rattle.generational_core.proofs.machine.Changes.Change.{Birth, Pair}
 use Rattle.generational_core.proofs.machine.Changes.Filling.{Reader, Writer, Leave, Return, Replace}
 use Rattle.std.proofs.lemmas.Map.Views.{any-filter_same}
@@ -45,12 +45,7 @@ module _ {T : Type 0} where
   -- each call leaves the first generation, and none but a making gives names
   pub act_start : (S : State T) (call : Action T) (f : NewNames)
       → Begins (is_making call) S (act S call f)
-  act_start S call f =
-      let h = act_leads S call f in
-      record {
-        start = cc (h.is, (same_store S f h.change).1);
-        given = λ other. cc (h.is, same_given S call f h.next h.change h.lawful other);
-      }
+  act_start S call f = grind (arith, act_leads S call f)
 
   -- ---- the two cases of a call
 
@@ -168,12 +163,12 @@ module _ {T : Type 0} where
     pub meets_location : (m : Name) → IsSound S → Meets S call answer R
         → is_some (map.get S.cells m) ≡ true → is_some (map.get R.cells m) ≡ true
         → location_at R m ≡ location_at S m
-    meets_location m s meets before after = grind (arith, (meets_follows meets).view m, s.given m)
+    meets_location m s meets before after = grind (arith, (meets_follows meets).view m)
 
     -- a value that no writer has, before or after a call that doesn't set it, is the same
     pub meets_value : (m : Name) → IsSound S → Meets S call answer R → (Sets S call m → ⊥) → is_some
         (value_at S m) ≡ true → is_some (value_at R m) ≡ true → value_at R m ≡ value_at S m
-    meets_value m s meets unset before h5 = grind (arith, keep_each, meets_follows, live_by)
+    meets_value m s meets unset before h5 = grind (arith, meets_follows)
 
     -- ---- guards
 
@@ -184,34 +179,22 @@ module _ {T : Type 0} where
         → p (Some (new_content S k)) ≡ true) → IsSound S → Meets S call answer R
         → (nat_eq g.store S.number && p (content_at S g.cell)) ≡ true
         → (nat_eq g.store R.number && p (content_at R g.cell)) ≡ true
-    stays g p none alone filled s meets known =
-        grind (arith, meets_follows, and_parts, live_by, and_from, keep_each)
+    stays g p none alone filled s meets known = grind (arith, meets_follows)
 
     -- a store knows a guard until it is given back
     pub reader_stays : IsSound S → Meets S call answer R → (g : Guard)
         → knows_reader S g ≡ true → ends_reader call g.ticket ≡ false → knows_reader R g ≡ true
     reader_stays s m g known other =
-        stays g (λ c. has_reader c g.ticket) refl (λ v. refl) filled s m known
-      where
-        filled : (k : Filling T) → IsFilling S call R.next g.cell k
-            → has_reader (Some (old_content k)) g.ticket ≡ true
-            → has_reader (Some (new_content S k)) g.ticket ≡ true
-        filled (Reader v readers l) law h =
-            list_any-append (λ r. nat_eq r.ticket g.ticket) readers _ ∙ or_left _ _ h
-        filled (Leave v readers k) law h =
-            unread_stays k.ticket g.ticket readers (rw law.0 at other) h
-        filled _ law h = cc
+        let view = (meets_follows m).view g.cell in
+        let number = (meets_follows m).number in
+        grind (arith, view, number, list_any-append, unread_stays)
 
     pub writer_stays : IsSound S → Meets S call answer R → (g : Guard)
         → knows_writer S g ≡ true → ends_writer call g.ticket ≡ false → knows_writer R g ≡ true
     writer_stays s m g known other =
-        stays g (λ c. has_writer c g.ticket) refl (λ v. refl) filled s m known
-      where
-        filled : (k : Filling T) → IsFilling S call R.next g.cell k
-            → has_writer (Some (old_content k)) g.ticket ≡ true
-            → has_writer (Some (new_content S k)) g.ticket ≡ true
-        filled (Return w k v) law h = cc (eqb-true w.ticket k.ticket law.1, rw law.0 at other)
-        filled _ law h = cc
+        let view = (meets_follows m).view g.cell in
+        let number = (meets_follows m).number in
+        grind (arith, view, number)
 
   -- ---- new boxes and guards
 

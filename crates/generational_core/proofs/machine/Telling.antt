@@ -77,10 +77,9 @@ module _ {T : Type 0} where
   listed S o n b = grind arith
 
   in_list : (S : State T) (o : Option OwnerName) (n : Name) → Lists S o n (add_to_list S o n)
-  in_list S None n a h is held = cc
-  in_list S (Some b) n a h is held =
-      let it = cond_gives (nat_eq a.store S.number) _ h held in let same : b ≡ a = cc in
-      rw (same, it.0) (get-changed_here by_number S.owners a.key (one_listed n) h it.1)
+  in_list S o n a h is held =
+      let it = cond_gives (nat_eq a.store S.number) (map.get S.owners a.key) h held in
+      rw (is, it.0) (get-changed_here by_number S.owners a.key (one_listed n) h it.1)
 
   -- the box of a cell that is added leads where the cell does
   added_reach : (S : State T) (n : Name) (c : Cell T) (l : Location)
@@ -93,11 +92,8 @@ module _ {T : Type 0} where
       (v : T) → reach Q b ≡ Some m → content_at Q m ≡ Some (Here v [])
       → let R = add_to_list Q o n in
       (value_in R b ≡ Some v) × Lists Q o n R × (can_write R b ≡ true)
-  new_told Q o n b m v to there = let list = listed Q o n b in (
-    cc (list.1, value_in_reached Q b m to),
-    in_list Q o n,
-    list.2 ∙ rests_free Q b m (record { reaches = to; free = ap write_refusal there }),
-  )
+  unfolding value_in refusal_to_write
+  new_told Q o n b m v to there = grind (arith, listed Q o n b, in_list Q o n)
 
   made_told : (S : State T) (o : Option OwnerName) (v : T) (l : Location) (n : Name)
       → TellsOf S (Make o v l) (make S o n (Value (Here v []) l) l)
@@ -119,18 +115,11 @@ module _ {T : Type 0} where
   referred_told : (S : State T) (o : Option OwnerName) (b : GenerationalPointer) (n : Name)
       (to : Option Name) (target : Option (Cell T)) → set.contains S.given n ≡ false
       → reach S b ≡ to → cell_at S to ≡ target → TellsOf S (Refer o b) (refer S o b to target n)
+  unfolding value_in
   referred_told S o b n (Some m) (Some (Shared c l)) new to at =
       let Q = add_cell S n (Ref m l) in
-      let box = box_of S.number n l in
-      let list = listed Q o n box in
-      let there = added_reach S n (Ref m l) l in (
-        list.0 ∙ (there ∙ sym to),
-        λ s. list.1 ∙ (value_in_reached Q box m there
-            ∙ (ap (λ x. value_of (content_of x)) (get-insert_apart by_name S.cells n (Ref m l) m
-            (λ is. cc (s.given m (ap is_some at)))) ∙ sym (value_in_reached S b m to))),
-        in_list Q o n,
-        ap is_some to,
-      )
+      let list = listed Q o n (box_of S.number n l) in
+      grind (arith, list, added_reach S n (Ref m l) l, get-insert_apart, by_name, in_list Q o n)
   referred_told S o b n to target new h at = tt
 
   -- ---- borrows
@@ -139,14 +128,14 @@ module _ {T : Type 0} where
   pub filled_reach : (S : State T) (n : Name) (k : Content T) (b : GenerationalPointer)
       → reach (fill S n k) b ≡ reach S b
   unfolding reach
-  filled_reach S n k b = grind (arith, refilled_leads, changed_view, by_name)
+  filled_reach S n k b = grind (arith, changed_view, by_name)
 
   read_told : (S : State T) (b : GenerationalPointer) (l : Location) (m : Option Name)
       (c : Option (Content T)) → reach S b ≡ m → content_of (cell_at S m) ≡ c
       → TellsOf S (Read b l) (read_at S l m c)
+  unfolding value_in
   read_told S b l (Some m) (Some (Here v rs)) to had =
-      let filled = filled_content S m (Here v (rs ++ next_borrow S l ∷ [])) (Here v rs) had in
-      (to, cc (value_in_reached S b m to))
+      grind (arith, filled_content S m (Here v (rs ++ next_borrow S l ∷ [])) (Here v rs) had)
   read_told S b l m c to had = tt
 
   write_told : (S : State T) (b : GenerationalPointer) (l : Location) (m : Option Name)
@@ -159,22 +148,18 @@ module _ {T : Type 0} where
 
   written_told : (S : State T) (g : Guard) (v : T) (c : Option (Content T)) → content_at S g.cell ≡ c
       → has_writer c g.ticket ≡ true → TellsOf S (ReleaseWriter g v) (Done, fill S g.cell (Here v []))
-  written_told S g v (Some k) had known = λ b to. value_in_reached
-      (fill S g.cell (Here v [])) b g.cell (filled_reach S g.cell (Here v []) b ∙ to)
-      ∙ ap value_of (filled_content S g.cell (Here v []) k had)
+  unfolding value_in
   written_told S g v None had known = cc
+  written_told S g v (Some k) had known =
+      grind (arith, filled_reach S g.cell (Here v []), filled_content S g.cell (Here v []) k had)
 
   set_told : (S : State T) (b : GenerationalPointer) (v : T) (m : Option Name)
       (c : Option (Content T)) → reach S b ≡ m → content_of (cell_at S m) ≡ c
       → TellsOf S (SetValue b v) (set_at S b v m c)
-  set_told S b v None c to had = tt
+  unfolding value_in
   set_told S b v (Some m) (Some (Here old [])) to had =
-      let stays = filled_reach S m (Here v []) in (
-        value_in_reached S b m to ∙ ap value_of had,
-        stays,
-        λ c same. value_in_reached (fill S m (Here v [])) c m (stays c ∙ (same ∙ to))
-            ∙ ap value_of (filled_content S m (Here v []) (Here old []) had),
-      )
+      grind (arith, filled_reach S m (Here v []), filled_content S m (Here v []) (Here old []) had)
+  set_told S b v None c to had = tt
   set_told S b v (Some m) _ to had = tt
 
   -- ---- ends, and references that turn
@@ -184,55 +169,38 @@ module _ {T : Type 0} where
 
   pub ended_leads : (cells : NameMap (Cell T)) (names : List Name) (n : Name)
       → among names n ≡ true → leads_to (map.get (cells_after cells names) n) n ≡ None
-  ended_leads cells names n there =
-      grind (arith, shared_leads, get-without, swept_view, box_ends, cases_Bool)
+  ended_leads cells names n there = grind (arith, get-without, swept_view)
 
   ended_told : (S : State T) (b : GenerationalPointer)
       → TellsOf S (End b) (Done, close S (own_name S b))
   unfolding reach
-  ended_told S b = grind (arith, by_cond, ended_leads, name_here)
+  ended_told S b = grind (arith, ended_leads, name_here)
 
   turned_told : (S : State T) (a b : GenerationalPointer) (own : Bool)
       (cell : Option (Cell T)) (to : Option Name) (target : Option (Cell T))
       → nat_eq a.id.store S.number ≡ own → map.get S.cells (name_of a) ≡ cell → reach S b ≡ to
       → TellsOf S (Point a b) (point S a b (cond own cell None) to target)
+  unfolding reach
   turned_told S a b true (Some (Ref old l)) (Some new) (Some (Shared c k)) own at to =
-      let one = map.insert S.cells (name_of a) (Ref new l) in
-      by_cond (TellsOf S (Point a b)) (is_name old new)
-      (λ same. cc (name_same old new same, reach_by S a old (record { number = own; leads = cc })))
-      (λ _. unless_told S (Point a b) (hindrance_at S.cells (sweep one) old) _
-      (reach_by (record S { cells = sweep one }) a new (record {
-        number = own;
-        leads = cc (swept_ref one (name_of a) new l
-            (get-insert_here by_name S.cells (name_of a) (Ref new l)));
-      }) ∙ sym to))
+      let there = swept_ref (map.insert S.cells (name_of a) (Ref new l)) (name_of a) new l in
+      grind (arith, there, get-insert_here, by_name, name_same old new)
   turned_told S a b _ _ _ _ own at to = tt
 
   -- ---- each call
 
   act_tells : (S : State T) (call : Action T) (f : NewNames)
       → AreFresh S call f → TellsOf S call (act S call f)
-  act_tells S (Make o v l) f new = by_cond (TellsOf S (Make o v l)) (is_known S o)
-      (λ _. made_told S o v l f.first) (λ _. tt)
-  act_tells S (MakeShared o v l) f new = by_cond (TellsOf S (MakeShared o v l)) (is_known S o)
-      (λ _. shared_told S o v l f.first f.second new.2) (λ _. tt)
-  act_tells S (Refer o b) f new = by_cond (TellsOf S (Refer o b)) (is_known S o)
-      (λ _. unless_told S (Refer o b) (refusal_to_read S b) _
-      (referred_told S o b f.first (reach S b) _ new refl refl)) (λ _. tt)
-  act_tells S NewOwner f new =
-      rw (nat_eq_equiv.refl S.number) (get-insert_here by_number S.owners S.next _)
-  act_tells S (Read b l) f new = unless_told S (Read b l) (refusal_to_read S b) _
-      (read_told S b l (reach S b) _ refl refl)
-  act_tells S (Write b l) f new = unless_told S (Write b l) (refusal_to_write S b) _
-      (write_told S b l (reach S b) _ refl refl)
+  act_tells S (Make o v l) f new = grind (arith, made_told)
+  act_tells S (MakeShared o v l) f new = grind (arith, shared_told)
+  act_tells S (Refer o b) f new = grind (arith, referred_told)
+  act_tells S NewOwner f new = grind (arith, nat_eq_equiv, get-insert_here, by_number)
+  act_tells S (Read b l) f new = grind (arith, read_told)
+  act_tells S (Write b l) f new = grind (arith, write_told)
   act_tells S (ReleaseWriter g v) f new = by_cond (TellsOf S (ReleaseWriter g v)) (knows_writer S g)
       (λ known. written_told S g v _ refl (and_parts _ _ known).1) (λ _. tt)
   act_tells S (SetValue b v) f new = set_told S b v (reach S b) _ refl refl
-  act_tells S (End b) f new = unless_told S (End b) (hindrance_to S (own_name S b)) _
-      (ended_told S b)
-  act_tells S (Point a b) f new = by_cond (TellsOf S (Point a b)) (has_same_id a b)
-      (λ same. same_reach S a b ((same_ids a b).0 same)) (λ _. unless_told S (Point a b)
-      (refusal_to_read S b) _ (turned_told S a b _ _ (reach S b) _ refl refl refl))
+  act_tells S (End b) f new = grind (arith, ended_told)
+  act_tells S (Point a b) f new = grind (arith, same_reach, same_ids, turned_told)
   act_tells S _ f new = tt
 
   pub meets_tells : (S R : State T) (call : Action T) (answer : Answer T)

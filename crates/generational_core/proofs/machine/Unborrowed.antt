@@ -34,10 +34,10 @@ use Rattle.generational_errors.specs.declared.error.Refused as error
 use Rattle.generational_errors.specs.declared.error.Refused.TheVariants as refused
 use Rattle.generational_errors.specs.declared.error.StoreError.TheVariants.{NumbersExhausted}
 use Rattle.generational_core.proofs.maps.Maps.{by_name, get-changed_apart, name_here, by_keys}
-use Rattle.generational_core.proofs.maps.Maps.{by_option}
+use Rattle.generational_core.proofs.maps.Maps.{name_cases, by_option}
 use Rattle.generational_core.proofs.machine.Calling.{reads_back}
 use Rattle.generational_core.proofs.machine.Changes.{Filling, IsFilling, filled_content}
-use Rattle.generational_core.proofs.machine.Changes.{new_content, old_content}
+use Rattle.generational_core.proofs.machine.Changes.{refilled_content, new_content, old_content}
 use Rattle.generational_core.proofs.machine.Changes.Filling.{Reader, Writer, Leave}
 use Rattle.generational_core.proofs.machine.Ends.{by_cond}
 use Rattle.generational_core.proofs.machine.Resting.{free_sees, reached_content, rests, rests_free}
@@ -52,14 +52,7 @@ module _ {T : Type 0} where
   pub test_sees : (S : State T) (b : GenerationalPointer) → IsSound S
       → can_read S b ≡ is_some (value_in S b)
   unfolding refusal_to_read value_in
-  test_sees S b s = by_option (reach S b) (λ none. cc)
-      (λ m to. rw to (seen (content_at S m) (reached_content S b m s to)))
-    where
-      seen : (c : Option (Content T)) → is_some c ≡ true
-          → is_none (read_refusal c) ≡ is_some (value_of c)
-      seen (Some (Here v rs)) h = refl
-      seen (Some (Lent w)) h = refl
-      seen None h = cc
+  test_sees S b s = grind (arith, reached_content S b)
 
   -- ---- stores without borrows
 
@@ -75,19 +68,17 @@ module _ {T : Type 0} where
 
     -- so one that sees nothing reaches nothing
     pub quiet_gone : IsSound S → value_in S b ≡ None → reach S b ≡ None
-    quiet_gone s none = grind (arith, by_option, free_sees, quiet_free)
+    quiet_gone s none = grind (arith, free_sees, quiet_free)
 
     -- and a box may be written exactly where it sees a value
     pub quiet_sees : IsSound S → can_write S b ≡ is_some (value_in S b)
     unfolding refusal_to_write value_in
-    quiet_sees s = grind (arith, by_option, quiet_free, free_sees)
+    quiet_sees s = grind (arith, free_sees)
 
   -- ---- which calls leave a store so
 
   pub quiet_fresh : (number start next : ℕ) → HasNoBorrows (fresh {T = T} number start next)
-  quiet_fresh number start next = record {
-    none = λ n. ap (λ (c : Option (Cell T)). tickets_of (content_of c)) (map.get-empty name_cmp n);
-  }
+  quiet_fresh number start next = grind (arith, map.get-empty {X = Cell T} name_cmp)
 
   module _ {S R : State T} where
     -- each that asks for no borrow
@@ -95,25 +86,9 @@ module _ {T : Type 0} where
         → BeginsNoBorrow call → HasNoBorrows S → HasNoBorrows R
     quiet_stays call answer m begins quiet = record {
       none = λ n.
-          keep_each (meets_follows S R call answer m) n
-          (λ x y. tickets_of (content_of x) ≡ [] → tickets_of (content_of y) ≡ [])
-          (λ x e. e) (λ _ e. refl) (λ new given still e. still)
-          (λ k c here law had has e. rw has (filled n k law (rw had at e)))
-          (λ j l at e. refl) (quiet.none n);
+          let view = (meets_follows S R call answer m).view n in
+          grind (arith, view, quiet.none n, refilled_content);
     }
-      where
-        begun : (call : Action T) (n : Name) → BeginsNoBorrow call → Borrows S call n → ⊥
-        begun (Read b l) n none asks = none
-        begun (Write b l) n none asks = none
-        begun _ n none asks = asks
-
-        filled : (n : Name) (k : Filling T) → IsFilling S call R.next n k
-            → tickets_of (Some (old_content k)) ≡ [] → tickets_of (Some (new_content S k)) ≡ []
-        filled n (Reader v rs l) law e = absurd (begun call n begins law.1)
-        filled n (Writer v l) law e = absurd (begun call n begins law.2)
-        filled n (Leave v (r ∷ rs) g) law e = cc
-        filled n (Leave v [] g) law e = refl
-        filled n _ law e = refl
 
     -- a read that was released, and a write
     pub quiet_read : {Q : State T} (b : GenerationalPointer) (l : Location) (g : Guard)
@@ -124,12 +99,12 @@ module _ {T : Type 0} where
 
     pub quiet_set : (b : GenerationalPointer) (v : T) → IsSet S b v R
         → HasNoBorrows S → HasNoBorrows R
-    quiet_set b v it quiet = rw it.after (record {
-      none = λ n. by_keys by_name n it.name
-          (λ is. rw (is, filled_content S it.name (Here v []) (Here it.old []) it.content))
-          (λ ne. rw (get-changed_apart by_name S.cells it.name (refill (Here v [])) n ne)
-          (quiet.none n));
-    })
+    quiet_set b v it quiet = record {
+      none = λ n.
+          let filled = filled_content S it.name (Here v []) (Here it.old []) it.content in
+          let apart = get-changed_apart by_name S.cells it.name (refill (Here v [])) n in
+          grind (arith, it.after, filled, apart, quiet.none n, name_cases n it.name);
+    }
 
   -- ---- ends that no borrow hinders
 
@@ -141,43 +116,22 @@ module _ {T : Type 0} where
 
   -- no borrow hinders names that are free
   unhindered : (S : State T) (names : List Name) → AreFree S names → hindrance_to S names ≡ None
-  unfolding hindrance_to
+  unfolding hindrance_to reach
   unhindered S names free = each names (λ n h. h)
     where
-      at : (m : Name) → (map.get (cells_after S.cells names) m ≡ None
-          → write_refusal (content_at S m) ≡ None)
-          → hindrance_at S.cells (cells_after S.cells names) m ≡ None
-      at m h = by_option (map.get (cells_after S.cells names) m) (λ gone. rw gone (h gone))
-          (λ c is. rw is)
-
-      rest : (b : GenerationalPointer) (m : Name) → among names (name_of b) ≡ true
-          → reach S b ≡ Some m → map.get (cells_after S.cells names) m ≡ None
-          → write_refusal (content_at S m) ≡ None
-      rest b m there to gone = let at = rests S b (free b m there to gone) in
-          cc (at.1.reaches, at.1.free)
-
-      own : (n m : Name) (l : Location) (c : Cell T) → map.get S.cells n ≡ Some c
-          → leads_to (Some c) n ≡ Some m → reach S (box_of S.number n l) ≡ Some m
-      own n m l c is leads = reach_by S (box_of S.number n l) m (record {
-        number = nat_eq_equiv.refl S.number;
-        leads = rw is leads;
-      })
-
       one : (n : Name) → among names n ≡ true → (c : Option (Cell T)) → map.get S.cells n ≡ c
           → hindrance_of S.cells (cells_after S.cells names) c n ≡ None
       one n there None is = refl
       one n there (Some (Shared k l)) is = refl
-      one n there (Some (Value k l)) is =
-          at n (rest (box_of S.number n l) n there (own n n l (Value k l) is refl))
-      one n there (Some (Ref m l)) is =
-          at m (rest (box_of S.number n l) m there (own n m l (Ref m l) is refl))
+      one n there (Some (Value k l)) is = let b = box_of S.number n l in
+          grind (arith, free b n, rests S b, nat_eq_equiv)
+      one n there (Some (Ref m l)) is = let b = box_of S.number n l in
+          grind (arith, free b m, rests S b, nat_eq_equiv)
 
       each : (some : List Name) → ((n : Name) → among some n ≡ true → among names n ≡ true)
           → first_hindrance S.cells (cells_after S.cells names) some ≡ None
       each [] within = refl
-      each (n ∷ some) within =
-          rw (one n (within n (or_left _ _ (name_here n))) (map.get S.cells n) refl)
-          (each some (λ q h. within q (or_right _ _ h)))
+      each (n ∷ some) within = grind (arith, one n, within, name_here, each some)
 
   -- results that are told as done are Ok
   ended_ok : {U : Type 0} (r : Result U (error.Refused BorrowMutError))
@@ -193,18 +147,15 @@ module _ {T : Type 0} where
     pub frees_owned : (o : OwnerName) (h : Ownership) {U V : Type 0}
         (r : Result U (V × error.Refused BorrowMutError)) → ownership S o ≡ Some h
         → AreFree S h.names → Meets S (ReleaseOwner o) (release_answer r) R → IsOk r
-    frees_owned o h {U} {V} r held free m =
-        released_ok {U = U} {V = V} r (done_always S R (ReleaseOwner o) _ goes m)
-      where
-        goes : (f : NewNames) → (act S (ReleaseOwner o) f).0 ≡ Done
-        goes f = rw (held, unhindered S h.names free)
-            (by_cond (λ (out : Outcome T). out.0 ≡ Done) (nat_lt 1 h.count) (λ _. refl) (λ _. refl))
+    frees_owned o h {U} {V} r held free m = released_ok {U = U} {V = V} r
+        (done_always S R (ReleaseOwner o) _ (λ f. grind (arith, unhindered S h.names free)) m)
 
     -- nor is an end in a store without borrows, or an owner's release
     pub quiet_ends : (b : GenerationalPointer) {U : Type 0}
         (r : Result U (error.Refused BorrowMutError)) → HasNoBorrows S
         → Meets S (End b) (end_answer r) R → IsOk r
-    quiet_ends b r quiet m = search (arith, ended_ok, done_always, unhindered, quiet_free)
+    quiet_ends b {U} r quiet m = ended_ok {U = U} r (done_always S R (End b) _
+        (λ f. rw (unhindered S (own_name S b) (λ a m there to gone. quiet_free S quiet a m to))) m)
 
     pub quiet_releases : (o : OwnerName) (h : Ownership) {U V : Type 0}
         (r : Result U (V × error.Refused BorrowMutError)) → ownership S o ≡ Some h

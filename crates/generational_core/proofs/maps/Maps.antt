@@ -92,20 +92,14 @@ module _ {K : Type 0} {R : K → K → Ordering} (o : IsKeyOrder R) where
     -- keys are removed in either order
     pub remove_each : (m : map.FinMap R X) (j k : K)
         → map.remove (map.remove m j) k ≡ map.remove (map.remove m k) j
-    remove_each m j k = map.same_map o.total o.exact _ _ (λ q. simp (map.get-remove {X = X} o.total)
-        (either (eq_by_cmp R q j) (eq_by_cmp R q k) (map.get m q)))
-      where
-        either : (a b : Bool) (x : Option X)
-            → cond b None (cond a None x) ≡ cond a None (cond b None x)
-        either true true x = refl
-        either true false x = refl
-        either false b x = refl
+    remove_each m j k =
+        map.same_map o.total o.exact _ _ (λ q. grind (arith, map.get-remove {X = X} o.total))
 
     -- a key is kept with what it had, or taken away
     pub keep_view : (m : map.FinMap R X) (p : K → Bool) (q : K)
         → ((map.get (map.retain_keys m p) q ≡ map.get m q) × (p q ≡ true))
         ⊎ ((map.get (map.retain_keys m p) q ≡ None) × (p q ≡ false))
-    keep_view m p q = grind (arith, get-keep, cases_Bool)
+    keep_view m p q = grind (arith, get-keep)
 
     pub get-changed_here : (m : map.FinMap R X) (k : K) (f : X → X) (x : X)
         → map.get m k ≡ Some x → map.get (change m k f) k ≡ Some (f x)
@@ -120,8 +114,8 @@ module _ {K : Type 0} {R : K → K → Ordering} (o : IsKeyOrder R) where
     -- what stands at a key, put there again
     pub insert_there : (m : map.FinMap R X) (k : K) (x : X) → map.get m k ≡ Some x
         → map.insert m k x ≡ m
-    insert_there m k x there = map.same_map o.total o.exact _ _ (λ q.
-        by_keys q k (λ is. cc (get-insert_here m k x)) (get-insert_apart m k x q))
+    insert_there m k x there =
+        map.same_map o.total o.exact _ _ (λ q. grind (arith, map.get-insert {X = X} o.total, key_same))
 
     pub get-changed_none : (m : map.FinMap R X) (k : K) (f : X → X)
         → map.get m k ≡ None → change m k f ≡ m
@@ -142,17 +136,14 @@ module _ {K : Type 0} {R : K → K → Ordering} (o : IsKeyOrder R) where
 
     pub get-changed : (m : map.FinMap R X) (k : K) (f : X → X) (q : K) → map.get (change m k f) q
         ≡ cond (eq_by_cmp R q k) (option_map f (map.get m q)) (map.get m q)
-    get-changed m k f q =
-        grind (arith, by_keys, by_option, key_here, get-changed_none, get-changed_here, key_apart, get-changed_apart)
+    get-changed m k f q = grind (arith, get-changed_none, get-changed_here, get-changed_apart)
 
     -- the one key that is changed, if anything stands there
     pub changed_view : (m : map.FinMap R X) (k : K) (f : X → X) (q : K)
         → (map.get (change m k f) q ≡ map.get m q)
         ⊎ ((q ≡ k) × (x : X) × (map.get m q ≡ Some x) × (map.get (change m k f) q ≡ Some (f x)))
-    changed_view m k f q = by_keys q k
-        (λ is. by_option (map.get m k) (λ e. inl (cc (get-changed_none m k f e)))
-        (λ x e. inr (is, x, cc, cc (get-changed_here m k f x e))))
-        (λ ne. inl (get-changed_apart m k f q ne))
+    changed_view m k f q =
+        grind (arith, get-changed_none, get-changed_here, get-changed_apart, key_cases q k)
 
   -- what is in a set with one key more
   pub contains-insert_here : (s : set.FinSet R) (k : K) → set.contains (set.insert s k) k ≡ true
@@ -221,9 +212,7 @@ module _ {K X : Type 0} (R : K → K → Ordering) where
 
   -- the keys of a map are distinct
   pub keys_apart : (m : map.FinMap R X) → IsDistinct (eq_by_cmp R) (map.keys m)
-  keys_apart m = sorted_apart (map.entries m) (⊎_elim (λ h. h)
-      (λ h. absurd (subst T h (map.entries_sorted m)))
-      (cases_Bool (map.is_sorted R (map.entries m))))
+  keys_apart m = sorted_apart (map.entries m) (grind (arith, map.entries_sorted m))
 
   -- and as many as the map says
   pub len_keys : (m : map.FinMap R X) → map.len m ≡ length (map.keys m)
@@ -266,12 +255,8 @@ module _ {K X Y : Type 0} {R : K → K → Ordering} (o : IsKeyOrder R) where
 -- two names are the same if both their numbers are
 pub name_test : (a b : Name)
     → is_name a b ≡ (nat_eq a.slot b.slot && nat_eq a.generation b.generation)
-name_test a b = both_ways _ _
-    (λ h. rw (name_same a b h)
-    (and_from _ _ (nat_eq_equiv.refl b.slot) (nat_eq_equiv.refl b.generation)))
-    (λ h. let p = and_parts _ _ h in let s = eqb-true a.slot b.slot p.0 in
-    let g = eqb-true a.generation b.generation p.1 in
-    let e : a ≡ b = λ i. record { slot = s i; generation = g i } in rw e (name_here b))
+unfolding is_name
+name_test a b = grind arith
 
 -- boxes have the same id exactly where the ids are one
 pub same_ids : (a b : GenerationalPointer) → (has_same_id a b ≡ true) ↔ (a.id ≡ b.id)
@@ -314,6 +299,7 @@ module _ {T : Type 0} where
 
   pub named_from : (cells : NameMap (Cell T)) (m : Name) → IsNamed cells m → is_named cells m ≡ true
   unfolding is_named
-  named_from cells m h = passes_both (λ n. refers_to m (map.get cells n)) (eq_by_cmp name_cmp h.0)
-      (λ n e. cc (key_same by_name h.0 n e, ap (refers_to m) h.2, name_here m))
-      (map.keys cells) (sym (map.contains_key-keys cells h.0) ∙ ap is_some h.2)
+  named_from cells m h =
+      passes_both (λ n. refers_to m (map.get cells n)) (eq_by_cmp name_cmp h.0)
+      (grind (arith, key_same by_name h.0, name_here m)) (map.keys cells)
+      (grind (arith, map.contains_key-keys cells h.0))
