@@ -1,19 +1,17 @@
 -- The bound on slots: what the last generations of slots depend on, that slots are live, free or
 -- retired, and that each call keeps the bound.
 use Rattle.generational_core.proofs.machine
-use machine.{◌≡◌, ◌≢◌, ◌≤◌, List, ◌∷◌, None, Some, refl, Bool, Cell, Name, after, last, ℕ, sym, ap}
-use machine.{◌∙◌, inl, inr, ◌+◌, not, ◌<◌, max, ◌⊎◌, true, false, fresh, Action, Answer, NewNames}
-use machine.{Names, State, Meets, AreNew, Change, absent, [], cases_lt, or_cases, or_right}
-use machine.{len_three, by_number, keep_view, Option, not-true, list_any, list_map, add_cell}
-use machine.{name_cmp, IsLawful, len_keys, kept_key, subst, false_from_ne_true}
-use machine.{length-le_from_is_member, eq_by_cmp_equiv, get-insert_apart, arith, ⊎_elim, is_some}
-use machine.{nat_lt, Content, IsSound, by_name, key_same, key_here, cases_Bool, length-map}
-use machine.{keys_apart, meets_sound, live_before, or_left, nat_cmp_total, get-insert_here}
-use machine.{change_follows, absent_beside, and_parts, nat_cmp, eq_by_cmp, unwrap_or, IsBounded}
-use machine.{name_cases, act_leads, len_within, name_total, IsGiven, by_keys, by_option, meets_each}
-use Rattle.generational_core.specs.Conditions.{IsLive}
-use Rattle.generational_core.specs.Slots.{lasts, slots_of, last_name, is_last_live, is_free}
-use Rattle.generational_core.specs.Slots.{is_retired, slots, free, retired, last_generation, Fits}
+use machine.{absent, absent_beside, act_leads, Action, add_cell, after, Answer, AreNew, arith, Bool}
+use machine.{by_keys, by_name, by_number, Cell, Change, change_follows, Content, eq_by_cmp}
+use machine.{eq_by_cmp_equiv, false, free, fresh, get-insert_apart, get-insert_here, inl, inr, is_free}
+use machine.{is_last_live, is_retired, is_some, IsBounded, IsGiven, IsLawful, IsLive, IsSound, keep_view}
+use machine.{kept_key, key_here, key_same, keys_apart, last, last_name, len_keys, len_three, len_within}
+use machine.{length-le_from_is_member, length-map, List, list_any, list_map, live_before, max, Meets}
+use machine.{meets_each, meets_sound, Name, name_cases, name_cmp, name_total, Names, nat_cmp}
+use machine.{nat_cmp_total, NewNames, None, Option, refl, retired, slots, slots_of, Some, State, subst}
+use machine.{sym, true, unwrap_or, [], ℕ, ⊎_elim, ◌+◌, ◌<◌, ◌∙◌, ◌∷◌, ◌≡◌, ◌≢◌, ◌≤◌, ◌⊎◌}
+use Rattle.generational_core.specs
+use specs.{Slots.Fits, Slots.lasts}
 use Rattle.std.specs.FinMap as map
 use Rattle.std.specs.FinSet as set
 
@@ -26,9 +24,6 @@ abbrev pub IsLast : List Name → ℕ → Option ℕ → Type 0
 IsLast names s None = (n : Name) → IsIn names n → n.slot ≢ s
 IsLast names s (Some g) = IsIn names (record { slot = s; generation = g })
     × ((n : Name) → IsIn names n → n.slot ≡ s → n.generation ≤ g)
-
-in_cases : (n m : Name) (names : List Name) → IsIn (m ∷ names) n → (n ≡ m) ⊎ IsIn names n
-in_cases n m names h = ⊎_elim (λ e. inl (key_same by_name n m e)) (λ e. inr e) (or_cases _ _ h)
 
 -- the greater of a generation and what was there
 abbrev pub greater : ℕ → Option ℕ → ℕ
@@ -97,16 +92,13 @@ key_kept m p k h = ⊎_elim (λ e. (cc, e.1)) (λ e. cc) (keep_view by_number m 
 pub slots_bounded : {T : Type 0} (S : State T) → slots S ≤ map.len S.cells + free S + retired S
 slots_bounded S =
     let live = map.retain_keys (slots_of S) (is_last_live S) in
+    let kept = key_kept (slots_of S) (is_last_live S) in
     let le = length-le_from_is_member (eq_by_cmp_equiv nat_cmp_total) (map.keys live)
     (list_map (λ (n : Name). n.slot) (map.keys S.cells)) (keys_apart nat_cmp live)
-    (λ s h. slot_there (last_name S s) (map.keys S.cells)
-    (sym (map.contains_key-keys S.cells (last_name S s))
-    ∙ (key_kept (slots_of S) (is_last_live S) s (map.contains_key-keys live s ∙ h)).1)) in
+    (λ s h. grind (arith, slot_there (last_name S s) (map.keys S.cells), map.contains_key-keys, kept s)) in
     let same = length-map (map.keys S.cells) (λ (n : Name). n.slot) in
     let three = len_three by_number (slots_of S) (is_last_live S) (is_free S) (is_retired S)
-    (λ s. ⊎_elim inl (λ e. inr (⊎_elim (λ l. inl (cc)) (λ l. inr (cc))
-    (cases_Bool (nat_lt (last_name S s).generation last_generation))))
-    (cases_Bool (is_last_live S s))) in
+    (λ s. grind arith) in
     omega (arith, len_keys nat_cmp live, len_keys name_cmp S.cells)
 
 module _ {T : Type 0} where
@@ -131,7 +123,7 @@ module _ {T : Type 0} where
 
   -- a new name's slot is one of those that were made, or the next
   pub slot_within : (S : State T) (n : Name) → IsBounded S → Fits S n → n.slot ≤ slots S
-  slot_within S n b h2 = grind arith
+  slot_within S n b h = grind arith
 
   -- live names were given
   abbrev AreGiven : State T → Type 0
@@ -140,7 +132,7 @@ module _ {T : Type 0} where
   -- no live name has the slot of a new one
   pub slot_apart : (S : State T) (n : Name) → AreGiven S → IsBounded S → Fits S n
       → (q : Name) → IsLive S q → q.slot ≢ n.slot
-  slot_apart S n given b h3 q live = grind (arith, slot_made)
+  slot_apart S n given b h q live = grind (arith, slot_made)
 
   -- what is live beside a new cell, and where names were given they are with the new one
   live_beside : (S : State T) (n : Name) (c : Cell T) (q : Name) → q ≢ n
@@ -180,7 +172,7 @@ module _ {T : Type 0} where
 
     -- the new name is the last of its slot, and so are the others still
     greatest : Fits S n → greater n.generation (map.get (slots_of S) n.slot) ≡ n.generation
-    greatest h1 = grind arith
+    greatest h = grind arith
 
     all_last : Fits S n → (q : Name) → IsLive (add_cell S n c) q
         → q ≡ last_name (add_cell S n c) q.slot

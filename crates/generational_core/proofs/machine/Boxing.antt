@@ -1,35 +1,14 @@
 -- Names of boxes: that they stay so, that they end for good, and what a box sees that was pointed
 -- elsewhere.
-use Rattle.std.specs.FinMap as map
-use Rattle.std.proofs.Common.{◌≡◌, ◌≤◌, true, false, cond, [], ◌∷◌, ◌||◌, Some, sym, ap, ◌∙◌}
-use Rattle.std.proofs.Common.{arith, ⊎_elim}
-use Rattle.std.specs.Prelude.{Result, Ok, Err, OnOk}
-use Rattle.std.proofs.lemmas.Bool.{eqb-true, eq-eqb}
-use Rattle.generational_core.specs.Answers.{end_answer, release_answer}
-use Rattle.generational_core.specs.Borrowing.{reach}
-use Rattle.generational_core.specs.Boxes.{name_of}
-use Rattle.generational_core.specs.Conditions.{IsEnded}
-use Rattle.generational_core.specs.Ending.{cells_after, close, hindrance_to}
-use Rattle.generational_core.specs.Machine.{Action, Answer, OwnerName, own_name, ownership}
-use Rattle.generational_core.specs.Machine.Action.{End, Point, ReleaseOwner}
-use Rattle.generational_core.specs.Machine.Answer.{Made, Done}
-use Rattle.generational_core.specs.Names.{Name, among}
-use Rattle.generational_core.specs.Seeing.{value_in}
-use Rattle.generational_core.specs.State.{State, IsSound, IsBoxed, Ownership}
-use Rattle.generational_core.specs.Steps.{Meets}
-use Rattle.generational_core.specs.declared.boxes.GenerationalPointer.{GenerationalPointer}
-use Rattle.generational_errors.specs.declared.error.BorrowMutError.{BorrowMutError}
+use Rattle.generational_core.proofs.machine
+use machine.{Action, among, Answer, arith, BorrowMutError, box_ends, boxed_among, Done, End, end_answer}
+use machine.{Err, GenerationalPointer, IsBoxed, IsEnded, IsSound, Seeing.kept_value, Made, Meets}
+use machine.{meets_follows, meets_given, meets_says, meets_sound, Name, name_here, name_of, Ok, OnOk}
+use machine.{OwnerName, Ownership, ownership, Point, Calling.points, reach, Seeing.reached_live}
+use machine.{Seeing.reaches, release_answer, ReleaseOwner, Result, shared_still, Some, State, true}
+use machine.{value_in, [], ◌≡◌, ◌≤◌}
 use Rattle.generational_errors.specs.declared.error.Refused.{Refused}
-use Rattle.generational_core.proofs.maps.Maps.{name_here, by_option}
-use Rattle.generational_core.proofs.machine.Calling.{points, unseen}
-use Rattle.generational_core.proofs.machine.Changes.{held_record}
-use Rattle.generational_core.proofs.machine.Releasing.{box_ends, boxed_among, done_only, last_cells}
-use Rattle.generational_core.proofs.machine.Releasing.{listed_boxed}
-use Rattle.generational_core.proofs.machine.Seeing.{kept_value, led_box, reached_live, reaches}
-use Rattle.generational_core.proofs.machine.Seeing.{value_in_reached}
-use Rattle.generational_core.proofs.machine.Soundness.{shared_still}
-use Rattle.generational_core.proofs.machine.Stepping.{meets_cases, meets_follows, meets_given}
-use Rattle.generational_core.proofs.machine.Stepping.{meets_says, meets_sound}
+use Rattle.std.specs.FinMap as map
 
 module _ {T : Type 0} where
   -- ---- names of boxes

@@ -1,24 +1,20 @@
 -- What callers cite: what results tell, and what calls leave as it was. The arguments of each are
 -- found from the clause of the call that it is given.
 use Rattle.generational_core.proofs.machine
-use machine.{◌≡◌, ◌≢◌, ◌≤◌, Bool, true, false, Option, None, Some, refl, sym, ap, ◌∙◌, [], ◌+◌}
-use machine.{nat_eq, Result, Ok, Err, IfOk, OnOk, IsOk, IsErr, Guard, reach, can_write, name_of}
-use machine.{one_listed, Action, Answer, OwnerName, ownership, Make, MakeShared, Refer, NewOwner}
-use machine.{Read, Write, ReleaseWriter, SetValue, End, Point, ReleaseOwner, ReleaseReader, Made}
-use machine.{Reads, Writes, Done, Old, Flag, Name, among, value_reached, value_in, LeavesBox}
-use machine.{LeavesValue, LeavesUnborrowed, State, IsSound, Ownership, Meets, GenerationalBox}
-use machine.{GenerationalPointer, BorrowError, BorrowMutError, Location, Refusal, StoreError}
-use machine.{AllByRecursion, List, ◌++◌, ◌||◌, ◌∷◌, or_right, names_in, is_name, held_record}
-use machine.{name_apart, name_here, some_live, last_cells, made_new, reads_known, by_option}
-use machine.{arith, by_cond}
-use Rattle.generational_core.specs
-use specs.Answers.{value_behind, WriteGuard, pointer_of, box_answer, reference_box_answer}
-use specs.Answers.{read_answer, write_answer, back_answer, end_answer, owner_answer, release_answer}
-use specs.{Answers.free_read_answer, Answers.free_write_answer}
+use machine.{Action, AllByRecursion, among, Answer, ap, arith, back_answer, Bool, BorrowError}
+use machine.{BorrowMutError, box_answer, can_write, Done, End, end_answer, Telling.ended_leads, Err}
+use machine.{false, Flag, Resting.free_ends, free_read_answer, Resting.free_stays, free_write_answer}
+use machine.{GenerationalBox, GenerationalPointer, Guard, held_record, IfOk, is_name, IsErr, IsOk}
+use machine.{IsSound, LeavesBox, LeavesUnborrowed, LeavesValue, List, Location, Made, made_new, Make}
+use machine.{MakeShared, Meets, Telling.meets_tells, Name, name_apart, name_here, name_of, names_in}
+use machine.{NewOwner, None, Ok, Old, one_listed, OnOk, Option, or_right, owner_answer, OwnerName}
+use machine.{Ownership, ownership, Point, pointer_of, reach, Seeing.reach_stays, Seeing.reaches, Read}
+use machine.{read_answer, Resting.read_released, Reads, reads_known, Refer, reference_box_answer, refl}
+use machine.{Refusal, release_answer, ReleaseOwner, ReleaseReader, ReleaseWriter, Result, SetValue, Some}
+use machine.{some_live, State, StoreError, sym, true, value_behind, value_in, value_reached}
+use machine.{Seeing.value_stays, Write, write_answer, WriteGuard, Writes, [], ◌++◌, ◌+◌, ◌||◌, ◌∙◌, ◌∷◌}
+use machine.{◌≡◌, ◌≢◌, ◌≤◌}
 use Rattle.generational_errors.specs.declared.error.Refused.{Refused}
-use Rattle.generational_core.proofs.machine.Resting.{free_stays, free_ends, read_released}
-use Rattle.generational_core.proofs.machine.Seeing.{led_box, reaches, reach_stays, value_stays}
-use Rattle.generational_core.proofs.machine.Telling.{meets_tells, ended_leads}
 use Rattle.generational_errors.specs.declared.error.Refused.TheVariants as refused
 
 -- a name stands in the list that it ends

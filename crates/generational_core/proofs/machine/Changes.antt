@@ -1,23 +1,21 @@
 -- What a call does to a state: one change of its cells, another table of owners and maybe a ticket,
 -- and what its answer says of that.
 use Rattle.generational_core.proofs.machine.Common
-use Common.{Bool, true, false, cond, List, [], ◌++◌, Option, subst, arith, ⊎_elim, ◌≡◌, ◌≢◌, ℕ, ◌+◌}
-use Common.{◌≤◌, ◌<◌, not, ◌∷◌, None, Some, refl, sym, ap, ◌∙◌, or_right, or_left, or_parts}
-use Common.{and_parts, and_from, list_any-append, nat_eq_equiv, filter, AllByRecursion, option_map}
-use Common.{nat_eq, nat_lt, BorrowRefusal, Guard, reach, fill, refusal_at, refusal_to_read}
-use Common.{refusal_to_write, write_refusal, name_of, has_same_id, Content, Cell, content_of}
-use Common.{is_shared, refill, Value, Shared, Ref, Here, Lent, one_listed, one_less, one_more}
-use Common.{names_in, close, hindrance_to, hindrance_at, sweep, Sets, add_to_list, release_owner}
-use Common.{knows_reader, remove_reader, act, clone_owner, knows_writer, next_guard, next_borrow}
-use Common.{OwnerName, add_cell, is_known, ownership, has_writer, Action, Outcome, cell_at, read_at}
-use Common.{write_at, own_name, Answer, NewNames, unless, refer, set_at, point, Make, MakeShared}
-use Common.{Refer, NewOwner, CloneOwner, ReleaseOwner, Read, Write, ReleaseReader, ReleaseWriter}
-use Common.{SetValue, End, Point, Made, Owned, Reads, Writes, Done, Flag, Refused, change, Name}
-use Common.{Names, is_name, State, Ownership, Owners, IsBoxed, content_at, tickets_of, ending}
-use Common.{Turns, Lends, Borrows, IsNew, AreNew, want, Borrow, GenerationalPointer, Location}
-use Common.{StoreError, by_name, by_number, get-insert_here, get-insert_apart, get-remove_here}
-use Common.{get-remove_apart, changed_view, name_here, contains-insert_name, contains-insert_here}
-use Common.{get-changed_name, by_keys}
+use Common.{act, Action, add_cell, add_to_list, AllByRecursion, and_parts, Answer, ap, AreNew, arith}
+use Common.{Bool, Borrow, BorrowRefusal, Borrows, by_name, by_number, Cell, cell_at, change, changed_view}
+use Common.{clone_owner, CloneOwner, close, cond, contains-insert_here, contains-insert_name, Content}
+use Common.{content_at, content_of, Done, End, ending, false, fill, filter, Flag, GenerationalPointer}
+use Common.{get-changed_name, get-insert_apart, get-insert_here, get-remove_apart, get-remove_here, Guard}
+use Common.{has_same_id, has_writer, Here, hindrance_at, hindrance_to, is_known, is_name, is_shared}
+use Common.{IsBoxed, IsNew, knows_reader, knows_writer, Lends, Lent, List, list_any-append, Location}
+use Common.{Made, Make, MakeShared, Name, name_here, name_of, Names, names_in, nat_eq, nat_eq_equiv}
+use Common.{nat_lt, NewNames, NewOwner, next_borrow, None, not, one_less, one_listed, one_more, Option}
+use Common.{option_map, Outcome, own_name, Owned, OwnerName, Owners, Ownership, ownership, Point, point}
+use Common.{reach, Read, read_at, Reads, Ref, Refer, refer, refill, refl, refusal_at, refusal_to_read}
+use Common.{refusal_to_write, Refused, release_owner, ReleaseOwner, ReleaseReader, ReleaseWriter}
+use Common.{remove_reader, set_at, Sets, SetValue, Shared, Some, State, StoreError, sweep, sym}
+use Common.{tickets_of, true, Turns, unless, Value, want, Write, write_at, write_refusal, Writes, [], ℕ}
+use Common.{◌++◌, ◌+◌, ◌<◌, ◌∷◌, ◌≡◌, ◌≢◌, ◌≤◌}
 use Rattle.generational_core.proofs.machine.Ends.{cond_gives}
 use Rattle.std.specs.FinMap as map
 use Rattle.std.specs.FinSet as set
@@ -293,11 +291,8 @@ module _ {T : Type 0} where
   leads_read {S} b l (Some m) (Some (Here v readers)) had to =
       let k : Filling T = Reader v readers l in
       let filled = filled_content S m (new_content S k) (Here v readers) had in
-      let stands : knows_reader (fill S m (new_content S k)) (next_guard S m) ≡ true =
-      and_from _ _ (nat_eq_equiv.refl S.number)
-      (rw (filled, list_any-append) (or_right _ _ (or_left _ _ (nat_eq_equiv.refl S.next)))) in
-      leads (Fill m k) _ (S.next + 1) (omega arith) (had, (refl, to)) (λ h. h)
-      (λ _. plain (record { is = refl; next = refl }, stands) refl)
+      leads (Fill m k) _ (S.next + 1) (omega arith) (had, (refl, to)) (λ h. h) (λ _. plain
+      (record { is = refl; next = refl }, grind (arith, filled, list_any-append, nat_eq_equiv)) refl)
   leads_read b l m c had to = still (plain tt refl)
 
   leads_write : {S : State T} {f : NewNames} (b : GenerationalPointer) (l : Location) (m : Option Name)
@@ -305,10 +300,9 @@ module _ {T : Type 0} where
       → refusal_at m b.created_at (λ n. write_refusal (content_at S n)) ≡ None → reach S b ≡ m
       → Leads S (Write b l) f (write_at S l m c)
   leads_write {S} b l (Some m) (Some (Here v [])) had free to =
-      let known = and_from _ _ (nat_eq_equiv.refl S.number) (ap (λ c. has_writer c S.next)
-      (filled_content S m (Lent (next_borrow S l)) (Here v []) had) ∙ nat_eq_equiv.refl S.next) in
+      let filled = filled_content S m (Lent (next_borrow S l)) (Here v []) had in
       leads (Fill m (Writer v l)) _ (S.next + 1) (omega arith) (had, (refl, to, to)) (λ h. h)
-      (λ _. plain (record { is = refl; next = refl }, known) refl)
+      (λ _. plain (record { is = refl; next = refl }, grind (arith, filled, nat_eq_equiv)) refl)
   leads_write b l (Some m) (Some (Here v (r ∷ readers))) had free to = cc (ap write_refusal had)
   leads_write b l m c had free to = still (plain tt refl)
 

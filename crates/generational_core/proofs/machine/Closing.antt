@@ -1,15 +1,14 @@
 -- Names that end one after the other, and Refs that turn: what is left, and what hinders it.
 use Rattle.generational_core.proofs.machine
-use machine.{Bool, true, false, cond, ap, ⊎_elim, Value, Shared, sweep, among, State, is_ref}
-use machine.{◌≡◌, or_right, take_away, is_named, Location, name_here, name_same}
-use machine.{◌≢◌, or_left, BorrowRefusal, NameMap, is_name, by_name, by_cond, IsLinked, box_ends}
-use machine.{not, ◌||◌, List, ◌∷◌, None, Some, refl, sym, ◌∙◌, Cell, Ref, Name, get-swept, live_by}
-use machine.{[], write_refusal, cells_after, hindrance_at, hindrance_of, hindrance_to, without_view}
-use machine.{Option, both_ways, option_or, is_shared, refers_to, name_apart, named_from, swept_view}
-use machine.{content_of, name_total, name_exact, remove_each, named_gives, by_keys, get-without}
-use machine.{arith, first_hindrance, get-insert_here, get-insert_apart, get-remove_here, get-remove_apart}
+use machine.{among, arith, Bool, BorrowRefusal, by_keys, by_name, Cell, cells_after, cond, content_of}
+use machine.{false, first_hindrance, get-insert_apart, get-insert_here, get-remove_apart, get-remove_here}
+use machine.{get-swept, get-without, hindrance_at, hindrance_of, hindrance_to, is_name, is_named, is_ref}
+use machine.{is_shared, IsLinked, List, Location, Name, name_apart, name_exact, name_here, name_same}
+use machine.{name_total, named_from, named_gives, NameMap, None, not, Option, option_or, Ref, refers_to}
+use machine.{refl, remove_each, Some, State, sweep, swept_view, take_away, true, Value, without_view}
+use machine.{write_refusal, [], ◌||◌, ◌∷◌, ◌≡◌, ◌≢◌}
+use Rattle.std.proofs.Math.Bool.{or-false}
 use Rattle.std.specs.FinMap as map
-use Rattle.std.proofs.Math.Bool.{or-false, or-true}
 
 -- what stands in a list of one name
 just_one : (n q : Name) → among (n ∷ []) q ≡ true → q ≡ n
@@ -20,9 +19,6 @@ module _ {T : Type 0} where
 
   abbrev without : Option (Cell T) → Bool → Option (Cell T)  -- where its name ends, or doesn't
   without cell there = cond (is_shared cell || not there) cell None
-
-  abbrev swept : Option (Cell T) → Bool → Option (Cell T)  -- where a Ref names it, or none does
-  swept cell named = cond (not (is_shared cell) || named) cell None
 
   -- cells that are the same at each name
   same_cells : (a b : NameMap (Cell T)) → ((q : Name) → map.get a q ≡ map.get b q) → a ≡ b
@@ -140,12 +136,6 @@ module _ {T : Type 0} where
         grind (arith, one, all, away_nothing, sweep_all, sweep_but, named_without, get-remove_apart, by_name, name_apart, remove_each)
 
   -- ---- what hinders the end of names
-
-  -- a Shared cell that is left where some Ref names it hinders nothing, and else by its borrows
-  hindered_unnamed : (cells left : NameMap (Cell T)) (m : Name) (named : Bool)
-      → is_shared (map.get cells m) ≡ true → map.get left m ≡ cond named (map.get cells m) None
-      → hindrance_at cells left m ≡ cond named None (write_refusal (content_of (map.get cells m)))
-  hindered_unnamed cells left m named shared at = grind arith
 
   -- what hinders the end of a cell, where a test tells what is named afterwards
   abbrev pub borrowed_end : NameMap (Cell T) → (Name → Bool) → Option (Cell T) → Option BorrowRefusal

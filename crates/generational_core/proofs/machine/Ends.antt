@@ -1,12 +1,11 @@
 -- Cells when some go: what is left, what Refs name then, and that nothing borrowed goes.
 use Rattle.generational_core.proofs.machine.Common
-use Common.{Bool, ◌≡◌, true, false, cond, not, ◌||◌, List, [], ◌∷◌, Option, None, Some, refl, sym}
-use Common.{ap, ◌∙◌, inl, inr, ⊎_elim, true≢false, or_cases, or_parts, not-false, cases_Bool}
-use Common.{by_keys, get-keep, option_or, is_some, ◌⊎◌, BorrowRefusal, write_refusal, Cell}
-use Common.{content_of, is_shared, Value, Ref, sweep, take_away, cells_after, hindrance_at}
-use Common.{hindrance_of, first_hindrance, hindrance_to, Name, among, NameMap, State, IsSound}
-use Common.{is_named, Location, by_name, name_same, get-insert_here, get-insert_apart, keep_view}
-use Common.{arith, named_gives, named_from, HasTargets, IsLinked}
+use Common.{among, ap, arith, Bool, by_keys, by_name, Cell, cells_after, cond, content_of, false}
+use Common.{first_hindrance, get-insert_apart, get-insert_here, get-keep, HasTargets, hindrance_at}
+use Common.{hindrance_of, hindrance_to, inl, inr, is_named, is_shared, is_some, IsLinked, IsSound}
+use Common.{keep_view, List, Location, Name, name_same, named_from, named_gives, NameMap, None, not}
+use Common.{Option, Ref, Some, State, sweep, sym, take_away, true, true≢false, write_refusal, [], ⊎_elim}
+use Common.{◌||◌, ◌∙◌, ◌∷◌, ◌≡◌, ◌⊎◌}
 use Rattle.std.specs.FinMap as map
 
 -- what is there
@@ -75,10 +74,6 @@ module _ {T : Type 0} where
       → map.get cells n ≡ Some (Ref m l) → map.get (sweep cells) n ≡ Some (Ref m l)
   swept_ref cells n m l h = ⊎_elim (λ e. e.0 ∙ h) (λ e. cc) (swept_view cells n)
 
-  pub swept_was : (cells : NameMap (Cell T)) (n m : Name) (l : Location)
-      → map.get (sweep cells) n ≡ Some (Ref m l) → map.get cells n ≡ Some (Ref m l)
-  swept_was cells n m l h = ⊎_elim (λ e. sym e.0 ∙ h) (λ e. cc) (swept_view cells n)
-
   -- so what is left is linked
   pub swept_linked : (cells : NameMap (Cell T)) → HasTargets cells → IsLinked (sweep cells)
   swept_linked cells t = grind (arith, named_from, swept_view, named_gives)
@@ -116,20 +111,15 @@ module _ {T : Type 0} where
       × (IsSound S → IsBorrowed (map.get S.cells n) → ⊥))
   unfolding hindrance_to
   closed_view S names free n =
-      let one = take_away S.cells names in
-      let left = cells_after S.cells names in
-      ⊎_elim
-      (λ e. ⊎_elim (λ k. inl (e.0 ∙ k))
-      (λ k. let own = own_free S.cells left n (map.get S.cells n) refl k.1
-      (none_hindered S.cells left names free n k.2) (e.0 ∙ k.0) in inr (e.0 ∙ k.0, λ s. own))
-      (without_view S.cells names n))
-      (λ e. let swept : IsSound S → IsBorrowed (map.get S.cells n) → ⊥ = λ s borrowed. ⊎_elim
-      (λ k. let it = named_gives S.cells n (s.shared n (ap is_shared (sym k) ∙ e.1)) in
-      ⊎_elim (λ j. cc (named_from one n (it.0, it.1, j ∙ it.2)))
-      (λ j. cc (e.0, rw it.2 at (none_hindered S.cells left names free it.0 j.2)))
-      (without_view S.cells names it.0)) (λ k. cc) (without_view S.cells names n) in
-      inr (e.0, swept))
-      (swept_view one n)
+      let none = none_hindered S.cells (cells_after S.cells names) names free in
+      let away = without_view S.cells names in
+      let own = own_free S.cells (cells_after S.cells names) n (map.get S.cells n) in
+      ⊎_elim (λ e. grind (arith, e, away n, own, none n)) (λ e. inr (
+        e.0,
+        λ s borrowed.
+            grind (arith, e, named_gives S.cells n, s.shared n, named_from (take_away S.cells names) n, away, none),
+      ))
+      (swept_view (take_away S.cells names) n)
 
   -- the same where a Ref turns to another cell, but for the Ref
   pub turned_view : (S : State T) (a old new : Name) (l : Location) → map.get
@@ -139,16 +129,15 @@ module _ {T : Type 0} where
       ⊎ ((map.get left n ≡ None) × (IsSound S → IsBorrowed (map.get S.cells n) → ⊥)))
   turned_view S a old new l at_a free n =
       let one = map.insert S.cells a (Ref new l) in
-      let other = get-insert_apart by_name S.cells a (Ref new l) in
-      let here = get-insert_here by_name S.cells a (Ref new l) in
       by_keys by_name n a
-      (λ is. inr (inl (cc, swept_ref one n new l (cc))))
-      (λ ne. ⊎_elim (λ e. inl (e.0 ∙ other n ne))
-      (λ e. let swept : IsSound S → IsBorrowed (map.get S.cells n) → ⊥ = λ s borrowed.
-      let it = named_gives S.cells n (s.shared n (ap is_shared (sym (other n ne)) ∙ e.1)) in
-      by_keys by_name it.0 a (λ is. let same : old ≡ n = cc in cc (e.0, rw same at free))
-      (λ no. cc (named_from one n (it.0, it.1, other it.0 no ∙ it.2))) in
-      inr (inr (e.0, swept))) (swept_view one n))
+      (λ is. inr (inl (cc, swept_ref one n new l (grind (arith, get-insert_here, by_name)))))
+      (λ ne. ⊎_elim (λ e. inl (grind (arith, e, get-insert_apart, by_name)))
+      (λ e. inr (inr (
+        e.0,
+        λ s borrowed. let named = named_gives S.cells n in
+            grind (arith, e, named, s.shared n, named_from one n, get-insert_apart, by_name, by_keys),
+      )))
+      (swept_view one n))
 
   -- so Refs name Shared cells still
   pub turned_linked : (cells : NameMap (Cell T)) (a old new : Name) (l : Location)

@@ -1,10 +1,10 @@
 -- A write that is free is refused by the end of numbers alone: it wants no memory.
 use Rattle.generational_core.proofs.machine
-use machine.{◌≡◌, true, false, Option, None, Some, refl, sym, ap, subst, inl, inr, nat_eq}
-use machine.{◌&&◌, is_none, cond_both, GenerationalPointer, Location, StoreError}
-use machine.{NumbersExhausted, Name, Content, Here, State, Guard, BorrowRefusal, can_write, Answer, NewNames}
-use machine.{Outcome, act, unless, write_at, Write, Writes, Done, Refused, Meets, limit_tickets}
-use machine.{arith, takes_ticket, last_ticket, may_lack, needs_memory, no_names}
+use machine.{act, Answer, ap, arith, BorrowRefusal, can_write, cond_both, Content, Done, false}
+use machine.{GenerationalPointer, Guard, Here, inl, inr, is_none, last_ticket, limit_tickets, Location}
+use machine.{may_lack, Meets, Name, nat_eq, needs_memory, NewNames, no_names, NumbersExhausted, Option}
+use machine.{Outcome, refl, Refused, Some, State, StoreError, subst, sym, takes_ticket, true, unless}
+use machine.{Write, write_at, Writes, ◌&&◌, ◌≡◌}
 
 module _ {T : Type 0} where
   -- an answer to a write that no borrow hinders
@@ -29,11 +29,11 @@ module _ {T : Type 0} where
   -- such an answer is a refusal by the end of numbers alone, and wants no memory
   refuses_by : (answer : Answer T) (e : StoreError)
       → Granted answer → answer ≡ Refused e → e ≡ NumbersExhausted
-  refuses_by answer e h1 is = grind arith
+  refuses_by answer e h is = grind arith
 
   wants_none : (S : State T) (b : GenerationalPointer) (l : Location) (answer : Answer T)
       → Granted answer → needs_memory S answer (Write b l) ≡ false
-  wants_none S b l answer h1 = grind arith
+  wants_none S b l answer h = grind arith
 
   module _ (S R : State T) (b : GenerationalPointer) (l : Location) where
     act_write : can_write S b ≡ true

@@ -1,50 +1,20 @@
 -- Guards: that a store knows them and opens the same until they are released, and that a write which
 -- was released sets its value and leaves the rest.
-use Rattle.std.specs.FinMap as map
-use Rattle.std.proofs.Common.{◌≡◌, ◌≢◌, ℕ, ◌+◌, Bool, true, false, cond, List, [], ◌∷◌, ◌||◌}
-use Rattle.std.proofs.Common.{arith, Option, None, Some, refl, sym, ap, subst, ◌∙◌, ⊎_elim}
-use Rattle.std.specs.List.{list_any}
-use Rattle.std.specs.Cmp.{nat_eq_equiv}
-use Rattle.std.specs.Prelude.{nat_eq, option_map, ◌&&◌, map as list_map, Result, Ok, Err, IfOk}
-use Rattle.std.specs.Prelude.{IsOk}
-use Rattle.std.proofs.lemmas.Bool.{and_parts, cases_Bool, eqb-true, or_left}
-use Rattle.generational_core.specs.Answers.{value_of, value_at, value_behind, read_answer}
-use Rattle.generational_core.specs.Answers.{back_answer}
-use Rattle.generational_core.specs.Borrowing.{Guard, BorrowRefusal, reach, refusal_to_write, fill}
-use Rattle.generational_core.specs.Borrowing.{take_ticket}
-use Rattle.generational_core.specs.Cells.{Content, Cell, content_of, refill}
-use Rattle.generational_core.specs.Cells.Cell.{Value}
-use Rattle.generational_core.specs.Cells.Content.{Here, Lent}
-use Rattle.generational_core.specs.Leaving.{LeavesGuard, IsUnchanged, IsSet}
-use Rattle.generational_core.specs.Machine.{Action, Answer, NewNames, Outcome, OwnerName, act}
-use Rattle.generational_core.specs.Machine.{unless, cell_at, has_reader, has_writer, knows_reader}
-use Rattle.generational_core.specs.Machine.{knows_writer, next_borrow, next_guard, ownership}
-use Rattle.generational_core.specs.Machine.{write_at}
-use Rattle.generational_core.specs.Machine.Action.{Read, Write, ReleaseReader, ReleaseWriter}
-use Rattle.generational_core.specs.Machine.Answer.{Reads, Writes, Done, Flag, Back}
-use Rattle.generational_core.specs.Names.{Name, NameMap, is_name, change}
-use Rattle.generational_core.specs.Seeing.{value_in}
-use Rattle.generational_core.specs.State.{State, IsSound, content_at, tickets_of}
-use Rattle.generational_core.specs.Steps.{Meets, takes_ticket}
-use Rattle.generational_core.specs.declared.borrow.Borrow.{Borrow}
-use Rattle.generational_core.specs.declared.boxes.GenerationalPointer.{GenerationalPointer}
-use Rattle.generational_errors.specs.declared.error.BorrowError.{BorrowError}
-use Rattle.generational_errors.specs.declared.error.Location.{Location}
+use Rattle.generational_core.proofs.machine
+use machine.{Action, and_parts, Answer, ap, arith, back_answer, Bool, BorrowError, by_name, Cell, change}
+use machine.{Content, content_at, fill, filled_content, Telling.filled_reach, Flag, GenerationalPointer}
+use machine.{get-changed_apart, get-changed_name, Guard, has_reader, has_writer, Here, IfOk, IsOk, IsSet}
+use machine.{IsSound, IsUnchanged, knows_reader, knows_writer, Lent, list_any, Location, Meets}
+use machine.{meets_cases, meets_follows, Name, name_exact, name_total, NameMap, nat_eq, nat_eq_equiv}
+use machine.{next_borrow, None, Calling.opens, Option, OwnerName, ownership, reach, Read, read_answer}
+use machine.{reader_stays, Reads, Calling.reads_back, reads_known, refill, refl, refusal_to_write}
+use machine.{ReleaseReader, ReleaseWriter, Result, Some, State, subst, sym, take_ticket, tickets_of, true}
+use machine.{value_at, value_behind, value_in, value_of, Write, writer_stays, Writes, writes_known, [], ℕ}
+use machine.{◌&&◌, ◌+◌, ◌∙◌, ◌∷◌, ◌≡◌, ◌≢◌}
+use Rattle.generational_core.specs
+use specs.{Leaving.LeavesGuard}
 use Rattle.generational_errors.specs.declared.error.Refused.{Refused}
-use Rattle.generational_core.proofs.maps.Maps.{by_name, get-changed_apart, get-changed_name}
-use Rattle.generational_core.proofs.maps.Maps.{name_exact, name_total, by_option}
-use Rattle.generational_core.proofs.machine.Calling.{opens, unseen, reads_back}
-use Rattle.generational_core.proofs.machine.Changes.{Filling, old_content, new_content}
-use Rattle.generational_core.proofs.machine.Changes.{refilled_content, filled_content}
-use Rattle.generational_core.proofs.machine.Changes.Filling.{Reader, Leave}
-use Rattle.generational_core.proofs.machine.Ends.{by_cond, live_by}
-use Rattle.generational_core.proofs.machine.Stepping.{meets_each, ends_reader, ends_writer}
-use Rattle.generational_core.proofs.machine.Stepping.{is_refusal, meets_cases, meets_follows}
-use Rattle.generational_core.proofs.machine.Stepping.{reader_stays, reads_known, writer_stays}
-use Rattle.generational_core.proofs.machine.Stepping.{writes_known}
-use Rattle.generational_core.proofs.machine.Seeing.{value_in_reached}
-use Rattle.generational_core.proofs.machine.Soundness.{keep_each}
-use Rattle.generational_core.proofs.machine.Telling.{filled_reach}
+use Rattle.std.specs.FinMap as map
 
 -- what is changed twice at one key
 changed_twice : {X : Type 0} (m : NameMap X) (k : Name) (f g h : X → X)
@@ -81,23 +51,18 @@ module _ {T : Type 0} where
   -- ---- a guard stays known
 
   module _ (S R : State T) (call : Action T) (answer : Answer T) where
-    -- the release of another guard with its ticket changes nothing
-    other_reader : IsSound S → Meets S call answer R → (g : Guard) → knows_reader S g ≡ true
-        → LeavesGuard call g → ends_reader call g.ticket ≡ true → R ≡ S
-    other_reader s m g known leaves ends = grind (arith, one_guard has_reader reader_stands S s g)
-
-    other_writer : IsSound S → Meets S call answer R → (g : Guard) → knows_writer S g ≡ true
-        → LeavesGuard call g → ends_writer call g.ticket ≡ true → R ≡ S
-    other_writer s m g known leaves ends = grind (arith, one_guard has_writer writer_stands S s g)
-
     -- a store knows a guard until that guard is released
     pub reader_kept : IsSound S → Meets S call answer R → (g : Guard) → LeavesGuard call g
         → knows_reader S g ≡ true → knows_reader R g ≡ true
-    reader_kept s m g leaves known = grind (arith, other_reader s m g, reader_stays S R call answer s m g)
+    reader_kept s m g leaves known =
+        let one = one_guard has_reader reader_stands S s g in
+        grind (arith, meets_cases S R call answer m, one, reader_stays S R call answer s m g)
 
     pub writer_kept : IsSound S → Meets S call answer R → (g : Guard) → LeavesGuard call g
         → knows_writer S g ≡ true → knows_writer R g ≡ true
-    writer_kept s m g leaves known = grind (arith, other_writer s m g, writer_stays S R call answer s m g)
+    writer_kept s m g leaves known =
+        let one = one_guard has_writer writer_stands S s g in
+        grind (arith, meets_cases S R call answer m, one, writer_stays S R call answer s m g)
 
     -- the value at a cell stays while a reader stands there
     read_value_stays : IsSound S → Meets S call answer R → (n : Name) (t : ℕ)
@@ -136,11 +101,6 @@ module _ {T : Type 0} where
         → Meets S (ReleaseReader g) (Flag flag) R → flag ≡ true
     reader_leaves g flag known m = grind arith
 
-    returned : (g : Guard) (v : T) (answer : Answer T) → knows_writer S g ≡ true
-        → is_refusal answer ≡ false → Meets S (ReleaseWriter g v) answer R
-        → (answer ≡ Done) × (R ≡ fill S g.cell (Here v []))
-    returned g v answer known plain h3 = grind arith
-
     pub writer_returns : (g : Guard) (v : T) {U : Type 0} (r : Result U T)
         → knows_writer S g ≡ true → Meets S (ReleaseWriter g v) (back_answer r) R
         → IsOk r × (R ≡ fill S g.cell (Here v []))
@@ -149,33 +109,12 @@ module _ {T : Type 0} where
   -- ---- a write that was released
 
   -- what a write that isn't refused found and left
-  record Wrote (S : State T) (b : GenerationalPointer) (l : Location) (g : Guard) (R : State T)
-      : Type 0 where
-    old : T
-    to : reach S b ≡ Some g.cell
-    had : content_at S g.cell ≡ Some (Here old [])
-    left : R ≡ take_ticket (fill S g.cell (Lent (next_borrow S l)))
-
   wrote : (S R : State T) (b : GenerationalPointer) (l : Location) (g : Guard) (w : T)
-      → Meets S (Write b l) (Writes g w) R → Wrote S b l g R
+      → Meets S (Write b l) (Writes g w) R
+      → (reach S b ≡ Some g.cell) × (content_at S g.cell ≡ Some (Here w []))
+      × (R ≡ take_ticket (fill S g.cell (Lent (next_borrow S l))))
   unfolding refusal_to_write
-  wrote S R b l g w meets = ⊎_elim (λ refused. cc)
-      (λ acts. at (refusal_to_write S b) (reach S b) _ refl refl refl acts.2)
-      (meets_cases S R (Write b l) (Writes g w) meets)
-    where
-      at : (t : Option BorrowRefusal) (to : Option Name) (c : Option (Content T))
-          → refusal_to_write S b ≡ t → reach S b ≡ to → content_of (cell_at S to) ≡ c
-          → (Writes g w, R) ≡ unless t S (write_at S l to c) → Wrote S b l g R
-      at None (Some m) (Some (Here v [])) free to had e =
-          let guard : g ≡ next_guard S m = cc (ap (λ (out : Outcome T). out.0) e) in
-          record {
-            old = v;
-            to = cc;
-            had = cc;
-            left = rw guard (ap (λ (out : Outcome T). out.1) e);
-          }
-      at None (Some m) (Some (Here v (r ∷ rs))) free to had e = cc
-      at t to c free is had e = cc (ap (λ (out : Outcome T). takes_ticket out.0) e)
+  wrote S R b l g w m = grind (arith, meets_cases S R (Write b l) (Writes g w) m)
 
   refill_twice : (c d : Content T) (x : Cell T) → refill d (refill c x) ≡ refill d x
   refill_twice c d x = grind arith
@@ -190,10 +129,10 @@ module _ {T : Type 0} where
         back.0,
         record {
           name = g.cell;
-          old = it.old;
-          reached = it.to;
-          content = it.had;
-          after = back.1 ∙ (ap (λ X. fill X g.cell (Here v [])) it.left
+          old = w;
+          reached = it.0;
+          content = it.1;
+          after = back.1 ∙ (ap (λ X. fill X g.cell (Here v [])) it.2
               ∙ ap (λ cells. record S { cells = cells; next = S.next + 1 })
               (changed_twice S.cells g.cell (refill (Lent (next_borrow S l))) (refill (Here v []))
               (refill (Here v [])) (refill_twice _ _)));
@@ -233,10 +172,10 @@ module _ {T : Type 0} where
   module _ {S Q : State T} {b : GenerationalPointer} {v : T} (it : IsSet S b v Q) where
     -- each box that reaches the same sees the value that was set
     pub set_seen : (c : GenerationalPointer) → reach S c ≡ reach S b → value_in Q c ≡ Some v
+    unfolding value_in
     set_seen c same =
-        let filled = fill S it.name (Here v []) in
-        ap (λ (X : State T). value_in X c) it.after ∙ ((ticket_leaves filled c).seen
-        ∙ filled_seen S it.name (Here v []) c _ it.content (same ∙ it.reached))
+        let seen = filled_seen S it.name (Here v []) c (Here it.old []) it.content in
+        grind (arith, it.after, it.reached, ticket_leaves (fill S it.name (Here v [])) c, seen)
 
     -- another box is left
     pub set_beside : (c : GenerationalPointer) → reach S c ≢ reach S b → IsUnchanged S c Q

@@ -1,43 +1,18 @@
 -- What a call leaves of boxes, as equations: what a box reaches, the content there, and what it sees.
+use Rattle.generational_core.proofs.machine
+use machine.{absent, act, act_start, Action, add_cell, among, Answer, ap, AreNew, arith, BorrowRefusal}
+use machine.{Borrows, by_cond, by_name, Cell, cell_at, cond, Content, content_at, false, Changes.Filling}
+use machine.{GenerationalPointer, get-insert_apart, get-insert_here, held_record, Here, is_known}
+use machine.{is_making, is_some, IsFilling, IsGiven, IsSound, IsUnchanged, leads_to, Seeing.leaves_box}
+use machine.{LeavesBox, LeavesValue, Telling.listed, Location, made_new, Make, make, MakeShared, Meets}
+use machine.{meets_cases, meets_follows, meets_sound, Name, name_of, names_in, nat_eq, NewNames, None}
+use machine.{Option, Outcome, OwnerName, Ownership, ownership, reach, Seeing.reach_stays}
+use machine.{Seeing.reached_live, Ref, Refer, refer, refl, refusal_to_read, refusal_to_write}
+use machine.{ReleaseOwner, Shared, Some, State, true, unless, Calling.unseen, Value, value_in}
+use machine.{Seeing.value_stays, [], ℕ, ◌∙◌, ◌≡◌, ◌≢◌}
+use Rattle.generational_core.specs
+use specs.{Leaving.GivesOther, Leaving.IsBeside, Leaving.LeavesContent}
 use Rattle.std.specs.FinMap as map
-use Rattle.std.proofs.Common.{◌≡◌, ◌≢◌, ℕ, Bool, true, false, cond, Option, None, Some, refl, sym, ap}
-use Rattle.std.proofs.Common.{arith, subst, ◌∙◌, ⊎_elim, []}
-use Rattle.std.proofs.lemmas.Bool.{cases_Bool}
-use Rattle.std.specs.Prelude.{is_some, nat_eq}
-use Rattle.generational_core.specs.Borrowing.{BorrowRefusal, reach, leads_to, refusal_to_read, refusal_to_write}
-use Rattle.generational_core.specs.Borrowing.{refusal_at, read_refusal, write_refusal}
-use Rattle.generational_core.specs.Boxes.{name_of}
-use Rattle.generational_core.specs.Cells.{Content, Cell, content_of}
-use Rattle.generational_core.specs.Cells.Cell.{Value, Shared, Ref}
-use Rattle.generational_core.specs.Cells.Content.{Here}
-use Rattle.generational_core.specs.Conditions.{names_in}
-use Rattle.generational_core.specs.Leaving.{GivesOther, IsBeside, IsUnchanged, LeavesContent}
-use Rattle.generational_core.specs.Machine.{Action, Answer, NewNames, Outcome, OwnerName, act, unless}
-use Rattle.generational_core.specs.Machine.{add_cell, cell_at, is_known, make, ownership, refer}
-use Rattle.generational_core.specs.Machine.Action.{Make, MakeShared, Refer, Read, ReleaseOwner}
-use Rattle.generational_core.specs.Machine.Action.{ReleaseReader}
-use Rattle.generational_core.specs.Machine.Answer.{Made}
-use Rattle.generational_core.specs.Names.{Name, among}
-use Rattle.generational_core.specs.Seeing.{value_in, LeavesBox, LeavesValue, Borrows}
-use Rattle.generational_core.specs.State.{State, IsSound, IsGiven, Ownership, content_at}
-use Rattle.generational_core.specs.Steps.{AreNew, Meets}
-use Rattle.generational_core.specs.declared.boxes.GenerationalPointer.{GenerationalPointer}
-use Rattle.generational_errors.specs.declared.error.Location.{Location}
-use Rattle.generational_core.proofs.maps.Maps.{by_name, get-insert_here, get-insert_apart}
-use Rattle.generational_core.proofs.machine.Calling.{unseen}
-use Rattle.generational_core.proofs.machine.Changes.{Filling, IsFilling, held_record, is_making}
-use Rattle.generational_core.proofs.machine.Changes.{new_content}
-use Rattle.generational_core.proofs.machine.Changes.Filling.{Reader, Writer, Leave, Return, Replace}
-use Rattle.generational_core.proofs.machine.Ends.{by_cond}
-use Rattle.generational_core.proofs.machine.Stepping.{meets_each}
-use Rattle.generational_core.proofs.maps.Maps.{by_keys, by_option}
-use Rattle.generational_core.proofs.machine.Seeing.{leaves_box, reach_stays, reached_live}
-use Rattle.generational_core.proofs.machine.Seeing.{refilled_leads, unlent, unset}
-use Rattle.generational_core.proofs.machine.Seeing.{value_stays}
-use Rattle.generational_core.proofs.machine.Soundness.{absent, keep_each}
-use Rattle.generational_core.proofs.machine.Stepping.{act_start, made_new, meets_cases, meets_follows}
-use Rattle.generational_core.proofs.machine.Stepping.{meets_number, meets_sound}
-use Rattle.generational_core.proofs.machine.Telling.{listed}
 
 module _ {T : Type 0} where
   -- ---- a making, which gives another box
@@ -115,10 +90,6 @@ module _ {T : Type 0} where
     same_value s m b leaves other = grind (arith, same_reach s m b, unseen, value_stays S R call answer b)
 
   -- ---- the content there
-
-  leaves_value : (S : State T) (call : Action T) (b : GenerationalPointer)
-      → LeavesContent S call b → LeavesValue S call b
-  leaves_value S call b h = grind arith
 
   unborrowed : (S : State T) (call : Action T) (b : GenerationalPointer) (m : Name)
       → reach S b ≡ Some m → LeavesContent S call b → Borrows S call m → ⊥

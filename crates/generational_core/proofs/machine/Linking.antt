@@ -1,10 +1,10 @@
 -- Cells that are linked stay so: where cells come, and where contents change.
 use Rattle.generational_core.proofs.machine.Common
-use Common.{◌≡◌, ◌≢◌, true, None, Some, refl, sym, ◌∙◌, inl, inr, List, Cell, Ref, Name, false}
-use Common.{⊎_elim, refill, Value, Shared, NameMap, change, State, IsSound, by_name, ap, option_map}
-use Common.{Content, is_shared, IsNamed, Location, HasTargets, IsLinked, by_keys, cells_after}
-use Common.{arith, get-insert_here, get-insert_apart, changed_view, named_gives}
-use Rattle.generational_core.proofs.machine.Ends.{targets_still, closed_linked}
+use Common.{ap, arith, by_keys, by_name, Cell, cells_after, change, changed_view, Content, false}
+use Common.{get-insert_apart, get-insert_here, HasTargets, is_shared, IsLinked, IsNamed, IsSound, List}
+use Common.{Location, Name, named_gives, NameMap, None, Ref, refill, refl, Shared, Some, State, sym, true}
+use Common.{◌∙◌, ◌≡◌, ◌≢◌}
+use Rattle.generational_core.proofs.machine.Ends.{closed_linked}
 use Rattle.std.specs.FinMap as map
 
 module _ {T : Type 0} where
@@ -73,10 +73,6 @@ module _ {T : Type 0} where
   pub refilled_shared : (c : Content T) (x : Cell T)
       → is_shared (Some (refill c x)) ≡ is_shared (Some x)
   refilled_shared c x = grind arith
-
-  refilled_ref : (c : Content T) (x : Cell T) (m : Name) (l : Location)
-      → Some (refill c x) ≡ Some (Ref m l) → Some x ≡ Some (Ref m l)
-  refilled_ref c x m l h = grind arith
 
   -- so cells stay linked where a content changes
   pub refilled_linked : (cells : NameMap (Cell T)) (n : Name) (c : Content T)

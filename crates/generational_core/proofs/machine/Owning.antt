@@ -1,46 +1,17 @@
 -- Owners' records: which calls list a box there, and which leave a record as it was.
+use Rattle.generational_core.proofs.machine
+use machine.{act, Action, among, Answer, arith, BorrowError, box_answer, boxed_among, by_number, change}
+use machine.{CloneOwner, cond, eqb-true, Err, false, GenerationalBox, GenerationalPointer}
+use machine.{get-changed_apart, get-insert_apart, get-remove_apart, IfOk, is_some, IsSound, Location}
+use machine.{Made, Make, MakeShared, Meets, meets_cases, Telling.meets_tells, Name, name_of, nat_eq}
+use machine.{NewNames, NewOwner, None, Ok, one_listed, Outcome, owner_answer, OwnerName, Owners}
+use machine.{Ownership, ownership, pointer_of, Refer, reference_box_answer, refl, Refusal, ReleaseOwner}
+use machine.{Result, Some, State, StoreError, true, [], ◌≡◌, ◌≢◌}
+use Rattle.generational_core.specs
+use specs.{Leaving.GivesOtherOwner, Leaving.LeavesOwner}
 use Rattle.std.specs.FinMap as map
 use Rattle.std.specs.FinSet as set
-use Rattle.std.proofs.Common.{◌≡◌, ◌≢◌, ℕ, true, false, [], Option, None, Some, refl, sym, ap}
-use Rattle.std.proofs.Common.{subst, ◌∙◌, ⊎_elim, arith}
-use Rattle.std.specs.Cmp.{nat_eq_equiv}
-use Rattle.std.specs.Prelude.{is_some, nat_eq, nat_lt, Result, Ok, Err, IfOk}
-use Rattle.std.proofs.lemmas.Bool.{cases_Bool, eqb-true, false_from_ne_true}
-use Rattle.generational_core.specs.Answers.{box_answer, reference_box_answer, owner_answer}
-use Rattle.generational_core.specs.Answers.{pointer_of}
-use Rattle.generational_core.specs.Borrowing.{BorrowRefusal, refusal_to_read, refusal_to_write}
-use Rattle.generational_core.specs.Boxes.{name_of, has_same_id}
-use Rattle.generational_core.specs.Cells.{Content, Cell}
-use Rattle.generational_core.specs.Cells.Cell.{Value, Shared, Ref}
-use Rattle.generational_core.specs.Cells.Content.{Here}
-use Rattle.generational_core.specs.State.{one_less, one_listed, State, IsSound, Ownership}
-use Rattle.generational_core.specs.Ending.{close, hindrance_to, hindrance_at, sweep}
-use Rattle.generational_core.specs.Leaving.{GivesOtherOwner, IsOtherOwner, LeavesOwner}
-use Rattle.generational_core.specs.Machine.{Action, Answer, NewNames, Outcome, OwnerName, act}
-use Rattle.generational_core.specs.Machine.{unless, ownership, add_cell, make, refer, is_known}
-use Rattle.generational_core.specs.Machine.{clone_owner, release_owner, read_at, set_at}
-use Rattle.generational_core.specs.Machine.{set_ownership, write_at, knows_reader, knows_writer}
-use Rattle.generational_core.specs.Machine.{own_name, point, remove_reader}
-use Rattle.generational_core.specs.Machine.Action.{Make, MakeShared, Refer, NewOwner, CloneOwner}
-use Rattle.generational_core.specs.Machine.Action.{ReleaseOwner, Read, Write, ReleaseReader}
-use Rattle.generational_core.specs.Machine.Action.{ReleaseWriter, SetValue, End, Point}
-use Rattle.generational_core.specs.Machine.Answer.{Made, Owned}
-use Rattle.generational_core.specs.Names.{Name, among, is_name}
-use Rattle.generational_core.specs.Steps.{Meets}
-use Rattle.generational_core.specs.declared.boxes.GenerationalBox.{GenerationalBox}
-use Rattle.generational_core.specs.declared.boxes.GenerationalPointer.{GenerationalPointer}
-use Rattle.generational_errors.specs.declared.error.BorrowError.{BorrowError}
-use Rattle.generational_errors.specs.declared.error.Location.{Location}
-use Rattle.generational_errors.specs.declared.error.Refusal.{Refusal}
 use Rattle.generational_errors.specs.declared.error.Refused as error
-use Rattle.generational_errors.specs.declared.error.StoreError.{StoreError}
-use Rattle.generational_core.proofs.maps.Maps.{by_number, get-insert_apart, get-remove_apart}
-use Rattle.generational_core.proofs.maps.Maps.{get-changed_apart, by_option}
-use Rattle.generational_core.proofs.machine.Changes.{held_record}
-use Rattle.generational_core.proofs.machine.Ends.{by_cond, cond_gives, some_live}
-use Rattle.generational_core.proofs.machine.Releasing.{boxed_among}
-use Rattle.generational_core.proofs.machine.Stepping.{meets_each, meets_cases}
-use Rattle.generational_core.proofs.machine.Telling.{meets_tells}
 
 module _ {T : Type 0} where
   -- ---- a box at the end of its owner's list
@@ -93,81 +64,41 @@ module _ {T : Type 0} where
 
   -- no call but those of owners changes a record
   module _ (S : State T) (o : OwnerName) where
-    keeps_unless : (t : Option BorrowRefusal) (out : Outcome T) → Keeps S o out → Keeps S o (unless t S out)
-    keeps_unless t out h = grind arith
+    -- the record is kept where another owner's is changed, put in or forgotten
+    module _ (a : OwnerName) where
+      own_record : (owners : Owners)
+          → (o.key ≢ a.key → map.get owners o.key ≡ map.get S.owners o.key)
+          → is_some (ownership S a) ≡ true → a ≢ o
+          → cond (nat_eq o.store S.number) (map.get owners o.key) None ≡ ownership S o
+      own_record owners same known ne =
+          same_record S (record S { owners = owners }) o refl (λ own. same (apart S a o known ne own))
 
-    keeps_made : (Q : State T) (a : Option OwnerName) (n : Name) (c : Cell T) (l : Location)
-        → Q.owners ≡ S.owners → Q.number ≡ S.number
-        → ((x : OwnerName) → a ≡ Some x → nat_eq o.store S.number ≡ true → o.key ≢ x.key)
-        → Keeps S o (make Q a n c l)
-    keeps_made Q None n c l is number ne =
-        same_record S (add_cell Q n c) o number (λ _. ap (λ m. map.get m o.key) is)
-    keeps_made Q (Some a) n c l is number ne =
-        same_record S (make Q (Some a) n c l).1 o number (λ own.
-        get-changed_apart by_number Q.owners a.key (one_listed n) o.key (ne a refl own)
-        ∙ ap (λ m. map.get m o.key) is)
+      listed_apart : (n : Name) → is_some (ownership S a) ≡ true → a ≢ o
+          → let owners = change S.owners a.key (one_listed n) in
+          cond (nat_eq o.store S.number) (map.get owners o.key) None ≡ ownership S o
+      listed_apart n = own_record _ (get-changed_apart by_number S.owners a.key (one_listed n) o.key)
 
-    keeps_referred : (a : Option OwnerName) (b : GenerationalPointer) (to : Option Name)
-        (target : Option (Cell T)) (n : Name)
-        → ((x : OwnerName) → a ≡ Some x → nat_eq o.store S.number ≡ true → o.key ≢ x.key)
-        → Keeps S o (refer S a b to target n)
-    keeps_referred a b (Some m) (Some (Shared c l)) n ne =
-        keeps_made S a n (Ref m l) l refl refl ne
-    keeps_referred a b to target n ne = refl
+      put_apart : (h : Ownership) → is_some (ownership S a) ≡ true → a ≢ o
+          → let owners = map.insert S.owners a.key h in
+          cond (nat_eq o.store S.number) (map.get owners o.key) None ≡ ownership S o
+      put_apart h = own_record _ (get-insert_apart by_number S.owners a.key h o.key)
 
-    keeps_cloned : (a : OwnerName) (h : Option Ownership) → ownership S a ≡ h → a ≢ o
-        → Keeps S o (clone_owner S a h)
-    keeps_cloned a None is ne = refl
-    keeps_cloned a (Some h) is ne =
-        same_record S (clone_owner S a (Some h)).1 o refl
-        (λ own. get-insert_apart by_number S.owners a.key _ o.key
-        (apart S a o (ap is_some is) ne own))
-
-    keeps_released : (a : OwnerName) (h : Option Ownership) → ownership S a ≡ h → a ≢ o
-        → Keeps S o (release_owner S a h)
-    keeps_released a None is ne = refl
-    keeps_released a (Some h) is ne = by_cond (Keeps S o) (nat_lt 1 h.count)
-        (λ _. same_record S (set_ownership S a.key (one_less h)) o refl
-        (λ own. get-insert_apart by_number S.owners a.key _ o.key
-        (apart S a o (ap is_some is) ne own)))
-        (λ _. keeps_unless (hindrance_to S h.names) _ (same_record S
-        (record (close S h.names) { owners = map.remove S.owners a.key }) o refl
-        (λ own. get-remove_apart by_number S.owners a.key o.key
-        (apart S a o (ap is_some is) ne own))))
-
-    -- the owner of a making has another key
-    other : (a : OwnerName) → a ≢ o → is_known S (Some a) ≡ true
-        → (x : OwnerName) → ◌≡◌ {A = Option OwnerName} (Some a) (Some x)
-        → nat_eq o.store S.number ≡ true → o.key ≢ x.key
-    other a ne known x is own = grind arith
-
-    no_owner : (x : OwnerName) → ◌≡◌ {A = Option OwnerName} None (Some x)
-        → nat_eq o.store S.number ≡ true → o.key ≢ x.key
-    no_owner x is own = cc
+      gone_apart : is_some (ownership S a) ≡ true → a ≢ o
+          → let owners = map.remove S.owners a.key in
+          cond (nat_eq o.store S.number) (map.get owners o.key) None ≡ ownership S o
+      gone_apart = own_record _ (get-remove_apart by_number S.owners a.key o.key)
 
     act_keeps : (call : Action T) (f : NewNames) → LeavesOwner call o → IsNotNext S call o
         → Keeps S o (act S call f)
-    act_keeps (Make None v l) f ne next =
-        keeps_made S None f.first (Value (Here v []) l) l refl refl no_owner
-    act_keeps (Make (Some a) v l) f ne next = by_cond (Keeps S o) (is_known S (Some a))
-        (λ known. keeps_made S (Some a) f.first (Value (Here v []) l) l refl refl (other a ne known))
-        (λ _. refl)
-    act_keeps (MakeShared None v l) f ne next =
-        keeps_made (add_cell S f.first (Shared (Here v []) l)) None f.second (Ref f.first l) l
-        refl refl no_owner
-    act_keeps (MakeShared (Some a) v l) f ne next = by_cond (Keeps S o) (is_known S (Some a))
-        (λ known. keeps_made (add_cell S f.first (Shared (Here v []) l)) (Some a) f.second
-        (Ref f.first l) l refl refl (other a ne known)) (λ _. refl)
-    act_keeps (Refer None b) f ne next =
-        keeps_unless (refusal_to_read S b) _ (keeps_referred None b _ _ f.first no_owner)
-    act_keeps (Refer (Some a) b) f ne next = by_cond (Keeps S o) (is_known S (Some a))
-        (λ known. keeps_unless (refusal_to_read S b) _
-        (keeps_referred (Some a) b _ _ f.first (other a ne known))) (λ _. refl)
-    act_keeps NewOwner f ne next = same_record S (act S NewOwner f).1 o refl (λ own.
-        get-insert_apart by_number S.owners S.next _ o.key (λ is. next
-        (λ i. record { store = sym (eqb-true o.store S.number own) i; key = sym is i })))
-    act_keeps (CloneOwner a) f ne next = keeps_cloned a (ownership S a) refl ne
-    act_keeps (ReleaseOwner a) f ne next = keeps_released a (ownership S a) refl ne
+    act_keeps (Make None v l) f ne next = grind arith
+    act_keeps (Make (Some a) v l) f ne next = grind (arith, listed_apart a f.first)
+    act_keeps (MakeShared None v l) f ne next = grind arith
+    act_keeps (MakeShared (Some a) v l) f ne next = grind (arith, listed_apart a f.second)
+    act_keeps (Refer None b) f ne next = grind arith
+    act_keeps (Refer (Some a) b) f ne next = grind (arith, listed_apart a f.first)
+    act_keeps NewOwner f ne next = grind (arith, get-insert_apart by_number S.owners S.next, eqb-true)
+    act_keeps (CloneOwner a) f ne next = grind (arith, put_apart a)
+    act_keeps (ReleaseOwner a) f ne next = grind (arith, put_apart a, gone_apart a)
     act_keeps call f ne next = grind arith
 
   module _ {S R : State T} where
@@ -189,11 +120,6 @@ module _ {T : Type 0} where
         → (o : OwnerName) (h : Ownership) → LeavesOwner call o
         → ownership S o ≡ Some h → ownership R o ≡ Some h
     keeps_known call answer s m o h ne held = grind (arith, kept call answer m o ne)
-
-    -- a new owner has the store's number and the next ticket as its key
-    new_owner : (o : OwnerName) → Meets S NewOwner (Owned o) R
-        → o ≡ record { store = S.number; key = S.next }
-    new_owner o m = grind arith
 
     -- so no owner that a sound store knows is that one
     pub unknown_owner : (r : Result OwnerName StoreError) → IsSound S

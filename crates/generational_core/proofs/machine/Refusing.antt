@@ -1,42 +1,15 @@
 -- A call that is refused changes nothing.
-use Rattle.std.proofs.Common.{arith, ◌≡◌, Bool, true, false, cond, Option, None, Some, refl, []}
-use Rattle.std.specs.Prelude.{nat_lt, Result, Ok, Err, OnErr}
-use Rattle.generational_core.specs.Answers.{box_answer, reference_box_answer, read_answer}
-use Rattle.generational_core.specs.Answers.{write_answer, back_answer, end_answer, owner_answer}
-use Rattle.generational_core.specs.Answers.{release_answer, free_read_answer, free_write_answer}
-use Rattle.generational_core.specs.Answers.{WriteGuard, read_refused, end_refused}
-use Rattle.generational_core.specs.Borrowing.{Guard, BorrowRefusal, reach, refusal_to_read}
-use Rattle.generational_core.specs.Borrowing.{refusal_to_write}
-use Rattle.generational_core.specs.Borrowing.BorrowRefusal.{Dropped}
-use Rattle.generational_core.specs.Boxes.{name_of, has_same_id}
-use Rattle.generational_core.specs.Cells.{Content, Cell}
-use Rattle.generational_core.specs.Cells.Cell.{Shared, Ref}
-use Rattle.generational_core.specs.Cells.Content.{Here}
-use Rattle.generational_core.specs.Ending.{hindrance_to}
-use Rattle.generational_core.specs.Leaving.{refuses}
-use Rattle.generational_core.specs.Machine.{Action, Answer, NewNames, Outcome, OwnerName, act}
-use Rattle.generational_core.specs.Machine.{unless, cell_at, clone_owner, is_known, knows_reader}
-use Rattle.generational_core.specs.Machine.{knows_writer, own_cell, own_name, ownership, point}
-use Rattle.generational_core.specs.Machine.{read_at, refer, release_owner, set_at, turn, write_at}
-use Rattle.generational_core.specs.Machine.Action.{Make, MakeShared, Refer, CloneOwner}
-use Rattle.generational_core.specs.Machine.Action.{ReleaseOwner, Read, Write, ReleaseReader}
-use Rattle.generational_core.specs.Machine.Action.{ReleaseWriter, SetValue, End, Point}
-use Rattle.generational_core.specs.Machine.Answer.{Done, Flag, Back, BorrowRefused, Refused}
-use Rattle.generational_core.specs.Names.{Name, is_name}
-use Rattle.generational_core.specs.State.{State, Ownership}
-use Rattle.generational_core.specs.Steps.{Meets}
-use Rattle.generational_core.specs.declared.boxes.GenerationalBox.{GenerationalBox}
-use Rattle.generational_core.specs.declared.boxes.GenerationalPointer.{GenerationalPointer}
-use Rattle.generational_errors.specs.declared.error.BorrowError.{BorrowError}
-use Rattle.generational_errors.specs.declared.error.BorrowMutError.{BorrowMutError}
-use Rattle.generational_errors.specs.declared.error.Location.{Location}
-use Rattle.generational_errors.specs.declared.error.Refusal.{Refusal}
+use Rattle.generational_core.proofs.machine
+use machine.{act, Action, Answer, arith, Back, back_answer, BorrowError, BorrowMutError, BorrowRefusal}
+use machine.{BorrowRefused, box_answer, end_answer, false, Flag, free_read_answer, free_write_answer}
+use machine.{GenerationalBox, Guard, Meets, meets_each, NewNames, Outcome, owner_answer, OwnerName}
+use machine.{read_answer, reference_box_answer, refl, Refusal, Refused, release_answer, ReleaseReader}
+use machine.{Result, State, StoreError, true, UnknownOwner, write_answer, WriteGuard, [], ◌≡◌}
+use Rattle.generational_core.specs
+use specs.{Answers.end_refused, Answers.read_refused, Leaving.refuses}
+use Rattle.std.specs.Prelude.{OnErr}
 use Rattle.generational_errors.specs.declared.error.Refused as error
 use Rattle.generational_errors.specs.declared.error.Refused.TheVariants as refused
-use Rattle.generational_errors.specs.declared.error.StoreError.{StoreError}
-use Rattle.generational_errors.specs.declared.error.StoreError.TheVariants.{UnknownOwner}
-use Rattle.generational_core.proofs.machine.Ends.{by_cond}
-use Rattle.generational_core.proofs.machine.Stepping.{meets_each}
 
 module _ {T : Type 0} where
   -- ---- how the machine refuses
@@ -54,7 +27,7 @@ module _ {T : Type 0} where
 
   pub answered_still : (S : State T) (out : Outcome T) → IsAnswered S out
       → refuses out.0 ≡ true → out.1 ≡ S
-  answered_still S out h1 refused = grind arith
+  answered_still S out h refused = grind arith
 
   -- ---- a refused call changes nothing, whichever it is
 

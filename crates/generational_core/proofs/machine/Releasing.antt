@@ -1,26 +1,14 @@
 -- What the release of an owner value leaves, and when a recorded call is ready.
 use Rattle.generational_core.proofs.machine.Common
-use Common.{◌≡◌, is_shared, IsReleased, named_gives, named_from, ◌≢◌, ◌≤◌, ◌<◌, [], ◌∷◌, not, sym}
-use Common.{ap, ◌∙◌, inl, inr, act, ℕ, or_cases, cases_lt, take_away, OwnerName, ownership}
-use Common.{Ownership, by_number, name_same, List, subst, le-ltb, nat_lt, nat_eq, reach, close}
-use Common.{Answer, unless, Action, NewNames, Bool, true, cond, None, Some, refl, ◌&&◌, Cell, Done}
-use Common.{Name, among, State, Meets, false, refusal_to_read, cells_after, hindrance_to}
-use Common.{knows_reader, takes_ticket, last_ticket, Option, ⊎_elim, lt-ltb, Outcome, read_at}
-use Common.{NameMap, IsSound, IsBoxed, false_from_ne_true, release_owner, get-remove_apart}
-use Common.{get-insert_apart, NumbersExhausted, not-true, Content, IsNamed, one_less, own_name}
-use Common.{is_named, Location, StepCall, AllByRecursion, BorrowRefusal, set_ownership}
-use Common.{arith, get-remove_here, get-insert_here, by_option}
-use Rattle.generational_core.proofs.machine.Ends.{get-swept, get-without, swept_ref, swept_was}
-use Rattle.generational_core.proofs.machine.Ends.{by_cond}
-use Rattle.generational_core.proofs.machine.Changes.{held_record}
-use Rattle.generational_core.proofs.machine.Stepping.{is_refusal, meets_each}
-use Rattle.generational_core.specs.StepCalls.{is_ready, tells_of_borrow, recorded_as, is_hindered}
-use Rattle.generational_core.specs.StepCalls.{may_set}
-use Rattle.std.specs.Prelude.{IfSome}
-use Rattle.generational_core.specs.Machine.{is_known, knows_writer, refer, set_at, write_at}
-use Rattle.generational_core.specs.Borrowing.{refusal_to_write}
-use Rattle.generational_errors.specs.declared.error.StoreError.TheVariants.{UnknownOwner}
-use Rattle.generational_core.specs.declared.boxes.GenerationalPointer.{GenerationalPointer}
+use Common.{act, Action, AllByRecursion, among, Answer, ap, arith, by_number, cases_lt, Cell, cells_after}
+use Common.{close, Content, Done, false, GenerationalPointer, get-insert_apart, get-insert_here}
+use Common.{get-remove_apart, get-remove_here, is_shared, IsBoxed, IsNamed, IsReleased, IsSound, List}
+use Common.{lt-ltb, Meets, Name, name_same, named_from, named_gives, NameMap, NewNames, None, not}
+use Common.{one_less, Option, Outcome, OwnerName, Ownership, ownership, refl, release_owner, set_at}
+use Common.{set_ownership, Some, State, StepCall, true, [], ℕ, ⊎_elim, ◌<◌, ◌∙◌, ◌∷◌, ◌≡◌, ◌≢◌, ◌≤◌}
+use Rattle.generational_core.specs
+use specs.{StepCalls.is_hindered, StepCalls.is_ready, StepCalls.may_set, StepCalls.recorded_as}
+use Rattle.generational_core.proofs.machine.Ends.{get-swept, get-without}
 use Rattle.std.specs.FinMap as map
 
 module _ {T : Type 0} where
@@ -55,10 +43,6 @@ module _ {T : Type 0} where
       → ownership S o ≡ Some h → among h.names n ≡ true → is_shared (map.get S.cells n) ≡ false
   listed_boxed S o h n s is there = grind (arith, boxed_among)
 
-  pub done_only : (t : Option BorrowRefusal) (S R last : State T)
-      → ◌≡◌ {A = Outcome T} (Done, R) (unless t S (Done, last)) → R ≡ last
-  done_only t S R last e = grind arith
-
   module _ {S R : State T} {o : OwnerName} {h : Ownership} (r : IsReleased S o h R) where
     release : ◌≡◌ {A = Outcome T} (Done, R) (release_owner S o (Some h))
     release = grind arith
@@ -85,56 +69,21 @@ module _ {T : Type 0} where
     earlier_record more = grind (arith, earlier_release, get-insert_here, by_number)
 
     pub other_records : (k : ℕ) → k ≢ o.key → map.get R.owners k ≡ map.get S.owners k
-    other_records k apart = ⊎_elim (λ more. cc
-        (earlier_release more, get-insert_apart by_number S.owners o.key (one_less h) k apart))
-        (λ last. cc (last_release last, get-remove_apart by_number S.owners o.key k apart))
-        (cases_lt 1 h.count)
+    other_records k apart =
+        ⊎_elim (λ more. grind (arith, earlier_release more, get-insert_apart, by_number))
+        (λ last. grind (arith, last_release last, get-remove_apart, by_number)) (cases_lt 1 h.count)
 
     -- nothing but cells and records changes
     pub rest_stays : R ≡ record S { cells = R.cells; owners = R.owners }
     rest_stays = grind arith
 
-  -- a release that isn't done changes nothing
-  release_quiet : (S : State T) (o : OwnerName) (h : Option Ownership)
-      → (release_owner S o h).0 ≢ Done → (release_owner S o h).1 ≡ S
-  release_quiet S o h other = grind arith
-
   pub refused_release : (S R : State T) (o : OwnerName) (answer : Answer T)
       → Meets S (Action.ReleaseOwner o) answer R → answer ≢ Done → R ≡ S
-  refused_release S R o answer h1 h2 = grind arith
+  refused_release S R o answer m ne = grind arith
 
   pub leak_changes_nothing : (S R : State T) (o : OwnerName) (answer : Answer T)
       → Meets S (Action.LeakOwner o) answer R → R ≡ S
-  leak_changes_nothing S R o answer h1 = grind arith
-
-  module _ (S : State T) (a : Action T) where
-    -- a refusal that may come tells of a borrow exactly where its answer does
-    unless_told : (t : Option BorrowRefusal) (other : Outcome T) → is_hindered a other.0 ≡ false
-        → not (tells_of_borrow t) ≡ not (is_hindered a (unless t S other).0)
-    unless_told t other h = grind arith
-
-    -- an unknown owner is told of before any borrow
-    known_told : (known told : Bool) (out : Outcome T) → not told ≡ not (is_hindered a out.0)
-        → not (known && told)
-        ≡ not (is_hindered a (cond known out (Answer.Refused UnknownOwner, S)).0)
-    known_told known told out h = grind arith
-
-    -- where neither of two outcomes tells of a borrow, none is told of
-    neither_told : (b : Bool) (x y : Outcome T) → is_hindered a x.0 ≡ false
-        → is_hindered a y.0 ≡ false → true ≡ not (is_hindered a (cond b x y).0)
-    neither_told b x y h k = grind arith
-
-    read_free : (l : Location) (o : Option Name) (c : Option (Content T))
-        → is_hindered a (read_at S l o c).0 ≡ false
-    read_free l o c = grind arith
-
-    write_free : (l : Location) (o : Option Name) (c : Option (Content T))
-        → is_hindered a (write_at S l o c).0 ≡ false
-    write_free l o c = grind arith
-
-    refer_free : (o : Option OwnerName) (b : GenerationalPointer) (to : Option Name)
-        (c : Option (Cell T)) (n : Name) → is_hindered a (refer S o b to c n).0 ≡ false
-    refer_free o b to c n = grind arith
+  leak_changes_nothing S R o answer m = grind arith
 
   set_told : (S : State T) (b : GenerationalPointer) (v : T) (o : Option Name)
       (c : Option (Content T))

@@ -1,21 +1,16 @@
 -- Values at which no borrow stands: which calls leave them so, that they may be read and ended, and
 -- that a read which was released leaves no trace but a ticket.
 use Rattle.generational_core.proofs.machine
-use machine.{◌≡◌, take_ticket, hindrance_of, knows_reader, needs_memory, takes_ticket, changed_back}
-use machine.{ℕ, ◌+◌, ◌∷◌, sym, ap, ◌∙◌, inl, inr, Ref, End, Done, Flag, Name, Bool, Option, ⊎_elim}
-use machine.{nat_eq, refill, Action, Answer, unless, Filling, without, true, List, ◌++◌, None, Some}
-use machine.{refl, fill, Cell, Here, Lent, Read, Meets, Leave, false, can_write, content_of}
-use machine.{next_guard, content_at, [], list_map, value_of, leads_to, LeavesBox, IsFilling}
-use machine.{keep_each, name_of, Content, Outcome, cell_at, read_at, NameMap, Borrows, IsSound}
-use machine.{by_name, arith, Guard, reach, Value, close, Write, Reads, change, State, Borrow}
-use machine.{Reader, Writer, list_any, next_borrow, old_content, new_content, meets_cases}
-use machine.{reads_known, is_some, BorrowRefusal, can_read, own_name, value_in, may_lack, Location}
-use machine.{nat_eq_equiv, read_refusal, refusal_to_read, hindrance_to, limit_tickets}
-use machine.{meets_follows, false_from_ne_true, LeavesUnborrowed, GenerationalPointer}
-use machine.{write_refusal, refusal_to_write, remove_reader, ReleaseReader, filled_content, by_cond}
-use machine.{by_option, meets_each, not, or_parts, refilled_content}
-use Rattle.generational_core.proofs.machine.Seeing.{reaches, reached_live, reach_stays}
-use Rattle.generational_core.proofs.machine.Seeing.{value_in_reached}
+use machine.{Action, Answer, ap, arith, Bool, Borrow, BorrowRefusal, Borrows, by_name, can_read}
+use machine.{can_write, cell_at, change, changed_back, Content, content_at, content_of, Done, End, false}
+use machine.{false_from_ne_true, fill, filled_content, Flag, GenerationalPointer, Guard, Here}
+use machine.{hindrance_to, IsSound, knows_reader, LeavesBox, LeavesUnborrowed, List, list_any, list_map}
+use machine.{Location, may_lack, Meets, meets_cases, meets_follows, Name, nat_eq, nat_eq_equiv}
+use machine.{next_borrow, next_guard, None, Option, Outcome, own_name, reach, Seeing.reach_stays}
+use machine.{Seeing.reached_live, Seeing.reaches, Read, read_at, Reads, reads_known, refill, refl}
+use machine.{refusal_to_read, refusal_to_write, ReleaseReader, remove_reader, Some, State, take_ticket}
+use machine.{takes_ticket, true, unless, value_in, Seeing.value_in_reached, without, write_refusal, [], ℕ}
+use machine.{⊎_elim, ◌++◌, ◌+◌, ◌∙◌, ◌∷◌, ◌≡◌}
 pub use Rattle.generational_core.proofs.machine.Seeing.{reached_content}
 use Rattle.std.specs.FinMap as map
 
@@ -78,12 +73,6 @@ module _ {T : Type 0} where
 
   -- ---- ends
 
-  -- what leads to where no borrow stands isn't hindered
-  unhindered_leads : (S : State T) (left : NameMap (Cell T)) (c : Option (Cell T)) (n m : Name)
-      → map.get S.cells n ≡ c → leads_to c n ≡ Some m → write_refusal (content_at S m) ≡ None
-      → hindrance_of S.cells left c n ≡ None
-  unhindered_leads S left c n m is e free = grind arith
-
   unhindered : (S : State T) (b : GenerationalPointer)
       → can_write S b ≡ true → hindrance_to S (own_name S b) ≡ None
   unfolding hindrance_to
@@ -93,7 +82,7 @@ module _ {T : Type 0} where
   pub free_ends : (S R : State T) (b : GenerationalPointer) (answer : Answer T)
       → can_write S b ≡ true → Meets S (End b) answer R → answer ≡ Done
   unfolding may_lack
-  free_ends S R b answer h h2 = grind (arith, unhindered)
+  free_ends S R b answer h m = grind (arith, unhindered)
 
   -- ---- a read that was released
 
@@ -131,7 +120,7 @@ module _ {T : Type 0} where
 
   released : (R Q : State T) (g : Guard) (flag : Bool) → knows_reader R g ≡ true → Meets R
       (ReleaseReader g) (Flag flag) Q → Q ≡ remove_reader R g.cell g.ticket (content_at R g.cell)
-  released R Q g flag known h2 = grind arith
+  released R Q g flag known m = grind arith
 
   -- the state is as it was, but for a ticket
   pub read_released : (S R Q : State T) (b : GenerationalPointer) (l : Location) (g : Guard)

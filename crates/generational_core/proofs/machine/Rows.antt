@@ -1,31 +1,23 @@
 -- Rows that are read back, one list after the other: the cell of a name, and owners' records; and
 -- what stands under a name without its value.
-use Rattle.std.proofs.Common.{◌≡◌, ℕ, zero, suc, Bool, true, false, cond, ◌&&◌, ◌||◌, leb, List, []}
-use Rattle.std.proofs.Common.{◌∷◌, ◌++◌, Option, None, Some, option_map, refl, sym, ap, ◌∙◌, arith}
-use Rattle.std.proofs.Common.{nat_eq, append-nil, append_assoc, Ordering}
+use Rattle.generational_core.proofs.machine
+use machine.{AllByRecursion, ap, arith, Bool, Borrow, by_name, by_number, Cell, change, cond}
+use machine.{contains-insert_name, Content, eq_by_cmp, false, get-insert_here, Here, IsDistinct, key_same}
+use machine.{keys_apart, Lent, List, Name, name_cmp, name_total, NameMap, Names, nat_eq, None, Option}
+use machine.{option_map, option_or, Owners, Ownership, Ref, refill, refl, Shared, Some, sym, Value, [], ℕ}
+use machine.{◌&&◌, ◌++◌, ◌||◌, ◌∙◌, ◌∷◌, ◌≡◌}
+use Rattle.generational_core.specs
+use specs.{Plain.bare_cell, Plain.bare_cells, Plain.bare_content, Plain.bare_entry}
+use specs.{declared.rows.BaseRow.BaseRow, Rows.borrow_rows, Rows.cell_rows, Rows.give_up_to, Boxes.id_of}
+use specs.{Rows.one_reader, Rows.owner_rows, Plain.Plain, Rows.read_more, Rows.read_row, Rows.read_rows}
+use specs.{Rows.reader_row, Rows.record_rows}
+use Rattle.std.proofs.Common.{append-nil, append_assoc, leb, Ordering, suc, zero}
 use Rattle.std.proofs.lemmas.Bool.Decides.{nat_tests}
 use Rattle.std.specs.Prelude.{map as list_map}
-use Rattle.std.specs.List.{AllByRecursion, IsDistinct}
-use Rattle.std.specs.Option.{option_or}
-use Rattle.std.specs.Ordering.{eq_by_cmp}
+use Rattle.generational_core.proofs.maps.Maps.{changed_there, IsKeyOrder, name_test}
 use Rattle.std.specs.FinMap as map
 use Rattle.std.specs.FinSet as set
-use Rattle.generational_core.proofs.maps.Maps.{IsKeyOrder, by_name, by_number, key_same, name_total}
-use Rattle.generational_core.proofs.maps.Maps.{name_test, get-insert_here, changed_there}
-use Rattle.generational_core.proofs.maps.Maps.{keys_apart, contains-insert_name}
-use Rattle.generational_core.specs
-use specs.declared.borrow.Borrow.{Borrow}
-use specs.declared.rows.BaseRow.{BaseRow}
 use specs.declared.rows.BaseRow.TheVariants as row
-use specs.Boxes.{id_of}
-use specs.Cells.{Cell, Content, refill}
-use specs.Cells.Cell.{Value, Shared, Ref}
-use specs.Cells.Content.{Here, Lent}
-use specs.Names.{Name, NameMap, Names, name_cmp, change}
-use specs.Plain.{Plain, bare_cell, bare_content, bare_entry, bare_cells}
-use specs.Rows.{reader_row, record_rows, owner_rows, borrow_rows, cell_rows, give_up_to, read_more}
-use specs.Rows.{one_reader, read_row, read_rows}
-use specs.State.{Ownership, Owners, one_listed}
 
 -- one list is read after the other
 pub read_append : (xs ys : List BaseRow) (P : Plain)

@@ -1,15 +1,11 @@
 -- What a box sees after a call: what the call's answer tells of it, and what the call leaves.
 use Rattle.generational_core.proofs.machine
-use machine.{◌≡◌, ℕ, true, false, [], Option, Some, refl, sym, ap, ◌∙◌, ⊎_elim}
-use machine.{is_some, nat_eq, ◌||◌, value_of, value_at, reach, leads_to, name_of}
-use machine.{Content, Cell, content_of, is_shared, refill, Value, Shared, Ref, Here, Action, Answer}
-use machine.{NewNames, act, add_cell, ReleaseOwner, Write, ReleaseWriter, SetValue, End, Point, Sets}
-use machine.{Name, among, value_reached, value_in, ending, Turns, Lends, LeavesBox, LeavesValue}
-use machine.{State, IsSound, IsGiven, AreNew, Meets, GenerationalPointer, by_name, get-insert_apart}
-use machine.{changed_view, name_apart, Change, Filling, IsFilling, IsLawful, after, old_content}
-use machine.{new_content, act_leads, second_fresh, Stay, Birth, Pair, Fill, Close, Turn, Writer}
-use machine.{Return, Replace, by_cond, cond_gives, live_by, swept_view, box_stays, keep_each, last}
-use machine.{refilled_content, arith, same_store, meets_each, meets_follows, meets_sound, content_at}
+use machine.{act, act_leads, Action, after, among, Answer, ap, AreNew, arith, box_stays, by_name, Cell}
+use machine.{Change, changed_view, cond_gives, content_at, content_of, ending, false, GenerationalPointer}
+use machine.{get-insert_apart, is_shared, is_some, IsGiven, IsLawful, IsSound, last, leads_to, LeavesBox}
+use machine.{LeavesValue, Lends, live_by, Meets, meets_each, meets_follows, meets_sound, Name, name_apart}
+use machine.{name_of, nat_eq, NewNames, Option, reach, refl, same_store, second_fresh, Sets, Some, State}
+use machine.{swept_view, true, Turns, value_at, value_in, value_reached, [], ℕ, ◌∙◌, ◌≡◌}
 use Rattle.std.specs.FinMap as map
 
 module _ {T : Type 0} where
@@ -34,10 +30,6 @@ module _ {T : Type 0} where
   pub led_box : (c : Option (Cell T)) (q m : Name) → leads_to c q ≡ Some m
       → (is_some c ≡ true) × (is_shared c ≡ false)
   led_box c q m e = grind arith
-
-  pub refilled_leads : (k : Content T) (c : Cell T) (q : Name)
-      → leads_to (Some (refill k c)) q ≡ leads_to (Some c) q
-  refilled_leads k c q = grind arith
 
   -- a content stands where a box reaches
   pub reached_content : (S : State T) (b : GenerationalPointer) (m : Name)
@@ -117,8 +109,9 @@ module _ {T : Type 0} where
     -- a box sees what it saw, unless the call ends it, points it elsewhere, lends or sets its value
     pub value_stays : (b : GenerationalPointer) (m : Name) → IsSound S → Meets S call answer R
         → LeavesValue S call b → reach S b ≡ Some m → value_in R b ≡ value_in S b
+    unfolding value_in
     value_stays b m s meets leaves e =
         let stays = reach_stays b m s meets (leaves_box S call b leaves) e in
-        let live = reached_live R b m (meets_sound S R call answer s meets) stays in
-        let same = kept_value m s meets (unlent S call b m e leaves) (unset S call b m e leaves)
-        (reached_live S b m s e) live in cc (value_in_reached S b m e, value_in_reached R b m stays)
+        let kept = kept_value m s meets (unlent S call b m e leaves) (unset S call b m e leaves) in
+        let sound = meets_sound S R call answer s meets in
+        grind (arith, stays, kept, reached_live R b m sound stays, reached_live S b m s e)

@@ -1,17 +1,14 @@
 -- How many slots are live, free and retired: each is one of these, and no two live names have one
 -- slot.
 use Rattle.generational_core.proofs.machine
-use machine.{◌≡◌, ◌+◌, ℕ, Bool, true, false, List, [], ◌∷◌, ◌++◌, sym, ap, subst, ◌∙◌, ⊎_elim, arith}
-use machine.{AllByRecursion, IsDistinct, IsSound, Name, State, and_parts, by_name, by_number, cases_Bool}
-use machine.{eq_by_cmp, eq_by_cmp_equiv, keep_view, key_here, key_same, keys_apart, len_keys}
-use machine.{length-le_from_is_member, length-map, list_any, list_any-append, list_map, name_cmp, not}
-use machine.{nat_cmp, nat_cmp_total, not-true, or_cases, or_left, or_right, true≢false, ◌&&◌, IsBounded}
+use machine.{AllByRecursion, arith, Bool, by_name, by_number, eq_by_cmp, eq_by_cmp_equiv, false, free}
+use machine.{is_free, is_last_live, is_retired, IsBounded, IsDistinct, IsLive, IsSound, keep_view}
+use machine.{key_here, key_same, keys_apart, len_keys, length-le_from_is_member, length-map, List}
+use machine.{list_any, list_any-append, list_map, Name, name_cmp, nat_cmp, nat_cmp_total, or_cases}
+use machine.{or_right, retired, Bounding.slot_made, slots, Bounding.slots_bounded, slots_of, State, sym}
+use machine.{true, [], ℕ, ⊎_elim, ◌++◌, ◌+◌, ◌∙◌, ◌∷◌, ◌≡◌}
 use Rattle.std.proofs.Common.{length-append}
 use Rattle.std.specs.FinMap as map
-use Rattle.generational_core.specs.Conditions.{IsLive}
-use Rattle.generational_core.specs.Slots.{free, is_free, is_last_live, is_retired, last_name, retired}
-use Rattle.generational_core.specs.Slots.{slots, slots_of}
-use Rattle.generational_core.proofs.machine.Bounding.{slot_made, slots_bounded}
 
 module _ {K : Type 0} (e : K → K → Bool) where
   any_false : (x : K) (ys : List K) → (list_any (e x) ys ≡ true → ⊥)
@@ -72,13 +69,6 @@ module _ {T : Type 0} (S : State T) (s : IsSound S) (b : IsBounded S) where
       → (p q ≡ true) × (map.contains_key (slots_of S) q ≡ true)
   is_kept_slot p q any =
       grind (arith, keep_view by_number (slots_of S) p q, map.contains_key-keys (map.retain_keys (slots_of S) p) q)
-
-  -- a slot isn't free and retired, nor live and one of these
-  one_kind : (q : ℕ) → is_free S q ≡ true → is_retired S q ≡ true → ⊥
-  one_kind q f r = true≢false (sym (and_parts _ _ f).1 ∙ not-true _ (and_parts _ _ r).1)
-
-  unkept : (low : Bool) (q : ℕ) → is_last_live S q ≡ true → (not (is_last_live S q) && low) ≡ true → ⊥
-  unkept low q live kept = true≢false (sym live ∙ not-true _ (and_parts _ _ kept).0)
 
   rest_apart : IsDistinct (eq_by_cmp nat_cmp) (kept_slots (is_free S) ++ kept_slots (is_retired S))
   rest_apart = grind (arith, distinct_both, keys_apart, is_kept_slot)

@@ -1,24 +1,24 @@
 -- Each call takes nothing back, and leads from a sound state to a sound state.
 use Rattle.generational_core.proofs.machine.Common
-use Common.{◌≡◌, false_from_ne_true, GenerationalPointer, contains-insert_here, contains-insert_old}
-use Common.{ℕ, ◌≤◌, ◌<◌, ◌∷◌, None, Some, refl, sym, ap, ◌∙◌, inl, inr, ◌⊎◌, Cell, Ref, Here, Name}
-use Common.{Bool, true, false, ◌||◌, List, subst, arith, reach, fresh, NewNames, State, Borrow, []}
-use Common.{list_any-append, IsDistinct-push, AllByRecursion, get-insert_here, get-insert_apart}
-use Common.{Option, is_some, name_of, Content, IsNamed, IsEnded, Outcome, IsSound, IsGiven, IsBoxed}
-use Common.{⊎_elim, eq-eqb, filter, nat_eq, refill, Shared, Action, Stands, Owners, AreNew, by_name}
-use Common.{nat_eq_equiv, IsDistinct, content_of, next_borrow, tickets_of, changed_view, or_cases}
-use Common.{or_left, is_shared, Ownership, tickets_at, named_from, or_right, eqb-true, list_any}
-use Common.{nat_cmp, list_map, add_cell, name_cmp, Location, IsLinked, by_keys, by_option}
-use Rattle.generational_core.proofs.machine.Changes.{Change, Filling, IsFilling, IsLawful, Leads}
-use Rattle.generational_core.proofs.machine.Changes.{after, AreRecords, old_content, new_content}
-use Rattle.generational_core.proofs.machine.Changes.{second_fresh, refilled_content}
-use Rattle.generational_core.proofs.machine.Changes.Change.{Stay, Birth, Pair, Fill, Close, Turn}
-use Rattle.generational_core.proofs.machine.Changes.Filling.{Reader, Writer, Leave}
-use Rattle.generational_core.proofs.machine.Ends.{by_cond, closed_linked, turned_linked, some_live}
-use Rattle.generational_core.proofs.machine.Ends.{IsBorrowed, closed_view, turned_view}
-use Rattle.generational_core.proofs.machine.Linking.{sound_linked, born_linked, pair_linked}
-use Rattle.generational_core.proofs.machine.Linking.{refilled_linked, refilled_shared}
-use Rattle.std.proofs.{Math.Bool.or-false, lemmas.List.map-append}
+use Common.{Action, add_cell, AllByRecursion, ap, AreNew, arith, Bool, Borrow, by_keys, by_name, Cell}
+use Common.{changed_view, contains-insert_here, contains-insert_old, Content, content_of, eqb-true, false}
+use Common.{filter, fresh, GenerationalPointer, get-insert_apart, get-insert_here, Here, is_shared}
+use Common.{is_some, IsBoxed, IsDistinct, IsDistinct-push, IsEnded, IsGiven, IsLinked, IsNamed, IsSound}
+use Common.{List, list_any, list_any-append, Location, Name, name_cmp, name_of, named_from, nat_cmp}
+use Common.{nat_eq, nat_eq_equiv, NewNames, None, Option, Outcome, Owners, Ownership, reach, Ref, refill}
+use Common.{refl, Shared, Some, Stands, State, subst, sym, tickets_at, tickets_of, true, [], ℕ, ⊎_elim}
+use Common.{◌<◌, ◌∙◌, ◌∷◌, ◌≡◌, ◌≤◌, ◌⊎◌}
+use Rattle.generational_core.proofs.machine.Changes.{after, AreRecords, Change, Filling, IsFilling}
+use Rattle.generational_core.proofs.machine.Changes.{IsLawful, Leads, new_content, old_content}
+use Rattle.generational_core.proofs.machine.Changes.{second_fresh}
+use Rattle.generational_core.proofs.machine.Changes.Change.{Birth, Close, Fill, Pair, Stay, Turn}
+use Rattle.generational_core.proofs.machine.Ends.{by_cond, closed_linked, closed_view, IsBorrowed}
+use Rattle.generational_core.proofs.machine.Ends.{some_live, turned_linked, turned_view}
+use Rattle.generational_core.proofs.machine.Linking.{born_linked, pair_linked, refilled_linked}
+use Rattle.generational_core.proofs.machine.Linking.{sound_linked}
+use Rattle.generational_core.proofs.machine.{Changes.Filling.Leave, Common.list_map}
+use Rattle.generational_core.proofs.machine.{Changes.Filling.Reader, Changes.Filling.Writer}
+use Rattle.std.proofs.lemmas.List.{map-append}
 use Rattle.std.specs.FinMap as map
 use Rattle.std.specs.FinSet as set
 

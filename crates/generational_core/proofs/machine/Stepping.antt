@@ -1,24 +1,18 @@
 -- What holds of each call of a store, whichever names it takes and whatever memory lacks.
 use Rattle.generational_core.proofs.machine.Common
-use Common.{◌≡◌, ◌+◌, ◌≤◌, not, sym, ap, ◌∙◌, inl, inr, ◌⊎◌, act, Made, Name, ℕ, list_any-append}
-use Common.{refusal_to_write, write_refusal, GenerationalPointer, NumbersExhausted, Bool, true}
-use Common.{cond, List, None, Some, refl, ◌&&◌, Cell, Here, Sets, Make, Meets, false, ⊎_elim}
-use Common.{nat_eq, refill, Shared, Action, Answer, unless, Writes, IsSound, IsGiven, Option}
-use Common.{is_some, BorrowRefusal, Dropped, name_of, Content, IsEnded, Outcome, cell_at, Refused}
-use Common.{subst, Guard, reach, Value, NewNames, refer, Refer, Reads, State, AreNew, Takes, Borrow}
-use Common.{content_of, location_of, location_at, has_reader, has_writer, last_ticket, and_parts}
-use Common.{and_from, OwnerName, MakeShared, content_at, or_left, eqb-true, list_any, value_of}
-use Common.{value_at, is_known, BorrowRefused, no_names, refusal_to_read, knows_reader}
-use Common.{arith, knows_writer, ReleaseReader, ReleaseWriter, takes_ticket, nat_eq_equiv, []}
-use Rattle.generational_core.proofs.machine.Changes.{new_fresh, act_leads, is_making, IsLawful}
-use Rattle.generational_core.proofs.machine.Changes.{Change, after, Filling, IsFilling, Says}
-use Rattle.generational_core.proofs.machine.Changes.{refilled_content, act_says, without, old_content, new_content}
-use Rattle.generational_core.proofs.machine.Changes.Change.{Birth, Pair}
-use Rattle.generational_core.proofs.machine.Changes.Filling.{Reader, Writer, Leave, Return, Replace}
+use Common.{act, Action, Answer, ap, AreNew, arith, Bool, Borrow, BorrowRefused, cond, Content}
+use Common.{content_at, Dropped, eqb-true, false, GenerationalPointer, Guard, Here, inl, inr, is_some}
+use Common.{IsEnded, IsGiven, IsSound, knows_reader, knows_writer, last_ticket, List, list_any}
+use Common.{list_any-append, location_at, Made, Meets, Name, name_of, nat_eq, nat_eq_equiv, NewNames}
+use Common.{no_names, None, not, NumbersExhausted, Option, Outcome, reach, Reads, refl, refusal_to_read}
+use Common.{refusal_to_write, Refused, ReleaseReader, ReleaseWriter, Sets, Some, State, subst, sym, Takes}
+use Common.{takes_ticket, true, value_at, Writes, [], ℕ, ⊎_elim, ◌&&◌, ◌+◌, ◌∙◌, ◌≡◌, ◌≤◌, ◌⊎◌}
+use Rattle.generational_core.proofs.machine.Changes.{act_leads, act_says, after, Filling, is_making}
+use Rattle.generational_core.proofs.machine.Changes.{IsFilling, new_content, new_fresh, old_content, Says}
+use Rattle.generational_core.proofs.machine.Changes.{without}
+use Rattle.generational_core.proofs.machine.Soundness.{ended_still, Follows, follows_same, leads_follows}
+use Rattle.generational_core.proofs.machine.Soundness.{leads_sound}
 use Rattle.std.proofs.lemmas.Map.Views.{any-filter_same}
-use Rattle.generational_core.proofs.machine.Ends.{by_cond, live_by}
-use Rattle.generational_core.proofs.machine.Soundness.{keep_each, Follows, ended_still, same_store}
-use Rattle.generational_core.proofs.machine.Soundness.{leads_sound, follows_same, leads_follows}
 use Rattle.std.specs.FinMap as map
 use Rattle.std.specs.FinSet as set
 
@@ -37,10 +31,6 @@ module _ {T : Type 0} where
   pub record Begins (making : Bool) (S : State T) (out : Outcome T) : Type 0 where
     pub start : out.1.start ≡ S.start
     pub given : making ≡ false → out.1.given ≡ S.given
-
-  same_given : (S : State T) (call : Action T) (f : NewNames) (next : ℕ) (c : Change T)
-      → IsLawful S call f next c → is_making call ≡ false → (after S f c).given ≡ S.given
-  same_given S call f next c law other = grind arith
 
   -- each call leaves the first generation, and none but a making gives names
   pub act_start : (S : State T) (call : Action T) (f : NewNames)
@@ -66,11 +56,6 @@ module _ {T : Type 0} where
   -- an outcome takes new names, or is a refusal
   abbrev pub TakesNew : State T → Action T → NewNames → Outcome T → Type 0
   TakesNew S call f out = Takes S call out.0 f → AreNew S call f ⊎ IsRefused S out.0 out.1
-
-  takes_referred : (S : State T) (call : Action T) (f : NewNames) (t : Option BorrowRefusal)
-      (o : Option OwnerName) (b : GenerationalPointer) (to : Option Name) (target : Option (Cell T))
-      → TakesNew S call f (unless t S (refer S o b to target f.first))
-  takes_referred S call f t o b to target = grind arith
 
   -- a call takes new names, or is refused
   pub takes_new : (S : State T) (call : Action T) (f : NewNames) → TakesNew S call f (act S call f)
@@ -168,7 +153,7 @@ module _ {T : Type 0} where
     -- a value that no writer has, before or after a call that doesn't set it, is the same
     pub meets_value : (m : Name) → IsSound S → Meets S call answer R → (Sets S call m → ⊥) → is_some
         (value_at S m) ≡ true → is_some (value_at R m) ≡ true → value_at R m ≡ value_at S m
-    meets_value m s meets unset before h5 = grind (arith, meets_follows)
+    meets_value m s meets unset before is = grind (arith, meets_follows)
 
     -- ---- guards
 

@@ -1,22 +1,17 @@
 -- What the answer of each call tells of boxes, guards and owners.
 use Rattle.generational_core.proofs.machine
-use machine.{◌≡◌, ◌≢◌, Bool, true, false, cond, List, [], ◌∷◌, Option, None, Some, refl, sym, ap}
-use machine.{◌∙◌, ⊎_elim, ◌||◌, and_parts, cases_Bool, nat_eq_equiv, is_some, nat_eq, value_at}
-use machine.{value_of, Guard, BorrowRefusal, reach, leads_to, fill, refusal_to_read}
-use machine.{refusal_to_write, write_refusal, can_write, name_of, box_of, has_same_id, Content}
-use machine.{Cell, content_of, is_shared, refill, Value, Shared, Ref, Here, Lent, sweep, take_away}
-use machine.{cells_after, close, hindrance_to, hindrance_at, Action, Answer, NewNames, Outcome}
-use machine.{OwnerName, act, add_cell, own_name, add_to_list, is_known, unless, refer, cell_at}
-use machine.{read_at, write_at, knows_writer, has_writer, make, point, next_borrow, one_listed}
-use machine.{ownership, Make, MakeShared, Refer, NewOwner, Read, Write, set_at, ReleaseWriter}
-use machine.{SetValue, End, Point, Made, Owned, Reads, Writes, Done, Old, BorrowRefused, Name}
-use machine.{NameMap, among, is_name, value_in, State, IsSound, Ownership, content_at, Meets}
-use machine.{GenerationalPointer, Location, by_name, by_number, get-insert_here, get-insert_apart}
-use machine.{get-changed_here, changed_view, name_here, name_same, same_ids, filled_content}
-use machine.{AreFresh, new_fresh, by_cond, swept_view, swept_ref, box_ends, meets_each, is_refusal}
-use machine.{arith, cond_gives, Refused, get-without, ◌++◌}
-use Rattle.generational_core.proofs.machine.Resting.{rests_free}
-use Rattle.generational_core.proofs.machine.Seeing.{reach_by, value_in_reached, refilled_leads}
+use machine.{act, Action, add_cell, add_to_list, among, and_parts, Answer, ap, AreFresh, arith, Bool}
+use machine.{box_of, by_cond, by_name, by_number, can_write, Cell, cell_at, cells_after, changed_view}
+use machine.{close, cond, cond_gives, Content, content_at, content_of, Done, End, false, fill}
+use machine.{filled_content, GenerationalPointer, get-changed_here, get-insert_apart, get-insert_here}
+use machine.{get-without, Guard, has_writer, Here, is_refusal, is_some, IsSound, knows_writer, leads_to}
+use machine.{Lent, List, Location, Made, Make, make, MakeShared, Meets, meets_each, Name, name_here}
+use machine.{name_of, name_same, NameMap, nat_eq, nat_eq_equiv, new_fresh, NewNames, NewOwner}
+use machine.{next_borrow, None, Old, one_listed, Option, Outcome, own_name, Owned, OwnerName, Ownership}
+use machine.{ownership, Point, point, reach, Read, read_at, Reads, Ref, Refer, refer, refl}
+use machine.{refusal_to_write, ReleaseWriter, same_ids, set_at, SetValue, Shared, Some, State, swept_ref}
+use machine.{swept_view, true, Value, value_at, value_in, Seeing.value_in_reached, Write, write_at}
+use machine.{Writes, [], ◌++◌, ◌∙◌, ◌∷◌, ◌≡◌, ◌≢◌}
 use Rattle.std.specs.FinMap as map
 use Rattle.std.specs.FinSet as set
 
@@ -56,10 +51,6 @@ module _ {T : Type 0} where
   refused_tells : (S R : State T) (answer : Answer T) (call : Action T)
       → is_refusal answer ≡ true → Tells S call answer R
   refused_tells S R answer call h = grind arith
-
-  unless_told : (S : State T) (call : Action T) (t : Option BorrowRefusal) (out : Outcome T)
-      → TellsOf S call out → TellsOf S call (unless t S out)
-  unless_told S call t out told = grind arith
 
   -- boxes of one id reach the same
   same_reach : (S : State T) (a b : GenerationalPointer) → a.id ≡ b.id → reach S a ≡ reach S b
@@ -163,9 +154,6 @@ module _ {T : Type 0} where
   set_told S b v (Some m) _ to had = tt
 
   -- ---- ends, and references that turn
-
-  shared_leads : (c : Option (Cell T)) (n : Name) → is_shared c ≡ true → leads_to c n ≡ None
-  shared_leads c n h = grind arith
 
   pub ended_leads : (cells : NameMap (Cell T)) (names : List Name) (n : Name)
       → among names n ≡ true → leads_to (map.get (cells_after cells names) n) n ≡ None

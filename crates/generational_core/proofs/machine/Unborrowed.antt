@@ -1,49 +1,21 @@
 -- Stores in which no borrow stands: which calls leave them so, and what is never refused there; and
 -- what the tests of boxes say.
+use Rattle.generational_core.proofs.machine
+use machine.{act, Action, among, Answer, arith, Bool, BorrowMutError, box_of, by_name, can_read}
+use machine.{can_write, Cell, cells_after, Content, content_at, Done, End, end_answer, filled_content}
+use machine.{first_hindrance, Flag, Resting.free_sees, fresh, GenerationalPointer, get-changed_apart}
+use machine.{Guard, Here, hindrance_of, hindrance_to, is_some, IsOk, IsSet, IsSound, List, Location}
+use machine.{may_lack, Meets, meets_follows, Name, name_cases, name_cmp, name_here, nat_eq_equiv}
+use machine.{NewNames, None, Option, own_name, OwnerName, Ownership, ownership, reach}
+use machine.{Resting.reached_content, Read, Reads, Calling.reads_back, Ref, refill, refilled_content}
+use machine.{refl, refusal_to_read, refusal_to_write, Refused, release_answer, ReleaseOwner}
+use machine.{ReleaseReader, Resting.rests, Resting.rests_free, Result, Shared, Some, State, tickets_of}
+use machine.{true, Value, value_in, write_refusal, [], ℕ, ◌∷◌, ◌≡◌}
+use Rattle.generational_core.specs
+use specs.{Leaving.AreFree, Leaving.BeginsNoBorrow, Leaving.HasNoBorrows}
 use Rattle.std.specs.FinMap as map
-use Rattle.std.proofs.Common.{◌≡◌, ℕ, Bool, true, cond, List, [], ◌∷◌, Option, None, Some, refl}
-use Rattle.std.proofs.Common.{arith, sym, ap, ◌∙◌, inl, inr}
-use Rattle.std.specs.Cmp.{nat_eq_equiv}
-use Rattle.std.specs.Prelude.{is_some, is_none, nat_eq, nat_lt, ◌&&◌, Result, Ok, Err, IsOk}
-use Rattle.std.proofs.lemmas.Bool.{or_left, or_right}
-use Rattle.generational_core.specs.Answers.{value_of, end_answer, release_answer}
-use Rattle.generational_core.specs.Borrowing.{Guard, reach, can_read, can_write, read_refusal}
-use Rattle.generational_core.specs.Borrowing.{write_refusal, refusal_to_read, refusal_to_write}
-use Rattle.generational_core.specs.Borrowing.{leads_to}
-use Rattle.generational_core.specs.Boxes.{name_of, box_of}
-use Rattle.generational_core.specs.Cells.{Content, Cell, content_of, refill}
-use Rattle.generational_core.specs.Cells.Cell.{Value, Shared, Ref}
-use Rattle.generational_core.specs.Cells.Content.{Here, Lent}
-use Rattle.generational_core.specs.Conditions.{fresh}
-use Rattle.generational_core.specs.Ending.{cells_after, first_hindrance, hindrance_at, hindrance_of}
-use Rattle.generational_core.specs.Ending.{hindrance_to}
-use Rattle.generational_core.specs.Leaving.{AreFree, BeginsNoBorrow, IsSet, HasNoBorrows}
-use Rattle.generational_core.specs.Machine.{Action, Answer, NewNames, Outcome, OwnerName, act}
-use Rattle.generational_core.specs.Machine.{own_name, ownership}
-use Rattle.generational_core.specs.Machine.Action.{Read, Write, ReleaseReader, ReleaseOwner, End}
-use Rattle.generational_core.specs.Machine.Answer.{Reads, Done, Flag, Refused}
-use Rattle.generational_core.specs.Names.{Name, among, name_cmp}
-use Rattle.generational_core.specs.Seeing.{value_in, Borrows}
-use Rattle.generational_core.specs.State.{State, IsSound, Ownership, content_at, tickets_of}
-use Rattle.generational_core.specs.Steps.{Meets, last_ticket, limit_tickets, may_lack, needs_memory}
-use Rattle.generational_core.specs.Steps.{no_names, takes_ticket}
-use Rattle.generational_core.specs.declared.boxes.GenerationalPointer.{GenerationalPointer}
-use Rattle.generational_errors.specs.declared.error.BorrowMutError.{BorrowMutError}
-use Rattle.generational_errors.specs.declared.error.Location.{Location}
 use Rattle.generational_errors.specs.declared.error.Refused as error
 use Rattle.generational_errors.specs.declared.error.Refused.TheVariants as refused
-use Rattle.generational_errors.specs.declared.error.StoreError.TheVariants.{NumbersExhausted}
-use Rattle.generational_core.proofs.maps.Maps.{by_name, get-changed_apart, name_here, by_keys}
-use Rattle.generational_core.proofs.maps.Maps.{name_cases, by_option}
-use Rattle.generational_core.proofs.machine.Calling.{reads_back}
-use Rattle.generational_core.proofs.machine.Changes.{Filling, IsFilling, filled_content}
-use Rattle.generational_core.proofs.machine.Changes.{refilled_content, new_content, old_content}
-use Rattle.generational_core.proofs.machine.Changes.Filling.{Reader, Writer, Leave}
-use Rattle.generational_core.proofs.machine.Ends.{by_cond}
-use Rattle.generational_core.proofs.machine.Resting.{free_sees, reached_content, rests, rests_free}
-use Rattle.generational_core.proofs.machine.Seeing.{reach_by}
-use Rattle.generational_core.proofs.machine.Soundness.{keep_each}
-use Rattle.generational_core.proofs.machine.Stepping.{meets_follows}
 
 module _ {T : Type 0} where
   -- ---- what a test says
@@ -160,4 +132,4 @@ module _ {T : Type 0} where
     pub quiet_releases : (o : OwnerName) (h : Ownership) {U V : Type 0}
         (r : Result U (V × error.Refused BorrowMutError)) → ownership S o ≡ Some h
         → HasNoBorrows S → Meets S (ReleaseOwner o) (release_answer r) R → IsOk r
-    quiet_releases o h r held quiet h3 = grind (arith, frees_owned, quiet_free)
+    quiet_releases o h r held quiet m = grind (arith, frees_owned, quiet_free)
