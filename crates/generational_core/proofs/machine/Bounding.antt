@@ -46,9 +46,8 @@ get_lasts (m ∷ names) s =
     (λ ne. grind (arith, get-insert_apart, by_number, other_slot, get_lasts names s))
 
 -- two lists with the same names have the same last generations
-pub one_last : (xs ys : List Name) (s : ℕ)
-    → ((n : Name) → IsIn xs n → IsIn ys n) → ((n : Name) → IsIn ys n → IsIn xs n)
-    → (o p : Option ℕ) → IsLast xs s o → IsLast ys s p → o ≡ p
+pub one_last : (xs ys : List Name) (s : ℕ) → ((n : Name) → IsIn xs n → IsIn ys n)
+    → ((n : Name) → IsIn ys n → IsIn xs n) → (o p : Option ℕ) → IsLast xs s o → IsLast ys s p → o ≡ p
 one_last xs ys s f b o p h k = grind arith
 
 -- lists with the same names have the same last generations
@@ -148,8 +147,7 @@ module _ {T : Type 0} where
   module _ (S : State T) (n : Name) (c : Cell T) (given : AreGiven S)
       (none : map.get S.cells n ≡ None) (b : IsBounded S) where
     -- other slots have what they had
-    other_slots : (s : ℕ) → s ≢ n.slot
-        → map.get (slots_of (add_cell S n c)) s ≡ map.get (slots_of S) s
+    other_slots : (s : ℕ) → s ≢ n.slot → map.get (slots_of (add_cell S n c)) s ≡ map.get (slots_of S) s
     other_slots s ne = grind (arith, lasts_insert, get-insert_apart, by_number)
 
     -- where its slot isn't retired, and no slot is made without need
@@ -174,13 +172,13 @@ module _ {T : Type 0} where
     greatest : Fits S n → greater n.generation (map.get (slots_of S) n.slot) ≡ n.generation
     greatest h = grind arith
 
-    all_last : Fits S n → (q : Name) → IsLive (add_cell S n c) q
-        → q ≡ last_name (add_cell S n c) q.slot
+    all_last : Fits S n → (q : Name) → IsLive (add_cell S n c) q → q ≡ last_name (add_cell S n c) q.slot
     all_last fits q live =
         let last = lasts_insert S.given n in
         let apart = slot_apart S n given b fits q in
         let old = live_beside S n c q in
-        grind (arith, greatest fits, last, get-insert_here, by_number, old, other_slots q.slot, apart, name_cases q n)
+        let rest = other_slots q.slot in
+        grind (arith, greatest fits, last, get-insert_here, by_number, old, rest, apart, name_cases q n)
 
     born_bounded : Fits S n → IsBounded (add_cell S n c)
     born_bounded (inl new) =
@@ -202,16 +200,13 @@ module _ {T : Type 0} where
       → (is_some (map.get S.cells q) ≡ true)
       ⊎ ((set.contains S.given q ≡ false) × (set.contains (after S f c).given q ≡ true)))
       → IsBounded (after S f c)
-  change_bounded S call f next (Change.Birth c) s b new law live =
-      let it = law.2 new in
-      born_bounded S f.first c s.given (absent S s f.first it.ungiven) b it.fits
   change_bounded S call f next (Change.Pair v l) s b new law live =
       let c : Cell T = Cell.Shared (Content.Here v []) l in let it = law.1 new in
       born_bounded (add_cell S f.first c) f.second (Cell.Ref f.first l)
       (given_beside S f.first c s.given) (absent_beside S s f.first f.second c it.1.ungiven)
       (born_bounded S f.first c s.given (absent S s f.first it.0.ungiven) b it.0.fits) it.1.fits
-  change_bounded S call f next c s b new law live = kept_bounded S (after S f c) refl refl
-      (λ q h. ⊎_elim (λ e. e) (λ e. cc) (live q h)) b
+  change_bounded S call f next c s b new law live =
+      grind (arith, born_bounded, absent, kept_bounded S (after S f c), live)
 
   -- each call of a sound store keeps the bound
   pub meets_bounded : (S R : State T) (call : Action T) (answer : Answer T)

@@ -61,14 +61,12 @@ module _ {T : Type 0} where
       made_free (Err e) m = tt
 
       pub made_shared : (r : Result (GenerationalBox T) (Refusal T))
-          → Meets S (MakeShared o v l) (box_answer r) R
-          → IfOk r (λ b. value_in R (pointer_of b) ≡ Some v)
+          → Meets S (MakeShared o v l) (box_answer r) R → IfOk r (λ b. value_in R (pointer_of b) ≡ Some v)
       made_shared (Ok b) m = (meets_tells S R (MakeShared o v l) (Made (pointer_of b)) m).0
       made_shared (Err e) m = tt
 
       pub made_shared_free : (r : Result (GenerationalBox T) (Refusal T))
-          → Meets S (MakeShared o v l) (box_answer r) R
-          → IfOk r (λ b. can_write R (pointer_of b) ≡ true)
+          → Meets S (MakeShared o v l) (box_answer r) R → IfOk r (λ b. can_write R (pointer_of b) ≡ true)
       made_shared_free (Ok b) m = (meets_tells S R (MakeShared o v l) (Made (pointer_of b)) m).2
       made_shared_free (Err e) m = tt
 

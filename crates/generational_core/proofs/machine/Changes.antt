@@ -6,16 +6,15 @@ use Common.{Bool, Borrow, BorrowRefusal, Borrows, by_name, by_number, Cell, cell
 use Common.{clone_owner, CloneOwner, close, cond, contains-insert_here, contains-insert_name, Content}
 use Common.{content_at, content_of, Done, End, ending, false, fill, filter, Flag, GenerationalPointer}
 use Common.{get-changed_name, get-insert_apart, get-insert_here, get-remove_apart, get-remove_here, Guard}
-use Common.{has_same_id, has_writer, Here, hindrance_at, hindrance_to, is_known, is_name, is_shared}
-use Common.{IsBoxed, IsNew, knows_reader, knows_writer, Lends, Lent, List, list_any-append, Location}
-use Common.{Made, Make, MakeShared, Name, name_here, name_of, Names, names_in, nat_eq, nat_eq_equiv}
-use Common.{nat_lt, NewNames, NewOwner, next_borrow, None, not, one_less, one_listed, one_more, Option}
-use Common.{option_map, Outcome, own_name, Owned, OwnerName, Owners, Ownership, ownership, Point, point}
-use Common.{reach, Read, read_at, Reads, Ref, Refer, refer, refill, refl, refusal_at, refusal_to_read}
-use Common.{refusal_to_write, Refused, release_owner, ReleaseOwner, ReleaseReader, ReleaseWriter}
-use Common.{remove_reader, set_at, Sets, SetValue, Shared, Some, State, StoreError, sweep, sym}
-use Common.{tickets_of, true, Turns, unless, Value, want, Write, write_at, write_refusal, Writes, [], ℕ}
-use Common.{◌++◌, ◌+◌, ◌<◌, ◌∷◌, ◌≡◌, ◌≢◌, ◌≤◌}
+use Common.{has_writer, Here, hindrance_at, hindrance_to, is_known, is_name, is_shared, IsBoxed, IsNew}
+use Common.{knows_reader, knows_writer, Lends, Lent, List, list_any-append, Location, Made, Make}
+use Common.{MakeShared, Name, name_here, name_of, Names, names_in, nat_eq, nat_eq_equiv, nat_lt, NewNames}
+use Common.{NewOwner, next_borrow, None, not, one_less, one_listed, one_more, Option, option_map, Outcome}
+use Common.{own_name, Owned, OwnerName, Owners, Ownership, ownership, Point, point, reach, Read, read_at}
+use Common.{Reads, Ref, Refer, refer, refill, refl, refusal_at, refusal_to_write, Refused, release_owner}
+use Common.{ReleaseOwner, ReleaseReader, ReleaseWriter, remove_reader, set_at, Sets, SetValue, Shared}
+use Common.{Some, State, StoreError, sweep, sym, tickets_of, true, Turns, unless, Value, want, Write}
+use Common.{write_at, write_refusal, Writes, [], ℕ, ◌++◌, ◌+◌, ◌<◌, ◌∷◌, ◌≡◌, ◌≢◌, ◌≤◌}
 use Rattle.generational_core.proofs.machine.Ends.{cond_gives}
 use Rattle.std.specs.FinMap as map
 use Rattle.std.specs.FinSet as set
@@ -306,8 +305,7 @@ module _ {T : Type 0} where
   leads_write b l (Some m) (Some (Here v (r ∷ readers))) had free to = cc (ap write_refusal had)
   leads_write b l m c had free to = still (plain tt refl)
 
-  leads_left : {S : State T} {f : NewNames} (g : Guard) (c : Option (Content T))
-      → content_at S g.cell ≡ c
+  leads_left : {S : State T} {f : NewNames} (g : Guard) (c : Option (Content T)) → content_at S g.cell ≡ c
       → Leads S (ReleaseReader g) f (Flag true, remove_reader S g.cell g.ticket c)
   leads_left {S} g (Some (Here v readers)) had =
       leads (Fill g.cell (Leave v readers g)) _ S.next (omega arith) (had, (refl, refl)) (λ h. h)
@@ -336,8 +334,7 @@ module _ {T : Type 0} where
       → map.get S.cells (name_of a) ≡ cell → cell_at S to ≡ target
       → Leads S (Point a b) f (point S a b (cond own cell None) to target)
   leads_pointed {S} a b true (Some (Ref old l)) (Some new) (Some (Shared c k)) at_a at_b =
-      leads_if (is_name old new) (λ _. still (plain tt refl))
-      (leads_unless (hindrance_at S.cells (sweep (map.insert S.cells (name_of a) (Ref new l))) old)
+      leads_if (is_name old new) (λ _. still (plain tt refl)) (leads_unless _
       (λ free. leads (Turn (name_of a) old new l) _ S.next (omega arith)
       (at_a, ap is_shared at_b, free, refl) (λ h. h) (λ _. plain tt refl)))
   leads_pointed a b _ _ _ _ at_a at_b = still (plain tt refl)
@@ -353,25 +350,20 @@ module _ {T : Type 0} where
       (λ _. leads_made (Pair v l) o _ (omega arith) (refl, λ new. new) refl (λ new. new.1)
       (boxed_here (add_cell S f.first (Shared (Here v []) l)) f.second (Ref f.first l) refl))
       (still (plain tt refl))
-  act_leads S (Refer o b) f = leads_if (is_known S o) (λ _. leads_unless (refusal_to_read S b)
-      (λ _. leads_referred o b (reach S b) _ refl)) (still (plain tt refl))
+  act_leads S (Refer o b) f = search (leads_if, leads_unless, leads_referred, still, plain)
   act_leads S NewOwner f = leads Stay _ (S.next + 1) (omega arith) tt
       (λ all. records_put S _ S.owners all S.next _ tt (omega arith)) (λ _. plain refl refl)
-  act_leads S (CloneOwner o) f = leads_cloned o (ownership S o) refl
-  act_leads S (ReleaseOwner o) f = leads_released o (ownership S o) refl
-  act_leads S (Read b l) f =
-      leads_unless (refusal_to_read S b) (λ _. leads_read b l (reach S b) _ refl refl)
-  act_leads S (Write b l) f =
-      leads_unless (refusal_to_write S b) (λ free. leads_write b l (reach S b) _ refl free refl)
-  act_leads S (ReleaseReader g) f =
-      leads_if (knows_reader S g) (λ _. leads_left g _ refl) (still (plain tt refl))
+  act_leads S (CloneOwner o) f = search leads_cloned
+  act_leads S (ReleaseOwner o) f = search leads_released
+  act_leads S (Read b l) f = search (leads_unless, leads_read)
+  act_leads S (Write b l) f = search (leads_unless, leads_write)
+  act_leads S (ReleaseReader g) f = search (leads_if, leads_left, still, plain)
   act_leads S (ReleaseWriter g v) f = leads_if (knows_writer S g)
       (λ known. leads_returned g v _ refl (and_parts _ _ known).1) (still (plain tt refl))
-  act_leads S (SetValue b v) f = leads_set b v (reach S b) _ refl refl
+  act_leads S (SetValue b v) f = search leads_set
   act_leads S (End b) f = leads_unless (hindrance_to S (own_name S b)) (λ free. leads
       (Close (own_name S b)) _ S.next (omega arith) (free, refl) (λ h. h) (λ _. plain tt refl))
-  act_leads S (Point a b) f = leads_if (has_same_id a b) (λ _. still (plain tt refl))
-      (leads_unless (refusal_to_read S b) (λ _. leads_pointed a b _ _ (reach S b) _ refl refl))
+  act_leads S (Point a b) f = search (leads_if, leads_unless, leads_pointed, still, plain)
   act_leads S _ f = still (plain tt refl)
 
   -- what each call answers is so

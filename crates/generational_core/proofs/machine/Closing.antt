@@ -1,12 +1,12 @@
 -- Names that end one after the other, and Refs that turn: what is left, and what hinders it.
 use Rattle.generational_core.proofs.machine
-use machine.{among, arith, Bool, BorrowRefusal, by_keys, by_name, Cell, cells_after, cond, content_of}
-use machine.{false, first_hindrance, get-insert_apart, get-insert_here, get-remove_apart, get-remove_here}
+use machine.{among, arith, Bool, BorrowRefusal, by_name, Cell, cells_after, cond, content_of, false}
+use machine.{first_hindrance, get-insert_apart, get-insert_here, get-remove_apart, get-remove_here}
 use machine.{get-swept, get-without, hindrance_at, hindrance_of, hindrance_to, is_name, is_named, is_ref}
 use machine.{is_shared, IsLinked, List, Location, Name, name_apart, name_exact, name_here, name_same}
-use machine.{name_total, named_from, named_gives, NameMap, None, not, Option, option_or, Ref, refers_to}
-use machine.{refl, remove_each, Some, State, sweep, swept_view, take_away, true, Value, without_view}
-use machine.{write_refusal, [], ◌||◌, ◌∷◌, ◌≡◌, ◌≢◌}
+use machine.{name_total, named_from, named_gives, NameMap, None, Option, option_or, Ref, refers_to, refl}
+use machine.{remove_each, Some, State, sweep, swept_view, take_away, true, Value, without_view}
+use machine.{write_refusal, [], ◌∷◌, ◌≡◌, ◌≢◌}
 use Rattle.std.proofs.Math.Bool.{or-false}
 use Rattle.std.specs.FinMap as map
 
@@ -16,9 +16,6 @@ just_one n q h = name_same q n (rw or-false at h)
 
 module _ {T : Type 0} where
   -- ---- what is left at a name
-
-  abbrev without : Option (Cell T) → Bool → Option (Cell T)  -- where its name ends, or doesn't
-  without cell there = cond (is_shared cell || not there) cell None
 
   -- cells that are the same at each name
   same_cells : (a b : NameMap (Cell T)) → ((q : Name) → map.get a q ≡ map.get b q) → a ≡ b
@@ -34,8 +31,7 @@ module _ {T : Type 0} where
 
   -- whether a name is named depends on the Refs to it alone
   pub named_same : (a b : NameMap (Cell T)) (m : Name)
-      → ((k : Name) → refers_to m (map.get a k) ≡ refers_to m (map.get b k))
-      → is_named a m ≡ is_named b m
+      → ((k : Name) → refers_to m (map.get a k) ≡ refers_to m (map.get b k)) → is_named a m ≡ is_named b m
   named_same a b m same = grind (arith, named_still)
 
   -- the end of a cell that is no Ref to m leaves what names m
@@ -84,8 +80,7 @@ module _ {T : Type 0} where
     away_absent none = away_nothing cells (n ∷ []) (λ q there plain. cc (just_one n q there))
 
     -- any other cell goes
-    pub away_one : is_shared (map.get cells n) ≡ false
-        → take_away cells (n ∷ []) ≡ map.remove cells n
+    pub away_one : is_shared (map.get cells n) ≡ false → take_away cells (n ∷ []) ≡ map.remove cells n
     away_one plain =
         grind (arith, same_cells, by_name, get-without, name_here, get-remove_here, get-remove_apart, name_apart)
 
@@ -101,7 +96,7 @@ module _ {T : Type 0} where
       → ((q : Name) → q ≢ m → is_shared (map.get cells q) ≡ true → is_named cells q ≡ true)
       → sweep cells ≡ cond (is_named cells m) cells (map.remove cells m)
   sweep_but cells m shared others =
-      grind (arith, sweep_all, by_keys, by_name, same_cells, get-swept, get-remove_here, swept_view, get-remove_apart)
+      grind (arith, sweep_all, by_name, same_cells, get-swept, get-remove_here, swept_view, get-remove_apart)
 
   -- ---- the end of one name, of cells that are linked
 
@@ -133,7 +128,9 @@ module _ {T : Type 0} where
     close_one cell at =
         let one = away_one cells n in
         let all = sweep_linked cells linked in
-        grind (arith, one, all, away_nothing, sweep_all, sweep_but, named_without, get-remove_apart, by_name, name_apart, remove_each)
+        let other = get-remove_apart by_name cells n in
+        let twice = remove_each by_name cells n in
+        grind (arith, one, all, away_nothing, sweep_all, sweep_but, named_without, other, name_apart, twice)
 
   -- ---- what hinders the end of names
 
@@ -188,13 +185,11 @@ module _ {T : Type 0} where
     apart k ne = get-insert_apart by_name cells a (Ref new l) k ne
 
     -- what is Shared afterwards was Shared before
-    turned_other : (q : Name) → is_shared (map.get turned q) ≡ true
-        → is_shared (map.get cells q) ≡ true
+    turned_other : (q : Name) → is_shared (map.get turned q) ≡ true → is_shared (map.get cells q) ≡ true
     turned_other q h = grind (arith, by_name, get-insert_here, apart)
 
     -- all but the old target are named still
-    turned_named : (q : Name)
-        → q ≢ old → is_shared (map.get turned q) ≡ true → is_named turned q ≡ true
+    turned_named : (q : Name) → q ≢ old → is_shared (map.get turned q) ≡ true → is_named turned q ≡ true
     turned_named q ne h = grind (arith, apart, named_from, turned_other)
 
     module _ (other : is_name old new ≡ false) where

@@ -38,17 +38,17 @@ use Rattle.std.proofs
 pub use proofs.Common.{ap, arith, Bool, cond, false, inl, inr, List, None, not, Option, refl, Some, subst}
 pub use proofs.Common.{sym, take, true, [], ℕ, ⊎_elim, ◌++◌, ◌+◌, ◌<◌, ◌||◌, ◌∙◌, ◌∷◌, ◌≡◌, ◌≢◌, ◌≤◌}
 pub use proofs.lemmas.Bool.{and_from, and_parts, cases_Bool, cases_lt, cond_both, eq-eqb, eqb-true}
-pub use proofs.lemmas.Bool.{false_from_ne_true, le-ltb, lt-ltb, not-false, not-true, not_from_false}
+pub use proofs.lemmas.Bool.{false_from_ne_true, le-ltb, lt-ltb, not-true}
 pub use proofs.lemmas.Bool.{or_cases, or_left, or_parts, or_right, true≢false}
 pub use proofs.{lemmas.Map.Keys.IsDistinct-push, lemmas.Map.Made.length-le_from_is_member}
 pub use proofs.{lemmas.List.length-map, lemmas.List.Folds.list_any-append}
-pub use Rattle.std.specs.Prelude.{Err, IfOk, is_none, is_some, IsErr, IsOk, map as list_map, max, nat_eq, nat_lt, Ok}
-pub use Rattle.std.specs.Prelude.{OnOk, option_map, Result, unwrap_or, ◌&&◌, ◌⊎◌}
+pub use Rattle.std.specs.Prelude.{Err, IfOk, is_none, is_some, IsErr, IsOk, map as list_map, max, nat_eq}
+pub use Rattle.std.specs.Prelude.{nat_lt, Ok, OnOk, option_map, Result, unwrap_or, ◌&&◌, ◌⊎◌}
 pub use Rattle.std.specs.{List.AllByRecursion, Cmp.both_ways, Ordering.eq_by_cmp, Cmp.eq_by_cmp_equiv}
-pub use Rattle.std.specs.{List.filter, Fmt.HasWritten, Fmt.IsPlainFormatter, List.list_any}
-pub use Rattle.std.specs.{Ordering.nat_cmp, Cmp.nat_cmp_total, Cmp.nat_eq_equiv, Option.option_or}
+pub use Rattle.std.specs.{List.filter, List.list_any, Ordering.nat_cmp, Cmp.nat_cmp_total}
+pub use Rattle.std.specs.{Cmp.nat_eq_equiv, Option.option_or}
 use Rattle.generational_core.proofs.maps.Maps
-pub use Maps.{by_keys, by_name, by_number, by_option, changed_back, changed_view, contains-insert_here}
+pub use Maps.{by_keys, by_name, by_number, by_option, changed_view, contains-insert_here}
 pub use Maps.{contains-insert_name, contains-insert_old, get-changed_apart, get-changed_here}
 pub use Maps.{get-changed_name, get-insert_apart, get-insert_here, get-keep, get-remove_apart}
 pub use Maps.{get-remove_here, is_ref, keep_view, kept_key, key_cases, key_here, key_same, keys_apart}

@@ -111,15 +111,15 @@ module _ {T : Type 0} where
       × (IsSound S → IsBorrowed (map.get S.cells n) → ⊥))
   unfolding hindrance_to
   closed_view S names free n =
-      let none = none_hindered S.cells (cells_after S.cells names) names free in
+      let left = cells_after S.cells names in
+      let rest = take_away S.cells names in
+      let none = none_hindered S.cells left names free in
       let away = without_view S.cells names in
-      let own = own_free S.cells (cells_after S.cells names) n (map.get S.cells n) in
-      ⊎_elim (λ e. grind (arith, e, away n, own, none n)) (λ e. inr (
-        e.0,
-        λ s borrowed.
-            grind (arith, e, named_gives S.cells n, s.shared n, named_from (take_away S.cells names) n, away, none),
-      ))
-      (swept_view (take_away S.cells names) n)
+      let own = own_free S.cells left n (map.get S.cells n) in
+      let named = named_gives S.cells n in
+      ⊎_elim (λ e. grind (arith, e, away n, own, none n))
+      (λ e. inr (e.0, λ s borrowed. grind (arith, e, named, s.shared n, named_from rest n, away, none)))
+      (swept_view rest n)
 
   -- the same where a Ref turns to another cell, but for the Ref
   pub turned_view : (S : State T) (a old new : Name) (l : Location) → map.get
@@ -129,14 +129,12 @@ module _ {T : Type 0} where
       ⊎ ((map.get left n ≡ None) × (IsSound S → IsBorrowed (map.get S.cells n) → ⊥)))
   turned_view S a old new l at_a free n =
       let one = map.insert S.cells a (Ref new l) in
+      let named = named_gives S.cells n in
+      let other = get-insert_apart by_name S.cells a (Ref new l) in
       by_keys by_name n a
       (λ is. inr (inl (cc, swept_ref one n new l (grind (arith, get-insert_here, by_name)))))
-      (λ ne. ⊎_elim (λ e. inl (grind (arith, e, get-insert_apart, by_name)))
-      (λ e. inr (inr (
-        e.0,
-        λ s borrowed. let named = named_gives S.cells n in
-            grind (arith, e, named, s.shared n, named_from one n, get-insert_apart, by_name, by_keys),
-      )))
+      (λ ne. ⊎_elim (λ e. inl (grind (arith, e, other n))) (λ e. inr (inr
+      (e.0, λ s borrowed. grind (arith, e, named, s.shared n, named_from one n, other))))
       (swept_view one n))
 
   -- so Refs name Shared cells still

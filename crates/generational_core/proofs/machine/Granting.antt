@@ -36,13 +36,11 @@ module _ {T : Type 0} where
   wants_none S b l answer h = grind arith
 
   module _ (S R : State T) (b : GenerationalPointer) (l : Location) where
-    act_write : can_write S b ≡ true
-        → (f : NewNames) → Granted (limit_tickets S (act S (Write b l) f)).0
+    act_write : can_write S b ≡ true → (f : NewNames) → Granted (limit_tickets S (act S (Write b l) f)).0
     act_write free f = limited S _ (unhindered S _ _ free (write_granted S l _ _))
 
     -- a free write is refused by the end of numbers alone
-    write_met : (answer : Answer T) → can_write S b ≡ true → Meets S (Write b l) answer R
-        → Granted answer
+    write_met : (answer : Answer T) → can_write S b ≡ true → Meets S (Write b l) answer R → Granted answer
     unfolding may_lack
     write_met answer free (inl m) =
         subst Granted (sym (ap (λ (out : Outcome T). out.0) m.2)) (act_write free m.0)

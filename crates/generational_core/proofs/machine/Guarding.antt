@@ -1,7 +1,7 @@
 -- Guards: that a store knows them and opens the same until they are released, and that a write which
 -- was released sets its value and leaves the rest.
 use Rattle.generational_core.proofs.machine
-use machine.{Action, and_parts, Answer, ap, arith, back_answer, Bool, BorrowError, by_name, Cell, change}
+use machine.{Action, Answer, ap, arith, back_answer, Bool, BorrowError, by_name, by_option, Cell, change}
 use machine.{Content, content_at, fill, filled_content, Telling.filled_reach, Flag, GenerationalPointer}
 use machine.{get-changed_apart, get-changed_name, Guard, has_reader, has_writer, Here, IfOk, IsOk, IsSet}
 use machine.{IsSound, IsUnchanged, knows_reader, knows_writer, Lent, list_any, Location, Meets}
@@ -10,7 +10,7 @@ use machine.{next_borrow, None, Calling.opens, Option, OwnerName, ownership, rea
 use machine.{reader_stays, Reads, Calling.reads_back, reads_known, refill, refl, refusal_to_write}
 use machine.{ReleaseReader, ReleaseWriter, Result, Some, State, subst, sym, take_ticket, tickets_of, true}
 use machine.{value_at, value_behind, value_in, value_of, Write, writer_stays, Writes, writes_known, [], ℕ}
-use machine.{◌&&◌, ◌+◌, ◌∙◌, ◌∷◌, ◌≡◌, ◌≢◌}
+use machine.{◌&&◌, ◌∷◌, ◌≡◌, ◌≢◌}
 use Rattle.generational_core.specs
 use specs.{Leaving.LeavesGuard}
 use Rattle.generational_errors.specs.declared.error.Refused.{Refused}
@@ -40,12 +40,11 @@ module _ {T : Type 0} where
 
   -- two known guards of one kind and one ticket are one
   one_guard : (has : Option (Content T) → ℕ → Bool)
-      → ((c : Option (Content T)) (t : ℕ) → has c t ≡ true
-      → list_any (nat_eq t) (tickets_of c) ≡ true)
+      → ((c : Option (Content T)) (t : ℕ) → has c t ≡ true → list_any (nat_eq t) (tickets_of c) ≡ true)
       → (S : State T) → IsSound S → (g h : Guard)
       → (nat_eq g.store S.number && has (content_at S g.cell) g.ticket) ≡ true
-      → (nat_eq h.store S.number && has (content_at S h.cell) h.ticket) ≡ true
-      → h.ticket ≡ g.ticket → h ≡ g
+      → (nat_eq h.store S.number && has (content_at S h.cell) h.ticket) ≡ true → h.ticket ≡ g.ticket
+      → h ≡ g
   one_guard has stands S s g h first second same = grind arith
 
   -- ---- a guard stays known
@@ -80,14 +79,8 @@ module _ {T : Type 0} where
   -- and there is one
   pub reader_opens : (S : State T) (g : Guard) → knows_reader S g ≡ true
       → (v : T) × (value_behind S g ≡ Some v)
-  reader_opens S g known =
-      let there = read (content_at S g.cell) (and_parts (nat_eq g.store S.number) _ known).1 in
-      (there.0, rw known there.1)
-    where
-      read : (c : Option (Content T))
-          → has_reader c g.ticket ≡ true → (v : T) × (value_of c ≡ Some v)
-      read (Some (Here v rs)) h = (v, refl)
-      read _ h = cc
+  reader_opens S g known = by_option (value_at S g.cell) (λ none. absurd (grind arith))
+      (λ v is. (v, rw known is))
 
   module _ {S R : State T} where
     -- a read that isn't refused gives a guard that opens a value, which the box sees
@@ -101,9 +94,8 @@ module _ {T : Type 0} where
         → Meets S (ReleaseReader g) (Flag flag) R → flag ≡ true
     reader_leaves g flag known m = grind arith
 
-    pub writer_returns : (g : Guard) (v : T) {U : Type 0} (r : Result U T)
-        → knows_writer S g ≡ true → Meets S (ReleaseWriter g v) (back_answer r) R
-        → IsOk r × (R ≡ fill S g.cell (Here v []))
+    pub writer_returns : (g : Guard) (v : T) {U : Type 0} (r : Result U T) → knows_writer S g ≡ true
+        → Meets S (ReleaseWriter g v) (back_answer r) R → IsOk r × (R ≡ fill S g.cell (Here v []))
     writer_returns g v r known m = grind arith
 
   -- ---- a write that was released
@@ -125,19 +117,12 @@ module _ {T : Type 0} where
       → Meets R (ReleaseWriter g v) (back_answer r) Q → IsOk r × IsSet S b v Q
   writes_back {S} {R} {Q} b l g w v {U} r write release =
       let it = wrote S R b l g w write in
-      let back = writer_returns g v {U = U} r (writes_known S R (Write b l) g w write).0 release in (
-        back.0,
-        record {
-          name = g.cell;
-          old = w;
-          reached = it.0;
-          content = it.1;
-          after = back.1 ∙ (ap (λ X. fill X g.cell (Here v [])) it.2
-              ∙ ap (λ cells. record S { cells = cells; next = S.next + 1 })
-              (changed_twice S.cells g.cell (refill (Lent (next_borrow S l))) (refill (Here v []))
-              (refill (Here v [])) (refill_twice _ _)));
-        },
-      )
+      let back = writer_returns g v {U = U} r (writes_known S R (Write b l) g w write).0 release in
+      let lent = refill (Lent (next_borrow S l)) in
+      let here = refill (Here v []) in
+      let twice = changed_twice S.cells g.cell lent here here (refill_twice _ _) in
+      let after : Q ≡ take_ticket (fill S g.cell (Here v [])) = grind (arith, back.1, it.2, twice) in
+      (back.0, record { name = g.cell; old = w; reached = it.0; content = it.1; after = after })
 
   -- ---- what boxes see then
 

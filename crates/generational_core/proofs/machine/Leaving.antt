@@ -1,15 +1,13 @@
 -- What a call leaves of boxes, as equations: what a box reaches, the content there, and what it sees.
 use Rattle.generational_core.proofs.machine
-use machine.{absent, act, act_start, Action, add_cell, among, Answer, ap, AreNew, arith, BorrowRefusal}
-use machine.{Borrows, by_cond, by_name, Cell, cell_at, cond, Content, content_at, false, Changes.Filling}
-use machine.{GenerationalPointer, get-insert_apart, get-insert_here, held_record, Here, is_known}
-use machine.{is_making, is_some, IsFilling, IsGiven, IsSound, IsUnchanged, leads_to, Seeing.leaves_box}
-use machine.{LeavesBox, LeavesValue, Telling.listed, Location, made_new, Make, make, MakeShared, Meets}
-use machine.{meets_cases, meets_follows, meets_sound, Name, name_of, names_in, nat_eq, NewNames, None}
-use machine.{Option, Outcome, OwnerName, Ownership, ownership, reach, Seeing.reach_stays}
-use machine.{Seeing.reached_live, Ref, Refer, refer, refl, refusal_to_read, refusal_to_write}
-use machine.{ReleaseOwner, Shared, Some, State, true, unless, Calling.unseen, Value, value_in}
-use machine.{Seeing.value_stays, [], ℕ, ◌∙◌, ◌≡◌, ◌≢◌}
+use machine.{absent, act, act_start, Action, add_cell, among, Answer, ap, AreNew, arith, by_name, Cell}
+use machine.{cell_at, Content, false, GenerationalPointer, get-insert_apart, get-insert_here, held_record}
+use machine.{Here, is_making, IsGiven, IsSound, IsUnchanged, LeavesBox, LeavesValue, Telling.listed}
+use machine.{Location, made_new, Make, make, MakeShared, Meets, meets_cases, meets_follows, meets_sound}
+use machine.{Name, name_of, names_in, NewNames, None, Option, Outcome, OwnerName, Ownership, ownership}
+use machine.{reach, Seeing.reach_stays, Seeing.reached_live, Ref, Refer, refer, refl, refusal_to_read}
+use machine.{refusal_to_write, ReleaseOwner, Shared, Some, State, true, Calling.unseen, Value, value_in}
+use machine.{Seeing.value_stays, [], ◌∙◌, ◌≡◌, ◌≢◌}
 use Rattle.generational_core.specs
 use specs.{Leaving.GivesOther, Leaving.IsBeside, Leaving.LeavesContent}
 use Rattle.std.specs.FinMap as map
@@ -17,15 +15,11 @@ use Rattle.std.specs.FinMap as map
 module _ {T : Type 0} where
   -- ---- a making, which gives another box
 
-  -- where a box of the store leads by a cell
-  abbrev led : State T → GenerationalPointer → Option (Cell T) → Option Name
-  led S b c = cond (nat_eq b.id.store S.number) (leads_to c (name_of b)) None
-
   -- a cell under another name
   added_beside : (S : State T) (n : Name) (c : Cell T) (b : GenerationalPointer)
       → name_of b ≢ n → reach (add_cell S n c) b ≡ reach S b
   unfolding reach
-  added_beside S n c b ne = ap (led S b) (get-insert_apart by_name S.cells n c (name_of b) ne)
+  added_beside S n c b ne = grind (arith, get-insert_apart by_name S.cells n c (name_of b) ne)
 
   -- and a Shared cell, which no box reaches by its name
   shared_beside : (S : State T) (n : Name) (k : Content T) (l : Location) (b : GenerationalPointer)
@@ -37,17 +31,12 @@ module _ {T : Type 0} where
   abbrev Reaches : State T → GenerationalPointer → Outcome T → Type 0
   Reaches S b out = IsBeside out.0 b → reach out.1 b ≡ reach S b
 
-  reaches_unless : (S : State T) (b : GenerationalPointer) (t : Option BorrowRefusal) (out : Outcome T)
-      → Reaches S b out → Reaches S b (unless t S out)
-  reaches_unless S b t out h = grind arith
-
   made_beside : (S Q : State T) (o : Option OwnerName) (n : Name) (c : Cell T) (l : Location)
       (b : GenerationalPointer) → reach Q b ≡ reach S b → Reaches S b (make Q o n c l)
   made_beside S Q o n c l b before = grind (arith, listed, added_beside)
 
-  referred_beside : (S : State T) (o : Option OwnerName) (a b : GenerationalPointer)
-      (to : Option Name) (target : Option (Cell T)) (n : Name)
-      → Reaches S b (refer S o a to target n)
+  referred_beside : (S : State T) (o : Option OwnerName) (a b : GenerationalPointer) (to : Option Name)
+      (target : Option (Cell T)) (n : Name) → Reaches S b (refer S o a to target n)
   referred_beside S o a b (Some m) (Some (Shared c l)) n =
       made_beside S S o n (Ref m l) l b refl
   referred_beside S o a b to target n = λ _. refl
@@ -55,14 +44,14 @@ module _ {T : Type 0} where
   making_beside : (S : State T) → IsSound S → (call : Action T) (f : NewNames) → AreNew S call f
       → is_making call ≡ true → (b : GenerationalPointer)
       → GivesOther call (act S call f).0 b → reach (act S call f).1 b ≡ reach S b
-  making_beside S s (Make o v l) f new making b = by_cond (Reaches S b) (is_known S o)
-      (λ _. made_beside S S o f.first (Value (Here v []) l) l b refl) (λ _ _. refl)
-  making_beside S s (MakeShared o v l) f new making b = by_cond (Reaches S b) (is_known S o)
-      (λ _. made_beside S (add_cell S f.first (Shared (Here v []) l)) o f.second (Ref f.first l) l b
-      (shared_beside S f.first (Here v []) l b (absent S s f.first new.0.ungiven))) (λ _ _. refl)
-  making_beside S s (Refer o a) f new making b = by_cond (Reaches S b) (is_known S o)
-      (λ _. reaches_unless S b (refusal_to_read S a) _
-      (referred_beside S o a b (reach S a) (cell_at S (reach S a)) f.first)) (λ _ _. refl)
+  making_beside S s (Make o v l) f new making b =
+      grind (arith, made_beside S S o f.first (Value (Here v []) l) l b refl)
+  making_beside S s (MakeShared o v l) f new making b =
+      let one = add_cell S f.first (Shared (Here v []) l) in
+      let none = shared_beside S f.first (Here v []) l b (absent S s f.first new.0.ungiven) in
+      grind (arith, made_beside S one o f.second (Ref f.first l) l b none)
+  making_beside S s (Refer o a) f new making b =
+      grind (arith, referred_beside S o a b (reach S a) (cell_at S (reach S a)) f.first)
   making_beside S s _ f new making b = cc
 
   -- ---- what a box reaches
@@ -89,36 +78,19 @@ module _ {T : Type 0} where
         → LeavesValue S call b → GivesOther call answer b → value_in R b ≡ value_in S b
     same_value s m b leaves other = grind (arith, same_reach s m b, unseen, value_stays S R call answer b)
 
-  -- ---- the content there
-
-  unborrowed : (S : State T) (call : Action T) (b : GenerationalPointer) (m : Name)
-      → reach S b ≡ Some m → LeavesContent S call b → Borrows S call m → ⊥
-  unborrowed S call b m e h t = grind arith
-
-  -- a call that leaves what stands at a name fills no content there
-  unfilled : (S : State T) (call : Action T) (next : ℕ) (b : GenerationalPointer) (m : Name)
-      → reach S b ≡ Some m → LeavesContent S call b
-      → (k : Filling T) → IsFilling S call next m k → ⊥
-  unfilled S call next b m e h k law = grind arith
-
-  module _ (S R : State T) (call : Action T) (answer : Answer T) where
-    -- what a box reaches has the content that it had, unless the call borrows it, ends its borrow,
-    -- or sets it
-    same_content : IsSound S → Meets S call answer R → (b : GenerationalPointer) (m : Name)
-        → LeavesContent S call b → reach S b ≡ Some m → is_some (map.get R.cells m) ≡ true
-        → content_at R m ≡ content_at S m
-    same_content s meets b m leaves to live =
-        let view = (meets_follows S R call answer meets).view m in
-        grind (arith, view, reached_live S b m s to, unfilled S call R.next b m)
-
-    -- so a box is left
+    -- a box is left, unless the call borrows its content, ends its borrow, or sets it
     pub leaves : IsSound S → Meets S call answer R → (b : GenerationalPointer)
         → LeavesContent S call b → GivesOther call answer b → IsUnchanged S b R
     leaves s m b h other =
-        let reach = same_reach S R call answer s m b in
-        let value = same_value S R call answer s m b in
-        let sound = meets_sound S R call answer in
-        grind (arith, reach, leaves_box, same_content s m b, reached_live R b, sound, value)
+        let reach = same_reach s m b (grind arith) other in
+        let sound = meets_sound S R call answer s m in
+        let follows = meets_follows S R call answer m in
+        record {
+          reached = reach;
+          content = λ n to.
+              grind (arith, follows.view n, reached_live S b n s to, reached_live R b n sound (reach ∙ to));
+          seen = same_value s m b (grind arith) other;
+        }
 
   -- which is so of each box that isn't in the list, where an owner is released
   pub release_leaves : (S R : State T) (o : OwnerName) (answer : Answer T) → IsSound S

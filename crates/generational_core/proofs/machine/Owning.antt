@@ -56,22 +56,14 @@ module _ {T : Type 0} where
       → nat_eq o.store S.number ≡ true → o.key ≢ a.key
   apart S a o known ne own = grind arith
 
-  -- a table of owners with the record that the state has under the owner's key, if it is its own
-  same_record : (S Q : State T) (o : OwnerName) → Q.number ≡ S.number
-      → (nat_eq o.store S.number ≡ true → map.get Q.owners o.key ≡ map.get S.owners o.key)
-      → ownership Q o ≡ ownership S o
-  same_record S Q o number same = grind arith
-
   -- no call but those of owners changes a record
   module _ (S : State T) (o : OwnerName) where
     -- the record is kept where another owner's is changed, put in or forgotten
     module _ (a : OwnerName) where
-      own_record : (owners : Owners)
-          → (o.key ≢ a.key → map.get owners o.key ≡ map.get S.owners o.key)
+      own_record : (owners : Owners) → (o.key ≢ a.key → map.get owners o.key ≡ map.get S.owners o.key)
           → is_some (ownership S a) ≡ true → a ≢ o
           → cond (nat_eq o.store S.number) (map.get owners o.key) None ≡ ownership S o
-      own_record owners same known ne =
-          same_record S (record S { owners = owners }) o refl (λ own. same (apart S a o known ne own))
+      own_record owners same known ne = grind (arith, apart S a o known ne, same)
 
       listed_apart : (n : Name) → is_some (ownership S a) ≡ true → a ≢ o
           → let owners = change S.owners a.key (one_listed n) in
@@ -104,15 +96,13 @@ module _ {T : Type 0} where
   module _ {S R : State T} where
     -- which is so of each call, where it doesn't make the owner
     kept : (call : Action T) (answer : Answer T) → Meets S call answer R → (o : OwnerName)
-        → LeavesOwner call o
-        → ((f : NewNames) → (answer, R) ≡ act S call f → IsNotNext S call o)
+        → LeavesOwner call o → ((f : NewNames) → (answer, R) ≡ act S call f → IsNotNext S call o)
         → ownership R o ≡ ownership S o
     kept call answer m o ne next = grind (arith, act_keeps S o call, meets_cases S R call answer m)
 
     -- a call leaves each record but that of the owner by which it goes, and of the one that it gives
-    pub keeps_record : (call : Action T) (answer : Answer T) → Meets S call answer R
-        → (o : OwnerName) → LeavesOwner call o → GivesOtherOwner call answer o
-        → ownership R o ≡ ownership S o
+    pub keeps_record : (call : Action T) (answer : Answer T) → Meets S call answer R → (o : OwnerName)
+        → LeavesOwner call o → GivesOtherOwner call answer o → ownership R o ≡ ownership S o
     keeps_record call answer m o ne gives = grind (arith, kept call answer m o ne)
 
     -- a known owner keeps its record, unless the call goes by it

@@ -69,8 +69,7 @@ module _ {T : Type 0} where
         → Meets S call (free_write_answer r) R → OnErr r (R ≡ S)
     refused_free_write r m = grind arith
 
-    pub refused_back : {U : Type 0} (r : Result U T) → Meets S call (back_answer r) R
-        → OnErr r (R ≡ S)
+    pub refused_back : {U : Type 0} (r : Result U T) → Meets S call (back_answer r) R → OnErr r (R ≡ S)
     refused_back r m = grind arith
 
     pub refused_end : {U : Type 0} (r : Result U (error.Refused BorrowMutError))
@@ -86,6 +85,5 @@ module _ {T : Type 0} where
     refused_release r m = grind (arith, told_end)
 
   -- nor does the release of a reader that isn't known
-  pub unknown_reader : {S R : State T} (g : Guard) → Meets S (ReleaseReader g) (Flag false) R
-      → R ≡ S
+  pub unknown_reader : {S R : State T} (g : Guard) → Meets S (ReleaseReader g) (Flag false) R → R ≡ S
   unknown_reader g m = grind arith

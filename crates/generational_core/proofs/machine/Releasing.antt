@@ -1,13 +1,13 @@
 -- What the release of an owner value leaves, and when a recorded call is ready.
 use Rattle.generational_core.proofs.machine.Common
 use Common.{act, Action, AllByRecursion, among, Answer, ap, arith, by_number, cases_lt, Cell, cells_after}
-use Common.{close, Content, Done, false, GenerationalPointer, get-insert_apart, get-insert_here}
-use Common.{get-remove_apart, get-remove_here, is_shared, IsBoxed, IsNamed, IsReleased, IsSound, List}
-use Common.{lt-ltb, Meets, Name, name_same, named_from, named_gives, NameMap, NewNames, None, not}
-use Common.{one_less, Option, Outcome, OwnerName, Ownership, ownership, refl, release_owner, set_at}
-use Common.{set_ownership, Some, State, StepCall, true, [], ℕ, ⊎_elim, ◌<◌, ◌∙◌, ◌∷◌, ◌≡◌, ◌≢◌, ◌≤◌}
+use Common.{close, Done, false, get-insert_apart, get-insert_here, get-remove_apart, get-remove_here}
+use Common.{is_shared, IsBoxed, IsNamed, IsReleased, IsSound, List, lt-ltb, Meets, Name, name_same}
+use Common.{named_from, named_gives, NameMap, NewNames, None, not, one_less, Outcome, OwnerName}
+use Common.{Ownership, ownership, refl, release_owner, set_ownership, Some, State, StepCall, true, [], ℕ}
+use Common.{⊎_elim, ◌<◌, ◌∙◌, ◌∷◌, ◌≡◌, ◌≢◌, ◌≤◌}
 use Rattle.generational_core.specs
-use specs.{StepCalls.is_hindered, StepCalls.is_ready, StepCalls.may_set, StepCalls.recorded_as}
+use specs.{StepCalls.is_hindered, StepCalls.is_ready, StepCalls.recorded_as}
 use Rattle.generational_core.proofs.machine.Ends.{get-swept, get-without}
 use Rattle.std.specs.FinMap as map
 
@@ -84,11 +84,6 @@ module _ {T : Type 0} where
   pub leak_changes_nothing : (S R : State T) (o : OwnerName) (answer : Answer T)
       → Meets S (Action.LeakOwner o) answer R → R ≡ S
   leak_changes_nothing S R o answer m = grind arith
-
-  set_told : (S : State T) (b : GenerationalPointer) (v : T) (o : Option Name)
-      (c : Option (Content T))
-      → may_set o c ≡ not (is_hindered (Action.SetValue b v) (set_at S b v o c).0)
-  set_told S b v o c = search arith
 
   -- of a call and the call as it is recorded
   pub ready_told : (S : State T) (call : Action T) (step : StepCall) (new : NewNames)

@@ -116,8 +116,7 @@ module _ (P : Plain) (number : ℕ) (n : Name) (as_cell : Content (Unit {0}) →
       ∙ ap (map.insert P.cells n) (lent w (Here tt [])))
 
 pub cell_read : {T : Type 0} (P : Plain) (number : ℕ) (n : Name) (c : Cell T)
-    → read_rows P (cell_rows number n (Some c))
-    ≡ record P { cells = map.insert P.cells n (bare_cell c) }
+    → read_rows P (cell_rows number n (Some c)) ≡ record P { cells = map.insert P.cells n (bare_cell c) }
 cell_read P number n (Value c l) =
     content_read P number n (λ c. Value c l) (λ b c. refl) (λ w c. refl) c
 cell_read P number n (Shared c l) =

@@ -1,7 +1,7 @@
 -- What a box sees after a call: what the call's answer tells of it, and what the call leaves.
 use Rattle.generational_core.proofs.machine
-use machine.{act, act_leads, Action, after, among, Answer, ap, AreNew, arith, box_stays, by_name, Cell}
-use machine.{Change, changed_view, cond_gives, content_at, content_of, ending, false, GenerationalPointer}
+use machine.{act_leads, Action, after, among, Answer, ap, AreNew, arith, box_stays, by_name, Cell, Change}
+use machine.{changed_view, cond_gives, content_at, content_of, ending, false, GenerationalPointer}
 use machine.{get-insert_apart, is_shared, is_some, IsGiven, IsLawful, IsSound, last, leads_to, LeavesBox}
 use machine.{LeavesValue, Lends, live_by, Meets, meets_each, meets_follows, meets_sound, Name, name_apart}
 use machine.{name_of, nat_eq, NewNames, Option, reach, refl, same_store, second_fresh, Sets, Some, State}
@@ -16,13 +16,11 @@ module _ {T : Type 0} where
     pub number : nat_eq b.id.store S.number ≡ true
     pub leads : leads_to (map.get S.cells (name_of b)) (name_of b) ≡ Some m
 
-  pub reaches : (S : State T) (b : GenerationalPointer) (m : Name)
-      → reach S b ≡ Some m → Reaches S b m
+  pub reaches : (S : State T) (b : GenerationalPointer) (m : Name) → reach S b ≡ Some m → Reaches S b m
   unfolding reach
   reaches S b m e = let it = cond_gives _ _ m e in record { number = it.0; leads = it.1 }
 
-  pub reach_by : (S : State T) (b : GenerationalPointer) (m : Name)
-      → Reaches S b m → reach S b ≡ Some m
+  pub reach_by : (S : State T) (b : GenerationalPointer) (m : Name) → Reaches S b m → reach S b ≡ Some m
   unfolding reach
   reach_by S b m r = rw (r.number) r.leads
 
@@ -52,29 +50,7 @@ module _ {T : Type 0} where
     kept_cell c law =
         grind (arith, get-insert_apart, by_name, second_fresh, changed_view, box_stays, swept_view)
 
-  -- a call that leaves a box ends no such name, and turns no such Ref
-  unended : (S : State T) (call : Action T) (b : GenerationalPointer)
-      → LeavesBox S call b → among (ending S call) (name_of b) ≡ false
-  unended S call b h = grind (arith, name_apart)
-
-  unturned : (S : State T) (call : Action T) (b : GenerationalPointer)
-      → LeavesBox S call b → Turns call (name_of b) → ⊥
-  unturned S call b h t = grind arith
-
   -- ---- the value that it reaches
-
-  -- a call that leaves the value that a box reaches leaves the box, and doesn't lend or set it
-  pub leaves_box : (S : State T) (call : Action T) (b : GenerationalPointer)
-      → LeavesValue S call b → LeavesBox S call b
-  leaves_box S call b h = grind arith
-
-  pub unlent : (S : State T) (call : Action T) (b : GenerationalPointer) (m : Name)
-      → reach S b ≡ Some m → LeavesValue S call b → Lends S call m → ⊥
-  unlent S call b m e h t = grind arith
-
-  pub unset : (S : State T) (call : Action T) (b : GenerationalPointer) (m : Name)
-      → reach S b ≡ Some m → LeavesValue S call b → Sets S call m → ⊥
-  unset S call b m e h t = grind arith
 
   pub value_in_reached : (S : State T) (b : GenerationalPointer) (m : Name)
       → reach S b ≡ Some m → value_in S b ≡ value_at S m
@@ -86,18 +62,14 @@ module _ {T : Type 0} where
     pub reach_stays : (b : GenerationalPointer) (m : Name) → IsSound S → Meets S call answer R
         → LeavesBox S call b → reach S b ≡ Some m → reach R b ≡ Some m
     reach_stays b m s meets leaves e =
-        meets_each S R call answer (λ o. reach o.1 b ≡ Some m) (λ _. e) acted meets
-      where
-        acted : (f : NewNames) → AreNew S call f → reach (act S call f).1 b ≡ Some m
-        acted f new =
-            let h = act_leads S call f in
-            let r = reaches S b m e in
-            let box = led_box _ (name_of b) m r.leads in
-            let given = s.given (name_of b) box.0 in
-            let stays = kept_cell S call f h.next new (name_of b) given box.1
-            (unended S call b leaves) (unturned S call b leaves) h.change h.lawful in
-            ap (λ (X : State T). reach X b) h.is ∙ reach_by (last h) b m
-            (record { number = rw (same_store S f h.change).0 r.number; leads = stays ∙ r.leads })
+        meets_each S R call answer (λ o. reach o.1 b ≡ Some m) (λ _. e) (λ f new.
+        let h = act_leads S call f in
+        let r = reaches S b m e in
+        let box = led_box _ (name_of b) m r.leads in
+        let stays = kept_cell S call f h.next new (name_of b) (s.given (name_of b) box.0) box.1
+        (grind (arith, name_apart)) (λ t. grind arith) h.change h.lawful in
+        ap (λ (X : State T). reach X b) h.is ∙ reach_by (last h) b m
+        (record { number = rw (same_store S f h.change).0 r.number; leads = stays ∙ r.leads })) meets
 
     -- what stands at a live name keeps its value, unless the call lends it or sets it
     pub kept_value : (m : Name) → IsSound S → Meets S call answer R
@@ -111,7 +83,7 @@ module _ {T : Type 0} where
         → LeavesValue S call b → reach S b ≡ Some m → value_in R b ≡ value_in S b
     unfolding value_in
     value_stays b m s meets leaves e =
-        let stays = reach_stays b m s meets (leaves_box S call b leaves) e in
-        let kept = kept_value m s meets (unlent S call b m e leaves) (unset S call b m e leaves) in
-        let sound = meets_sound S R call answer s meets in
-        grind (arith, stays, kept, reached_live R b m sound stays, reached_live S b m s e)
+        let stays = reach_stays b m s meets (grind arith) e in
+        let live = reached_live R b m (meets_sound S R call answer s meets) stays in
+        let view = (meets_follows S R call answer meets).view m in
+        grind (arith, stays, view, live, reached_live S b m s e)

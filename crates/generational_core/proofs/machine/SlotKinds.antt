@@ -16,8 +16,7 @@ module _ {K : Type 0} (e : K → K → Bool) where
   any_false x [] never = tt
   any_false x (y ∷ ys) never = grind (arith, any_false x ys)
 
-  no_any : (x : K) (ys : List K) → AllByRecursion (λ y. e x y ≡ false) ys
-      → list_any (e x) ys ≡ true → ⊥
+  no_any : (x : K) (ys : List K) → AllByRecursion (λ y. e x y ≡ false) ys → list_any (e x) ys ≡ true → ⊥
   no_any x [] all any = cc
   no_any x (y ∷ ys) all any = grind (arith, no_any x ys all.1)
 
@@ -68,7 +67,8 @@ module _ {T : Type 0} (S : State T) (s : IsSound S) (b : IsBounded S) where
   is_kept_slot : (p : ℕ → Bool) (q : ℕ) → list_any (eq_by_cmp nat_cmp q) (kept_slots p) ≡ true
       → (p q ≡ true) × (map.contains_key (slots_of S) q ≡ true)
   is_kept_slot p q any =
-      grind (arith, keep_view by_number (slots_of S) p q, map.contains_key-keys (map.retain_keys (slots_of S) p) q)
+      let there = map.contains_key-keys (map.retain_keys (slots_of S) p) q in
+      grind (arith, keep_view by_number (slots_of S) p q, there)
 
   rest_apart : IsDistinct (eq_by_cmp nat_cmp) (kept_slots (is_free S) ++ kept_slots (is_retired S))
   rest_apart = grind (arith, distinct_both, keys_apart, is_kept_slot)
@@ -87,15 +87,13 @@ module _ {T : Type 0} (S : State T) (s : IsSound S) (b : IsBounded S) where
   -- each slot is live, free or retired, and is one of them
   pub slots_are : slots S ≡ map.len S.cells + free S + retired S
   slots_are =
-      let few = slots_bounded S in
+      let kept = kept_slots (is_free S) in
+      let gone = kept_slots (is_retired S) in
       let all = length-le_from_is_member (eq_by_cmp_equiv nat_cmp_total)
-      (live_slots ++ (kept_slots (is_free S) ++ kept_slots (is_retired S))) (map.keys (slots_of S))
+      (live_slots ++ (kept ++ gone)) (map.keys (slots_of S))
       all_apart (λ q any. sym (map.contains_key-keys (slots_of S) q) ∙ all_slots q any) in
-      let long = length-append live_slots (kept_slots (is_free S) ++ kept_slots (is_retired S)) in
-      let rest = length-append (kept_slots (is_free S)) (kept_slots (is_retired S)) in
       let live = length-map (map.keys S.cells) (λ (n : Name). n.slot) in
+      let whole = length-append live_slots (kept ++ gone) in
       let cells = len_keys name_cmp S.cells in
-      let frees = len_keys nat_cmp (map.retain_keys (slots_of S) (is_free S)) in
-      let gone = len_keys nat_cmp (map.retain_keys (slots_of S) (is_retired S)) in
-      let whole = len_keys nat_cmp (slots_of S) in
-      omega (arith, few, all, long, rest, live, cells, frees, gone, whole)
+      let slots = len_keys {X = ℕ} nat_cmp in
+      omega (arith, slots_bounded S, all, whole, length-append kept gone, live, cells, slots)

@@ -4,10 +4,10 @@ use Common.{Action, add_cell, AllByRecursion, ap, AreNew, arith, Bool, Borrow, b
 use Common.{changed_view, contains-insert_here, contains-insert_old, Content, content_of, eqb-true, false}
 use Common.{filter, fresh, GenerationalPointer, get-insert_apart, get-insert_here, Here, is_shared}
 use Common.{is_some, IsBoxed, IsDistinct, IsDistinct-push, IsEnded, IsGiven, IsLinked, IsNamed, IsSound}
-use Common.{List, list_any, list_any-append, Location, Name, name_cmp, name_of, named_from, nat_cmp}
-use Common.{nat_eq, nat_eq_equiv, NewNames, None, Option, Outcome, Owners, Ownership, reach, Ref, refill}
-use Common.{refl, Shared, Some, Stands, State, subst, sym, tickets_at, tickets_of, true, [], ℕ, ⊎_elim}
-use Common.{◌<◌, ◌∙◌, ◌∷◌, ◌≡◌, ◌≤◌, ◌⊎◌}
+use Common.{List, list_any, list_any-append, list_map, Location, Name, name_cmp, name_of, named_from}
+use Common.{nat_cmp, nat_eq, nat_eq_equiv, NewNames, None, Option, Outcome, Owners, Ownership, reach, Ref}
+use Common.{refill, refl, Shared, Some, Stands, State, subst, sym, tickets_at, tickets_of, true, [], ℕ}
+use Common.{⊎_elim, ◌<◌, ◌∷◌, ◌≡◌, ◌≤◌, ◌⊎◌}
 use Rattle.generational_core.proofs.machine.Changes.{after, AreRecords, Change, Filling, IsFilling}
 use Rattle.generational_core.proofs.machine.Changes.{IsLawful, Leads, new_content, old_content}
 use Rattle.generational_core.proofs.machine.Changes.{second_fresh}
@@ -16,8 +16,7 @@ use Rattle.generational_core.proofs.machine.Ends.{by_cond, closed_linked, closed
 use Rattle.generational_core.proofs.machine.Ends.{some_live, turned_linked, turned_view}
 use Rattle.generational_core.proofs.machine.Linking.{born_linked, pair_linked, refilled_linked}
 use Rattle.generational_core.proofs.machine.Linking.{sound_linked}
-use Rattle.generational_core.proofs.machine.{Changes.Filling.Leave, Common.list_map}
-use Rattle.generational_core.proofs.machine.{Changes.Filling.Reader, Changes.Filling.Writer}
+use Rattle.generational_core.proofs.machine.Changes.Filling.{Leave, Reader, Writer}
 use Rattle.std.proofs.lemmas.List.{map-append}
 use Rattle.std.specs.FinMap as map
 use Rattle.std.specs.FinSet as set
@@ -83,27 +82,23 @@ module _ {T : Type 0} where
         → View S (record (after S f c) { owners = owners; next = next }) call (place f c) q
     view Stay law = Same refl
     view (Birth c) law = by_keys by_name q f.first
-        (λ is. let born = born_here S f.first q c is law.1.1 in
-        Born (rw is (law.2 new).ungiven) born.0 born.1)
-        (λ ne. Same (get-insert_apart by_name S.cells f.first c q ne))
+        (λ is. grind (arith, Born, law.2 new, born_here S f.first q c))
+        (λ ne. grind (arith, Same, get-insert_apart, by_name))
     view (Pair v l) law =
         let c : Cell T = Shared (Here v []) l in
         let one = add_cell S f.first c in
-        let names = law.1 new in
-        let second = second_fresh S.given f.first f.second names.1.ungiven in
+        let second = second_fresh S.given f.first f.second (law.1 new).1.ungiven in
+        let given = contains-insert_old by_name one.given f.second q in
         let other = get-insert_apart by_name one.cells f.second (Ref f.first l) q in
         by_keys by_name q f.second
-        (λ is. let born = born_here one f.second q (Ref f.first l) is refl in
-        Born (rw is second.0) born.0 born.1)
+        (λ is. grind (arith, Born, second, born_here one f.second q (Ref f.first l)))
         (λ no. by_keys by_name q f.first
-        (λ is. let born = born_here S f.first q c is refl in Born (rw is names.0.ungiven)
-        (contains-insert_old by_name one.given f.second q born.0) (rw (other no) born.1))
-        (λ ne. Same (other no ∙ get-insert_apart by_name S.cells f.first c q ne)))
-    view (Fill n k) law = ⊎_elim Same (λ e. Filled k e.1 e.0
-        (subst (λ x. IsFilling S call next x k) (sym e.0) law.1) e.2 e.3
-        (cc (law.0, ap content_of e.2)))
+        (λ is. grind (arith, Born, law.1 new, given, other no, born_here S f.first q c))
+        (λ ne. grind (arith, Same, other no, get-insert_apart, by_name)))
+    view (Fill n k) law = ⊎_elim Same
+        (λ e. Filled k e.1 e.0 (grind (arith, e, law)) e.2 e.3 (cc (law.0, ap content_of e.2)))
         (changed_view by_name S.cells n (refill (new_content S k)) q)
-    view (Close names) law = ⊎_elim Same (λ e. Gone e.0 e.1) (closed_view S names law.0 q)
+    view (Close names) law = grind (arith, Same, Gone, closed_view S names law.0 q)
     view (Turn a old to l) law = ⊎_elim Same
         (⊎_elim (λ e. Turned old to l e.0 e.1) (λ e. Gone e.0 e.1))
         (turned_view S a old to l law.0 law.2 q)
@@ -128,14 +123,8 @@ module _ {T : Type 0} where
     pub view : (q : Name) → View S R call spot q
 
   pub follows_same : (S : State T) (call : Action T) (n : Name) → Follows S call S
-  follows_same S call n = record {
-    number = refl;
-    start = refl;
-    next = omega arith;
-    given = λ q h. h;
-    spot = n;
-    view = λ q. Same refl;
-  }
+  follows_same S call n = record
+      { number = refl; start = refl; next = omega arith; given = λ q h. h; spot = n; view = λ q. Same refl }
 
   -- what a call leads to comes after it
   module _ {S : State T} {call : Action T} {f : NewNames} {out : Outcome T} where
@@ -189,8 +178,7 @@ module _ {T : Type 0} where
       → (list_any (nat_eq t) (tickets_of x) ≡ true) ⊎ ((q ≡ spot) × (S.next ≤ t) × (t < next)))
 
   renewed : (S : State T) (call : Action T) (next : ℕ) (spot q : Name) (k : Filling T) → q ≡ spot
-      → IsFilling S call next q k
-      → Renews S next spot q (Some (old_content k)) (Some (new_content S k))
+      → IsFilling S call next q k → Renews S next spot q (Some (old_content k)) (Some (new_content S k))
   unfolding IsDistinct
   renewed S call next spot q (Reader v rs l) here law d low =
       grind (arith, map-append, IsDistinct-push, nat_eq_equiv, list_any-append, eqb-true)
@@ -228,13 +216,11 @@ module _ {T : Type 0} where
   -- ---- soundness
 
   module _ {S R : State T} {call : Action T} (s : IsSound S) (h : Follows S call R) where
-    pub shared_still : (q : Name)
-        → IsGiven S q → is_shared (map.get S.cells q) ≡ false
+    pub shared_still : (q : Name) → IsGiven S q → is_shared (map.get S.cells q) ≡ false
         → is_shared (map.get R.cells q) ≡ false
     shared_still q given plain = grind arith
 
-    each_boxed : (names : List Name)
-        → AllByRecursion (IsBoxed S) names → AllByRecursion (IsBoxed R) names
+    each_boxed : (names : List Name) → AllByRecursion (IsBoxed S) names → AllByRecursion (IsBoxed R) names
     each_boxed [] all = tt
     each_boxed (n ∷ names) all = grind (arith, h.given, shared_still, each_boxed names all.1)
 
@@ -242,7 +228,7 @@ module _ {T : Type 0} where
     tickets_still : (q : Name) → IsDistinct nat_eq (tickets_at R.cells q) × ((t : ℕ)
         → Stands R.cells q t → Stands S.cells q t ⊎ ((q ≡ h.spot) × (S.next ≤ t) × (t < R.next)))
     unfolding IsDistinct
-    tickets_still q = grind (arith, renewed)
+    tickets_still q = grind (arith, h.view q, renewed S call R.next h.spot q)
 
     follows_sound : IsLinked R.cells → AreRecords R R.next R.owners → IsSound R
     follows_sound links records = record {
@@ -264,12 +250,10 @@ module _ {T : Type 0} where
       → IsSound S → AreNew S call f → Leads S call f out → IsSound out.1
   leads_sound {S} {call} {f} s new h =
       let follows = change_follows new h in
-      subst IsSound (sym h.is) (follows_sound s follows
-      (linked S call f h.next s new h.change h.lawful)
-      (h.recorded (λ k x is.
+      let links = linked S call f h.next s new h.change h.lawful in
+      rw h.is (follows_sound s follows links (h.recorded (λ k x is.
       let there = rw (same_store S f h.change).2 at is in
-      let low = s.keys k (ap is_some there) in let up = h.up in
-      (each_boxed s follows x.names (s.owned k x there), omega arith))))
+      (each_boxed s follows x.names (s.owned k x there), grind (arith, s.keys k, h.up)))))
 
   -- ---- facts of sound states
 

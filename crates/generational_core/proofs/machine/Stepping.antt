@@ -1,17 +1,17 @@
 -- What holds of each call of a store, whichever names it takes and whatever memory lacks.
 use Rattle.generational_core.proofs.machine.Common
-use Common.{act, Action, Answer, ap, AreNew, arith, Bool, Borrow, BorrowRefused, cond, Content}
-use Common.{content_at, Dropped, eqb-true, false, GenerationalPointer, Guard, Here, inl, inr, is_some}
-use Common.{IsEnded, IsGiven, IsSound, knows_reader, knows_writer, last_ticket, List, list_any}
-use Common.{list_any-append, location_at, Made, Meets, Name, name_of, nat_eq, nat_eq_equiv, NewNames}
-use Common.{no_names, None, not, NumbersExhausted, Option, Outcome, reach, Reads, refl, refusal_to_read}
-use Common.{refusal_to_write, Refused, ReleaseReader, ReleaseWriter, Sets, Some, State, subst, sym, Takes}
-use Common.{takes_ticket, true, value_at, Writes, [], ℕ, ⊎_elim, ◌&&◌, ◌+◌, ◌∙◌, ◌≡◌, ◌≤◌, ◌⊎◌}
-use Rattle.generational_core.proofs.machine.Changes.{act_leads, act_says, after, Filling, is_making}
-use Rattle.generational_core.proofs.machine.Changes.{IsFilling, new_content, new_fresh, old_content, Says}
-use Rattle.generational_core.proofs.machine.Changes.{without}
+use Common.{act, Action, Answer, ap, AreNew, arith, Bool, Borrow, BorrowRefused, Dropped, eqb-true, false}
+use Common.{GenerationalPointer, Guard, inl, inr, is_some, IsEnded, IsGiven, IsSound, knows_reader}
+use Common.{knows_writer, last_ticket, List, list_any, list_any-append, location_at, Made, Meets, Name}
+use Common.{name_of, nat_eq, nat_eq_equiv, NewNames, no_names, None, not, Outcome, reach, Reads, refl}
+use Common.{refusal_to_read, refusal_to_write, Refused, ReleaseReader, ReleaseWriter, Sets, Some, State}
+use Common.{subst, sym, Takes, takes_ticket, true, value_at, Writes, [], ℕ, ⊎_elim, ◌&&◌, ◌+◌, ◌∙◌, ◌≡◌}
+use Common.{◌≤◌, ◌⊎◌}
+use Rattle.generational_core.proofs.machine.Changes.{act_leads, act_says, after, is_making, new_fresh}
+use Rattle.generational_core.proofs.machine.Changes.{Says, without}
 use Rattle.generational_core.proofs.machine.Soundness.{ended_still, Follows, follows_same, leads_follows}
 use Rattle.generational_core.proofs.machine.Soundness.{leads_sound}
+use Rattle.generational_core.proofs.machine.Ends.{by_cond}
 use Rattle.std.proofs.lemmas.Map.Views.{any-filter_same}
 use Rattle.std.specs.FinMap as map
 use Rattle.std.specs.FinSet as set
@@ -64,15 +64,11 @@ module _ {T : Type 0} where
   -- a call is refused and changes nothing, or takes new names and does what the machine does
   pub meets_cases : (S R : State T) (call : Action T) (answer : Answer T)
       → Meets S call answer R → IsRefused S answer R ⊎ Acts S call answer R
-  meets_cases S R call answer (inl m) =
-      at (takes_ticket (act S call m.0).0 && nat_eq S.next last_ticket) m.2
-    where
-      at : (b : Bool) → (answer, R) ≡ cond b (Refused NumbersExhausted, S) (act S call m.0)
-          → IsRefused S answer R ⊎ Acts S call answer R
-      at true e = inl (ap (λ (o : Outcome T). is_refusal o.0) e, ap (λ (o : Outcome T). o.1) e)
-      at false e = ⊎_elim (λ new. inr (m.0, new, e))
-          (λ same. inl (subst (λ (o : Outcome T). IsRefused S o.0 o.1) (sym e) same))
-          (takes_new S call m.0 (subst (λ (o : Outcome T). Takes S call o.0 m.0) e m.1))
+  meets_cases S R call answer (inl m) = by_cond
+      (λ (out : Outcome T). (answer, R) ≡ out → IsRefused S answer R ⊎ Acts S call answer R)
+      (takes_ticket (act S call m.0).0 && nat_eq S.next last_ticket)
+      (λ _ e. inl (grind arith)) (λ _ e. ⊎_elim (λ new. inr (m.0, new, e)) (λ same. inl (grind arith))
+      (takes_new S call m.0 (subst (λ (o : Outcome T). Takes S call o.0 m.0) e m.1))) m.2
   meets_cases S R call answer (inr m) = inl (ap is_refusal m.1, m.2)
 
   -- a box of an ended name reaches nothing, so it is answered that its value is gone
@@ -107,8 +103,7 @@ module _ {T : Type 0} where
   module _ (S R : State T) (call : Action T) (answer : Answer T) where
     -- what holds of a refusal, which changes nothing, and of what the machine does holds of a call
     pub meets_each : (P : Outcome T → Type 0) → (is_refusal answer ≡ true → P (answer, S))
-        → ((f : NewNames) → AreNew S call f → P (act S call f))
-        → Meets S call answer R → P (answer, R)
+        → ((f : NewNames) → AreNew S call f → P (act S call f)) → Meets S call answer R → P (answer, R)
     meets_each P refused acts m = ⊎_elim (λ e. subst (λ X. P (answer, X)) (sym e.1) (refused e.0))
         (λ e. subst P (sym e.2) (acts e.0 e.1)) (meets_cases S R call answer m)
 
@@ -157,15 +152,6 @@ module _ {T : Type 0} where
 
     -- ---- guards
 
-    -- a guard is known still where a test of its content shows a borrow that each filling leaves
-    stays : (g : Guard) (p : Option (Content T) → Bool) → p None ≡ false
-        → ((v : T) → p (Some (Here v [])) ≡ false) → ((k : Filling T)
-        → IsFilling S call R.next g.cell k → p (Some (old_content k)) ≡ true
-        → p (Some (new_content S k)) ≡ true) → IsSound S → Meets S call answer R
-        → (nat_eq g.store S.number && p (content_at S g.cell)) ≡ true
-        → (nat_eq g.store R.number && p (content_at R g.cell)) ≡ true
-    stays g p none alone filled s meets known = grind (arith, meets_follows)
-
     -- a store knows a guard until it is given back
     pub reader_stays : IsSound S → Meets S call answer R → (g : Guard)
         → knows_reader S g ≡ true → ends_reader call g.ticket ≡ false → knows_reader R g ≡ true
@@ -184,8 +170,7 @@ module _ {T : Type 0} where
   -- ---- new boxes and guards
 
   -- a box that is made is a new one of the store
-  pub made_new : (S R : State T) (call : Action T) (b : GenerationalPointer)
-      → Meets S call (Made b) R
+  pub made_new : (S R : State T) (call : Action T) (b : GenerationalPointer) → Meets S call (Made b) R
       → (b.id.store ≡ S.number) × (set.contains S.given (name_of b) ≡ false) × IsGiven R (name_of b)
   made_new S R call b m =
       let it = meets_says S R call (Made b) m in (it.number, it.ungiven, it.boxed.0)

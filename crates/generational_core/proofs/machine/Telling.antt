@@ -1,17 +1,16 @@
 -- What the answer of each call tells of boxes, guards and owners.
 use Rattle.generational_core.proofs.machine
-use machine.{act, Action, add_cell, add_to_list, among, and_parts, Answer, ap, AreFresh, arith, Bool}
-use machine.{box_of, by_cond, by_name, by_number, can_write, Cell, cell_at, cells_after, changed_view}
-use machine.{close, cond, cond_gives, Content, content_at, content_of, Done, End, false, fill}
-use machine.{filled_content, GenerationalPointer, get-changed_here, get-insert_apart, get-insert_here}
-use machine.{get-without, Guard, has_writer, Here, is_refusal, is_some, IsSound, knows_writer, leads_to}
-use machine.{Lent, List, Location, Made, Make, make, MakeShared, Meets, meets_each, Name, name_here}
-use machine.{name_of, name_same, NameMap, nat_eq, nat_eq_equiv, new_fresh, NewNames, NewOwner}
-use machine.{next_borrow, None, Old, one_listed, Option, Outcome, own_name, Owned, OwnerName, Ownership}
-use machine.{ownership, Point, point, reach, Read, read_at, Reads, Ref, Refer, refer, refl}
-use machine.{refusal_to_write, ReleaseWriter, same_ids, set_at, SetValue, Shared, Some, State, swept_ref}
-use machine.{swept_view, true, Value, value_at, value_in, Seeing.value_in_reached, Write, write_at}
-use machine.{Writes, [], ◌++◌, ◌∙◌, ◌∷◌, ◌≡◌, ◌≢◌}
+use machine.{act, Action, add_cell, add_to_list, among, Answer, AreFresh, arith, Bool, box_of, by_name}
+use machine.{by_number, can_write, Cell, cell_at, cells_after, changed_view, close, cond, cond_gives}
+use machine.{Content, content_at, content_of, Done, End, false, fill, filled_content, GenerationalPointer}
+use machine.{get-changed_here, get-insert_apart, get-insert_here, get-without, Guard, has_writer, Here}
+use machine.{is_refusal, is_some, IsSound, leads_to, Lent, List, Location, Made, Make, make, MakeShared}
+use machine.{Meets, meets_each, Name, name_here, name_of, name_same, NameMap, nat_eq, nat_eq_equiv}
+use machine.{new_fresh, NewNames, NewOwner, next_borrow, None, Old, one_listed, Option, Outcome, own_name}
+use machine.{Owned, OwnerName, Ownership, ownership, Point, point, reach, Read, read_at, Reads, Ref}
+use machine.{Refer, refer, refl, refusal_to_write, ReleaseWriter, same_ids, set_at, SetValue, Shared}
+use machine.{Some, State, swept_ref, swept_view, true, Value, value_at, value_in, Seeing.value_in_reached}
+use machine.{Write, write_at, Writes, [], ◌++◌, ◌∷◌, ◌≡◌, ◌≢◌}
 use Rattle.std.specs.FinMap as map
 use Rattle.std.specs.FinSet as set
 
@@ -69,8 +68,8 @@ module _ {T : Type 0} where
 
   in_list : (S : State T) (o : Option OwnerName) (n : Name) → Lists S o n (add_to_list S o n)
   in_list S o n a h is held =
-      let it = cond_gives (nat_eq a.store S.number) (map.get S.owners a.key) h held in
-      rw (is, it.0) (get-changed_here by_number S.owners a.key (one_listed n) h it.1)
+      let there = cond_gives (nat_eq a.store S.number) (map.get S.owners a.key) h held in
+      grind (arith, there, get-changed_here by_number S.owners a.key (one_listed n) h)
 
   -- the box of a cell that is added leads where the cell does
   added_reach : (S : State T) (n : Name) (c : Cell T) (l : Location)
@@ -89,19 +88,17 @@ module _ {T : Type 0} where
   made_told : (S : State T) (o : Option OwnerName) (v : T) (l : Location) (n : Name)
       → TellsOf S (Make o v l) (make S o n (Value (Here v []) l) l)
   made_told S o v l n =
-      let c : Cell T = Value (Here v []) l in
-      let Q = add_cell S n c in
+      let Q = add_cell S n (Value (Here v []) l) in
       let b = box_of S.number n l in
-      let to = added_reach S n c l in
-      let told = new_told Q o n b n v to (ap content_of (get-insert_here by_name S.cells n c)) in
-      ((listed Q o n b).0 ∙ to, told.0, told.1, told.2)
+      let to = added_reach S n (Value (Here v []) l) l in
+      grind (arith, to, listed Q o n b, new_told Q o n b n v, get-insert_here, by_name)
 
   shared_told : (S : State T) (o : Option OwnerName) (v : T) (l : Location) (m n : Name) → m ≢ n
       → TellsOf S (MakeShared o v l) (make (add_cell S m (Shared (Here v []) l)) o n (Ref m l) l)
-  shared_told S o v l m n apart = let one = add_cell S m (Shared (Here v []) l) in
-      new_told (add_cell one n (Ref m l)) o n (box_of S.number n l) m v
-      (added_reach one n (Ref m l) l)
-      (rw (get-insert_apart by_name one.cells n (Ref m l) m apart, get-insert_here by_name))
+  shared_told S o v l m n apart =
+      let one = add_cell S m (Shared (Here v []) l) in
+      let told = new_told (add_cell one n (Ref m l)) o n (box_of S.number n l) m v in
+      grind (arith, told, added_reach one n (Ref m l) l, get-insert_apart, get-insert_here, by_name)
 
   referred_told : (S : State T) (o : Option OwnerName) (b : GenerationalPointer) (n : Name)
       (to : Option Name) (target : Option (Cell T)) → set.contains S.given n ≡ false
@@ -144,9 +141,8 @@ module _ {T : Type 0} where
   written_told S g v (Some k) had known =
       grind (arith, filled_reach S g.cell (Here v []), filled_content S g.cell (Here v []) k had)
 
-  set_told : (S : State T) (b : GenerationalPointer) (v : T) (m : Option Name)
-      (c : Option (Content T)) → reach S b ≡ m → content_of (cell_at S m) ≡ c
-      → TellsOf S (SetValue b v) (set_at S b v m c)
+  set_told : (S : State T) (b : GenerationalPointer) (v : T) (m : Option Name) (c : Option (Content T))
+      → reach S b ≡ m → content_of (cell_at S m) ≡ c → TellsOf S (SetValue b v) (set_at S b v m c)
   unfolding value_in
   set_told S b v (Some m) (Some (Here old [])) to had =
       grind (arith, filled_reach S m (Here v []), filled_content S m (Here v []) (Here old []) had)
@@ -159,8 +155,7 @@ module _ {T : Type 0} where
       → among names n ≡ true → leads_to (map.get (cells_after cells names) n) n ≡ None
   ended_leads cells names n there = grind (arith, get-without, swept_view)
 
-  ended_told : (S : State T) (b : GenerationalPointer)
-      → TellsOf S (End b) (Done, close S (own_name S b))
+  ended_told : (S : State T) (b : GenerationalPointer) → TellsOf S (End b) (Done, close S (own_name S b))
   unfolding reach
   ended_told S b = grind (arith, ended_leads, name_here)
 
@@ -184,8 +179,7 @@ module _ {T : Type 0} where
   act_tells S NewOwner f new = grind (arith, nat_eq_equiv, get-insert_here, by_number)
   act_tells S (Read b l) f new = grind (arith, read_told)
   act_tells S (Write b l) f new = grind (arith, write_told)
-  act_tells S (ReleaseWriter g v) f new = by_cond (TellsOf S (ReleaseWriter g v)) (knows_writer S g)
-      (λ known. written_told S g v _ refl (and_parts _ _ known).1) (λ _. tt)
+  act_tells S (ReleaseWriter g v) f new = grind (arith, written_told S g v (content_at S g.cell) refl)
   act_tells S (SetValue b v) f new = set_told S b v (reach S b) _ refl refl
   act_tells S (End b) f new = grind (arith, ended_told)
   act_tells S (Point a b) f new = grind (arith, same_reach, same_ids, turned_told)

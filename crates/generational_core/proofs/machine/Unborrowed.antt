@@ -2,15 +2,14 @@
 -- what the tests of boxes say.
 use Rattle.generational_core.proofs.machine
 use machine.{act, Action, among, Answer, arith, Bool, BorrowMutError, box_of, by_name, can_read}
-use machine.{can_write, Cell, cells_after, Content, content_at, Done, End, end_answer, filled_content}
-use machine.{first_hindrance, Flag, Resting.free_sees, fresh, GenerationalPointer, get-changed_apart}
-use machine.{Guard, Here, hindrance_of, hindrance_to, is_some, IsOk, IsSet, IsSound, List, Location}
-use machine.{may_lack, Meets, meets_follows, Name, name_cases, name_cmp, name_here, nat_eq_equiv}
-use machine.{NewNames, None, Option, own_name, OwnerName, Ownership, ownership, reach}
-use machine.{Resting.reached_content, Read, Reads, Calling.reads_back, Ref, refill, refilled_content}
-use machine.{refl, refusal_to_read, refusal_to_write, Refused, release_answer, ReleaseOwner}
-use machine.{ReleaseReader, Resting.rests, Resting.rests_free, Result, Shared, Some, State, tickets_of}
-use machine.{true, Value, value_in, write_refusal, [], ℕ, ◌∷◌, ◌≡◌}
+use machine.{can_write, Cell, cells_after, Done, End, end_answer, filled_content, first_hindrance, Flag}
+use machine.{Resting.free_sees, fresh, GenerationalPointer, get-changed_apart, Guard, Here, hindrance_of}
+use machine.{hindrance_to, is_some, IsOk, IsSet, IsSound, List, Location, may_lack, Meets, meets_follows}
+use machine.{Name, name_cases, name_cmp, name_here, nat_eq_equiv, NewNames, None, Option, own_name}
+use machine.{OwnerName, Ownership, ownership, reach, Resting.reached_content, Read, Reads}
+use machine.{Calling.reads_back, Ref, refill, refilled_content, refl, refusal_to_read, refusal_to_write}
+use machine.{Refused, release_answer, ReleaseOwner, ReleaseReader, Resting.rests, Resting.rests_free}
+use machine.{Result, Some, State, true, Value, value_in, [], ℕ, ◌∷◌, ◌≡◌}
 use Rattle.generational_core.specs
 use specs.{Leaving.AreFree, Leaving.BeginsNoBorrow, Leaving.HasNoBorrows}
 use Rattle.std.specs.FinMap as map
@@ -28,15 +27,10 @@ module _ {T : Type 0} where
 
   -- ---- stores without borrows
 
-  -- no borrow hinders a write of a content where none stands
-  unrefused : (c : Option (Content T)) → tickets_of c ≡ [] → write_refusal c ≡ None
-  unrefused c h = grind arith
-
   module _ (S : State T) (quiet : HasNoBorrows S) (b : GenerationalPointer) where
     -- a box that reaches something may be written
     pub quiet_free : (m : Name) → reach S b ≡ Some m → can_write S b ≡ true
-    quiet_free m to =
-        rests_free S b m (record { reaches = to; free = unrefused (content_at S m) (quiet.none m) })
+    quiet_free m to = rests_free S b m (record { reaches = to; free = grind (arith, quiet.none m) })
 
     -- so one that sees nothing reaches nothing
     pub quiet_gone : IsSound S → value_in S b ≡ None → reach S b ≡ None
@@ -69,8 +63,7 @@ module _ {T : Type 0} where
     quiet_read b l g flag s read release quiet =
         rw (reads_back b l g flag s read release) (record { none = quiet.none })
 
-    pub quiet_set : (b : GenerationalPointer) (v : T) → IsSet S b v R
-        → HasNoBorrows S → HasNoBorrows R
+    pub quiet_set : (b : GenerationalPointer) (v : T) → IsSet S b v R → HasNoBorrows S → HasNoBorrows R
     quiet_set b v it quiet = record {
       none = λ n.
           let filled = filled_content S it.name (Here v []) (Here it.old []) it.content in
@@ -93,41 +86,35 @@ module _ {T : Type 0} where
     where
       one : (n : Name) → among names n ≡ true → (c : Option (Cell T)) → map.get S.cells n ≡ c
           → hindrance_of S.cells (cells_after S.cells names) c n ≡ None
-      one n there None is = refl
-      one n there (Some (Shared k l)) is = refl
       one n there (Some (Value k l)) is = let b = box_of S.number n l in
           grind (arith, free b n, rests S b, nat_eq_equiv)
       one n there (Some (Ref m l)) is = let b = box_of S.number n l in
           grind (arith, free b m, rests S b, nat_eq_equiv)
+      one n there _ is = refl
 
       each : (some : List Name) → ((n : Name) → among some n ≡ true → among names n ≡ true)
           → first_hindrance S.cells (cells_after S.cells names) some ≡ None
       each [] within = refl
       each (n ∷ some) within = grind (arith, one n, within, name_here, each some)
 
-  -- results that are told as done are Ok
-  ended_ok : {U : Type 0} (r : Result U (error.Refused BorrowMutError))
-      → ◌≡◌ {A = Answer T} (end_answer r) Done → IsOk r
-  ended_ok r e = grind arith
-
-  released_ok : {U V : Type 0} (r : Result U (V × error.Refused BorrowMutError))
-      → ◌≡◌ {A = Answer T} (release_answer r) Done → IsOk r
-  released_ok r e = grind arith
-
   module _ {S R : State T} where
     -- so a release of their owner is never refused
     pub frees_owned : (o : OwnerName) (h : Ownership) {U V : Type 0}
         (r : Result U (V × error.Refused BorrowMutError)) → ownership S o ≡ Some h
         → AreFree S h.names → Meets S (ReleaseOwner o) (release_answer r) R → IsOk r
-    frees_owned o h {U} {V} r held free m = released_ok {U = U} {V = V} r
-        (done_always S R (ReleaseOwner o) _ (λ f. grind (arith, unhindered S h.names free)) m)
+    frees_owned o h r held free m =
+        let goes = unhindered S h.names free in
+        let done : release_answer {T = T} r ≡ Done =
+        done_always S R (ReleaseOwner o) _ (λ f. grind (arith, goes)) m in
+        grind (arith, done)
 
     -- nor is an end in a store without borrows, or an owner's release
-    pub quiet_ends : (b : GenerationalPointer) {U : Type 0}
-        (r : Result U (error.Refused BorrowMutError)) → HasNoBorrows S
-        → Meets S (End b) (end_answer r) R → IsOk r
-    quiet_ends b {U} r quiet m = ended_ok {U = U} r (done_always S R (End b) _
-        (λ f. rw (unhindered S (own_name S b) (λ a m there to gone. quiet_free S quiet a m to))) m)
+    pub quiet_ends : (b : GenerationalPointer) {U : Type 0} (r : Result U (error.Refused BorrowMutError))
+        → HasNoBorrows S → Meets S (End b) (end_answer r) R → IsOk r
+    quiet_ends b r quiet m =
+        let goes = unhindered S (own_name S b) (λ a m there to gone. quiet_free S quiet a m to) in
+        let done : end_answer {T = T} r ≡ Done = done_always S R (End b) _ (λ f. rw goes) m in
+        grind (arith, done)
 
     pub quiet_releases : (o : OwnerName) (h : Ownership) {U V : Type 0}
         (r : Result U (V × error.Refused BorrowMutError)) → ownership S o ≡ Some h

@@ -70,8 +70,7 @@ module _ {K : Type 0} {R : K → K → Ordering} (o : IsKeyOrder R) where
   by_keys j k same apart = ⊎_elim same apart (key_cases j k)
 
   module _ {X : Type 0} where
-    pub get-insert_here : (m : map.FinMap R X) (k : K) (v : X)
-        → map.get (map.insert m k v) k ≡ Some v
+    pub get-insert_here : (m : map.FinMap R X) (k : K) (v : X) → map.get (map.insert m k v) k ≡ Some v
     get-insert_here m k v = rw (map.get-insert o.total m k v k, key_here k)
 
     pub get-insert_apart : (m : map.FinMap R X) (k : K) (v : X) (q : K)
@@ -112,8 +111,7 @@ module _ {K : Type 0} {R : K → K → Ordering} (o : IsKeyOrder R) where
     changed_there m k f x h = ap (change_if m k f) h
 
     -- what stands at a key, put there again
-    pub insert_there : (m : map.FinMap R X) (k : K) (x : X) → map.get m k ≡ Some x
-        → map.insert m k x ≡ m
+    pub insert_there : (m : map.FinMap R X) (k : K) (x : X) → map.get m k ≡ Some x → map.insert m k x ≡ m
     insert_there m k x there =
         map.same_map o.total o.exact _ _ (λ q. grind (arith, map.get-insert {X = X} o.total, key_same))
 
@@ -124,26 +122,15 @@ module _ {K : Type 0} {R : K → K → Ordering} (o : IsKeyOrder R) where
 
     pub get-changed_apart : (m : map.FinMap R X) (k : K) (f : X → X) (q : K)
         → q ≢ k → map.get (change m k f) q ≡ map.get m q
-    get-changed_apart m k f q ne = by_option (map.get m k) (λ e. rw (get-changed_none m k f e))
-        (λ x e. rw (changed_there m k f x e) (get-insert_apart m k (f x) q ne))
-
-    -- what is changed and changed back
-    pub changed_back : (m : map.FinMap R X) (k : K) (f g : X → X) (x : X)
-        → map.get m k ≡ Some x → g (f x) ≡ x → change (change m k f) k g ≡ m
-    changed_back m k f g x there back = map.same_map o.total o.exact _ _ (λ q. by_keys q k
-        (λ is. cc (get-changed_here (change m k f) k g (f x) (get-changed_here m k f x there)))
-        (λ ne. get-changed_apart (change m k f) k g q ne ∙ get-changed_apart m k f q ne))
-
-    pub get-changed : (m : map.FinMap R X) (k : K) (f : X → X) (q : K) → map.get (change m k f) q
-        ≡ cond (eq_by_cmp R q k) (option_map f (map.get m q)) (map.get m q)
-    get-changed m k f q = grind (arith, get-changed_none, get-changed_here, get-changed_apart)
+    unfolding change
+    get-changed_apart m k f q ne = grind (arith, get-insert_apart m k)
 
     -- the one key that is changed, if anything stands there
     pub changed_view : (m : map.FinMap R X) (k : K) (f : X → X) (q : K)
         → (map.get (change m k f) q ≡ map.get m q)
         ⊎ ((q ≡ k) × (x : X) × (map.get m q ≡ Some x) × (map.get (change m k f) q ≡ Some (f x)))
-    changed_view m k f q =
-        grind (arith, get-changed_none, get-changed_here, get-changed_apart, key_cases q k)
+    unfolding change
+    changed_view m k f q = grind (arith, get-insert_here, get-insert_apart, key_cases q k)
 
   -- what is in a set with one key more
   pub contains-insert_here : (s : set.FinSet R) (k : K) → set.contains (set.insert s k) k ≡ true
@@ -184,8 +171,8 @@ get-insert_name m k v q = map.get-insert name_total m k v q
 
 pub get-changed_name : {X : Type 0} (m : NameMap X) (k : Name) (f : X → X) (q : Name)
     → map.get (change m k f) q ≡ cond (is_name q k) (option_map f (map.get m q)) (map.get m q)
-unfolding is_name
-get-changed_name m k f q = get-changed by_name m k f q
+unfolding is_name change
+get-changed_name m k f q = grind (arith, map.get-insert name_total m k, key_same by_name q k)
 
 pub contains-insert_name : (s : Names) (k q : Name)
     → set.contains (set.insert s k) q ≡ (is_name q k || set.contains s q)
@@ -244,8 +231,7 @@ module _ {K X : Type 0} {R : K → K → Ordering}
 module _ {K X Y : Type 0} {R : K → K → Ordering} (o : IsKeyOrder R) where
   -- a map whose keys are another's is no larger
   pub len_within : (m : map.FinMap R X) (n : map.FinMap R Y)
-      → ((k : K) → map.contains_key m k ≡ true → map.contains_key n k ≡ true)
-      → map.len m ≤ map.len n
+      → ((k : K) → map.contains_key m k ≡ true → map.contains_key n k ≡ true) → map.len m ≤ map.len n
   len_within m n h =
       let le =
       length-le_from_is_member (eq_by_cmp_equiv o.total) (map.keys m) (map.keys n) (keys_apart R m)
@@ -253,8 +239,7 @@ module _ {K X Y : Type 0} {R : K → K → Ordering} (o : IsKeyOrder R) where
       omega (arith, len_keys R m, len_keys R n)
 
 -- two names are the same if both their numbers are
-pub name_test : (a b : Name)
-    → is_name a b ≡ (nat_eq a.slot b.slot && nat_eq a.generation b.generation)
+pub name_test : (a b : Name) → is_name a b ≡ (nat_eq a.slot b.slot && nat_eq a.generation b.generation)
 unfolding is_name
 name_test a b = grind arith
 
@@ -273,8 +258,7 @@ pub same_turned : (a b : GenerationalPointer) → has_same_id a b ≡ has_same_i
 same_turned a b = grind arith
 
 -- some element of a list passes
-one_passes : {A : Type 0} (p : A → Bool) (xs : List A)
-    → list_any p xs ≡ true → (x : A) × (p x ≡ true)
+one_passes : {A : Type 0} (p : A → Bool) (xs : List A) → list_any p xs ≡ true → (x : A) × (p x ≡ true)
 one_passes p [] h = cc
 one_passes p (x ∷ xs) h = ⊎_elim (λ e. (x, e)) (λ e. one_passes p xs e) (or_cases _ _ h)
 
@@ -292,8 +276,7 @@ module _ {T : Type 0} where
   is_ref m _ h = cc
 
   -- the test gives a Ref, and a Ref passes it
-  pub named_gives : (cells : NameMap (Cell T)) (m : Name)
-      → is_named cells m ≡ true → IsNamed cells m
+  pub named_gives : (cells : NameMap (Cell T)) (m : Name) → is_named cells m ≡ true → IsNamed cells m
   unfolding is_named
   named_gives cells m h = grind (arith, one_passes, is_ref)
 
