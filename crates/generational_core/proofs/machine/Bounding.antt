@@ -9,7 +9,7 @@ use machine.{kept_key, key_here, key_same, keys_apart, last, last_name, len_keys
 use machine.{length-le_from_is_member, length-map, List, list_any, list_map, live_before, max, Meets}
 use machine.{meets_each, meets_sound, Name, name_cases, name_cmp, name_total, Names, nat_cmp}
 use machine.{nat_cmp_total, NewNames, None, Option, refl, retired, slots, slots_of, Some, State, subst}
-use machine.{sym, true, unwrap_or, [], ℕ, ⊎_elim, ◌+◌, ◌<◌, ◌∙◌, ◌∷◌, ◌≡◌, ◌≢◌, ◌≤◌, ◌⊎◌}
+use machine.{sym, true, unwrap_or, [], ℕ, ⊎_elim, ◌+◌, ◌<◌, ◌∷◌, ◌≡◌, ◌≢◌, ◌≤◌, ◌⊎◌}
 use Rattle.generational_core.specs
 use specs.{Slots.Fits, Slots.lasts}
 use Rattle.std.specs.FinMap as map
@@ -29,21 +29,15 @@ IsLast names s (Some g) = IsIn names (record { slot = s; generation = g })
 abbrev pub greater : ℕ → Option ℕ → ℕ
 greater g o = max g (unwrap_or o 0)
 
-is_last_more : (m : Name) (names : List Name) (o : Option ℕ)
-    → IsLast names m.slot o → IsLast (m ∷ names) m.slot (Some (greater m.generation o))
-is_last_more m names o h = grind arith
-
-other_slot : (m : Name) (names : List Name) (s : ℕ) (o : Option ℕ)
-    → s ≢ m.slot → IsLast names s o → IsLast (m ∷ names) s o
-other_slot m names s o ne h = grind arith
-
 pub get_lasts : (names : List Name) (s : ℕ) → IsLast names s (map.get (lasts names) s)
 unfolding lasts
 get_lasts [] s = grind (arith, map.get-empty {X = ℕ} nat_cmp)
 get_lasts (m ∷ names) s =
     by_keys by_number s m.slot
-    (λ is. rw (is, get-insert_here by_number) (is_last_more m names _ (get_lasts names m.slot)))
-    (λ ne. grind (arith, get-insert_apart, by_number, other_slot, get_lasts names s))
+    (λ is. rw (is, get-insert_here by_number)
+    (grind (arith, get_lasts names m.slot, key_here, key_same, by_name)))
+    (λ ne. rw (get-insert_apart by_number (lasts names) m.slot _ s ne)
+    (grind (arith, get_lasts names s, key_same, by_name)))
 
 -- two lists with the same names have the same last generations
 pub one_last : (xs ys : List Name) (s : ℕ) → ((n : Name) → IsIn xs n → IsIn ys n)
@@ -67,13 +61,12 @@ pub lasts_insert : (given : Names) (n : Name)
     → lasts (set.items (set.insert given n)) ≡ map.insert (lasts (set.items given)) n.slot
     (greater n.generation (map.get (lasts (set.items given)) n.slot))
 unfolding lasts
-lasts_insert given n = lasts_same (set.items (set.insert given n))
-    (n ∷ set.items given) (λ q h. same q ∙ (set.contains-items (set.insert given n) q ∙ h))
-    (λ q h. cc (same q, set.contains-items (set.insert given n) q))
-  where
-    same : (q : Name) → list_any (eq_by_cmp name_cmp q) (n ∷ set.items given)
-        ≡ set.contains (set.insert given n) q
-    same q = rw (set.contains-insert name_total given n q, set.contains-items given q)
+lasts_insert given n =
+    let same = set.contains-insert name_total given n in
+    let items = set.contains-items (set.insert given n) in
+    let old = set.contains-items given in
+    lasts_same (set.items (set.insert given n)) (n ∷ set.items given)
+    (λ q h. grind (arith, same q, items q, old q)) (λ q h. grind (arith, same q, items q, old q))
 
 -- the slot of a name in a list is in the list of slots
 slot_there : (n : Name) (names : List Name) → IsIn names n

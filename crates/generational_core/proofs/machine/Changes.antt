@@ -8,10 +8,10 @@ use Common.{content_at, content_of, Done, End, ending, false, fill, filter, Flag
 use Common.{get-changed_name, get-insert_apart, get-insert_here, get-remove_apart, get-remove_here, Guard}
 use Common.{has_writer, Here, hindrance_at, hindrance_to, is_known, is_name, is_shared, IsBoxed, IsNew}
 use Common.{knows_reader, knows_writer, Lends, Lent, List, list_any-append, Location, Made, Make}
-use Common.{MakeShared, Name, name_here, name_of, Names, names_in, nat_eq, nat_eq_equiv, nat_lt, NewNames}
-use Common.{NewOwner, next_borrow, None, not, one_less, one_listed, one_more, Option, option_map, Outcome}
-use Common.{own_name, Owned, OwnerName, Owners, Ownership, ownership, Point, point, reach, Read, read_at}
-use Common.{Reads, Ref, Refer, refer, refill, refl, refusal_at, refusal_to_write, Refused, release_owner}
+use Common.{MakeShared, Name, name_here, name_of, Names, names_in, nat_eq, nat_lt, NewNames, NewOwner}
+use Common.{next_borrow, None, not, one_less, one_listed, one_more, Option, option_map, Outcome, own_name}
+use Common.{Owned, OwnerName, Owners, Ownership, ownership, Point, point, reach, Read, read_at, Reads}
+use Common.{Ref, Refer, refer, refill, refl, refusal_at, refusal_to_write, Refused, release_owner}
 use Common.{ReleaseOwner, ReleaseReader, ReleaseWriter, remove_reader, set_at, Sets, SetValue, Shared}
 use Common.{Some, State, StoreError, sweep, sym, tickets_of, true, Turns, unless, Value, want, Write}
 use Common.{write_at, write_refusal, Writes, [], ℕ, ◌++◌, ◌+◌, ◌<◌, ◌∷◌, ◌≡◌, ◌≢◌, ◌≤◌}
@@ -171,36 +171,6 @@ module _ {T : Type 0} where
     pub lawful : IsLawful S call f next change
     pub recorded : AreRecords (after S f change) next (after S f change).owners
         → AreRecords (after S f change) next owners
-    pub said : AreFresh S call f → IsSaid S out
-
-  -- an answer of which nothing is to be shown
-  plain : {S : State T} {out : Outcome T} → Says S out.0 out.1 → wants out.0 ≡ None → IsSaid S out
-  plain so able = record { so = so; able = able }
-
-  -- an outcome with a change of cells, a table of owners and a next ticket
-  leads : {S : State T} {call : Action T} {f : NewNames} {answer : Answer T} (c : Change T)
-      (owners : Owners) (next : ℕ) → S.next ≤ next → IsLawful S call f next c
-      → (AreRecords (after S f c) next (after S f c).owners → AreRecords (after S f c) next owners)
-      → let out : Outcome T = (answer, record (after S f c) { owners = owners; next = next }) in
-      (AreFresh S call f → IsSaid S out) → Leads S call f out
-  leads c o n u l r s = record
-      { change = c; owners = o; next = n; is = refl; up = u; lawful = l; recorded = r; said = s }
-
-  -- nothing changes
-  still : {S : State T} {call : Action T} {f : NewNames} {answer : Answer T}
-      → IsSaid S (answer, S) → Leads S call f (answer, S)
-  still {S} said = leads Stay _ S.next (omega arith) tt (λ h. h) (λ _. said)
-
-  -- a refusal where a refusal stands, and one of two outcomes
-  leads_unless : {S : State T} {call : Action T} {f : NewNames} (t : Option BorrowRefusal) {x : Outcome T}
-      → (t ≡ None → Leads S call f x) → Leads S call f (unless t S x)
-  leads_unless t h = grind (arith, still)
-
-  leads_if : {S : State T} {call : Action T} {f : NewNames} (b : Bool) {x y : Outcome T}
-      → (b ≡ true → Leads S call f x) → Leads S call f y → Leads S call f (cond b x y)
-  leads_if b h k = grind arith
-
-  -- ---- owners
 
   -- the record of an owner that the store knows
   pub held_record : (S : State T) (o : OwnerName) (h : Ownership)
@@ -213,8 +183,7 @@ module _ {T : Type 0} where
   boxed_push S (m ∷ names) n h b = (h.0, boxed_push S names n h.1 b)
 
   -- a name more in a list, a record put in, and a record forgotten
-  module _ (S : State T) (next : ℕ) (owners : Owners)
-      (all : AreRecords S next owners) (key : ℕ) where
+  module _ (S : State T) (next : ℕ) (owners : Owners) (all : AreRecords S next owners) (key : ℕ) where
     records_listed : (n : Name) → IsBoxed S n → AreRecords S next (change owners key (one_listed n))
     records_listed n boxed = grind (arith, boxed_push, changed_view, by_number)
 
@@ -225,55 +194,10 @@ module _ {T : Type 0} where
     records_left : AreRecords S next (map.remove owners key)
     records_left = grind (arith, by_number, get-remove_here, get-remove_apart)
 
-  leads_cloned : {S : State T} {f : NewNames} (o : OwnerName) (h : Option Ownership)
-      → ownership S o ≡ h → Leads S (CloneOwner o) f (clone_owner S o h)
-  leads_cloned o None is = still (plain tt refl)
-  leads_cloned {S} o (Some h) is = leads Stay _ (S.next + 1) (omega arith) tt
-      (λ all. let old = all o.key h (held_record S o h is) in
-      records_put S _ S.owners all o.key (one_more h) old.0 old.1) (λ _. plain refl refl)
-
-  leads_released : {S : State T} {f : NewNames} (o : OwnerName) (h : Option Ownership)
-      → ownership S o ≡ h → Leads S (ReleaseOwner o) f (release_owner S o h)
-  leads_released o None is = still (plain tt refl)
-  leads_released {S} o (Some h) is = leads_if (nat_lt 1 h.count) (λ _.
-      leads Stay _ S.next (omega arith) tt (λ all. let old = all o.key h (held_record S o h is) in
-      records_put S _ S.owners all o.key (one_less h) old.0 old.1) (λ _. plain tt refl))
-      (leads_unless (hindrance_to S h.names) (λ free. leads
-      (Close h.names) _ S.next (omega arith) (free, ap names_in (sym (held_record S o h is)))
-      (λ all. records_left (close S h.names) _ S.owners all o.key) (λ _. plain tt refl)))
-
-  -- ---- makings
-
   -- the name of a new cell that is no Shared one
   boxed_here : (S : State T) (n : Name) (c : Cell T)
       → is_shared (Some c) ≡ false → IsBoxed (add_cell S n c) n
   boxed_here S n c plain = grind (arith, get-insert_here, by_name, contains-insert_here)
-
-  -- cells are made, and their box is listed
-  leads_made : {S : State T}
-      {call : Action T} {f : NewNames} (c : Change T) (o : Option OwnerName) (b : GenerationalPointer)
-      → S.next ≤ (after S f c).next → IsLawful S call f (after S f c).next c → b.id.store ≡ S.number
-      → (AreFresh S call f → set.contains S.given (name_of b) ≡ false) → IsBoxed
-      (after S f c) (name_of b) → Leads S call f (Made b, add_to_list (after S f c) o (name_of b))
-  leads_made {S} {f = f} c None b up lawful number fresh boxed =
-      leads c _ (after S f c).next up lawful (λ h. h)
-      (λ new. plain (record { number = number; ungiven = fresh new; boxed = boxed }) refl)
-  leads_made {S} {f = f} c (Some o) b up lawful number fresh boxed =
-      let Q = after S f c in
-      leads c _ Q.next up lawful
-      (λ all. records_listed Q _ Q.owners all o.key (name_of b) boxed)
-      (λ new. plain (record { number = number; ungiven = fresh new; boxed = boxed }) refl)
-
-  leads_referred : {S : State T} {f : NewNames} (o : Option OwnerName) (b : GenerationalPointer)
-      (to : Option Name) (target : Option (Cell T)) → cell_at S to ≡ target
-      → Leads S (Refer o b) f (refer S o b to target f.first)
-  leads_referred {S} {f} o b (Some m) (Some (Shared c l)) is =
-      leads_made (Birth (Ref m l)) o _ (omega arith)
-      (refl, (refl, refl, λ k j e. cc), λ new. new) refl
-      (λ new. new) (boxed_here S f.first (Ref m l) refl)
-  leads_referred o b to target is = still (plain tt refl)
-
-  -- ---- borrows
 
   -- a cell with a content has the one that is filled in
   pub refilled_content : (c old : Content T) (x : Option (Cell T))
@@ -284,89 +208,150 @@ module _ {T : Type 0} where
       → content_at S m ≡ Some old → content_at (fill S m c) m ≡ Some c
   filled_content S m c old had = grind (arith, get-changed_name, name_here)
 
-  leads_read : {S : State T} {f : NewNames} (b : GenerationalPointer) (l : Location) (m : Option Name)
-      (c : Option (Content T)) → content_of (cell_at S m) ≡ c → reach S b ≡ m
-      → Leads S (Read b l) f (read_at S l m c)
-  leads_read {S} b l (Some m) (Some (Here v readers)) had to =
-      let k : Filling T = Reader v readers l in
-      let filled = filled_content S m (new_content S k) (Here v readers) had in
-      leads (Fill m k) _ (S.next + 1) (omega arith) (had, (refl, to)) (λ h. h) (λ _. plain
-      (record { is = refl; next = refl }, grind (arith, filled, list_any-append, nat_eq_equiv)) refl)
-  leads_read b l m c had to = still (plain tt refl)
+  module _ {S : State T} {f : NewNames} where
+    -- an outcome with a change of cells, a table of owners and a next ticket
+    leads : {call : Action T} {answer : Answer T} (c : Change T) (owners : Owners) (next : ℕ)
+        → S.next ≤ next → IsLawful S call f next c
+        → (AreRecords (after S f c) next (after S f c).owners → AreRecords (after S f c) next owners)
+        → Leads S call f (answer, record (after S f c) { owners = owners; next = next })
+    leads c o n u l r = record
+        { change = c; owners = o; next = n; is = refl; up = u; lawful = l; recorded = r }
 
-  leads_write : {S : State T} {f : NewNames} (b : GenerationalPointer) (l : Location) (m : Option Name)
-      (c : Option (Content T)) → content_of (cell_at S m) ≡ c
-      → refusal_at m b.created_at (λ n. write_refusal (content_at S n)) ≡ None → reach S b ≡ m
-      → Leads S (Write b l) f (write_at S l m c)
-  leads_write {S} b l (Some m) (Some (Here v [])) had free to =
-      let filled = filled_content S m (Lent (next_borrow S l)) (Here v []) had in
-      leads (Fill m (Writer v l)) _ (S.next + 1) (omega arith) (had, (refl, to, to)) (λ h. h)
-      (λ _. plain (record { is = refl; next = refl }, grind (arith, filled, nat_eq_equiv)) refl)
-  leads_write b l (Some m) (Some (Here v (r ∷ readers))) had free to = cc (ap write_refusal had)
-  leads_write b l m c had free to = still (plain tt refl)
+    -- nothing changes
+    still : {call : Action T} {answer : Answer T} → Leads S call f (answer, S)
+    still = leads Stay _ S.next (omega arith) tt (λ h. h)
 
-  leads_left : {S : State T} {f : NewNames} (g : Guard) (c : Option (Content T)) → content_at S g.cell ≡ c
-      → Leads S (ReleaseReader g) f (Flag true, remove_reader S g.cell g.ticket c)
-  leads_left {S} g (Some (Here v readers)) had =
-      leads (Fill g.cell (Leave v readers g)) _ S.next (omega arith) (had, (refl, refl)) (λ h. h)
-      (λ _. plain tt refl)
-  leads_left g c had = still (plain tt refl)
+    -- a content is filled anew
+    fills : {call : Action T} {answer : Answer T} (n : Name) (k : Filling T) (next : ℕ) → S.next ≤ next
+        → content_at S n ≡ Some (old_content k) → IsFilling S call next n k
+        → Leads S call f (answer, record (fill S n (new_content S k)) { next = next })
+    fills n k next up had law = leads (Fill n k) _ next up (had, law) (λ h. h)
 
-  leads_returned : {S : State T} {f : NewNames} (g : Guard) (v : T) (c : Option (Content T))
-      → content_at S g.cell ≡ c → has_writer c g.ticket ≡ true
-      → Leads S (ReleaseWriter g v) f (Done, fill S g.cell (Here v []))
-  leads_returned {S} g v (Some (Lent w)) had known = leads (Fill g.cell (Return w g v)) _
-      S.next (omega arith) (had, (refl, known, refl)) (λ h. h) (λ _. plain tt refl)
-  leads_returned g v c had known = cc
+    -- a refusal where a refusal stands, and one of two outcomes
+    leads_unless : {call : Action T} (t : Option BorrowRefusal) {x : Outcome T}
+        → (t ≡ None → Leads S call f x) → Leads S call f (unless t S x)
+    leads_unless t h = grind (arith, still)
 
-  leads_set : {S : State T} {f : NewNames} (b : GenerationalPointer) (v : T) (m : Option Name)
-      (c : Option (Content T)) → content_of (cell_at S m) ≡ c → reach S b ≡ m
-      → Leads S (SetValue b v) f (set_at S b v m c)
-  leads_set {S} b v (Some m) (Some (Here old [])) had is =
-      leads (Fill m (Replace old v)) _ S.next (omega arith) (had, is) (λ h. h) (λ _. plain tt refl)
-  leads_set b v None c had is = still (plain tt refl)
-  leads_set b v m c had is = still (plain tt refl)
+    leads_if : {call : Action T} (b : Bool) {x y : Outcome T}
+        → (b ≡ true → Leads S call f x) → Leads S call f y → Leads S call f (cond b x y)
+    leads_if b h k = grind arith
 
-  -- ---- references
+    -- ---- owners
 
-  leads_pointed : {S : State T} {f : NewNames} (a b : GenerationalPointer) (own : Bool)
-      (cell : Option (Cell T)) (to : Option Name) (target : Option (Cell T))
-      → map.get S.cells (name_of a) ≡ cell → cell_at S to ≡ target
-      → Leads S (Point a b) f (point S a b (cond own cell None) to target)
-  leads_pointed {S} a b true (Some (Ref old l)) (Some new) (Some (Shared c k)) at_a at_b =
-      leads_if (is_name old new) (λ _. still (plain tt refl)) (leads_unless _
-      (λ free. leads (Turn (name_of a) old new l) _ S.next (omega arith)
-      (at_a, ap is_shared at_b, free, refl) (λ h. h) (λ _. plain tt refl)))
-  leads_pointed a b _ _ _ _ at_a at_b = still (plain tt refl)
+    leads_cloned : (o : OwnerName) (h : Option Ownership) → ownership S o ≡ h
+        → Leads S (CloneOwner o) f (clone_owner S o h)
+    leads_cloned o None is = still
+    leads_cloned o (Some h) is = leads Stay _ (S.next + 1) (omega arith) tt
+        (λ all. let old = all o.key h (held_record S o h is) in
+        records_put S _ S.owners all o.key (one_more h) old.0 old.1)
+
+    leads_released : (o : OwnerName) (h : Option Ownership) → ownership S o ≡ h
+        → Leads S (ReleaseOwner o) f (release_owner S o h)
+    leads_released o None is = still
+    leads_released o (Some h) is = leads_if (nat_lt 1 h.count) (λ _.
+        leads Stay _ S.next (omega arith) tt (λ all. let old = all o.key h (held_record S o h is) in
+        records_put S _ S.owners all o.key (one_less h) old.0 old.1))
+        (leads_unless (hindrance_to S h.names) (λ free. leads
+        (Close h.names) _ S.next (omega arith) (free, ap names_in (sym (held_record S o h is)))
+        (λ all. records_left (close S h.names) _ S.owners all o.key)))
+
+    -- ---- makings
+
+    -- cells are made, and their box is listed
+    leads_made : {call : Action T} (c : Change T) (o : Option OwnerName) (b : GenerationalPointer)
+        → S.next ≤ (after S f c).next → IsLawful S call f (after S f c).next c
+        → IsBoxed (after S f c) (name_of b)
+        → Leads S call f (Made b, add_to_list (after S f c) o (name_of b))
+    leads_made c None b up lawful boxed = leads c _ (after S f c).next up lawful (λ h. h)
+    leads_made c (Some o) b up lawful boxed = let Q = after S f c in leads c _ Q.next up lawful
+        (λ all. records_listed Q _ Q.owners all o.key (name_of b) boxed)
+
+    leads_referred : (o : Option OwnerName) (b : GenerationalPointer) (to : Option Name)
+        (target : Option (Cell T)) → cell_at S to ≡ target
+        → Leads S (Refer o b) f (refer S o b to target f.first)
+    leads_referred o b (Some m) (Some (Shared c l)) is = leads_made (Birth (Ref m l)) o _ (omega arith)
+        (refl, (refl, refl, λ k j e. cc), λ new. new) (boxed_here S f.first (Ref m l) refl)
+    leads_referred o b to target is = still
+
+    -- ---- borrows
+
+    leads_read : (b : GenerationalPointer) (l : Location) (m : Option Name) (c : Option (Content T))
+        → content_of (cell_at S m) ≡ c → reach S b ≡ m → Leads S (Read b l) f (read_at S l m c)
+    leads_read b l (Some m) (Some (Here v readers)) had to =
+        fills m (Reader v readers l) (S.next + 1) (omega arith) had (refl, to)
+    leads_read b l m c had to = still
+
+    leads_write : (b : GenerationalPointer) (l : Location) (m : Option Name) (c : Option (Content T))
+        → content_of (cell_at S m) ≡ c
+        → refusal_at m b.created_at (λ n. write_refusal (content_at S n)) ≡ None → reach S b ≡ m
+        → Leads S (Write b l) f (write_at S l m c)
+    leads_write b l (Some m) (Some (Here v [])) had free to =
+        fills m (Writer v l) (S.next + 1) (omega arith) had (refl, to, to)
+    leads_write b l (Some m) (Some (Here v (r ∷ readers))) had free to = cc (ap write_refusal had)
+    leads_write b l m c had free to = still
+
+    leads_left : (g : Guard) (c : Option (Content T)) → content_at S g.cell ≡ c
+        → Leads S (ReleaseReader g) f (Flag true, remove_reader S g.cell g.ticket c)
+    leads_left g (Some (Here v readers)) had =
+        fills g.cell (Leave v readers g) S.next (omega arith) had (refl, refl)
+    leads_left g c had = still
+
+    leads_returned : (g : Guard) (v : T) (c : Option (Content T)) → content_at S g.cell ≡ c
+        → has_writer c g.ticket ≡ true
+        → Leads S (ReleaseWriter g v) f (Done, fill S g.cell (Here v []))
+    leads_returned g v (Some (Lent w)) had known =
+        fills g.cell (Return w g v) S.next (omega arith) had (refl, known, refl)
+    leads_returned g v c had known = cc
+
+    leads_set : (b : GenerationalPointer) (v : T) (m : Option Name) (c : Option (Content T))
+        → content_of (cell_at S m) ≡ c → reach S b ≡ m → Leads S (SetValue b v) f (set_at S b v m c)
+    leads_set b v (Some m) (Some (Here old [])) had is =
+        fills m (Replace old v) S.next (omega arith) had is
+    leads_set b v None c had is = still
+    leads_set b v m c had is = still
+
+    -- ---- references
+
+    leads_pointed : (a b : GenerationalPointer) (own : Bool) (cell : Option (Cell T)) (to : Option Name)
+        (target : Option (Cell T)) → map.get S.cells (name_of a) ≡ cell → cell_at S to ≡ target
+        → Leads S (Point a b) f (point S a b (cond own cell None) to target)
+    leads_pointed a b true (Some (Ref old l)) (Some new) (Some (Shared c k)) at_a at_b =
+        leads_if (is_name old new) (λ _. still) (leads_unless _
+        (λ free. leads (Turn (name_of a) old new l) _ S.next (omega arith)
+        (at_a, ap is_shared at_b, free, refl) (λ h. h)))
+    leads_pointed a b _ _ _ _ at_a at_b = still
 
   -- what each call leads to
   pub act_leads : (S : State T) (call : Action T) (f : NewNames) → Leads S call f (act S call f)
   unfolding refusal_to_write
   act_leads S (Make o v l) f = leads_if (is_known S o)
       (λ _. leads_made (Birth (Value (Here v []) l)) o _ (omega arith)
-      (refl, (refl, refl, λ m k e. cc), λ new. new) refl (λ new. new)
-      (boxed_here S f.first _ refl)) (still (plain tt refl))
+      (refl, (refl, refl, λ m k e. cc), λ new. new) (boxed_here S f.first _ refl)) still
   act_leads S (MakeShared o v l) f = leads_if (is_known S o)
-      (λ _. leads_made (Pair v l) o _ (omega arith) (refl, λ new. new) refl (λ new. new.1)
-      (boxed_here (add_cell S f.first (Shared (Here v []) l)) f.second (Ref f.first l) refl))
-      (still (plain tt refl))
-  act_leads S (Refer o b) f = search (leads_if, leads_unless, leads_referred, still, plain)
+      (λ _. leads_made (Pair v l) o _ (omega arith) (refl, λ new. new)
+      (boxed_here (add_cell S f.first (Shared (Here v []) l)) f.second (Ref f.first l) refl)) still
+  act_leads S (Refer o b) f = search (leads_if, leads_unless, leads_referred, still)
   act_leads S NewOwner f = leads Stay _ (S.next + 1) (omega arith) tt
-      (λ all. records_put S _ S.owners all S.next _ tt (omega arith)) (λ _. plain refl refl)
+      (λ all. records_put S _ S.owners all S.next _ tt (omega arith))
   act_leads S (CloneOwner o) f = search leads_cloned
   act_leads S (ReleaseOwner o) f = search leads_released
   act_leads S (Read b l) f = search (leads_unless, leads_read)
   act_leads S (Write b l) f = search (leads_unless, leads_write)
-  act_leads S (ReleaseReader g) f = search (leads_if, leads_left, still, plain)
+  act_leads S (ReleaseReader g) f = search (leads_if, leads_left, still)
   act_leads S (ReleaseWriter g v) f = leads_if (knows_writer S g)
-      (λ known. leads_returned g v _ refl (and_parts _ _ known).1) (still (plain tt refl))
+      (λ known. leads_returned g v _ refl (and_parts _ _ known).1) still
   act_leads S (SetValue b v) f = search leads_set
-  act_leads S (End b) f = leads_unless (hindrance_to S (own_name S b)) (λ free. leads
-      (Close (own_name S b)) _ S.next (omega arith) (free, refl) (λ h. h) (λ _. plain tt refl))
-  act_leads S (Point a b) f = search (leads_if, leads_unless, leads_pointed, still, plain)
-  act_leads S _ f = still (plain tt refl)
+  act_leads S (End b) f = leads_unless (hindrance_to S (own_name S b))
+      (λ free. leads (Close (own_name S b)) _ S.next (omega arith) (free, refl) (λ h. h))
+  act_leads S (Point a b) f = search (leads_if, leads_unless, leads_pointed, still)
+  act_leads S _ f = still
 
   -- what each call answers is so
   pub act_says : (S : State T) (call : Action T) (f : NewNames)
       → AreFresh S call f → IsSaid S (act S call f)
-  act_says S call f new = (act_leads S call f).said new
+  act_says S (Make o v l) f new = grind (arith, get-insert_here, by_name, contains-insert_here)
+  act_says S (MakeShared o v l) f new = grind (arith, get-insert_here, by_name, contains-insert_here)
+  act_says S (Refer o b) f new = grind (arith, get-insert_here, by_name, contains-insert_here)
+  act_says S (Read b l) f new = grind (arith, get-changed_name, name_here, list_any-append)
+  act_says S (Write b l) f new = grind (arith, get-changed_name, name_here)
+  act_says S call f new = grind arith

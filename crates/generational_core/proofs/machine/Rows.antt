@@ -111,9 +111,8 @@ module _ (P : Plain) (number : ℕ) (n : Name) (as_cell : Content (Unit {0}) →
       ≡ holding (bare_content c)
   content_read one lent (Here v readers) = readers_read one [] readers
   content_read one lent (Lent w) =
-      ap (λ m. record P { cells = m })
-      (changed_put by_name P.cells n (as_cell (Here tt [])) (refill (Lent w))
-      ∙ ap (map.insert P.cells n) (lent w (Here tt [])))
+      let put = changed_put by_name P.cells n (as_cell (Here tt [])) (refill (Lent w)) in
+      grind (arith, put, lent w (Here tt []))
 
 pub cell_read : {T : Type 0} (P : Plain) (number : ℕ) (n : Name) (c : Cell T)
     → read_rows P (cell_rows number n (Some c)) ≡ record P { cells = map.insert P.cells n (bare_cell c) }

@@ -77,28 +77,24 @@ module _ {T : Type 0} where
   unfolding reach
   added_reach S n c l = rw (nat_eq_equiv.refl S.number, get-insert_here by_name S.cells n c)
 
-  -- a box that reaches a value without borrows sees it, and may be written; it is listed
-  new_told : (Q : State T) (o : Option OwnerName) (n : Name) (b : GenerationalPointer) (m : Name)
-      (v : T) → reach Q b ≡ Some m → content_at Q m ≡ Some (Here v [])
-      → let R = add_to_list Q o n in
-      (value_in R b ≡ Some v) × Lists Q o n R × (can_write R b ≡ true)
-  unfolding value_in refusal_to_write
-  new_told Q o n b m v to there = grind (arith, listed Q o n b, in_list Q o n)
-
   made_told : (S : State T) (o : Option OwnerName) (v : T) (l : Location) (n : Name)
       → TellsOf S (Make o v l) (make S o n (Value (Here v []) l) l)
+  unfolding value_in refusal_to_write
   made_told S o v l n =
       let Q = add_cell S n (Value (Here v []) l) in
-      let b = box_of S.number n l in
       let to = added_reach S n (Value (Here v []) l) l in
-      grind (arith, to, listed Q o n b, new_told Q o n b n v, get-insert_here, by_name)
+      let list = listed Q o n (box_of S.number n l) in
+      grind (arith, to, list, in_list Q o n, get-insert_here, by_name)
 
   shared_told : (S : State T) (o : Option OwnerName) (v : T) (l : Location) (m n : Name) → m ≢ n
       → TellsOf S (MakeShared o v l) (make (add_cell S m (Shared (Here v []) l)) o n (Ref m l) l)
+  unfolding value_in refusal_to_write
   shared_told S o v l m n apart =
       let one = add_cell S m (Shared (Here v []) l) in
-      let told = new_told (add_cell one n (Ref m l)) o n (box_of S.number n l) m v in
-      grind (arith, told, added_reach one n (Ref m l) l, get-insert_apart, get-insert_here, by_name)
+      let Q = add_cell one n (Ref m l) in
+      let to = added_reach one n (Ref m l) l in
+      let list = listed Q o n (box_of S.number n l) in
+      grind (arith, to, list, in_list Q o n, get-insert_apart, get-insert_here, by_name)
 
   referred_told : (S : State T) (o : Option OwnerName) (b : GenerationalPointer) (n : Name)
       (to : Option Name) (target : Option (Cell T)) → set.contains S.given n ≡ false
