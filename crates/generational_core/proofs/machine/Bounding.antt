@@ -100,8 +100,8 @@ module _ {T : Type 0} where
       × (is_some (map.get R.cells (last_name S s)) ≡ true → is_last_live S s ≡ true))
       → retired S ≤ retired R
   retired_still S R still =
-      len_within by_number _ _
-      (λ s h. grind (arith, key_kept (slots_of S) (is_retired S) s h, still s, kept_key, by_number))
+      let view = keep_view by_number (slots_of S) (is_retired S) in
+      len_within by_number _ _ (λ s h. grind (arith, view s, still s, kept_key, by_number))
 
   -- where nothing new is live and no name is given, the bound is kept
   kept_bounded : (S R : State T) → R.given ≡ S.given → R.peak ≡ S.peak

@@ -6,9 +6,8 @@ use machine.{Err, GenerationalPointer, IsBoxed, IsEnded, IsSound, Seeing.kept_va
 use machine.{meets_follows, meets_given, meets_says, meets_sound, Name, name_here, name_of, Ok, OnOk}
 use machine.{OwnerName, Ownership, ownership, Point, Calling.points, reach, Seeing.reached_live}
 use machine.{Seeing.reaches, release_answer, ReleaseOwner, Result, shared_still, Some, State, true}
-use machine.{value_in, [], ◌≡◌, ◌≤◌}
+use machine.{value_in, ◌≡◌, ◌≤◌}
 use Rattle.generational_errors.specs.declared.error.Refused.{Refused}
-use Rattle.std.specs.FinMap as map
 
 module _ {T : Type 0} where
   -- ---- names of boxes

@@ -115,14 +115,12 @@ module _ {T : Type 0} where
   pub writes_back : {S R Q : State T} (b : GenerationalPointer) (l : Location) (g : Guard) (w v : T)
       {U : Type 0} (r : Result U T) → Meets S (Write b l) (Writes g w) R
       → Meets R (ReleaseWriter g v) (back_answer r) Q → IsOk r × IsSet S b v Q
-  writes_back {S} {R} {Q} b l g w v {U} r write release =
-      let it = wrote S R b l g w write in
-      let back = writer_returns g v {U = U} r (writes_known S R (Write b l) g w write).0 release in
+  writes_back {S} {R} {Q} b l g w v r write release =
       let lent = refill (Lent (next_borrow S l)) in
       let here = refill (Here v []) in
       let twice = changed_twice S.cells g.cell lent here here (refill_twice _ _) in
-      let after : Q ≡ take_ticket (fill S g.cell (Here v [])) = grind (arith, back.1, it.2, twice) in
-      (back.0, record { name = g.cell; old = w; reached = it.0; content = it.1; after = after })
+      let known = (writes_known S R (Write b l) g w write).0 in
+      grind (arith, wrote S R b l g w write, known, twice, release)
 
   -- ---- what boxes see then
 

@@ -1,57 +1,27 @@
 -- What a call leaves of boxes, as equations: what a box reaches, the content there, and what it sees.
 use Rattle.generational_core.proofs.machine
-use machine.{absent, act, act_start, Action, add_cell, among, Answer, ap, AreNew, arith, by_name, Cell}
-use machine.{cell_at, Content, false, GenerationalPointer, get-insert_apart, get-insert_here, held_record}
-use machine.{Here, is_making, IsGiven, IsSound, IsUnchanged, LeavesBox, LeavesValue, Telling.listed}
-use machine.{Location, made_new, Make, make, MakeShared, Meets, meets_cases, meets_follows, meets_sound}
-use machine.{Name, name_of, names_in, NewNames, None, Option, Outcome, OwnerName, Ownership, ownership}
-use machine.{reach, Seeing.reach_stays, Seeing.reached_live, Ref, Refer, refer, refl, refusal_to_read}
-use machine.{refusal_to_write, ReleaseOwner, Shared, Some, State, true, Calling.unseen, Value, value_in}
-use machine.{Seeing.value_stays, [], ◌∙◌, ◌≡◌, ◌≢◌}
+use machine.{absent, act, act_start, Action, among, Answer, ap, AreNew, arith, by_name, false}
+use machine.{GenerationalPointer, get-insert_apart, get-insert_here, held_record, is_making, IsGiven}
+use machine.{IsSound, IsUnchanged, LeavesBox, LeavesValue, made_new, Make, MakeShared, Meets, meets_cases}
+use machine.{meets_follows, meets_sound, name_of, names_in, NewNames, None, OwnerName, Ownership}
+use machine.{ownership, reach, Seeing.reach_stays, Seeing.reached_live, Refer, refusal_to_read}
+use machine.{refusal_to_write, ReleaseOwner, Some, State, true, Calling.unseen, value_in}
+use machine.{Seeing.value_stays, ◌∙◌, ◌≡◌}
 use Rattle.generational_core.specs
-use specs.{Leaving.GivesOther, Leaving.IsBeside, Leaving.LeavesContent}
-use Rattle.std.specs.FinMap as map
+use specs.{Leaving.GivesOther, Leaving.LeavesContent}
 
 module _ {T : Type 0} where
   -- ---- a making, which gives another box
 
-  -- a cell under another name
-  added_beside : (S : State T) (n : Name) (c : Cell T) (b : GenerationalPointer)
-      → name_of b ≢ n → reach (add_cell S n c) b ≡ reach S b
-  unfolding reach
-  added_beside S n c b ne = grind (arith, get-insert_apart by_name S.cells n c (name_of b) ne)
-
-  -- and a Shared cell, which no box reaches by its name
-  shared_beside : (S : State T) (n : Name) (k : Content T) (l : Location) (b : GenerationalPointer)
-      → map.get S.cells n ≡ None → reach (add_cell S n (Shared k l)) b ≡ reach S b
-  unfolding reach
-  shared_beside S n k l b none = grind (arith, by_name, get-insert_here, get-insert_apart)
-
-  -- an outcome that gives another box lets a box reach what it reached
-  abbrev Reaches : State T → GenerationalPointer → Outcome T → Type 0
-  Reaches S b out = IsBeside out.0 b → reach out.1 b ≡ reach S b
-
-  made_beside : (S Q : State T) (o : Option OwnerName) (n : Name) (c : Cell T) (l : Location)
-      (b : GenerationalPointer) → reach Q b ≡ reach S b → Reaches S b (make Q o n c l)
-  made_beside S Q o n c l b before = grind (arith, listed, added_beside)
-
-  referred_beside : (S : State T) (o : Option OwnerName) (a b : GenerationalPointer) (to : Option Name)
-      (target : Option (Cell T)) (n : Name) → Reaches S b (refer S o a to target n)
-  referred_beside S o a b (Some m) (Some (Shared c l)) n =
-      made_beside S S o n (Ref m l) l b refl
-  referred_beside S o a b to target n = λ _. refl
-
+  -- a call that makes another box lets a box reach what it reached
   making_beside : (S : State T) → IsSound S → (call : Action T) (f : NewNames) → AreNew S call f
       → is_making call ≡ true → (b : GenerationalPointer)
       → GivesOther call (act S call f).0 b → reach (act S call f).1 b ≡ reach S b
-  making_beside S s (Make o v l) f new making b =
-      grind (arith, made_beside S S o f.first (Value (Here v []) l) l b refl)
+  unfolding reach
+  making_beside S s (Make o v l) f new making b = grind (arith, get-insert_apart, by_name)
   making_beside S s (MakeShared o v l) f new making b =
-      let one = add_cell S f.first (Shared (Here v []) l) in
-      let none = shared_beside S f.first (Here v []) l b (absent S s f.first new.0.ungiven) in
-      grind (arith, made_beside S one o f.second (Ref f.first l) l b none)
-  making_beside S s (Refer o a) f new making b =
-      grind (arith, referred_beside S o a b (reach S a) (cell_at S (reach S a)) f.first)
+      grind (arith, get-insert_apart, get-insert_here, by_name, absent S s f.first new.0.ungiven)
+  making_beside S s (Refer o a) f new making b = grind (arith, get-insert_apart, by_name)
   making_beside S s _ f new making b = cc
 
   -- ---- what a box reaches

@@ -6,7 +6,7 @@ use machine.{get-changed_apart, get-insert_apart, get-remove_apart, IfOk, is_som
 use machine.{Made, Make, MakeShared, Meets, meets_cases, Telling.meets_tells, Name, name_of, nat_eq}
 use machine.{NewNames, NewOwner, None, Ok, one_listed, Outcome, owner_answer, OwnerName, Owners}
 use machine.{Ownership, ownership, pointer_of, Refer, reference_box_answer, refl, Refusal, ReleaseOwner}
-use machine.{Result, Some, State, StoreError, true, [], ◌≡◌, ◌≢◌}
+use machine.{Result, Some, State, StoreError, true, ◌≡◌, ◌≢◌}
 use Rattle.generational_core.specs
 use specs.{Leaving.GivesOtherOwner, Leaving.LeavesOwner}
 use Rattle.std.specs.FinMap as map

@@ -4,7 +4,7 @@ use machine.{act, Action, Answer, arith, Back, back_answer, BorrowError, BorrowM
 use machine.{BorrowRefused, box_answer, end_answer, false, Flag, free_read_answer, free_write_answer}
 use machine.{GenerationalBox, Guard, Meets, meets_each, NewNames, Outcome, owner_answer, OwnerName}
 use machine.{read_answer, reference_box_answer, refl, Refusal, Refused, release_answer, ReleaseReader}
-use machine.{Result, State, StoreError, true, UnknownOwner, write_answer, WriteGuard, [], ◌≡◌}
+use machine.{Result, State, StoreError, true, UnknownOwner, write_answer, WriteGuard, ◌≡◌}
 use Rattle.generational_core.specs
 use specs.{Answers.end_refused, Answers.read_refused, Leaving.refuses}
 use Rattle.std.specs.Prelude.{OnErr}

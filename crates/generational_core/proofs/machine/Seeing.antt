@@ -5,7 +5,7 @@ use machine.{changed_view, cond_gives, content_at, content_of, ending, false, Ge
 use machine.{get-insert_apart, is_shared, is_some, IsGiven, IsLawful, IsSound, last, leads_to, LeavesBox}
 use machine.{LeavesValue, Lends, live_by, Meets, meets_each, meets_follows, meets_sound, Name, name_apart}
 use machine.{name_of, nat_eq, NewNames, Option, reach, refl, same_store, second_fresh, Sets, Some, State}
-use machine.{swept_view, true, Turns, value_at, value_in, value_reached, [], ℕ, ◌∙◌, ◌≡◌}
+use machine.{swept_view, true, Turns, value_at, value_in, value_reached, ℕ, ◌∙◌, ◌≡◌}
 use Rattle.std.specs.FinMap as map
 
 module _ {T : Type 0} where

@@ -1,11 +1,11 @@
 -- What holds of each call of a store, whichever names it takes and whatever memory lacks.
 use Rattle.generational_core.proofs.machine.Common
-use Common.{act, Action, Answer, ap, AreNew, arith, Bool, Borrow, BorrowRefused, Dropped, eqb-true, false}
+use Common.{act, Action, Answer, AreNew, arith, Bool, Borrow, BorrowRefused, Dropped, eqb-true, false}
 use Common.{GenerationalPointer, Guard, inl, inr, is_some, IsEnded, IsGiven, IsSound, knows_reader}
 use Common.{knows_writer, last_ticket, List, list_any, list_any-append, location_at, Made, Meets, Name}
 use Common.{name_of, nat_eq, nat_eq_equiv, NewNames, no_names, None, not, Outcome, reach, Reads, refl}
 use Common.{refusal_to_read, refusal_to_write, Refused, ReleaseReader, ReleaseWriter, Sets, Some, State}
-use Common.{subst, sym, Takes, takes_ticket, true, value_at, Writes, [], ℕ, ⊎_elim, ◌&&◌, ◌+◌, ◌∙◌, ◌≡◌}
+use Common.{subst, sym, Takes, takes_ticket, true, value_at, Writes, ℕ, ⊎_elim, ◌&&◌, ◌+◌, ◌∙◌, ◌≡◌}
 use Common.{◌≤◌, ◌⊎◌}
 use Rattle.generational_core.proofs.machine.Changes.{act_leads, act_says, after, is_making, new_fresh}
 use Rattle.generational_core.proofs.machine.Changes.{Says, without}
@@ -68,8 +68,8 @@ module _ {T : Type 0} where
       (λ (out : Outcome T). (answer, R) ≡ out → IsRefused S answer R ⊎ Acts S call answer R)
       (takes_ticket (act S call m.0).0 && nat_eq S.next last_ticket)
       (λ _ e. inl (grind arith)) (λ _ e. ⊎_elim (λ new. inr (m.0, new, e)) (λ same. inl (grind arith))
-      (takes_new S call m.0 (subst (λ (o : Outcome T). Takes S call o.0 m.0) e m.1))) m.2
-  meets_cases S R call answer (inr m) = inl (ap is_refusal m.1, m.2)
+      (takes_new S call m.0 (grind (arith, e, m.1)))) m.2
+  meets_cases S R call answer (inr m) = inl (grind arith)
 
   -- a box of an ended name reaches nothing, so it is answered that its value is gone
   ended_reach : (S : State T) (b : GenerationalPointer) → IsEnded S (name_of b) → reach S b ≡ None

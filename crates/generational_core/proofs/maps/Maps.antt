@@ -1,23 +1,21 @@
 -- Finite maps and sets read at a key, how many keys a map has, and when names and ids are the same.
-use Rattle.std.specs.declared.cmp.{Ordering.Ordering, Ordering.TheVariants.Equal}
-use Rattle.std.proofs.lemmas.Bool.{false_from_ne_true, cases_Bool, and_parts, or_left}
-use Rattle.std.proofs.lemmas.Bool.{or_right, or_cases, eqb-true, and_from}
-use Rattle.std.proofs.lemmas.Map.Lookups.{exact_unsigned, exact_pairs}
+use Rattle.std.specs.declared.cmp.{Ordering.Ordering}
+use Rattle.std.proofs.lemmas.Bool.{false_from_ne_true, cases_Bool, or_left}
+use Rattle.std.proofs.lemmas.Bool.{or_right, or_cases}
 use Rattle.std.proofs.lemmas.{Cmp.on_total, Cmp.then_total, List.length-map, List.length-append}
 use Rattle.std.proofs.lemmas.{List.Folds.list_any-append, Map.Made.length-le_from_is_member}
-use Rattle.std.specs.Prelude.{◌⊎◌, option_map, is_some, map as list_map, T, ◌&&◌, nat_eq, ◌↔◌}
+use Rattle.std.specs.Prelude.{◌⊎◌, option_map, map as list_map, ◌&&◌, nat_eq, ◌↔◌}
 use Rattle.std.specs.Cmp.{IsTotalOrder, nat_cmp_total, Equal-is, tied_itself, eq_by_cmp_equiv}
-use Rattle.std.specs.Cmp.{nat_eq_equiv}
 use Rattle.std.specs.{Ordering.nat_cmp, Ordering.eq_by_cmp, Ordering.is_eq, Ordering.is_lt}
-use Rattle.std.specs.{Cmp.both_ways, List.AllByRecursion, List.IsDistinct, List.list_any}
+use Rattle.std.specs.{List.AllByRecursion, List.IsDistinct, List.list_any}
 use Rattle.generational_core.specs
 use specs.Names.{Name, Names, NameMap, name_cmp, is_name, change, change_if}
 use specs.{Boxes.has_same_id, Cells.Cell, Cells.refers_to, Cells.Cell.Ref, Conditions.IsNamed}
 use specs.{State.is_named}
 use specs.declared.boxes.GenerationalPointer.{GenerationalPointer}
 use Rattle.generational_errors.specs.declared.error.Location.{Location}
-use Rattle.std.proofs.Common.{◌≡◌, ◌≢◌, ℕ, ◌+◌, ◌≤◌, Bool, true, false, cond, ◌||◌, Option, None}
-use Rattle.std.proofs.Common.{Some, List, [], ◌∷◌, ◌++◌, length, refl, sym, ap, subst, ◌∙◌, inl}
+use Rattle.std.proofs.Common.{◌≡◌, ◌≢◌, ◌+◌, ◌≤◌, Bool, true, false, cond, ◌||◌, Option, None}
+use Rattle.std.proofs.Common.{Some, List, [], ◌∷◌, ◌++◌, length, refl, sym, ap, ◌∙◌, inl}
 use Rattle.std.proofs.Common.{inr, ⊎_elim, arith}
 use Rattle.std.specs.FinMap as map
 use Rattle.std.specs.FinSet as set
