@@ -1,17 +1,18 @@
 -- The bound on slots: what the last generations of slots depend on, that slots are live, free or
 -- retired, and that each call keeps the bound.
 use Rattle.generational_core.proofs.machine
-use machine.{absent, absent_beside, act_leads, Action, add_cell, after, Answer, AreNew, arith, Bool}
-use machine.{by_keys, by_name, by_number, Cell, Change, change_follows, Content, eq_by_cmp}
-use machine.{eq_by_cmp_equiv, false, free, fresh, get-insert_apart, get-insert_here, inl, inr, is_free}
-use machine.{is_last_live, is_retired, is_some, IsBounded, IsGiven, IsLawful, IsLive, IsSound, keep_view}
-use machine.{kept_key, key_here, key_same, keys_apart, last, last_name, len_keys, len_three, len_within}
-use machine.{length-le_from_is_member, length-map, List, list_any, list_map, live_before, max, Meets}
-use machine.{meets_each, meets_sound, Name, name_cases, name_cmp, name_total, Names, nat_cmp}
-use machine.{nat_cmp_total, NewNames, None, Option, refl, retired, slots, slots_of, Some, State, subst}
-use machine.{sym, true, unwrap_or, [], ℕ, ⊎_elim, ◌+◌, ◌<◌, ◌∷◌, ◌≡◌, ◌≢◌, ◌≤◌, ◌⊎◌}
+use machine.{absent, absent_beside, act_leads, Action, add_cell, after, Answer, AreNew, arith, by_keys}
+use machine.{by_name, by_number, Cell, Change, change_follows, Content, eq_by_cmp, eq_by_cmp_equiv, false}
+use machine.{free, fresh, get-insert_apart, get-insert_here, inl, inr, is_free, is_last_live, is_retired}
+use machine.{is_some, IsBounded, IsGiven, IsLawful, IsLive, IsSound, keep_view, kept_key, key_here}
+use machine.{key_same, keys_apart, last, last_name, len_keys, len_within, length-le_from_is_member}
+use machine.{length-map, List, list_any, list_any-append, list_map, live_before, max, Meets, meets_each}
+use machine.{meets_sound, Name, name_cases, name_cmp, name_total, Names, nat_cmp, nat_cmp_total, NewNames}
+use machine.{None, Option, refl, retired, slots, slots_of, Some, State, subst, sym, true, unwrap_or, []}
+use machine.{ℕ, ◌++◌, ◌+◌, ◌<◌, ◌∷◌, ◌≡◌, ◌≢◌, ◌≤◌, ◌⊎◌}
 use Rattle.generational_core.specs
 use specs.{Slots.Fits, Slots.lasts}
+use Rattle.std.proofs.Common.{length-append}
 use Rattle.std.specs.FinMap as map
 use Rattle.std.specs.FinSet as set
 
@@ -74,24 +75,23 @@ slot_there : (n : Name) (names : List Name) → IsIn names n
 slot_there n [] h = h
 slot_there n (m ∷ names) h = grind (arith, key_here, by_number, by_name, key_same, slot_there n names)
 
--- a key that is kept was there, and passes
-key_kept : {X : Type 0} (m : map.FinMap nat_cmp X) (p : ℕ → Bool) (k : ℕ)
-    → map.contains_key (map.retain_keys m p) k ≡ true → (map.contains_key m k ≡ true) × (p k ≡ true)
-key_kept m p k h = ⊎_elim (λ e. (cc, e.1)) (λ e. cc) (keep_view by_number m p k)
-
 -- every slot is live, free or retired, and those whose last names are live are no more than the
 -- live cells
 pub slots_bounded : {T : Type 0} (S : State T) → slots S ≤ map.len S.cells + free S + retired S
 slots_bounded S =
-    let live = map.retain_keys (slots_of S) (is_last_live S) in
-    let kept = key_kept (slots_of S) (is_last_live S) in
-    let le = length-le_from_is_member (eq_by_cmp_equiv nat_cmp_total) (map.keys live)
-    (list_map (λ (n : Name). n.slot) (map.keys S.cells)) (keys_apart nat_cmp live)
-    (λ s h. grind (arith, slot_there (last_name S s) (map.keys S.cells), map.contains_key-keys, kept s)) in
+    let free = map.keys (map.retain_keys (slots_of S) (is_free S)) in
+    let gone = map.keys (map.retain_keys (slots_of S) (is_retired S)) in
+    let live = list_map (λ (n : Name). n.slot) (map.keys S.cells) in
+    let kept = kept_key by_number (slots_of S) in
+    let le = length-le_from_is_member (eq_by_cmp_equiv nat_cmp_total) (map.keys (slots_of S))
+    (live ++ (free ++ gone)) (keys_apart nat_cmp (slots_of S)) (λ q h.
+    let there = slot_there (last_name S q) (map.keys S.cells) in
+    let either = list_any-append (eq_by_cmp nat_cmp q) in
+    grind (arith, there, kept (is_free S) q, kept (is_retired S) q, map.contains_key-keys, either)) in
     let same = length-map (map.keys S.cells) (λ (n : Name). n.slot) in
-    let three = len_three by_number (slots_of S) (is_last_live S) (is_free S) (is_retired S)
-    (λ s. grind arith) in
-    omega (arith, len_keys nat_cmp live, len_keys name_cmp S.cells)
+    let whole = length-append live (free ++ gone) in
+    let slots = len_keys {X = ℕ} nat_cmp in
+    omega (arith, le, whole, length-append free gone, same, slots, len_keys name_cmp S.cells)
 
 module _ {T : Type 0} where
   -- no retired slot is lost where such slots keep their last generations, and get no live cell

@@ -297,8 +297,7 @@ module _ {T : Type 0} where
     leads_left g c had = still
 
     leads_returned : (g : Guard) (v : T) (c : Option (Content T)) → content_at S g.cell ≡ c
-        → has_writer c g.ticket ≡ true
-        → Leads S (ReleaseWriter g v) f (Done, fill S g.cell (Here v []))
+        → has_writer c g.ticket ≡ true → Leads S (ReleaseWriter g v) f (Done, fill S g.cell (Here v []))
     leads_returned g v (Some (Lent w)) had known =
         fills g.cell (Return w g v) S.next (omega arith) had (refl, known, refl)
     leads_returned g v c had known = cc

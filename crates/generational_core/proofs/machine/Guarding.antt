@@ -143,15 +143,6 @@ module _ {T : Type 0} where
     unfolding value_in
     filled_seen old had to = grind (arith, filled_reach S n k c, filled_content S n k old had)
 
-    filled_beside : reach S c ≢ Some n → IsUnchanged S c (fill S n k)
-    unfolding value_in
-    filled_beside apart =
-        grind (arith, filled_reach S n k c, get-changed_apart by_name S.cells n (refill k))
-
-  left_twice : (S R Q : State T) (c : GenerationalPointer) → IsUnchanged S c R → IsUnchanged R c Q
-      → IsUnchanged S c Q
-  left_twice S R Q c first second = grind arith
-
   module _ {S Q : State T} {b : GenerationalPointer} {v : T} (it : IsSet S b v Q) where
     -- each box that reaches the same sees the value that was set
     pub set_seen : (c : GenerationalPointer) → reach S c ≡ reach S b → value_in Q c ≡ Some v
@@ -162,9 +153,10 @@ module _ {T : Type 0} where
 
     -- another box is left
     pub set_beside : (c : GenerationalPointer) → reach S c ≢ reach S b → IsUnchanged S c Q
+    unfolding value_in reach
     set_beside c apart =
-        let beside = filled_beside S it.name (Here v []) c (grind (arith, it.reached)) in
-        rw it.after (left_twice S _ _ c beside (ticket_leaves (fill S it.name (Here v [])) c))
+        let beside = filled_reach S it.name (Here v []) c in
+        grind (arith, it.after, it.reached, get-changed_apart, by_name, beside)
 
     -- and so is each owner's record
     pub set_owners : (o : OwnerName) → ownership Q o ≡ ownership S o

@@ -82,11 +82,8 @@ module _ {T : Type 0} where
 
     act_keeps : (call : Action T) (f : NewNames) → LeavesOwner call o → IsNotNext S call o
         → Keeps S o (act S call f)
-    act_keeps (Make None v l) f ne next = grind arith
     act_keeps (Make (Some a) v l) f ne next = grind (arith, listed_apart a f.first)
-    act_keeps (MakeShared None v l) f ne next = grind arith
     act_keeps (MakeShared (Some a) v l) f ne next = grind (arith, listed_apart a f.second)
-    act_keeps (Refer None b) f ne next = grind arith
     act_keeps (Refer (Some a) b) f ne next = grind (arith, listed_apart a f.first)
     act_keeps NewOwner f ne next = grind (arith, get-insert_apart by_number S.owners S.next, eqb-true)
     act_keeps (CloneOwner a) f ne next = grind (arith, put_apart a)

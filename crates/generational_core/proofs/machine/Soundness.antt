@@ -201,7 +201,6 @@ module _ {T : Type 0} where
   module _ (S : State T) (call : Action T) (f : NewNames) (next : ℕ)
       (s : IsSound S) (new : AreNew S call f) where
     linked : (c : Change T) → IsLawful S call f next c → IsLinked (after S f c).cells
-    linked Stay law = sound_linked S s
     linked (Birth c) law = born_linked S.cells f.first c (sound_linked S s)
         (absent S s f.first (law.2 new).ungiven) law.1.0 law.1.2
     linked (Pair v l) law =
@@ -209,9 +208,7 @@ module _ {T : Type 0} where
         let apart = second_fresh S.given f.first f.second names.1.ungiven in
         pair_linked S.cells f.first f.second (Here v []) l l (sound_linked S s) apart.1
         (absent S s f.first names.0.ungiven) (absent S s f.second apart.0)
-    linked (Fill n k) law = refilled_linked S.cells n (new_content S k) (sound_linked S s)
-    linked (Close names) law = closed_linked S.cells names s.targets
-    linked (Turn a old to l) law = turned_linked S.cells a old to l s.targets law.0 law.1
+    linked c law = search (sound_linked, refilled_linked, closed_linked, turned_linked, s.targets)
 
   -- ---- soundness
 

@@ -5,8 +5,8 @@ use Common.{GenerationalPointer, Guard, inl, inr, is_some, IsEnded, IsGiven, IsS
 use Common.{knows_writer, last_ticket, List, list_any, list_any-append, location_at, Made, Meets, Name}
 use Common.{name_of, nat_eq, nat_eq_equiv, NewNames, no_names, None, not, Outcome, reach, Reads, refl}
 use Common.{refusal_to_read, refusal_to_write, Refused, ReleaseReader, ReleaseWriter, Sets, Some, State}
-use Common.{subst, sym, Takes, takes_ticket, true, value_at, Writes, ℕ, ⊎_elim, ◌&&◌, ◌+◌, ◌∙◌, ◌≡◌}
-use Common.{◌≤◌, ◌⊎◌}
+use Common.{subst, sym, Takes, takes_ticket, true, value_at, Writes, ℕ, ⊎_elim, ◌&&◌, ◌+◌, ◌∙◌, ◌≡◌, ◌≤◌}
+use Common.{◌⊎◌}
 use Rattle.generational_core.proofs.machine.Changes.{act_leads, act_says, after, is_making, new_fresh}
 use Rattle.generational_core.proofs.machine.Changes.{Says, without}
 use Rattle.generational_core.proofs.machine.Soundness.{ended_still, Follows, follows_same, leads_follows}

@@ -8,8 +8,8 @@ use machine.{hindrance_to, is_some, IsOk, IsSet, IsSound, List, Location, may_la
 use machine.{Name, name_cases, name_cmp, name_here, nat_eq_equiv, NewNames, None, Option, own_name}
 use machine.{OwnerName, Ownership, ownership, reach, Resting.reached_content, Read, Reads}
 use machine.{Calling.reads_back, Ref, refill, refilled_content, refl, refusal_to_read, refusal_to_write}
-use machine.{release_answer, ReleaseOwner, ReleaseReader, Resting.rests, Resting.rests_free}
-use machine.{Result, Some, State, true, Value, value_in, [], ℕ, ◌∷◌, ◌≡◌}
+use machine.{release_answer, ReleaseOwner, ReleaseReader, Resting.rests, Resting.rests_free, Result, Some}
+use machine.{State, true, Value, value_in, [], ℕ, ◌∷◌, ◌≡◌}
 use Rattle.generational_core.specs
 use specs.{Leaving.AreFree, Leaving.BeginsNoBorrow, Leaving.HasNoBorrows}
 use Rattle.std.specs.FinMap as map

@@ -1,22 +1,18 @@
 -- Finite maps and sets read at a key, how many keys a map has, and when names and ids are the same.
 use Rattle.std.specs.declared.cmp.{Ordering.Ordering}
-use Rattle.std.proofs.lemmas.Bool.{false_from_ne_true, cases_Bool, or_left}
-use Rattle.std.proofs.lemmas.Bool.{or_right, or_cases}
-use Rattle.std.proofs.lemmas.{Cmp.on_total, Cmp.then_total, List.length-map, List.length-append}
-use Rattle.std.proofs.lemmas.{List.Folds.list_any-append, Map.Made.length-le_from_is_member}
+use Rattle.std.proofs.lemmas.Bool.{cases_Bool, false_from_ne_true, or_cases, or_right}
+use Rattle.std.proofs.lemmas.{Cmp.on_total, Cmp.then_total, List.length-map, Map.Made.length-le_from_is_member}
 use Rattle.std.specs.Prelude.{◌⊎◌, option_map, map as list_map, ◌&&◌, nat_eq, ◌↔◌}
 use Rattle.std.specs.Cmp.{IsTotalOrder, nat_cmp_total, Equal-is, tied_itself, eq_by_cmp_equiv}
 use Rattle.std.specs.{Ordering.nat_cmp, Ordering.eq_by_cmp, Ordering.is_eq, Ordering.is_lt}
 use Rattle.std.specs.{List.AllByRecursion, List.IsDistinct, List.list_any}
 use Rattle.generational_core.specs
 use specs.Names.{Name, Names, NameMap, name_cmp, is_name, change, change_if}
-use specs.{Boxes.has_same_id, Cells.Cell, Cells.refers_to, Cells.Cell.Ref, Conditions.IsNamed}
-use specs.{State.is_named}
+use specs.{Boxes.has_same_id, Cells.Cell, Cells.refers_to, Cells.Cell.Ref, Conditions.IsNamed, State.is_named}
 use specs.declared.boxes.GenerationalPointer.{GenerationalPointer}
 use Rattle.generational_errors.specs.declared.error.Location.{Location}
-use Rattle.std.proofs.Common.{◌≡◌, ◌≢◌, ◌+◌, ◌≤◌, Bool, true, false, cond, ◌||◌, Option, None}
-use Rattle.std.proofs.Common.{Some, List, [], ◌∷◌, ◌++◌, length, refl, sym, ap, ◌∙◌, inl}
-use Rattle.std.proofs.Common.{inr, ⊎_elim, arith}
+use Rattle.std.proofs.Common.{◌≡◌, ◌≢◌, ◌≤◌, Bool, true, false, cond, ◌||◌, Option, None}
+use Rattle.std.proofs.Common.{Some, List, [], ◌∷◌, length, refl, sym, ap, ◌∙◌, inl, inr, ⊎_elim, arith}
 use Rattle.std.specs.FinMap as map
 use Rattle.std.specs.FinSet as set
 
@@ -209,22 +205,6 @@ module _ {K X : Type 0} {R : K → K → Ordering}
   pub kept_key : (m : map.FinMap R X) (p : K → Bool) (q : K)
       → map.contains_key m q ≡ true → p q ≡ true → map.contains_key (map.retain_keys m p) q ≡ true
   kept_key m p q h t = rw (get-keep o m p q, t) h
-
-  -- keys that pass one of three tests are no more than those that pass each
-  pub len_three : (m : map.FinMap R X) (p q r : K → Bool)
-      → ((k : K) → (p k ≡ true) ⊎ ((q k ≡ true) ⊎ (r k ≡ true))) → map.len m ≤
-      map.len (map.retain_keys m p) + map.len (map.retain_keys m q) + map.len (map.retain_keys m r)
-  len_three m p q r one = let a = map.keys (map.retain_keys m p) in
-      let b = map.keys (map.retain_keys m q) in let c = map.keys (map.retain_keys m r) in
-      let le = length-le_from_is_member (eq_by_cmp_equiv o.total) (map.keys m) ((a ++ b) ++ c)
-      (keys_apart R m) (λ k h.
-      let at = λ (t : K → Bool) (e : t k ≡ true).
-      sym (map.contains_key-keys (map.retain_keys m t) k)
-      ∙ kept_key m t k (map.contains_key-keys m k ∙ h) e in
-      rw (list_any-append (eq_by_cmp R k) (a ++ b) c, list_any-append (eq_by_cmp R k) a b)
-      (⊎_elim (λ e. or_left _ _ (or_left _ _ (at p e)))
-      (⊎_elim (λ e. or_left _ _ (or_right _ _ (at q e))) (λ e. or_right _ _ (at r e))) (one k))) in
-      simp (len_keys {X = X} R) (omega (arith, le, length-append (a ++ b) c, length-append a b))
 
 module _ {K X Y : Type 0} {R : K → K → Ordering} (o : IsKeyOrder R) where
   -- a map whose keys are another's is no larger
