@@ -2,15 +2,15 @@
 use Rattle.generational_core.proofs.machine
 use machine.{act, Action, add_cell, add_to_list, among, Answer, AreFresh, arith, Bool, box_of, by_name}
 use machine.{by_number, can_write, Cell, cell_at, cells_after, changed_view, close, cond, cond_gives}
-use machine.{Content, content_at, content_of, Done, End, false, fill, filled_content, GenerationalPointer}
-use machine.{get-changed_here, get-insert_apart, get-insert_here, get-without, Guard, has_writer, Here}
-use machine.{is_refusal, is_some, IsSound, leads_to, Lent, List, Location, Made, Make, make, MakeShared}
-use machine.{Meets, meets_each, Name, name_here, name_of, name_same, NameMap, nat_eq, nat_eq_equiv}
-use machine.{new_fresh, NewNames, NewOwner, next_borrow, None, Old, one_listed, Option, Outcome, own_name}
-use machine.{Owned, OwnerName, Ownership, ownership, Point, point, reach, Read, read_at, Reads, Ref}
-use machine.{Refer, refer, refl, refusal_to_write, ReleaseWriter, same_ids, set_at, SetValue, Shared}
-use machine.{Some, State, swept_ref, swept_view, true, Value, value_at, value_in, Seeing.value_in_reached}
-use machine.{Write, write_at, Writes, [], ◌++◌, ◌∷◌, ◌≡◌, ◌≢◌}
+use machine.{Content, content_at, content_of, Done, End, fill, filled_content, GenerationalPointer}
+use machine.{get-changed_here, get-changed_name, get-insert_apart, get-insert_here, get-without, Guard}
+use machine.{has_writer, Here, is_refusal, is_some, IsSound, leads_to, Lent, List, Location, Made, Make}
+use machine.{make, MakeShared, Meets, meets_each, Name, name_here, name_of, name_same, NameMap, nat_eq}
+use machine.{nat_eq_equiv, new_fresh, NewNames, NewOwner, next_borrow, None, Old, one_listed, Option}
+use machine.{Outcome, own_name, Owned, OwnerName, Ownership, ownership, Point, point, reach, Read, Reads}
+use machine.{Ref, Refer, refl, refusal_to_write, ReleaseWriter, same_ids, set_at, SetValue, Shared, Some}
+use machine.{State, swept_ref, swept_view, true, Value, value_at, value_in, Seeing.value_in_reached}
+use machine.{Write, write_at, Writes, [], ◌≡◌, ◌≢◌}
 use Rattle.std.specs.FinMap as map
 use Rattle.std.specs.FinSet as set
 
@@ -96,16 +96,6 @@ module _ {T : Type 0} where
       let list = listed Q o n (box_of S.number n l) in
       grind (arith, to, list, in_list Q o n, get-insert_apart, get-insert_here, by_name)
 
-  referred_told : (S : State T) (o : Option OwnerName) (b : GenerationalPointer) (n : Name)
-      (to : Option Name) (target : Option (Cell T)) → set.contains S.given n ≡ false
-      → reach S b ≡ to → cell_at S to ≡ target → TellsOf S (Refer o b) (refer S o b to target n)
-  unfolding value_in
-  referred_told S o b n (Some m) (Some (Shared c l)) new to at =
-      let Q = add_cell S n (Ref m l) in
-      let list = listed Q o n (box_of S.number n l) in
-      grind (arith, list, added_reach S n (Ref m l) l, get-insert_apart, by_name, in_list Q o n)
-  referred_told S o b n to target new h at = tt
-
   -- ---- borrows
 
   -- another content at a name changes nothing that boxes reach
@@ -113,14 +103,6 @@ module _ {T : Type 0} where
       → reach (fill S n k) b ≡ reach S b
   unfolding reach
   filled_reach S n k b = grind (arith, changed_view, by_name)
-
-  read_told : (S : State T) (b : GenerationalPointer) (l : Location) (m : Option Name)
-      (c : Option (Content T)) → reach S b ≡ m → content_of (cell_at S m) ≡ c
-      → TellsOf S (Read b l) (read_at S l m c)
-  unfolding value_in
-  read_told S b l (Some m) (Some (Here v rs)) to had =
-      grind (arith, filled_content S m (Here v (rs ++ next_borrow S l ∷ [])) (Here v rs) had)
-  read_told S b l m c to had = tt
 
   write_told : (S : State T) (b : GenerationalPointer) (l : Location) (m : Option Name)
       (c : Option (Content T)) → reach S b ≡ m → content_of (cell_at S m) ≡ c
@@ -169,11 +151,12 @@ module _ {T : Type 0} where
 
   act_tells : (S : State T) (call : Action T) (f : NewNames)
       → AreFresh S call f → TellsOf S call (act S call f)
+  unfolding value_in
   act_tells S (Make o v l) f new = grind (arith, made_told)
   act_tells S (MakeShared o v l) f new = grind (arith, shared_told)
-  act_tells S (Refer o b) f new = grind (arith, referred_told)
+  act_tells S (Refer o b) f new = grind (arith, listed, added_reach, in_list, get-insert_apart, by_name)
   act_tells S NewOwner f new = grind (arith, nat_eq_equiv, get-insert_here, by_number)
-  act_tells S (Read b l) f new = grind (arith, read_told)
+  act_tells S (Read b l) f new = grind (arith, get-changed_name, name_here)
   act_tells S (Write b l) f new = grind (arith, write_told)
   act_tells S (ReleaseWriter g v) f new = grind (arith, written_told S g v (content_at S g.cell) refl)
   act_tells S (SetValue b v) f new = set_told S b v (reach S b) _ refl refl
