@@ -6,45 +6,39 @@ use Rattle.store_slots.specs.SlotsState
 use Rattle.store_cells.specs.Entry
 pub use Rattle.std.{proofs.Math.Bool.or-false, proofs.Math.ListN.get_or-map, specs.Result.is_err}
 pub use Rattle.std.proofs.{Common.◌≤◌, lemmas.Cmp.eq_by_cmp_equiv}
-pub use Rattle.std.proofs.Common.{ap, append-nil, append_assoc, arith, Bool, cond, count_by, drop}
-pub use Rattle.std.proofs.Common.{Err, false, IfErr, IfSome, inl, inr, is_none, is_some, leb}
-pub use Rattle.std.proofs.Common.{length, length-append, List, ltb, max, nat_cmp, nat_eq, nat_lt}
-pub use Rattle.std.proofs.Common.{None, not, Ok, OnErr, OnOk, Option, option_map, refl, Result}
-pub use Rattle.std.proofs.Common.{slice_get, slice_index_or, slice_set, Some, subst, suc, sym, T}
-pub use Rattle.std.proofs.Common.{take, true, unwrap_or, zero, ℕ, [], ⊎_elim, ◌&&◌, ◌++◌, ◌+◌, ◌-◌}
-pub use Rattle.std.proofs.Common.{◌<◌, ◌||◌, ◌∙◌, ◌∷◌, ◌≡◌, ◌≢◌}
+pub use Rattle.std.proofs.Common.{ap, append-nil, append_assoc, arith, Bool, cond, count_by, drop, Err, false, IfErr}
+pub use Rattle.std.proofs.Common.{IfSome, inl, inr, is_none, is_some, leb, length, length-append, List, ltb, max}
+pub use Rattle.std.proofs.Common.{nat_cmp, nat_eq, nat_lt, None, not, Ok, OnErr, OnOk, Option, option_map, refl}
+pub use Rattle.std.proofs.Common.{Result, slice_get, slice_index_or, slice_set, Some, subst, suc, sym, T, take, true}
+pub use Rattle.std.proofs.Common.{unwrap_or, zero, [], ℕ, ⊎_elim, ◌&&◌, ◌++◌, ◌+◌, ◌-◌, ◌<◌, ◌||◌, ◌∙◌, ◌∷◌, ◌≡◌, ◌≢◌}
 pub use Rattle.std.proofs.lemmas.{Bool.Decides.nat_tests, List.nil_from_length}
-pub use Rattle.std.proofs.lemmas.Bool.{and_from, and_parts, cases_eq, eq-eqb, eqb-true, le-leb}
-pub use Rattle.std.proofs.lemmas.Bool.{le-ltb, leb-true, lt-ltb, ltb-true, ne_eqb}
-pub use Rattle.std.proofs.lemmas.List.{at_drop_all, at_drop_more, length-map, length-set}
-pub use Rattle.std.proofs.lemmas.List.{Folds.list_any-append, Sums.sum_by-cons}
+pub use Rattle.std.proofs.lemmas.Bool.{and_from, and_parts, cases_eq, eq-eqb, eqb-true, le-leb, le-ltb, leb-true}
+pub use Rattle.std.proofs.lemmas.Bool.{lt-ltb, ltb-true, ne_eqb}
+pub use Rattle.std.proofs.lemmas.List.{at_drop_all, at_drop_more, Folds.list_any-append, length-map, length-set}
+pub use Rattle.std.proofs.lemmas.List.{Sums.sum_by-cons}
 pub use Rattle.std.proofs.lemmas.Map.Keys.{IsDistinct-head, IsDistinct-tail}
-pub use Rattle.std.proofs.lemmas.Option.{cond_some, IfSome_then, slice_get_past}
-pub use Rattle.std.proofs.lemmas.Option.{slice_get_cases, slice_get_within}
-pub use Rattle.std.specs.{List.AllByRecursion, List.list_all, List.list_any, Ordering.eq_by_cmp}
-pub use Rattle.std.specs.{Cmp.both_ways, Cmp.nat_cmp_total, Option.option_eq, Option.option_or}
-pub use Lists.{bit, cond_same, contains-insert_at, contains-remove_at, contains_own, count_all}
-pub use Lists.{IsWritten, len_passing, many_some, many_within, not_left, number_test, passes}
-pub use Lists.{push_written, put_back, set_written, some_of_many}
-pub use Rattle.store_parts.specs.{declared.names.CellName.CellName}
-pub use Rattle.store_parts.specs.{CellNames.name_of_cell, Lists.how_many}
-pub use proofs.machine.{Bounding.get_lasts, Bounding.IsLast, Bounding.one_last, Closing.turn_sweep}
-pub use proofs.machine.{Ends.without_view, Linking.closing_linked, Rows.put_new, Rows.read_append}
-pub use proofs.machine.Closing.{away_absent, away_each, away_nothing, away_one, away_shared}
-pub use proofs.machine.Closing.{borrowed_end, close_each, close_nothing, close_one}
-pub use proofs.machine.Closing.{first_borrowed_end, first_hindered, one_hindered, turn_hindered}
+pub use Rattle.std.proofs.lemmas.Option.{cond_some, IfSome_then, slice_get_cases, slice_get_past, slice_get_within}
+pub use Rattle.std.specs.{Cmp.both_ways, Cmp.nat_cmp_total, List.AllByRecursion, List.list_all, List.list_any}
+pub use Rattle.std.specs.{Option.option_eq, Option.option_or, Ordering.eq_by_cmp}
+pub use Lists.{bit, cond_same, contains-insert_at, contains-remove_at, contains_own, count_all, IsWritten}
+pub use Lists.{len_passing, many_some, many_within, not_left, number_test, passes, push_written, put_back}
+pub use Lists.{set_written, some_of_many}
+pub use Rattle.store_parts.specs.{CellNames.name_of_cell, declared.names.CellName.CellName, Lists.how_many}
+pub use proofs.machine.{Bounding.get_lasts, Bounding.IsLast, Bounding.one_last, Closing.turn_sweep, Ends.without_view}
+pub use proofs.machine.{Linking.closing_linked, Rows.put_new, Rows.read_append}
+pub use proofs.machine.Closing.{away_absent, away_each, away_nothing, away_one, away_shared, borrowed_end, close_each}
+pub use proofs.machine.Closing.{close_nothing, close_one, first_borrowed_end, first_hindered, one_hindered}
+pub use proofs.machine.Closing.{turn_hindered}
 pub use proofs.machine.Rows.{AreApart, cell_read, contains_up_to, find_bare, get_bare_cell, put}
-pub use proofs.maps.Maps.{by_name, by_number, changed_there, contains-insert_name, get-insert_apart}
-pub use proofs.maps.Maps.{get-changed_here, name_cases}
-pub use proofs.maps.Maps.{get-insert_name, get-keep, get-remove_apart, get-remove_here, is_ref, name_exact}
-pub use proofs.maps.Maps.{name_apart, name_here, name_test, name_total, named_from, named_gives}
-pub use specs.{Steps.IsNew, Names.among, Names.Name, Names.name_cmp, Names.NameMap, Names.Names}
-pub use specs.{Slots.slots_of, Plain.bare_cell, Plain.bare_cells, Plain.bare_entry, Plain.Plain}
-pub use specs.{Conditions.fresh, Conditions.IsFresh, Conditions.IsLinked, Boxes.box_of}
-pub use specs.{Boxes.name_of, Machine.Answer.Done}
+pub use proofs.maps.Maps.{by_name, by_number, changed_there, contains-insert_name, get-changed_here, get-insert_apart}
+pub use proofs.maps.Maps.{get-insert_name, get-keep, get-remove_apart, get-remove_here, is_ref, name_apart}
+pub use proofs.maps.Maps.{name_exact, name_here, name_test, name_total, named_from, named_gives}
+pub use specs.{Boxes.box_of, Boxes.name_of, Conditions.fresh, Conditions.IsFresh, Conditions.IsLinked}
+pub use specs.{Machine.Answer.Done, Names.among, Names.Name, Names.name_cmp, Names.NameMap, Names.Names}
+pub use specs.{Plain.bare_cell, Plain.bare_cells, Plain.bare_entry, Plain.Plain, Slots.slots_of, Steps.IsNew}
 pub use specs.Borrowing.{BorrowRefusal, fill, leads_to, read_refusal, refusal_at, write_refusal}
-pub use specs.Cells.{Cell, Content, content_of, is_shared, location_of, refers_to, refill}
-pub use specs.Cells.{Cell.Ref, Cell.Shared, Cell.Value, Content.Here, Content.Lent}
+pub use specs.Cells.{Cell, Cell.Ref, Cell.Shared, Cell.Value, Content, Content.Here, Content.Lent, content_of}
+pub use specs.Cells.{is_shared, location_of, refers_to, refill}
 pub use specs.Ending.{cells_after, close, first_hindrance, hindrance_at}
 pub use specs.Machine.{Action, add_cell, point, turn, unless}
 pub use specs.Rows.{cell_rows, give_up_to, read_rows, slot_rows}
@@ -56,22 +50,20 @@ pub use specs.declared.borrow.Borrow.{Borrow}
 pub use specs.declared.{boxes.GenerationalPointer.GenerationalPointer, rows.BaseRow.BaseRow}
 pub use Rattle.store_cells.proofs.states.Outcomes.{err_from, ok_then, readable, unrefused}
 pub use Rattle.store_cells.specs.Entries.{EntryList, IsUnborrowed, kept_data, named_by}
-pub use Entry.{cell_under, cell_in, cell_of, change_entry, change_entry_if, content_in, Entry}
-pub use Entry.{FoundBorrowed, has_no_borrow, is_live, is_unborrowed_value, Kept, kind_in, less_read}
-pub use Entry.{one_read, referring, target_in, with_content}
+pub use Entry.{cell_in, cell_of, cell_under, change_entry, content_in, Entry, FoundBorrowed, has_no_borrow, is_live}
+pub use Entry.{is_unborrowed_value, Kept, kind_in, less_read, one_read, referring, target_in, with_content}
 pub use Entry.Kept.{Empty, Live, Refers}
 pub use Rattle.store_cells.specs.declared.entry.Kind.{Kind}
-pub use Rattle.store_cells.specs.Data.{SlotData, data_in}
+pub use Rattle.store_cells.specs.Data.{data_in, SlotData}
 pub use Rattle.generational_errors.specs.declared.error.{Location.Location, Refused.Refused}
 pub use Rattle.generational_errors.specs.declared.error.BorrowMutError.{BorrowMutError}
-pub use Rattle.generational_errors.specs.declared.error.StoreError.TheVariants.{OutOfMemory}
 pub use Rattle.store_slots.specs.Removal.{live_target}
 pub use Rattle.store_slots.specs.SlotRows.{all_slot_rows, entry_rows, rows_from}
-pub use SlotsState.{AreReferred, borrowed_at, Finds, HasEnded, read_refusal_of, content_reached, Count, count_less, count_more}
-pub use SlotsState.{count_of, would_end, given_from, given_in, has_other_count, HasBegun, if_borrowed}
-pub use SlotsState.{is_reusable, is_spent, IsReferred, IsSlotTable, IsTurned, live_from, names_up}
-pub use SlotsState.{reached, refers, refers_among, refusal_of, refusal_to_write_at, Retirements}
-pub use SlotsState.{shared_target, SlotsState, SlotTable, state_of, with_cell, with_records}
+pub use SlotsState.{AreReferred, borrowed_at, content_reached, Count, count_less, count_more, count_of, Finds}
+pub use SlotsState.{given_from, given_in, has_other_count, HasBegun, HasEnded, is_reusable, is_spent, IsReferred}
+pub use SlotsState.{IsSlotTable, IsTurned, live_from, names_up, reached, read_refusal_of, refers, refers_among}
+pub use SlotsState.{refusal_of, refusal_to_write_at, Retirements, shared_target, SlotsState, SlotTable, state_of}
+pub use SlotsState.{with_cell, with_records, would_end}
 unfoldable pub use Rattle.std.specs.List.{IsDistinct}
 unfoldable pub use Rattle.generational_core.specs.Ending.{hindrance_to, sweep, take_away}
 unfoldable pub use Rattle.generational_core.specs.Names.{is_name}

@@ -2,14 +2,11 @@ pub mod Changes
 pub mod Counting
 pub mod Endings
 pub mod BlockingBorrow
-pub mod Lists
 pub mod Makings
-pub mod Pointing
 pub mod Reaching
 pub mod Readiness
 pub mod References
 pub mod Packing
 pub mod Rows
 pub mod States
-pub mod Turning
 pub mod Turns

@@ -1,113 +1,50 @@
--- What hinders the end of names, as the counts of references tell it.
+-- What hinders the end of names, as the counts of references tell it, and the end of a list of values
+-- without borrows.
 use Rattle.store_slots.proofs.Common
-use Rattle.store_slots.proofs.states
-use Common.{and_parts, ap, AreReferred, arith, at_drop_more, Bool, borrowed_at, BorrowRefusal, Cell}
-use Common.{cell_under, cell_of, CellName, cells_after, cells_of, cond, cond_some, content_in}
-use Common.{content_of, would_end, drop, Entry, false, first_borrowed_end, first_hindered}
-use Common.{first_hindrance, get_or-map, has_other_count, HasTargets, how_many, if_borrowed, is_name}
-use Common.{is_named, is_none, is_shared, is_some, is_unborrowed_value, IsDistinct, IsLinked, Kept}
-use Common.{leads_to, length, length-map, List, list_all, Name, name_of_cell, NameMap, nat_eq}
-use Common.{nat_lt, nat_tests, None, not, Option, option_or, Ref, refers, refers_among, refl}
-use Common.{refusal_of, slice_index_or, Some, sym, take_away, target_in, true, Value, write_refusal}
-use Common.{ℕ, [], ◌&&◌, ◌+◌, ◌<◌, ◌∙◌, ◌∷◌, ◌≡◌}
-use states.{Changes.found, Changes.IsFound, Counting.one_forgotten, Endings.borrowed_ending}
-use states.{References.count_of, References.found_target, References.has_shared}
-use states.{References.HasShared, References.named_after, References.named_without}
-use states.{States.get_cells}
+use Common.{AllByRecursion, and_parts, ap, AreReferred, arith, at_drop_more, Bool, borrowed_at, borrowed_end}
+use Common.{BorrowRefusal, by_name, Cell, cell_under, CellName, cells_of, close, close_each, close_nothing}
+use Common.{closing_linked, cond, content_in, content_of, drop, Entry, false, first_borrowed_end, first_hindered}
+use Common.{get-remove_apart, get_or-map, has_other_count, HasTargets, hindrance_to, how_many, is_name, is_named}
+use Common.{is_none, is_shared, is_some, is_unborrowed_value, IsDistinct, IsDistinct-head, IsDistinct-tail, IsLinked}
+use Common.{leads_to, length, length-map, List, list_all, Name, name_here, name_of_cell, NameMap, nat_eq, nat_lt}
+use Common.{nat_tests, None, not, Option, option_or, Ref, refers, refers_among, refl, refusal_of, slice_index_or}
+use Common.{SlotsState, Some, State, state_of, subst, sym, take_away, true, would_end, write_refusal, [], ℕ, ◌&&◌}
+use Common.{◌+◌, ◌<◌, ◌∙◌, ◌∷◌, ◌≡◌}
+use Rattle.store_slots.proofs.states.Changes.{cell_seen, found, IsFound, state_is}
+use Rattle.store_slots.proofs.states.References.{count_of, has_shared, HasShared, named_after, named_shared}
+use Rattle.store_slots.proofs.states.References.{named_without}
+use Rattle.store_slots.proofs.states.{Counting.one_forgotten, Endings.EndsFree, Endings.free_ends}
+use Rattle.store_slots.proofs.states.{Endings.hindrance_is, States.get_cells}
 use Rattle.std.proofs.Common.{map as list_map}
 use Rattle.std.specs.FinMap as map
 
--- what hinders the end of names, at the first of them that is hindered: a borrow of the value that
--- goes, where a test tells what is named afterwards
-abbrev pub first_refusal : {T : Type 0} → NameMap (Cell T) → (Name → Bool) → List Name
-    → Option BorrowRefusal
-first_refusal cells named [] = None
-first_refusal cells named (n ∷ names) = option_or
-    (refusal_of cells (would_end named (map.get cells n) n)) (first_refusal cells named names)
-
-list_refusal : {T : Type 0} (cells : NameMap (Cell T)) (named : Name → Bool) (names : List Name)
-    → first_borrowed_end cells named names ≡ first_refusal cells named names
-list_refusal cells named [] = refl
-list_refusal cells named (n ∷ names) = λ i. option_or
-    (borrowed_ending cells named n (map.get cells n) refl i) (list_refusal cells named names i)
-
--- what hinders the end of names, as a list of refusals by what is named afterwards
-pub as_listed : {T : Type 0} (cells : NameMap (Cell T)) (names : List Name) → IsLinked cells
-    → first_hindrance cells (cells_after cells names) names
-    ≡ first_refusal cells (is_named (take_away cells names)) names
-as_listed cells names linked =
-    first_hindered cells names linked
-    ∙ list_refusal cells (is_named (take_away cells names)) names
-
--- what is refused first is refused, whatever comes after
-some_or : (t u : Option BorrowRefusal) → is_some t ≡ true → option_or t u ≡ t
-some_or None u is = cc
-some_or (Some t) u is = refl
-
 module _ {T : Type 0} (slots : List (Entry T)) (named : Name → Bool) where
-  abbrev own : Name → Option BorrowRefusal  -- what hinders the end of a name
-  own n = refusal_of (cells_of slots) (would_end named (cell_under slots n) n)
-
-  -- what is borrowed is what a name leads to, and refused; what isn't, hinders nothing
-  borrowed_leads : (o : Option Name) (m : Name) → Some m ≡ if_borrowed (cells_of slots) o
-      → (Some m ≡ o) × (is_some (refusal_of (cells_of slots) (Some m)) ≡ true)
-  borrowed_leads None m e = cc
-  borrowed_leads (Some k) m e =
-      let both = cond_some (is_some (refusal_of (cells_of slots) (Some k))) k m (sym e) in
-      (ap Some (sym both.1), rw both.1 at both.0)
-
-  free_none : (m : Name) → None ≡ if_borrowed (cells_of slots) (Some m)
-      → refusal_of (cells_of slots) (Some m) ≡ None
-  free_none m = elim (refusal_of (cells_of slots) (Some m)) as (λ t. None
-      ≡ cond (is_some t) (Some m) None → t ≡ None)
-      [ None ↦ λ e. refl | Some t ↦ λ e. cc ]
-
-  -- so a name that reaches no borrowed value is hindered by nothing
-  free_own : (n : Name) → None ≡ borrowed_at slots n → own n ≡ None
-  free_own n = by (cell_under slots n)
-    where
-      by : (cell : Option (Cell T)) → None ≡ if_borrowed (cells_of slots) (leads_to cell n)
-          → refusal_of (cells_of slots) (would_end named cell n) ≡ None
-      by (Some (Value c l)) e = free_none n e
-      by (Some (Ref m l)) e =
-          elim (named m) as (λ b. refusal_of (cells_of slots) (cond b None (Some m)) ≡ None)
-          [ true ↦ refl | false ↦ free_none m e ]
-      by _ e = refl
-
-  -- nor is one that reaches a shared value which is named still
-  spared_own : (n m : Name) → Some m ≡ leads_to (cell_under slots n) n
-      → (is_shared (cell_under slots m) && named m) ≡ true → own n ≡ None
-  spared_own n m leads lives = by (cell_under slots n) refl leads
-    where
-      both : (is_shared (cell_under slots m) ≡ true) × (named m ≡ true)
-      both = and_parts (is_shared (cell_under slots m)) (named m) lives
-
-      by : (cell : Option (Cell T)) → cell_under slots n ≡ cell → Some m ≡ leads_to cell n
-          → refusal_of (cells_of slots) (would_end named cell n) ≡ None
-      by (Some (Value c l)) at e =
-          let same : m ≡ n = cc in let no = rw (same, at) at both.0 in cc
-      by (Some (Ref k l)) at e = let same : k ≡ m = cc in rw (same, both.1) refl
-      by _ at e = refl
-
-  -- one that reaches another is hindered by what stands there
-  ending_own : HasTargets (cells_of slots) → (n m : Name)
-      → Some m ≡ leads_to (cell_under slots n) n
-      → (is_shared (cell_under slots m) && named m) ≡ false
-      → own n ≡ refusal_of (cells_of slots) (Some m)
-  ending_own targets n m leads dies = by (cell_under slots n) refl leads
-    where
-      by : (cell : Option (Cell T)) → cell_under slots n ≡ cell → Some m ≡ leads_to cell n
-          → refusal_of (cells_of slots) (would_end named cell n)
-          ≡ refusal_of (cells_of slots) (Some m)
-      by (Some (Value c l)) at e = ap (refusal_of (cells_of slots)) (sym e)
-      by (Some (Ref k l)) at e =
-          let same : m ≡ k = cc in
-          let shared = targets n k l (get_cells slots n ∙ at) in
-          rw (same, rw (same, ← get_cells slots k, shared) at dies) refl
-      by _ at e = cc
+  -- what hinders the end of a name, and of names
+  abbrev own : Name → Option BorrowRefusal
+  own n = borrowed_end (cells_of slots) named (map.get (cells_of slots) n)
 
   abbrev pub all : List Name → Option BorrowRefusal
-  all names = first_refusal (cells_of slots) named names
+  all names = first_borrowed_end (cells_of slots) named names
+
+  -- a name that reaches no borrowed value is hindered by nothing
+  free_own : (n : Name) → None ≡ borrowed_at slots n → own n ≡ None
+  free_own n free = let same = get_cells slots n in grind arith
+
+  -- nor is one that reaches a shared value which is named still
+  spared_own : (n m : Name) → Some m ≡ borrowed_at slots n
+      → (is_shared (cell_under slots m) && named m) ≡ true → own n ≡ None
+  spared_own n m reached lives =
+      let both = and_parts (is_shared (cell_under slots m)) (named m) lives in
+      let same = get_cells slots n in grind arith
+
+  -- one that reaches another is hindered by what stands there, whatever comes after
+  ending_own : HasTargets (cells_of slots) → (n m : Name) → Some m ≡ borrowed_at slots n
+      → (is_shared (cell_under slots m) && named m) ≡ false
+      → (rest : Option BorrowRefusal) → option_or (own n) rest ≡ refusal_of (cells_of slots) (Some m)
+  ending_own targets n m reached dies rest =
+      let same = get_cells slots n in
+      let there = get_cells slots m in
+      grind (arith, named_shared slots targets n)
 
   -- the names of a list from the i-th on
   module _ (items : List CellName) (i : ℕ) (none : CellName) (within : i < length items) where
@@ -121,10 +58,7 @@ module _ {T : Type 0} (slots : List (Entry T)) (named : Name → Bool) where
     rest_of : all (drop i names) ≡ option_or (own name) (all (drop (i + 1) names))
     rest_of =
         at_drop_more all names i (name_of_cell none) (omega (arith, length-map items name_of_cell))
-        ∙ rw (
-          get_cells slots (slice_index_or names i (name_of_cell none)),
-          get_or-map name_of_cell items i none,
-        ) refl
+        ∙ rw (get_or-map name_of_cell items i none) refl
 
     -- where it reaches no borrowed value, or one that lives on, it is what comes after
     pub passed_free : None ≡ borrowed_at slots name → all (drop (i + 1) names) ≡ all (drop i names)
@@ -133,20 +67,13 @@ module _ {T : Type 0} (slots : List (Entry T)) (named : Name → Bool) where
     pub passed_spared : (m : Name) → Some m ≡ borrowed_at slots name
         → (is_shared (cell_under slots m) && named m) ≡ true
         → all (drop (i + 1) names) ≡ all (drop i names)
-    passed_spared m reached lives =
-        rw (rest_of, spared_own name m (borrowed_leads _ m reached).0 lives) refl
+    passed_spared m reached lives = rw (rest_of, spared_own name m reached lives) refl
 
     -- and where it reaches one that goes, it is this
     pub stopped : HasTargets (cells_of slots) → (m : Name) → Some m ≡ borrowed_at slots name
         → (is_shared (cell_under slots m) && named m) ≡ false
         → all (drop i names) ≡ refusal_of (cells_of slots) (Some m)
-    stopped targets m reached dies =
-        let leads = borrowed_leads _ m reached in
-        rw (rest_of, ending_own targets name m leads.0 dies) (some_or _ _ leads.1)
-
--- one of some is the last where there is no more than it
-last_one : (all : ℕ) → 0 < all → not (nat_eq all 1) ≡ nat_lt 1 all
-last_one all some = grind (arith, nat_tests)
+    stopped targets m reached dies = rest_of ∙ ending_own targets name m reached dies _
 
 module _ {T : Type 0} where
   -- whether a value lives on where names end, is told by how many of them refer to it
@@ -174,79 +101,130 @@ module _ {T : Type 0} where
           let there = get_cells slots n ∙ at in
           let t = has_shared slots m (targets n m l there) in
           let count = count_of referred t in
-          let same : t.references ≡ how_many (refers m) slots = omega arith in
-          let some = (one_forgotten slots referred n m l there (targets n m l there)).some in
-          let one : 0 < t.references = rw t.there at some in
-          let most = last_one (how_many (refers m) slots) (omega arith) in
-          rw (t.there, same, most, named_without slots n m l at) refl
+          let one : 0 < t.references =
+          rw t.there at (one_forgotten slots referred n m l there (targets n m l there)).some in
+          let most : not (nat_eq t.references 1) ≡ nat_lt 1 (how_many (refers m) slots) =
+          grind (arith, nat_tests) in
+          rw (t.there, most, named_without slots n m l at) refl
       by _ at = refl
 
-  content_kept : (k : Kept T) → content_of (cell_of k) ≡ content_in k
-  content_kept k = grind arith
+-- the slot of what a name reaches
+pub record IsLive {T : Type 0} (slots : List (Entry T)) (n m : Name) : Type 0 where
+  pub slot : IsFound slots m
+  pub open slot use *
+  pub leads : leads_to (map.get (cells_of slots) n) n ≡ Some m
 
-  -- what hinders the end of a live value
-  pub content_there : (slots : List (Entry T)) (m : Name) (f : IsFound slots m)
-      → content_of (map.get (cells_of slots) m) ≡ content_in f.kept
-  content_there slots m f = rw (f.cell, content_kept f.kept) refl
-
-  pub refusal_there : (slots : List (Entry T)) (m : Name) (f : IsFound slots m)
-      → refusal_of (cells_of slots) (Some m) ≡ write_refusal (content_in f.kept)
-  refusal_there slots m f = ap write_refusal (content_there slots m f)
-
+module _ {T : Type 0} {slots : List (Entry T)} where
   -- what is refused is live
-  pub refused_live : (slots : List (Entry T)) (m : Name)
-      → is_some (refusal_of (cells_of slots) (Some m)) ≡ true → IsFound slots m
-  refused_live slots m refused =
+  pub refused_live : {m : Name} → is_some (refusal_of (cells_of slots) (Some m)) ≡ true
+      → IsFound slots m
+  refused_live {m} refused =
       found slots m (λ cell. is_some (write_refusal (content_of cell))) refl refused
 
-  -- what a name reaches is live
-  pub reached_live : (slots : List (Entry T)) → HasTargets (cells_of slots) → (n m : Name)
-      → Some m ≡ leads_to (cell_under slots n) n → IsFound slots m
-  reached_live slots targets n m leads = by (cell_under slots n) refl leads
-    where
-      by : (cell : Option (Cell T)) → cell_under slots n ≡ cell → Some m ≡ leads_to cell n
-          → IsFound slots m
-      by (Some (Value c l)) at e =
-          let same : m ≡ n = cc in
-          found slots m is_some refl (rw (same, get_cells slots n, at) refl)
-      by (Some (Ref t l)) at e =
-          (found_target slots targets n m (e ∙ ap target_in (sym at))).slot
-      by _ at e = cc
+  pub reached_live : HasTargets (cells_of slots) → {n m : Name}
+      → Some m ≡ leads_to (cell_under slots n) n → IsLive slots n m
+  reached_live targets {n} {m} leads =
+      let own = get_cells slots n in
+      record {
+        slot = found slots m is_some refl (grind (arith, named_shared slots targets n));
+        leads = rw own (sym leads);
+      }
 
   -- whether it is borrowed, is told by its slot
-  pub reached_borrow : (slots : List (Entry T)) (n m : Name) → Some m ≡ leads_to (cell_under slots n) n
-      → (f : IsFound slots m)
-      → cond (is_none (write_refusal (content_in f.kept))) None (Some m) ≡ borrowed_at slots n
-  reached_borrow slots n m leads f =
-      rw (← leads, refusal_there slots m f) (some (write_refusal (content_in f.kept)))
-    where
-      some : (t : Option BorrowRefusal) → cond (is_none t) None (Some m)
-          ≡ cond (is_some t) (Some m) None
-      some None = refl
-      some (Some t) = refl
+  pub reached_borrow : {n m : Name} (f : IsLive slots n m) {b : Bool}
+      → is_none (write_refusal (content_in f.kept)) ≡ b → cond b None (Some m) ≡ borrowed_at slots n
+  reached_borrow {n} f is =
+      let same = get_cells slots n in let holds = f.holds in let leads = f.leads in grind arith
 
+module _ {T : Type 0} (slots : List (Entry T)) where
   -- the name of a value of its own without borrows reaches no borrowed one
-  pub reached_free : (slots : List (Entry T)) (n : Name)
-      → is_unborrowed_value (cell_under slots n) ≡ true → None ≡ borrowed_at slots n
-  reached_free slots n free = by (cell_under slots n) refl free
-    where
-      none : (t : Option BorrowRefusal) → is_none t ≡ true → None ≡ cond (is_some t) (Some n) None
-      none None free = refl
-      none (Some t) free = cc
-
-      by : (cell : Option (Cell T)) → cell_under slots n ≡ cell → is_unborrowed_value cell ≡ true
-          → None ≡ if_borrowed (cells_of slots) (leads_to cell n)
-      by (Some (Value c l)) at free = rw (get_cells slots n, at) (none _ free)
-      by (Some (Ref m l)) at free = cc
-      by _ at free = refl
+  pub reached_free : (n : Name) → is_unborrowed_value (cell_under slots n) ≡ true
+      → None ≡ borrowed_at slots n
+  reached_free n free = let same = get_cells slots n in grind arith
 
   -- so nothing hinders a list of such names
-  pub none_hindered : (slots : List (Entry T)) (named : Name → Bool) (items : List CellName)
+  pub none_hindered : (named : Name → Bool) (items : List CellName)
       → list_all (λ n. is_unborrowed_value (cell_under slots (name_of_cell n))) items ≡ true
-      → first_refusal (cells_of slots) named (list_map name_of_cell items) ≡ None
-  none_hindered slots named [] free = refl
-  none_hindered slots named (item ∷ items) free =
+      → all slots named (list_map name_of_cell items) ≡ None
+  none_hindered named [] free = refl
+  none_hindered named (item ∷ items) free =
       let n = name_of_cell item in
       let both = and_parts (is_unborrowed_value (cell_under slots n)) _ free in
-      rw (get_cells slots n, free_own slots named n (reached_free slots n both.0))
-      (none_hindered slots named items both.1)
+      rw (free_own slots named n (reached_free n both.0)) (none_hindered named items both.1)
+
+-- ---- the end of a list of values that aren't shared and have no borrow
+
+module _ {T : Type 0} where
+  abbrev pub are_unborrowed : State T → List CellName → Bool
+  are_unborrowed S items =
+      list_all (λ n. is_unborrowed_value (map.get S.cells (name_of_cell n))) items
+
+  -- what is left of a list whose first values have ended: with it the end of all is reached
+  pub record AreLeft (S : State T) (items : List CellName) (end : State T) : Type 0 where
+    pub linked : IsLinked S.cells
+    pub free : are_unborrowed S items ≡ true
+    pub apart : IsDistinct is_name (list_map name_of_cell items)
+    pub ends : close S (list_map name_of_cell items) ≡ end
+
+  -- where none is left the end is reached
+  pub left_none : {S end : State T} → AreLeft S [] end → S ≡ end
+  left_none {S} left =
+      ap (λ (cells : NameMap _). record S { cells = cells }) (sym (close_nothing S.cells left.linked))
+      ∙ left.ends
+
+  module _ {S end : State T} {item : CellName} {items : List CellName}
+      (left : AreLeft S (item ∷ items) end) where
+    abbrev n : Name
+    n = name_of_cell item
+
+    both : (is_unborrowed_value (map.get S.cells n) ≡ true) × (are_unborrowed S items ≡ true)
+    both = and_parts _ _ left.free
+
+    -- the first is a value without borrows
+    pub left_ends : EndsFree S n
+    left_ends = free_ends S left.linked both.0
+
+    abbrev after : State T
+    after = record S { cells = map.remove S.cells n }
+
+    closes : after ≡ close S (n ∷ [])
+    closes = left_ends.closes
+
+    others : (items : List CellName)
+        → AllByRecursion (λ q. is_name n q ≡ false) (list_map name_of_cell items)
+        → are_unborrowed after items ≡ are_unborrowed S items
+    others [] apart = refl
+    others (i ∷ items) apart =
+        let kept = get-remove_apart by_name S.cells n (name_of_cell i)
+        (λ z. let no = rw (z, name_here n) at apart.0 in cc) in
+        rw (kept, others items apart.1) refl
+
+    -- when it has ended the rest is left
+    pub left_rest : AreLeft after items end
+    left_rest = record {
+      linked = subst (λ (X : State T). IsLinked X.cells) (sym closes)
+          (closing_linked S.cells (n ∷ []) left.linked);
+      free = others items (IsDistinct-head is_name n (list_map name_of_cell items) left.apart) ∙ both.1;
+      apart = IsDistinct-tail is_name n (list_map name_of_cell items) left.apart;
+      ends = subst (λ (X : State T). close X (list_map name_of_cell items) ≡ end) (sym closes)
+          (rw (← close_each S.cells n (list_map name_of_cell items)) left.ends);
+    }
+
+  module _ {now : SlotsState T} {start peak spare : ℕ} (slots : List (Entry T))
+      (view : record { state = state_of start peak slots; spare = spare } ≡ now)
+      (items : List CellName)
+      (free : list_all (λ n. is_unborrowed_value (cell_under slots (name_of_cell n))) items ≡ true)
+    where
+      -- the state sees such values as the slots tell them
+      pub unborrowed_seen : are_unborrowed now.state items ≡ true
+      unborrowed_seen =
+          (λ i. list_all (λ n. is_unborrowed_value
+          (sym (cell_seen slots view (name_of_cell n)) i)) items) ∙ free
+
+      -- and nothing hinders their end
+      pub unborrowed_free : IsLinked now.state.cells
+          → hindrance_to now.state (list_map name_of_cell items) ≡ None
+      unborrowed_free linked =
+          let same = state_is view in
+          rw (hindrance_is now.state (list_map name_of_cell items), ← same)
+          (first_hindered (cells_of slots) _ (rw (← same) at linked) ∙ none_hindered slots _ items free)

@@ -1,18 +1,17 @@
 -- What a write to a slot, or a new slot, is in the state for which the slots stand.
 use Rattle.store_slots.proofs.Common
-use Common.{shared_target, target_in, Ref, live_target, ap, AreReferred, arith, bit, Bool, by_name, cases_eq, Cell, cell_under, cell_in, cell_of}
-use Common.{cells_of, change_entry, changed_there, cond, contains-insert_at, contains-insert_name}
-use Common.{contains_own, Content, content_at, content_of, Count, count_of, Empty, Entry, EntryList}
-use Common.{eq-eqb, eqb-true, Err, false, fill, get-insert_name, given_in, given_of, HasBegun}
-use Common.{how_many, IfErr, IfSome, inl, inr, is_live, is_name, is_reusable, is_shared, is_some}
-use Common.{is_spent, IsReferred, IsSlotTable, IsWritten, Kept, Kind, last_generation, le-ltb}
-use Common.{length, length-set, List, Live, Location, location_of, lt-ltb, Name, name_exact}
-use Common.{name_test, name_total, nat_cmp, nat_cmp_total, nat_eq, nat_lt, ne_eqb, None, not, Ok}
-use Common.{OnErr, OnOk, Option, passes, refers, refers_to, refill, refl, Result, Retirements}
-use Common.{set_written, Shared, slice_get, slice_get_within, SlotsState, SlotTable, Some, State}
-use Common.{state_of, sym, true, Value, with_content, ℕ, ◌&&◌, ◌+◌, ◌-◌, ◌<◌, ◌||◌, ◌∙◌, ◌≡◌, ◌≢◌}
+use Common.{ap, AreReferred, arith, bit, Bool, by_name, cases_eq, Cell, cell_in, cell_of, cell_under, cells_of}
+use Common.{change_entry, changed_there, cond, contains-insert_at, contains-insert_name, contains_own, Content}
+use Common.{content_at, content_in, content_of, Count, count_of, Empty, Entry, EntryList, eq-eqb, eqb-true, Err}
+use Common.{false, fill, get-insert_name, given_in, given_of, has_no_borrow, HasBegun, how_many, IfErr, IfSome, inl}
+use Common.{inr, is_live, is_name, is_reusable, is_shared, is_some, is_spent, IsReferred, IsSlotTable, IsWritten}
+use Common.{Kept, Kind, last_generation, le-ltb, length, length-set, List, Live, live_target, Location, location_of}
+use Common.{lt-ltb, Name, name_exact, name_test, name_total, nat_cmp, nat_cmp_total, nat_eq, nat_lt, nat_tests}
+use Common.{ne_eqb, None, not, Ok, OnErr, OnOk, Option, passes, Ref, refers, refers_to, refill, refl, Result}
+use Common.{Retirements, set_written, Shared, shared_target, slice_get, slice_get_within, SlotsState, SlotTable, Some}
+use Common.{State, state_of, sym, target_in, true, Value, with_content, ℕ, ◌&&◌, ◌+◌, ◌-◌, ◌<◌, ◌||◌, ◌∙◌, ◌≡◌, ◌≢◌}
 use Common.{◌≤◌}
-use Rattle.store_slots.proofs.states.States.{get_cells, get_given, live_cell}
+use Rattle.store_slots.proofs.states.{States.get_cells, States.get_given, States.live_cell}
 use Rattle.std.specs.FinMap as map
 use Rattle.std.specs.FinSet as set
 use Rattle.store_cells.specs.declared.entry.Kind.TheVariants as kind
@@ -22,12 +21,10 @@ use Rattle.store_cells.specs.declared.entry.Kind.TheVariants as kind
 -- what passes a test that nothing passes is there
 pub some_if : {A : Type 0} (test : Option A → Bool) (o : Option A) → test None ≡ false
     → test o ≡ true → is_some o ≡ true
-some_if test None none h = cc
-some_if test (Some x) none h = refl
+some_if test o none h = grind arith
 
 pub nothing : {A : Type 0} (o : Option A) → is_some o ≡ false → o ≡ None
-nothing None h = refl
-nothing (Some x) h = cc
+nothing o h = grind arith
 
 -- ---- a slot that is written
 
@@ -50,15 +47,8 @@ module _ {T : Type 0} {slots after : List (Entry T)} {i : ℕ} {t : Entry T}
     get_written : (q : Name) → map.get (cells_of after) q
         ≡ cond (nat_eq q.slot i && nat_eq q.generation t.generation) (cell_of t.kept)
         (map.get (cells_of slots) q)
-    get_written q = rw (get_cells after q, get_cells slots q, w.at q.slot)
-        (by (nat_eq q.slot i) refl (nat_eq q.generation t.generation) refl)
-      where
-        by : (a : Bool) → nat_eq q.slot i ≡ a → (b : Bool) → nat_eq q.generation t.generation ≡ b
-            → cell_in (cond a (Some t) (slice_get slots q.slot)) q.generation
-            ≡ cond (a && b) (cell_of t.kept) (cell_in (slice_get slots q.slot) q.generation)
-        by true same true e = rw e refl
-        by true same false e = rw (e, eqb-true q.slot i same) (sym (alone q.generation e))
-        by false other b e = refl
+    get_written q =
+        rw (get_cells after q, get_cells slots q, w.at q.slot) (grind (arith, nat_tests, alone q.generation))
 
     pub cells_put : (c : Cell T) → cell_of t.kept ≡ Some c
         → cells_of after ≡ map.insert (cells_of slots) name c
@@ -114,8 +104,7 @@ module _ {T : Type 0} {slots after : List (Entry T)} {i : ℕ} {t : Entry T}
       still k other None was = tt
       still k other (Some e) was = λ shared.
           let q : Name = record { slot = k; generation = e.generation } in
-          let change = others q other in
-          let count = w.count (refers q) in let before = was shared in omega arith
+          omega (arith, others q other, w.count (refers q), was shared)
 
   -- where the slot refers to nothing else than before, and its own count is as it was
   pub referred_still : {less : Name → ℕ} → AreReferred less slots
@@ -187,8 +176,15 @@ pub record IsFound {T : Type 0} (slots : List (Entry T)) (n : Name) : Type 0 whe
   pub references : ℕ
   pub there : slice_get slots n.slot
       ≡ Some (record { generation = n.generation; kept = kept; references = references })
+  pub within : n.slot < length slots
   pub live : is_live kept ≡ true
   pub cell : map.get (cells_of slots) n ≡ cell_of kept
+  pub holds : content_of (map.get (cells_of slots) n) ≡ content_in kept
+
+-- the cell of a content
+abbrev pub cell_with : {T : Type 0} → Kind → Content T → Location → Cell T
+cell_with kind.Value c l = Value c l
+cell_with kind.Shared c l = Shared c l
 
 -- its entry, where it has a value or has lent one
 pub record IsHeld {T : Type 0} (slots : List (Entry T)) (n : Name) : Type 0 where
@@ -201,8 +197,13 @@ pub record IsHeld {T : Type 0} (slots : List (Entry T)) (n : Name) : Type 0 wher
     kept = Live kind content created;
     references = references;
   })
+  pub within : n.slot < length slots
+  pub cell : map.get (cells_of slots) n ≡ Some (cell_with kind content created)
 
 module _ {T : Type 0} where
+  content_kept : (k : Kept T) → content_of (cell_of k) ≡ content_in k
+  content_kept k = grind arith
+
   -- a cell that passes a test which nothing passes has one
   pub found : (slots : List (Entry T)) (n : Name) (test : Option (Cell T) → Bool)
       → test None ≡ false → test (map.get (cells_of slots) n) ≡ true → IsFound slots n
@@ -213,12 +214,16 @@ module _ {T : Type 0} where
           → test (cond b (cell_of e.kept) None) ≡ true → IsFound slots n
       own e there true same h =
           let g = eqb-true n.generation e.generation same in
+          let cell : map.get (cells_of slots) n ≡ cell_of e.kept =
+          get_cells slots n ∙ rw (there, same) refl in
           record {
             kept = e.kept;
             references = e.references;
             there = there ∙ (λ i. Some (record e { generation = sym g i }));
+            within = slice_get_within slots n.slot _ there;
             live = sym (live_cell e.kept) ∙ some_if test (cell_of e.kept) none h;
-            cell = get_cells slots n ∙ rw (there, same) refl;
+            cell = cell;
+            holds = rw cell (content_kept e.kept);
           }
       own e there false other h = cc
 
@@ -226,24 +231,6 @@ module _ {T : Type 0} where
           → test (cell_in o n.generation) ≡ true → IsFound slots n
       at None there h = cc
       at (Some e) there h = own e there _ refl h
-
-  pub held : (slots : List (Entry T)) (n : Name)
-      → is_some (content_of (map.get (cells_of slots) n)) ≡ true → IsHeld slots n
-  held slots n h =
-      let f = found slots n (λ o. is_some (content_of o)) refl h in
-      at f.kept f.there (rw f.cell at h)
-    where
-      at : (k : Kept T) {r : ℕ} → slice_get slots n.slot
-          ≡ Some (record { generation = n.generation; kept = k; references = r })
-          → is_some (content_of (cell_of k)) ≡ true → IsHeld slots n
-      at (Live kd c l) {r} there h =
-          record { kind = kd; content = c; created = l; references = r; there = there }
-      at _ there h = cc
-
-  -- the cell of a content
-  abbrev pub cell_with : Kind → Content T → Location → Cell T
-  cell_with kind.Value c l = Value c l
-  cell_with kind.Shared c l = Shared c l
 
   module _ (kd : Kind) (c : Content T) (l : Location) where
     cell_live : cell_of (Live kd c l) ≡ Some (cell_with kd c l)
@@ -262,55 +249,60 @@ module _ {T : Type 0} where
         → is_shared (cell_of (Live kd c l)) ≡ is_shared (cell_of (Live kd d l))
     shared_live d = grind arith
 
-module _ {T : Type 0} {slots : List (Entry T)} {n : Name} (f : IsHeld slots n) where
-  pub held_within : n.slot < length slots
-  held_within = slice_get_within slots n.slot _ f.there
+  pub held : (slots : List (Entry T)) (n : Name)
+      → is_some (content_of (map.get (cells_of slots) n)) ≡ true → IsHeld slots n
+  held slots n h =
+      let f = found slots n (λ o. is_some (content_of o)) refl h in
+      let holds = rw f.cell at h in
+      let is : (kd : Kind) × (c : Content T) × (l : Location) × (f.kept ≡ Live kd c l) = grind arith in
+      record {
+        kind = is.0;
+        content = is.1;
+        created = is.2;
+        references = f.references;
+        there = rw is.3 at f.there;
+        within = f.within;
+        cell = f.cell ∙ ap cell_of is.3 ∙ cell_live is.0 is.1 is.2;
+      }
 
-  cell_is : map.get (cells_of slots) n ≡ Some (cell_with f.kind f.content f.created)
-  cell_is =
-      get_cells slots n ∙ rw (f.there, eq-eqb n.generation n.generation refl)
-      (cell_live f.kind f.content f.created)
+module _ {T : Type 0} {slots : List (Entry T)} {n : Name} (f : IsHeld slots n)
+    (h : Content T → Content T) where
+  abbrev pub changed : List (Entry T)
+  changed = change_entry slots n.slot (λ e. record e { kept = with_content h e.kept })
 
-  module _ (h : Content T → Content T) where
-    abbrev pub changed : List (Entry T)
-    changed = change_entry slots n.slot (λ e. record e { kept = with_content h e.kept })
+  abbrev filled_entry : Entry T
+  filled_entry = record {
+    generation = n.generation;
+    kept = Live f.kind (h f.content) f.created;
+    references = f.references;
+  }
 
-    abbrev filled_entry : Entry T
-    filled_entry = record {
-      generation = n.generation;
-      kept = Live f.kind (h f.content) f.created;
-      references = f.references;
-    }
+  written : IsWritten slots changed n.slot filled_entry
+  written = rw f.there (set_written slots n.slot filled_entry _ f.there)
 
-    written : IsWritten slots changed n.slot filled_entry
-    written = rw f.there (set_written slots n.slot filled_entry _ f.there)
+  -- another content is the machine's
+  pub state_changed : (start peak : ℕ)
+      → state_of start peak changed ≡ fill (state_of start peak slots) n (h f.content)
+  state_changed start peak = rw (
+    cells_put written (λ g e. rw (f.there, e) refl)
+        (cell_with f.kind (h f.content) f.created) (cell_live f.kind (h f.content) f.created),
+    given_kept written start (λ g. rw f.there refl),
+    changed_there by_name (cells_of slots) n (refill (h f.content)) _ f.cell,
+    refill_live f.kind f.content f.created (h f.content),
+  ) refl
 
-    -- another content is the machine's
-    pub state_changed : (start peak : ℕ)
-        → state_of start peak changed ≡ fill (state_of start peak slots) n (h f.content)
-    state_changed start peak = rw (
-      cells_put written (λ g e. rw (f.there, e) refl)
-          (cell_with f.kind (h f.content) f.created) (cell_live f.kind (h f.content) f.created),
-      given_kept written start (λ g. rw f.there refl),
-      changed_there by_name (cells_of slots) n (refill (h f.content)) _ cell_is,
-      refill_live f.kind f.content f.created (h f.content),
-    ) refl
+  pub referred_changed : {less : Name → ℕ} → AreReferred less slots → AreReferred less changed
+  referred_changed r =
+      referred_still written r
+      (λ q. rw (f.there, refers_live f.kind f.content f.created q)
+      (sym (refers_live f.kind (h f.content) f.created q)))
+      (λ shared. rw f.there at (r.each n.slot)
+      (shared_live f.kind f.content f.created (h f.content) ∙ shared))
 
-    pub referred_changed : {less : Name → ℕ} → AreReferred less slots → AreReferred less changed
-    referred_changed r =
-        referred_still written r
-        (λ q. rw (f.there, refers_live f.kind f.content f.created q)
-        (sym (refers_live f.kind (h f.content) f.created q)))
-        (λ shared. rw f.there at (r.each n.slot)
-        (shared_live f.kind f.content f.created (h f.content) ∙ shared))
-
-    pub changed_length : length changed ≡ length slots
-    changed_length = rw (f.there, length-set) refl
+  pub changed_length : length changed ≡ length slots
+  changed_length = rw (f.there, length-set) refl
 
 module _ {T : Type 0} {slots : List (Entry T)} {n : Name} (f : IsFound slots n) where
-  pub found_within : n.slot < length slots
-  found_within = slice_get_within slots n.slot _ f.there
-
   abbrev pub ended : List (Entry T)
   ended = change_entry slots n.slot (λ e. record e { kept = Empty })
 
@@ -335,10 +327,6 @@ module _ {T : Type 0} {slots : List (Entry T)} {n : Name} (f : IsFound slots n) 
 -- ---- what holds of the slots holds after these changes
 
 module _ {T : Type 0} {p : SlotTable T} (s : IsSlotTable p) where
-  pub slotted_changed : {n : Name} (f : IsHeld p.slots n) (h : Content T → Content T)
-      → IsSlotTable (record p { slots = changed f h })
-  slotted_changed f h = slotted_still s (written f h) f.there refl refl (changed_length f h)
-
   -- the counts with one usable slot less
   abbrev pub lowered : Count
   lowered = record p.counts { usable = p.counts.usable - 1 }
@@ -413,8 +401,12 @@ pub invariant_changed : {T : Type 0} {free : set.FinSet nat_cmp} {rooms start : 
     (r : Retirements) {before after : EntryList T} {n : Name} (f : IsHeld before.slots n)
     (h : Content T → Content T) → Invariant free rooms start r before
     → after.slots ≡ changed f h → after.rooms ≡ before.rooms → Invariant free rooms start r after
-invariant_changed r f h inv slots rooms = rw (slots, rooms, changed_length f h)
-    (slotted_changed inv.0 f h, inv.1, referred_changed f h inv.2, inv.3)
+invariant_changed r f h inv slots rooms = rw (slots, rooms, changed_length f h) (
+  slotted_still inv.0 (written f h) f.there refl refl (changed_length f h),
+  inv.1,
+  referred_changed f h inv.2,
+  inv.3,
+)
 
 -- ---- the state that contracts see
 
@@ -437,6 +429,11 @@ module _ {T : Type 0} {now : SlotsState T} {start peak spare : ℕ} (slots : Lis
   pub cell_seen : (n : Name) → cell_under slots n ≡ map.get now.state.cells n
   cell_seen n = rw (← view) (sym (get_cells slots n))
 
+  -- what a name refers to
+  pub target_told : (n : Name) {o : Option Name} → o ≡ target_in (cell_under slots n)
+      → o ≡ target_in (map.get now.state.cells n)
+  target_told n told = told ∙ ap target_in (cell_seen n)
+
   -- a shared value that a cell names is live where the slots tell of it
   pub live_seen : (c : Option (Cell T))
       → live_target now.state.cells c ≡ shared_target slots (target_in c)
@@ -450,29 +447,37 @@ module _ {T : Type 0} {now : SlotsState T} {start peak spare : ℕ} (slots : Lis
 
 module _ {T : Type 0} {now : SlotsState T} {start peak spare : ℕ} {slots : List (Entry T)}
     (view : record { state = state_of start peak slots; spare = spare } ≡ now) where
-  pub found_in : (n : Name) → is_some (map.get now.state.cells n) ≡ true → IsFound slots n
-  found_in n h = found slots n is_some refl (rw (← view) at h)
+  pub found_in : {n : Name} → is_some (map.get now.state.cells n) ≡ true → IsFound slots n
+  found_in {n} h = found slots n is_some refl (rw (← view) at h)
 
-  pub created_in : {n : Name} → IsFound slots n → (l : Location) → IfSome (slice_get slots n.slot)
-      (λ e. IfSome (location_of (cell_of e.kept)) (λ k. l ≡ k))
+  pub created_in : {n : Name} → IsFound slots n → {l : Location}
+      → IfSome (slice_get slots n.slot) (λ e. IfSome (location_of (cell_of e.kept)) (λ k. l ≡ k))
       → location_of (map.get now.state.cells n) ≡ Some l
-  created_in {n} f l h =
-      rw (← view, f.cell) (located f.kept l f.live (rw f.there at h))
+  created_in f {l} h = rw (← view, f.cell) (located f.kept l f.live (rw f.there at h))
 
-  pub held_in : (n : Name) → is_some (content_at now.state n) ≡ true → IsSeen slots now.state n
-  held_in n h =
+  pub held_in : {n : Name} → is_some (content_at now.state n) ≡ true → IsSeen slots now.state n
+  held_in {n} h =
       let f = held slots n (rw (← view) at h) in
-      record { held = f; seen = rw (← view, cell_is f) (content_live f.kind f.content f.created) }
+      record { held = f; seen = rw (← view, f.cell) (content_live f.kind f.content f.created) }
 
   -- a slot holds a content of which the slots tell
-  pub held_told : (n : Name) → true ≡ is_some (content_of (cell_under slots n))
+  pub held_told : {n : Name} → true ≡ is_some (content_of (cell_under slots n))
       → IsSeen slots now.state n
-  held_told n h = held_in n (rw (cell_seen slots view n) at (sym h))
+  held_told {n} h = held_in (rw (cell_seen slots view n) at (sym h))
 
-  -- another content, for what the state sees
-  pub filled_in : {n : Name} (f : IsSeen slots now.state n) (h : Content T → Content T)
-      → state_of start peak (changed f.held h) ≡ fill now.state n (h f.content)
-  filled_in f h = rw (← view) (state_changed f.held h start peak)
+  -- and one without borrows
+  pub free_in : {n : Name} → has_no_borrow (content_at now.state n) ≡ true
+      → IsSeen slots now.state n
+  free_in free = held_in (some_if has_no_borrow _ refl free)
+
+-- another content, for what the state sees
+pub changed_state : {T : Type 0} {now : SlotsState T} {start spare : ℕ} (r : Retirements)
+    {slots after : List (Entry T)} {n : Name}
+    → record { state = state_of start (count_of r (length slots)).peak slots; spare = spare } ≡ now
+    → (f : IsSeen slots now.state n) (h : Content T → Content T) → after ≡ changed f.held h
+    → state_of start (count_of r (length after)).peak after ≡ fill now.state n (h f.content)
+changed_state r view f h is =
+    rw (is, changed_length f.held h, ← view) (state_changed f.held h _ _)
 
 -- what holds of a result's two ways
 pub either : {A E : Type 0} (r : Result A E) {P Q X : Type 0} → OnOk r P → OnErr r Q → (P → X)

@@ -1,22 +1,21 @@
--- The counts of references where a cell comes or goes.
+-- The counts of references where a cell comes or goes, and where a reference names another value.
 use Rattle.store_slots.proofs.Common
-use Common.{ap, AreReferred, arith, bit, Bool, Cell, cell_under, cell_in, cell_of, CellName, cells_of}
-use Common.{change_entry, change_entry_if, cond, cond_same, cond_some, count_less, count_more, Empty, Entry}
-use Common.{eq-eqb, Err, false, HasTargets, how_many, IfSome, IfSome_then, is_err, is_live, is_name}
-use Common.{is_named, is_shared, is_some, IsReferred, IsSlotTable, IsUnborrowed, IsWritten, Kept}
-use Common.{kept_data, length, length-set, List, Location, lt-ltb, many_some, many_within, Name}
-use Common.{name_apart, name_here, name_of_cell, named_gives, nat_lt, ne_eqb, None, Ok, OnErr}
-use Common.{Option, option_map, passes, Ref, refers, refers_to, refl, Result, set_written}
-use Common.{shared_target, slice_get, SlotTable, Some, state_of, SlotData, suc, sym}
-use Common.{target_in, named_by, true, zero, ℕ, [], ◌+◌, ◌-◌, ◌<◌, ◌∙◌, ◌≡◌, ◌≢◌}
+use Common.{ap, AreReferred, arith, bit, Bool, by_name, Cell, cell_in, cell_of, cell_under, CellName, cells_of}
+use Common.{change_entry, cond, cond_same, cond_some, Count, count_less, count_more, Entry, eq-eqb, false}
+use Common.{get-insert_apart, HasTargets, how_many, IfSome, IfSome_then, is_err, is_live, is_name, is_named}
+use Common.{is_shared, is_some, IsReferred, IsSlotTable, IsUnborrowed, IsWritten, Kept, kept_data, length, length-set}
+use Common.{List, Location, lt-ltb, many_some, many_within, Name, name_apart, name_here, name_of_cell, named_by}
+use Common.{named_gives, nat_cmp, nat_lt, ne_eqb, None, OnErr, Option, option_map, passes, Ref, referring, refers}
+use Common.{Refers, refers_to, refl, Result, set_written, shared_target, slice_get, SlotData, SlotTable, Some}
+use Common.{state_of, suc, sym, target_in, true, zero, [], ℕ, ◌+◌, ◌-◌, ◌<◌, ◌∙◌, ◌≡◌, ◌≢◌}
+use Rattle.store_slots.proofs.states.Changes.{cells_put, emptied, ended, found, given_kept, IsFound, referred}
+use Rattle.store_slots.proofs.states.Changes.{slotted_still, state_same}
+use Rattle.store_slots.proofs.states.References.{count_of, has_shared, named_count, reference_to}
 use Rattle.store_slots.proofs.states.{States.get_cells, States.not_named}
-use Rattle.store_slots.proofs.states.Changes.{emptied, ended, found, found_within, IsFound}
-use Rattle.store_slots.proofs.states.Changes.{referred, slotted_still, state_same}
-use Rattle.store_slots.proofs.states.References.{count_of, has_shared, named_count}
-use Rattle.store_slots.proofs.states.References.{reference_to}
-use Rattle.std.specs.FinMap as map
-use Rattle.store_cells.specs.declared.entry.Kind.TheVariants as kind
 use Rattle.store_cells.specs.Data.{SlotData as slot}
+use Rattle.std.specs.FinMap as map
+use Rattle.std.specs.FinSet as set
+use Rattle.store_cells.specs.declared.entry.Kind.TheVariants as kind
 
 -- whether a target, if there is one, is this cell
 abbrev pub is_target : Option Name → Name → Bool
@@ -24,7 +23,17 @@ is_target None q = false
 is_target (Some m) q = is_name q m
 
 module _ {T : Type 0} where
-  -- ---- slots whose counts change stand for the same state
+  -- ---- slots whose counts change stand for the same state, and what holds of them holds
+
+  pub record IsRecounted (slots after : List (Entry T)) : Type 0 where
+    pub long : length after ≡ length slots
+    pub state : (start peak : ℕ) → state_of start peak after ≡ state_of start peak slots
+    pub table : {free : set.FinSet nat_cmp} {rooms start : ℕ} {counts : Count}
+        → IsSlotTable (record { free = free; rooms = rooms; start = start; counts = counts; slots = slots })
+        → IsSlotTable (record { free = free; rooms = rooms; start = start; counts = counts; slots = after })
+
+  same_counts : (slots : List (Entry T)) → IsRecounted slots slots
+  same_counts slots = record { long = refl; state = λ start peak. refl; table = λ s. s }
 
   module _ (slots : List (Entry T)) (i : ℕ) (f : Entry T → ℕ) where
     abbrev pub recounted : List (Entry T)
@@ -35,60 +44,28 @@ module _ {T : Type 0} where
     recounted_written e there =
         rw there (set_written slots i (record e { references = f e }) e there)
 
-    pub recounted_length : length recounted ≡ length slots
-    recounted_length = elim (slice_get slots i) as (λ o. length (change_entry_if slots i (λ e.
-        record e { references = f e }) o) ≡ length slots)
-        [ None ↦ refl | Some e ↦ length-set slots i _ ]
-
-    pub recounted_state : (start peak : ℕ)
-        → state_of start peak recounted ≡ state_of start peak slots
-    recounted_state start peak = at (slice_get slots i) refl
+    is_recounted : IsRecounted slots recounted
+    is_recounted = at (slice_get slots i) refl
       where
-        at : (o : Option (Entry T)) → slice_get slots i ≡ o
-            → state_of start peak recounted ≡ state_of start peak slots
-        at None there = rw there refl
-        at (Some e) there = state_same (recounted_written e there) there refl refl start peak
-
-  -- what holds of the slots holds with other counts
-  module _ {p : SlotTable T} (s : IsSlotTable p) where
-    recounted_slotted : (i : ℕ) (f : Entry T → ℕ)
-        → IsSlotTable (record p { slots = recounted p.slots i f })
-    recounted_slotted i f = at (slice_get p.slots i) refl
-      where
-        at : (o : Option (Entry T)) → slice_get p.slots i ≡ o
-            → IsSlotTable (record p { slots = recounted p.slots i f })
-        at None there = rw there s
-        at (Some e) there = slotted_still s (recounted_written p.slots i f e there) there refl refl
-            (recounted_length p.slots i f)
-
-    pub more_slotted : (o : Option Name) → IsSlotTable (record p { slots = count_more p.slots o })
-    more_slotted None = s
-    more_slotted (Some m) = recounted_slotted m.slot (λ e. e.references + 1)
-
-    pub less_slotted : (o : Option Name) → IsSlotTable (record p { slots = count_less p.slots o })
-    less_slotted None = s
-    less_slotted (Some m) = recounted_slotted m.slot (λ e. e.references - 1)
+        at : (o : Option (Entry T)) → slice_get slots i ≡ o → IsRecounted slots recounted
+        at None there = rw there (same_counts slots)
+        at (Some e) there =
+            let w = recounted_written e there in
+            let long : length recounted ≡ length slots = rw (there, length-set) refl in
+            record {
+              long = long;
+              state = state_same w there refl refl;
+              table = λ s. slotted_still s w there refl refl long;
+            }
 
   module _ (slots : List (Entry T)) where
-    pub more_length : (o : Option Name) → length (count_more slots o) ≡ length slots
-    more_length None = refl
-    more_length (Some m) = recounted_length slots m.slot (λ e. e.references + 1)
+    pub counted_up : (o : Option Name) → IsRecounted slots (count_more slots o)
+    counted_up None = same_counts slots
+    counted_up (Some m) = is_recounted slots m.slot (λ e. e.references + 1)
 
-    pub more_state : (o : Option Name) (start peak : ℕ)
-        → state_of start peak (count_more slots o) ≡ state_of start peak slots
-    more_state None start peak = refl
-    more_state (Some m) start peak =
-        recounted_state slots m.slot (λ e. e.references + 1) start peak
-
-    pub less_length : (o : Option Name) → length (count_less slots o) ≡ length slots
-    less_length None = refl
-    less_length (Some m) = recounted_length slots m.slot (λ e. e.references - 1)
-
-    pub less_state : (o : Option Name) (start peak : ℕ)
-        → state_of start peak (count_less slots o) ≡ state_of start peak slots
-    less_state None start peak = refl
-    less_state (Some m) start peak =
-        recounted_state slots m.slot (λ e. e.references - 1) start peak
+    pub counted_down : (o : Option Name) → IsRecounted slots (count_less slots o)
+    counted_down None = same_counts slots
+    counted_down (Some m) = is_recounted slots m.slot (λ e. e.references - 1)
 
   -- ---- a target that counts one reference less than there are
 
@@ -107,7 +84,7 @@ module _ {T : Type 0} where
       let count = count_of u.counted t in
       let own = ap bit (name_here (name_of_cell m)) in
       let most = many_within (refers (name_of_cell m)) slots in
-      (found_within t.slot, rw t.there (omega arith))
+      (t.within, rw t.there (omega arith))
 
   -- once it has, all counts are right
   pub counted_more : {slots : List (Entry T)} (o : Option Name) → IsUncounted slots o
@@ -136,8 +113,7 @@ module _ {T : Type 0} where
 
   -- what isn't live is no cell, and refers to nothing
   dead_none : (k : Kept T) → is_live k ≡ false → cell_of k ≡ None
-  dead_none Empty dead = refl
-  dead_none _ dead = cc
+  dead_none k dead = grind arith
 
   dead_refers : (q : Name) (o : Option (Entry T)) → passes (λ e. is_live e.kept) o ≡ false
       → passes (refers q) o ≡ false
@@ -194,8 +170,7 @@ module _ {T : Type 0} where
 
 -- what a refusal says holds where there is one
 pub err_holds : {A E P : Type 0} (r : Result A E) → is_err r ≡ true → OnErr r P → P
-err_holds (Ok a) h p = cc
-err_holds (Err e) h p = p
+err_holds r h p = grind arith
 
 -- ---- a cell goes
 
@@ -268,7 +243,7 @@ module _ {T : Type 0} (slots : List (Entry T)) (r : AreReferred (λ m. 0) slots)
 -- it is within the slots then, and its count may fall
 pub may_fall : {T : Type 0} {slots : List (Entry T)} (target : Option Name) (o : Option CellName)
     → option_map name_of_cell o ≡ shared_target slots target
-    → IsForgotten slots target (shared_target slots target)
+    → IsForgotten slots target (option_map name_of_cell o)
     → IfSome o (λ m. m.slot < length slots)
     × IfSome o (λ m. IfSome (slice_get slots m.slot) (λ e. 0 < e.references))
 may_fall target None is f = (tt, tt)
@@ -277,8 +252,8 @@ may_fall {slots} (Some k) (Some m) is f =
     let both = cond_some (is_shared (cell_under slots k)) k (name_of_cell m) (sym is) in
     let at : is_shared (map.get (cells_of slots) k) ≡ true = rw (get_cells slots k) both.0 in
     let t = has_shared slots k at in
-    let within = found_within t.slot in
-    (rw both.1 at within, rw (← is) at f.some)
+    let within = t.within in
+    (rw both.1 at within, f.some)
 
 -- the counts are right once the reference is gone
 pub referred_ended : {T : Type 0} {slots : List (Entry T)} {n : Name} (f : IsFound slots n)
@@ -289,3 +264,77 @@ referred_ended f is r =
     (λ q other. let own = ap bit (refers_target q (cell_of f.kept)) in
     rw (f.there, is, f.cell) (omega arith))
     (λ shared. absurd cc)
+
+-- ---- a reference that names another shared value, and the counts of both
+
+-- the slot of a reference
+pub record HasReference {T : Type 0} (slots : List (Entry T)) (n m : Name) : Type 0 where
+  pub created : Location
+  pub references : ℕ
+  pub there : slice_get slots n.slot ≡ Some (record {
+    generation = n.generation;
+    kept = Refers m created;
+    references = references;
+  })
+
+module _ {T : Type 0} where
+  pub has_reference : (slots : List (Entry T)) (n m : Name)
+      → target_in (map.get (cells_of slots) n) ≡ Some m → HasReference slots n m
+  has_reference slots n m h =
+      let f = found slots n (λ c. is_some (target_in c)) refl (ap is_some h) in
+      let refers = rw f.cell at h in
+      let is : (l : Location) × (f.kept ≡ Refers m l) = grind arith in
+      record { created = is.0; references = f.references; there = rw is.1 at f.there }
+
+  -- the reference names another cell
+  module _ {slots : List (Entry T)} {n old : Name} (f : HasReference slots n old) (new : Name) where
+    abbrev pub turned : List (Entry T)
+    turned = change_entry slots n.slot (λ e. record e { kept = referring new e.kept })
+
+    abbrev turned_entry : Entry T
+    turned_entry = record {
+      generation = n.generation;
+      kept = Refers new f.created;
+      references = f.references;
+    }
+
+    turned_written : IsWritten slots turned n.slot turned_entry
+    turned_written = rw f.there (set_written slots n.slot turned_entry _ f.there)
+
+    pub turned_length : length turned ≡ length slots
+    turned_length = rw (f.there, length-set) refl
+
+    turned_cells : cells_of turned ≡ map.insert (cells_of slots) n (Ref new f.created)
+    turned_cells = cells_put turned_written (λ g e. rw (f.there, e) refl) (Ref new f.created) refl
+
+    pub turned_state : (start peak : ℕ) → state_of start peak turned
+        ≡ record (state_of start peak slots)
+        { cells = map.insert (cells_of slots) n (Ref new f.created) }
+    turned_state start peak =
+        rw (turned_cells, given_kept turned_written start (λ g. rw f.there refl)) refl
+
+    -- where the old target counts it no more, the new one doesn't count it yet
+    pub turned_referred : AreReferred (λ q. bit (is_name q old)) slots
+        → AreReferred (λ q. bit (is_name q new)) turned
+    turned_referred r =
+        referred turned_written r (λ q other. rw f.there (omega arith)) (λ shared. absurd cc)
+
+    pub reference_there : map.get (cells_of slots) n ≡ Some (Ref old f.created)
+    reference_there =
+        get_cells slots n ∙ rw (f.there, eq-eqb n.generation n.generation refl) refl
+
+    -- the new target is shared as before
+    pub turned_target : is_shared (map.get (cells_of slots) new) ≡ true
+        → is_shared (map.get (cells_of turned) new) ≡ true
+    turned_target shared =
+        let apart : new ≢ n = λ z. let no = rw (z, reference_there) at shared in cc in rw (
+          turned_cells,
+          get-insert_apart by_name (cells_of slots) n (Ref new f.created) new apart,
+        ) shared
+
+  -- what holds of the slots holds then
+  pub turned_slotted : {p : SlotTable T} → IsSlotTable p → {n old : Name}
+      (f : HasReference p.slots n old) (new : Name)
+      → IsSlotTable (record p { slots = turned f new })
+  turned_slotted s f new =
+      slotted_still s (turned_written f new) f.there refl refl (turned_length f new)

@@ -1,27 +1,25 @@
 -- One slot more is packed, in the place of one that was packed in an earlier state.
 use Rattle.store_slots.proofs.Common
-use Common.{and_from, ap, append-nil, arith, BaseRow, Cell, cell_of, cells_of, drop, Entry, eq-eqb}
-use Common.{entry_rows, Err, get_bare_cell, IfSome, inl, inr, IsSlotTable, le-leb, length}
-use Common.{length-append, List, Location, None, Ok, OnOk, Option, option_map, refl, Result}
-use Common.{rows_from, slice_get, slice_get_cases, SlotTable, Some, State, state_of, subst, suc, sym}
-use Common.{take, unwrap_or, zero, ℕ, ⊎_elim, [], ◌++◌, ◌+◌, ◌<◌, ◌≤◌, ◌∙◌, ◌∷◌, ◌≡◌}
+use Common.{and_from, ap, append-nil, arith, BaseRow, Cell, cell_of, cells_of, drop, Entry, entry_rows, eq-eqb, Err}
+use Common.{get_bare_cell, IfSome, inl, inr, IsSlotTable, le-leb, length, length-append, List, Location, None, Ok}
+use Common.{OnOk, Option, option_map, Ref, refl, Result, rows_from, Shared, slice_get, slice_get_cases, SlotTable}
+use Common.{Some, State, state_of, subst, suc, sym, take, unwrap_or, Value, zero, [], ℕ, ⊎_elim, ◌++◌, ◌+◌, ◌<◌, ◌∙◌}
+use Common.{◌∷◌, ◌≡◌, ◌≤◌}
+use Rattle.store_slots.proofs.states.{Rows.rows_more, States.get_cells, States.get_given}
 use Rattle.std.proofs.Common.{◌⊎◌}
 use Rattle.std.proofs.Math.Seq.{drop-append_seam, take-nil, take-suc}
 use Rattle.std.proofs.lemmas.List.{length-take, length-take-le}
 use Rattle.std.proofs.lemmas.Option.{get_or_from_slice_get}
-use Rattle.std.specs.FinMap as map
-use Rattle.std.specs.FinSet as set
 use Rattle.generational_core.specs.Cells.{location_of}
-use Rattle.generational_core.specs.Cells.Cell.{Value, Shared, Ref}
 use Rattle.generational_core.specs.Plain.{bare_cell, plain}
-use Rattle.store_slots.proofs.states.Rows.{rows_more}
-use Rattle.store_slots.proofs.states.States.{get_cells, get_given}
-use Rattle.store_slots.specs.Packing.{ArePacked, ArePastOf, AreRenewed, IsOf, IsPacked, IsPastOf}
-use Rattle.store_slots.specs.Packing.{IsSmall, Packs, WasMadeIn}
+use Rattle.store_slots.specs.Packing.{ArePacked, ArePastOf, AreRenewed, IsOf, IsPacked, IsPastOf, IsSmall, Packs}
+use Rattle.store_slots.specs.Packing.{WasMadeIn}
 use Rattle.store_rows.proofs.Packing.{unpack_grows, unpack_snoc, whole_snoc}
 use Rattle.store_rows.specs.Packed.{unpack, unpack_all, whole_of}
 use Rattle.store_rows.specs.Past.{ArePastSlots, IsPastSlot, WasMadeAt}
 use Rattle.store_rows.specs.declared.packed.PackedSlot.{PackedSlot}
+use Rattle.std.specs.FinMap as map
+use Rattle.std.specs.FinSet as set
 use Rattle.store_rows.specs.declared.packed.PackedSlot.TheVariants as packed
 
 -- ---- one slot after the other
@@ -145,13 +143,7 @@ module _ {A : Type 0} where
 
   bare_made : (c : Option (Cell A)) (l : Location) → IfSome (location_of c) (λ k. l ≡ k)
       → (b : Cell (Unit {0})) → option_map bare_cell c ≡ Some b → location_of (Some b) ≡ Some l
-  bare_made None l made b is = absurd cc
-  bare_made (Some (Value c k)) l made b is =
-      let same : bare_cell {T = A} (Value c k) ≡ b = cc in rw (← same, made) refl
-  bare_made (Some (Shared c k)) l made b is =
-      let same : bare_cell {T = A} (Shared c k) ≡ b = cc in rw (← same, made) refl
-  bare_made (Some (Ref m k)) l made b is =
-      let same : bare_cell {T = A} (Ref m k) ≡ b = cc in rw (← same, made) refl
+  bare_made c l made b is = grind arith
 
 module _ {A : Type 0} (slots : List (Entry A)) (S : State A) (are : cells_of slots ≡ S.cells) where
   -- the cell of a slot without its value
@@ -183,8 +175,7 @@ module _ {A : Type 0} (slots : List (Entry A)) (S : State A) (are : cells_of slo
           → IsPastSlot (plain S) slot p → IsPastOf e p
       at e there (packed.Value g, l) was = made_in slot g e l there was
       at e there (packed.Shared g, l) was = made_in slot g e l there was
-      at e there (packed.Free g, l) was = tt
-      at e there (packed.Whole n, l) was = tt
+      at e there _ was = tt
 
 -- ---- slots packed ahead
 
@@ -222,11 +213,9 @@ module _ {A : Type 0} (es : List (Entry A)) where
       at : (e : Entry A) (o : Option PackedSlot) → WasMadeIn e l
           → IfSome o (λ p. (k : Location) → WasMadeIn e k → IsSmall slot (p, k) e)
           → IsOf e (unwrap_or o (packed.Whole 0), l)
-      at e None made small = tt
       at e (Some (packed.Value g)) made small = (let same = (small l made).rows 0 [] in cc, made)
       at e (Some (packed.Shared g)) made small = (let same = (small l made).rows 0 [] in cc, made)
-      at e (Some (packed.Free g)) made small = tt
-      at e (Some (packed.Whole n)) made small = tt
+      at e _ made small = tt
 
   module _ (old slots : List (PackedSlot × Location)) where
     -- where one is put into its place, or after the last one
@@ -243,12 +232,6 @@ module _ {A : Type 0} (es : List (Entry A)) where
           ap (slice_get es) at.0 ∙ of.1,
           subst (IsOf of.0) (let same : Some p ≡ Some q = sym at.1 ∙ there in cc) of.2,
         )) (only_at k old slots p within (ap (λ n. take n slots) more ∙ here) rest i)
-
-    -- and where others were renewed before
-    pub renewed_on : (before : List (PackedSlot × Location)) → AreRenewed es before old
-        → AreRenewed es old slots → AreRenewed es before slots
-    renewed_on before first more i p there =
-        ⊎_elim (λ was. first i p was) (λ of. inr of) (more i p there)
 
 module _ {A : Type 0} {p : SlotTable A} (s : IsSlotTable p) (S : State A)
     (seen : state_of p.start p.counts.peak p.slots ≡ S) where
@@ -275,5 +258,4 @@ module _ {A : Type 0} {p : SlotTable A} (s : IsSlotTable p) (S : State A)
           → IsPastSlot (plain S) slot q
       at e there (packed.Value g, l) of = told_past slot g e l there of
       at e there (packed.Shared g, l) of = told_past slot g e l there of
-      at e there (packed.Free g, l) of = tt
-      at e there (packed.Whole n, l) of = tt
+      at e there _ of = tt

@@ -1,12 +1,10 @@
 -- Which calls no borrow hinders, as the machine answers them.
 use Rattle.store_slots.proofs.Common
-use Common.{Action, ap, arith, Bool, BorrowRefusal, Cell, cond, Content, content_of, Done}
-use Common.{would_end, false, GenerationalPointer, hindrance_at, hindrance_to, is_hindered, is_name}
-use Common.{is_named, is_none, is_shared, is_some, IsLinked, Location, may_set, Name, name_of, None}
-use Common.{not, Option, point, Ref, refl, Shared, Some, State, sym, target_in, tells_of_borrow}
-use Common.{true, turn, unless, write_refusal, [], ◌∙◌, ◌∷◌, ◌≡◌}
-use Rattle.store_slots.proofs.states.Endings.{ending_hinders}
-use Rattle.store_slots.proofs.states.Turns.{hinders, IsReference, left}
+use Common.{Action, ap, arith, Bool, BorrowRefusal, Cell, Content, content_of, Done, false, GenerationalPointer}
+use Common.{hindrance_at, hindrance_to, is_hindered, is_name, is_named, is_none, is_shared, is_some, IsLinked}
+use Common.{Location, may_set, Name, name_of, None, not, Option, point, Ref, refl, Shared, Some, State, sym}
+use Common.{target_in, tells_of_borrow, true, turn, unless, would_end, write_refusal, [], ◌∙◌, ◌∷◌, ◌≡◌}
+use Rattle.store_slots.proofs.states.{Endings.ending_hinders, Turns.hinders, Turns.IsReference, Turns.left}
 use Rattle.std.specs.FinMap as map
 
 module _ {T : Type 0} where
@@ -24,8 +22,7 @@ module _ {T : Type 0} where
   free_unless : (S : State T) (a : Action T) (t : Option BorrowRefusal) (R : State T)
       → is_none t ≡ not (tells_of_borrow t)
       → is_none t ≡ not (is_hindered a (unless t S (Done, R)).0)
-  free_unless S a None R tells = refl
-  free_unless S a (Some t) R tells = tells
+  free_unless S a t R tells = grind arith
 
   -- what hinders the turn of a reference is what hinders its end
   pub turn_free : (S : State T) (n old new : Name) (l : Location) (a : Action T)
@@ -38,11 +35,7 @@ module _ {T : Type 0} where
       ∙ sym (hinders r new linked other d refl) in
       let cells = left r new linked in
       rw other (ap is_none same ∙ free_unless S a (hindrance_at S.cells cells old) _
-      (elim (is_some (map.get cells old)) as (λ b. is_none (cond (not b) (write_refusal (content_of
-      (map.get S.cells old))) None)
-      ≡ not (tells_of_borrow (cond (not b) (write_refusal (content_of (map.get S.cells old)))
-      None)))
-      [ true ↦ refl | false ↦ write_tells (content_of (map.get S.cells old)) ]))
+      (let tells = write_tells (content_of (map.get S.cells old)) in grind arith))
 
   module _ (S : State T) (a b : GenerationalPointer) (m : Name) where
     abbrev IsFree : Option (Cell T) → Option (Cell T) → Bool → Type 0
@@ -51,21 +44,17 @@ module _ {T : Type 0} where
 
     -- what is no reference is told of as dropped
     pub plain_free : (own target : Option (Cell T)) → None ≡ target_in own → IsFree own target true
-    plain_free (Some (Ref q l)) target none = cc
-    plain_free _ target none = refl
+    plain_free own target none = grind arith
 
     -- and so is what isn't shared
     pub unshared_free : (own target : Option (Cell T)) → false ≡ is_shared target
         → IsFree own target true
-    unshared_free (Some (Ref q l)) (Some (Shared c k)) plain = cc
-    unshared_free _ _ plain = refl
+    unshared_free own target plain = grind arith
 
     -- a reference that names the value already stays
     pub same_free : (own target : Option (Cell T)) (old : Name) → Some old ≡ target_in own
         → is_name old m ≡ true → IsFree own target true
-    same_free (Some (Ref q l)) (Some (Shared c k)) old refers same =
-        let is : old ≡ q = cc in rw (← is, same) refl
-    same_free _ _ old refers same = refl
+    same_free own target old refers same = grind arith
 
     -- else what hinders its end hinders it
     pub turned_free : (own target : Option (Cell T)) (old : Name)

@@ -1,15 +1,14 @@
 -- How many references name a cell, also where some names end.
 use Rattle.store_slots.proofs.Common
-use Common.{AllByRecursion, among, ap, AreReferred, arith, away_absent, away_each, away_nothing}
-use Common.{away_one, away_shared, bit, both_ways, Cell, cell_under, cell_of, cells_of, Entry, eq-eqb}
-use Common.{eq_by_cmp_equiv, false, HasTargets, how_many, is_name, is_named, is_ref, is_shared}
-use Common.{is_some, IsDistinct, IsDistinct-head, IsDistinct-tail, List, Location, lt-ltb, ltb-true}
-use Common.{many_some, Name, name_here, name_total, named_from, named_gives, nat_lt, nat_tests}
-use Common.{None, Option, passes, Ref, refers, refers_among, refers_to, refl, Shared, Some}
-use Common.{some_of_many, sum_by-cons, sym, take_away, target_in, true, Value, without_view, ℕ, []}
-use Common.{⊎_elim, ◌+◌, ◌||◌, ◌∙◌, ◌∷◌, ◌≡◌}
+use Common.{AllByRecursion, among, ap, AreReferred, arith, away_absent, away_each, away_nothing, away_one}
+use Common.{away_shared, bit, both_ways, Cell, cell_of, cell_under, cells_of, Entry, eq-eqb, eq_by_cmp_equiv, false}
+use Common.{HasTargets, how_many, is_name, is_named, is_ref, is_shared, is_some, IsDistinct, IsDistinct-head}
+use Common.{IsDistinct-tail, List, Location, lt-ltb, ltb-true, many_some, Name, name_here, name_total, named_from}
+use Common.{named_gives, nat_lt, nat_tests, None, Option, passes, Ref, refers, refers_among, refers_to, refl, Shared}
+use Common.{Some, some_of_many, sum_by-cons, sym, take_away, target_in, true, Value, without_view, [], ℕ, ⊎_elim, ◌+◌}
+use Common.{◌∙◌, ◌∷◌, ◌≡◌}
 use Rattle.store_slots.proofs.states.Changes.{cells_ended, emptied, ended, found, IsFound}
-use Rattle.store_slots.proofs.states.States.{get_cells}
+use Rattle.store_slots.proofs.states.{States.get_cells}
 use Rattle.std.specs.FinMap as map
 
 -- a cell is named where some reference names it
@@ -37,10 +36,8 @@ apart_each : (n : Name) (names : List Name) → AllByRecursion (λ q. is_name n 
     → AllByRecursion (λ q. among (n ∷ []) q ≡ false) names
 unfolding is_name
 apart_each n [] apart = tt
-apart_each n (q ∷ names) apart = (
-  ap (λ b. b || false) ((eq_by_cmp_equiv name_total).symm q n ∙ apart.0),
-  apart_each n names apart.1,
-)
+apart_each n (q ∷ names) apart =
+    (rw ((eq_by_cmp_equiv name_total).symm q n, apart.0) refl, apart_each n names apart.1)
 
 -- what is left of the slots where the cells of some names are taken away
 pub record IsAway {T : Type 0} (slots : List (Entry T)) (names : List Name) : Type 0 where
@@ -97,10 +94,13 @@ module _ {T : Type 0} (slots : List (Entry T)) where
       → refers_among a.left others m ≡ refers_among slots others m
   among_away a m [] apart = refl
   among_away a m (q ∷ others) apart =
-      let own = ap (refers_to m) (kept_away a q apart.0) in
-      sum_by-cons (λ n. bit (refers_to m (cell_under a.left n))) q others
-      ∙ ((λ i. bit (own i) + among_away a m others apart.1 i)
-      ∙ sym (sum_by-cons (λ n. bit (refers_to m (cell_under slots n))) q others))
+      let own = ap (λ c. bit (refers_to m c)) (kept_away a q apart.0) in
+      omega (
+        arith,
+        sum_by-cons (λ n. bit (refers_to m (cell_under a.left n))) q others,
+        among_away a m others apart.1,
+        sum_by-cons (λ n. bit (refers_to m (cell_under slots n))) q others,
+      )
 
 -- names end one after the other
 pub all_away : {T : Type 0} (names : List Name) → IsDistinct is_name names
@@ -165,12 +165,14 @@ count_of referred {m} t = (rw t.there at (referred.each m.slot)) t.shared
 -- what names something is a Ref to it
 pub reference_to : {T : Type 0} (cell : Option (Cell T)) (m : Name) → target_in cell ≡ Some m
     → (l : Location) × (cell ≡ Some (Ref m l))
-reference_to (Some (Ref k l)) m h = let same : k ≡ m = cc in (l, rw same refl)
-reference_to _ m h = cc
+reference_to cell m h = grind arith
 
 -- each reference of linked cells names a shared value
+pub named_shared : {T : Type 0} (slots : List (Entry T)) → HasTargets (cells_of slots)
+    → (n m : Name) → Some m ≡ target_in (cell_under slots n) → is_shared (map.get (cells_of slots) m) ≡ true
+named_shared slots targets n m target =
+    let it = reference_to (cell_under slots n) m (sym target) in targets n m it.0 (get_cells slots n ∙ it.1)
+
 pub found_target : {T : Type 0} (slots : List (Entry T)) → HasTargets (cells_of slots)
     → (n m : Name) → Some m ≡ target_in (cell_under slots n) → HasShared slots m
-found_target slots targets n m target =
-    let it = reference_to (cell_under slots n) m (sym target) in
-    has_shared slots m (targets n m it.0 (get_cells slots n ∙ it.1))
+found_target slots targets n m target = has_shared slots m (named_shared slots targets n m target)

@@ -1,15 +1,13 @@
 -- The rows of the slots: that they stand in the order of the machine's slots, and what reads them
 -- back.
 use Rattle.store_slots.proofs.Common
-use Common.{all_slot_rows, ap, append-nil, append_assoc, AreApart, arith, bare_cell, bare_cells}
-use Common.{bare_entry, BaseRow, Bool, by_name, Cell, cell_of, cell_read, cell_rows, cells_of}
-use Common.{contains_up_to, Entry, entry_rows, eq-eqb, eq_by_cmp, false, find_bare, get_bare_cell}
-use Common.{give_up_to, given_from, given_of, IfSome, inl, inr, IsSlotTable, length, List, list_any}
-use Common.{live_from, lt-ltb, Name, name_cmp, name_exact, name_total, Names, nat_cmp}
-use Common.{nat_cmp_total, ne_eqb, None, number_test, Option, option_map, or-false, Plain, put}
-use Common.{put_new, read_append, read_rows, refl, rows_from, slice_get, slice_get_cases, slot_rows}
-use Common.{slots_of, SlotTable, Some, State, state_of, suc, sym, T, take, true, with_cell, zero, ℕ}
-use Common.{[], ◌&&◌, ◌++◌, ◌+◌, ◌<◌, ◌||◌, ◌∙◌, ◌∷◌, ◌≡◌}
+use Common.{all_slot_rows, ap, append-nil, append_assoc, AreApart, arith, bare_cell, bare_cells, bare_entry, by_name}
+use Common.{Cell, cell_of, cell_read, cell_rows, cells_of, contains_up_to, Entry, entry_rows, eq-eqb, eq_by_cmp}
+use Common.{find_bare, get_bare_cell, give_up_to, given_from, given_of, IsSlotTable, List, list_any, live_from}
+use Common.{lt-ltb, Name, name_cmp, name_exact, name_total, Names, nat_cmp, nat_cmp_total, ne_eqb, None, number_test}
+use Common.{Option, option_map, or-false, Plain, put, put_new, read_append, read_rows, refl, rows_from, slice_get}
+use Common.{slot_rows, slots_of, SlotTable, Some, State, state_of, suc, sym, T, take, with_cell, zero, [], ℕ, ◌++◌}
+use Common.{◌+◌, ◌<◌, ◌||◌, ◌∙◌, ◌∷◌, ◌≡◌}
 use Rattle.store_slots.proofs.states.States.{any_of, find_below, get_cells, get_last}
 use Rattle.std.proofs.Common.{map as list_map}
 use Rattle.std.specs.FinMap as map
@@ -29,19 +27,6 @@ module _ {A : Type 0} where
       let at : (i + 1) + k ≡ i + suc k = omega arith in
       rw (rows_more number (i + 1) k es e there, at)
       (sym (append_assoc (entry_rows number i x) (rows_from number (i + 1) (take k es)) _))
-
-  pub rows_step : (number k : ℕ) (es : List (Entry A)) (before rows after : List BaseRow)
-      → k < length es → rows ≡ before ++ rows_from number 0 (take k es)
-      → IfSome (slice_get es k) (λ e. after ≡ rows ++ entry_rows number k e)
-      → after ≡ before ++ rows_from number 0 (take (k + 1) es)
-  rows_step number k es before rows after within is pushed = elim (slice_get_cases es k).1 [
-    | inl w ↦
-        let at : 0 + k ≡ k = omega arith in
-        let more : k + 1 ≡ suc k = omega arith in
-        rw (rw w.2 at pushed, is, more, rows_more number 0 k es w.0 w.2, at)
-        (append_assoc before (rows_from number 0 (take k es)) (entry_rows number k w.0))
-    | inr w ↦ absurd (omega (arith, w.0))
-  ]
 
   -- ---- the machine's slots
 
@@ -68,11 +53,8 @@ module _ {A : Type 0} where
   rising : (i : ℕ) (es : List (Entry A)) → T (map.is_sorted nat_cmp (numbered i es))
   unfolding numbered
   rising i [] = tt
-  rising i (e ∷ es) = both _ _ (below_numbered i (i + 1) es (omega arith)) (rising (i + 1) es)
-    where
-      both : (a b : Bool) → T a → T b → T (a && b)
-      both true b p q = q
-      both false b p q = p
+  rising i (e ∷ es) =
+      let below = below_numbered i (i + 1) es (omega arith) in let rest = rising (i + 1) es in grind arith
 
   rows_numbered : (number : ℕ) (slots : List (Entry A)) (i : ℕ) (es : List (Entry A))
       → ((k : ℕ) → slice_get slots (i + k) ≡ slice_get es k)
@@ -86,11 +68,9 @@ module _ {A : Type 0} where
         get_cells slots (record { slot = i; generation = e.generation }),
         there,
         eq-eqb e.generation e.generation refl,
-        rows_numbered number slots (i + 1) es rest,
+        rows_numbered number slots (i + 1) es
+            (λ k. let at : (i + 1) + k ≡ i + suc k = omega arith in rw at (same (suc k))),
       ) refl
-    where
-      rest : (k : ℕ) → slice_get slots ((i + 1) + k) ≡ slice_get es k
-      rest k = let at : (i + 1) + k ≡ i + suc k = omega arith in rw at (same (suc k))
 
   -- ---- reading back
 
@@ -165,10 +145,7 @@ module _ {A : Type 0} where
         contains_given (i + 1) es (give_up_to i e.generation given) q,
         contains_up_to i e.generation given q,
         any_of 1 i e es q,
-      ) (turned (list_any (eq_by_cmp name_cmp q) (given_from 1 (i + 1) es)) _ _)
-    where
-      turned : (r a c : Bool) → (r || (a || c)) ≡ ((a || r) || c)
-      turned r a c = grind arith
+      ) (grind arith)
 
   given_read : (slots : List (Entry A)) → give_all 0 slots set.empty ≡ given_of 1 slots
   unfolding given_of

@@ -1,16 +1,14 @@
 -- The state for which a store's slots stand: what is at a name, which names were given, and how
 -- many slots are live, free and retired.
 use Rattle.store_slots.proofs.Common
-use Common.{and_from, and_parts, ap, arith, bit, Bool, by_number, Cell, cell_under, cell_in, cell_of}
-use Common.{cells_of, cond, cond_same, count_all, Entry, eq-eqb, eq_by_cmp, false, free, fresh}
-use Common.{get-keep, get_lasts, given_from, given_in, given_of, HasBegun, how_many, inl, inr}
-use Common.{is_free, is_live, is_name, is_retired, is_some, is_spent, IsFresh, IsLast, IsNew}
-use Common.{IsSlotTable, Kept, last_generation, last_name, le-leb, leb, leb-true, len_passing}
-use Common.{length, List, list_any, list_any-append, live_from, ltb, Name, name_cmp, name_test}
-use Common.{name_total, names_up, nat_cmp, nat_eq, nat_lt, nat_tests, ne_eqb, nil_from_length, None}
-use Common.{not, one_last, Option, option_map, or-false, passes, refl, retired, slice_get}
-use Common.{slice_get_past, slots, slots_of, SlotTable, Some, State, state_of, suc, sym, true}
-use Common.{unwrap_or, with_cell, zero, ℕ, [], ◌&&◌, ◌+◌, ◌-◌, ◌<◌, ◌||◌, ◌∙◌, ◌∷◌, ◌≡◌, ◌≢◌, ◌≤◌}
+use Common.{and_from, and_parts, ap, arith, bit, Bool, by_number, Cell, cell_in, cell_of, cell_under, cells_of, cond}
+use Common.{count_all, Entry, eq-eqb, eq_by_cmp, false, free, fresh, get-keep, get_lasts, given_from, given_in}
+use Common.{given_of, HasBegun, how_many, inl, inr, is_free, is_live, is_name, is_retired, is_some, is_spent, IsFresh}
+use Common.{IsLast, IsNew, IsSlotTable, Kept, last_generation, last_name, le-leb, leb, leb-true, len_passing, length}
+use Common.{List, list_any, list_any-append, live_from, ltb, Name, name_cmp, name_test, name_total, names_up, nat_cmp}
+use Common.{nat_eq, nat_lt, nat_tests, ne_eqb, nil_from_length, None, not, one_last, Option, option_map, or-false}
+use Common.{passes, refl, retired, slice_get, slice_get_past, slots, slots_of, SlotTable, Some, State, state_of, suc}
+use Common.{sym, true, unwrap_or, with_cell, zero, [], ℕ, ◌&&◌, ◌+◌, ◌-◌, ◌<◌, ◌||◌, ◌∙◌, ◌∷◌, ◌≡◌, ◌≢◌, ◌≤◌}
 use Rattle.std.specs.FinMap as map
 use Rattle.std.specs.FinSet as set
 
@@ -24,15 +22,13 @@ module _ {T : Type 0} where
       → is_name n here ≡ false
       → map.find name_cmp n (with_cell here c rest) ≡ map.find name_cmp n rest
   unfolding is_name
-  find_apart n here None rest is = refl
-  find_apart n here (Some c) rest is = rw is refl
+  find_apart n here c rest is = grind arith
 
   find_here : (n here : Name) (c : Option (Cell T)) (rest : List (Name × Cell T))
       → map.find name_cmp n rest ≡ None
       → map.find name_cmp n (with_cell here c rest) ≡ cond (is_name n here) c None
   unfolding is_name
-  find_here n here None rest none = none ∙ sym (cond_same _ None)
-  find_here n here (Some c) rest none = rw none refl
+  find_here n here c rest none = grind arith
 
   pub find_below : (i : ℕ) (slots : List (Entry T)) (n : Name) → n.slot < i
       → map.find name_cmp n (live_from i slots) ≡ None
@@ -94,18 +90,9 @@ any_up : (q : Name) (slot from count : ℕ)
     → list_any (eq_by_cmp name_cmp q) (names_up slot from count)
     ≡ (nat_eq q.slot slot && (leb from q.generation && ltb q.generation (from + count)))
 unfolding is_name
-any_up q slot from zero = none (nat_eq q.slot slot) from q.generation
-  where
-    none : (a : Bool) (from g : ℕ) → false ≡ (a && (leb from g && ltb g (from + 0)))
-    none a from g = grind (arith, nat_tests)
+any_up q slot from zero = grind (arith, nat_tests)
 any_up q slot from (suc k) =
-    (λ i. name_test q (record { slot = slot; generation = from + k }) i || any_up q slot from k i)
-    ∙ one (nat_eq q.slot slot) from k q.generation
-  where
-    one : (a : Bool) (from k g : ℕ)
-        → ((a && nat_eq g (from + k)) || (a && (leb from g && ltb g (from + k))))
-        ≡ (a && (leb from g && ltb g (from + suc k)))
-    one a from k g = grind (arith, nat_tests)
+    rw (name_test q (record { slot = slot; generation = from + k }), any_up q slot from k) (grind (arith, nat_tests))
 
 up_to : (start last g : ℕ)
     → (leb start g && ltb g (start + (last + 1 - start))) ≡ (leb start g && leb g last)
@@ -182,14 +169,9 @@ module _ {T : Type 0} {p : SlotTable T} (s : IsSlotTable p) where
       ∙ (ap is_some (get-keep by_number (slots_of here) test k
       ∙ ap (λ o. cond (test k) o None) (get_last k)) ∙ at k (slice_get p.slots k) refl))
     where
-      some_if : (b : Bool) (g : ℕ) → is_some (cond b (Some g) None) ≡ b
-      some_if true g = refl
-      some_if false g = refl
-
       at : (k : ℕ) (o : Option (Entry T)) → slice_get p.slots k ≡ o
           → is_some (cond (test k) (option_map (λ e. e.generation) o) None) ≡ passes q o
-      at k None there = ap is_some (cond_same (test k) None)
-      at k (Some e) there = some_if (test k) e.generation ∙ same k e there
+      at k o there = grind (arith, same k)
 
   is_own : (k : ℕ) (e : Entry T) → slice_get p.slots k ≡ Some e
       → last_name here k ≡ record { slot = k; generation = e.generation }
@@ -214,10 +196,7 @@ module _ {T : Type 0} {p : SlotTable T} (s : IsSlotTable p) where
   slots_are =
       len_passing (λ e. true) 0 p.slots _ (λ k h. absurd (omega arith))
       (λ k. ap (map.contains_key (slots_of here)) (omega arith)
-      ∙ (ap is_some (get_last k)
-      ∙ (elim (slice_get p.slots k) as (λ o. is_some (option_map (λ e. e.generation) o)
-      ≡ passes (λ e. true) o)
-      [ None ↦ refl | Some e ↦ refl ])))
+      ∙ (ap is_some (get_last k) ∙ grind arith))
       ∙ count_all p.slots
 
   pub free_are : set.len p.free ≡ free here
@@ -232,16 +211,11 @@ module _ {T : Type 0} {p : SlotTable T} (s : IsSlotTable p) where
       && not (nat_lt (is_own k e there i).generation last_generation)) in
       let counted = s.counted in let stocked = s.stocked in let all = parts p.slots in omega arith
     where
-      one : (a b : Bool) → 1 ≡ bit a + bit (not a && b) + bit (not a && not b)
-      one a b = grind arith
-
       parts : (es : List (Entry T)) → length es ≡ how_many (λ e. is_live e.kept) es
           + how_many is_spent es
           + how_many (λ e. not (is_live e.kept) && not (nat_lt e.generation last_generation)) es
       parts [] = refl
-      parts (e ∷ es) =
-          let rest = parts es in
-          let this = one (is_live e.kept) (nat_lt e.generation last_generation) in omega arith
+      parts (e ∷ es) = grind (arith, parts es)
 
   -- a new slot's first name, where no slot is free
   pub new_first : free here ≡ 0
@@ -257,16 +231,13 @@ module _ {T : Type 0} {p : SlotTable T} (s : IsSlotTable p) where
       → IsNew here (record { slot = i; generation = e.generation + 1 })
   new_next i e there spent = record {
     ungiven = get_given p.start p.slots (record { slot = i; generation = e.generation + 1 })
-        ∙ rw there (above p.start e.generation);
+        ∙ rw there (grind (arith, nat_tests));
     fits = inr (
       ap is_some (get_last i) ∙ rw there refl,
       free_is i e there ∙ spent,
       ap (λ (n : Name). n.generation + 1) (sym (is_own i e there)),
     );
   }
-    where
-      above : (s g : ℕ) → (leb s (g + 1) && leb (g + 1) g) ≡ false
-      above s g = grind (arith, nat_tests)
 
   -- ---- the state that contracts see
 

@@ -1,22 +1,20 @@
--- What becomes of a reference's old target where it names another, as the machine says it.
+-- What becomes of a reference's old target where it names another, and what is answered, as the machine
+-- says it.
 use Rattle.store_slots.proofs.Common
-use Rattle.store_slots.proofs.{Common.◌∙◌, Common.◌≡◌, Common.◌≢◌, states.Endings.without}
-use Common.{live_target, Bool, BorrowMutError, BorrowRefusal, by_name, Cell, cond, would_end, Err, false}
-use Common.{FoundBorrowed, get-insert_apart, hindrance_at, is_name, is_named, is_shared, is_some}
-use Common.{IsLinked, IsTurned, Location, Name, NameMap, None, Ok, Option, OutOfMemory, Ref, refl}
-use Common.{refusal_of, Refused, Shared, Some, State, subst, sweep, sym, target_in, true, turn}
-use Common.{turn_hindered, turn_sweep}
-use Rattle.store_slots.proofs.states.{Endings.borrowed_ending, References.reference_to}
+use Common.{arith, BorrowMutError, BorrowRefusal, box_of, by_name, Cell, cond, content_of, Err, false, FoundBorrowed}
+use Common.{GenerationalPointer, get-insert_apart, hindrance_at, IfSome, is_name, is_named, is_shared, is_some}
+use Common.{IsLinked, IsTurned, live_target, Location, location_of, Name, NameMap, None, Ok, Option, point, Ref, refl}
+use Common.{refusal_of, Refused, Result, Shared, Some, State, subst, sweep, sym, target_in, true, turn, turn_hindered}
+use Common.{turn_sweep, would_end, ◌∙◌, ◌≡◌, ◌≢◌}
+use Rattle.store_slots.proofs.states.{Endings.borrowed_ending, Endings.without, References.reference_to}
 use Rattle.std.specs.FinMap as map
 use Rattle.generational_errors.specs.declared.error.Refused.TheVariants as refused
+use Rattle.generational_errors.specs.declared.error.BorrowMutError.TheVariants as writes
 
 -- the refusal that a refusal tells is there
 troubled : (t : Option BorrowRefusal) (e : Refused BorrowMutError) → FoundBorrowed t (Err e)
     → (x : BorrowRefusal) × (t ≡ Some x)
-troubled (Some x) e found = (x, refl)
-troubled None (refused.Borrow e) found = cc
-troubled None (refused.Store OutOfMemory) found = absurd found
-troubled None _ found = absurd found
+troubled t e found = grind arith
 
 module _ {T : Type 0} where
   -- the cell of a reference
@@ -58,25 +56,11 @@ module _ {T : Type 0} where
           → (is_some (map.get (map.insert S.cells n (Ref new l)) x) ≡ true)
           × (None ≡ live_target (map.insert S.cells n (Ref new l))
           (map.get (map.insert S.cells n (Ref new l)) x))
-      ending_left x is = at (is_named (map.remove S.cells n) old) (sym is ∙ target_ending)
-        where
-          apart : old ≢ n
-          apart z = let no = rw (z, there) at (linked.targets n old l there) in cc
-
-          value : (c : Option (Cell T)) → is_shared c ≡ true → (is_some c ≡ true)
-              × (None ≡ live_target (map.insert S.cells n (Ref new l)) c)
-          value (Some (Shared c l)) h = (refl, refl)
-          value _ h = cc
-
-          at : (b : Bool) → Some x ≡ cond b None (Some old)
-              → (is_some (map.get (map.insert S.cells n (Ref new l)) x) ≡ true)
-              × (None ≡ live_target (map.insert S.cells n (Ref new l))
-              (map.get (map.insert S.cells n (Ref new l)) x))
-          at true is = cc
-          at false is =
-              let same : x ≡ old = cc in
-              rw (same, get-insert_apart by_name S.cells n (Ref new l) old apart)
-              (value (map.get S.cells old) (linked.targets n old l there))
+      ending_left x is =
+          let apart : old ≢ n = λ z. let no = rw (z, there) at (linked.targets n old l there) in cc in
+          let kept = get-insert_apart by_name S.cells n (Ref new l) old apart in
+          let shared = linked.targets n old l there in
+          let goes = sym is ∙ target_ending in grind arith
 
       pub turns_refused : (e : Refused BorrowMutError)
           → FoundBorrowed (refusal_of S.cells d) (Err e) → IsTurned S S (Err e) (turn S n old new l)
@@ -93,15 +77,42 @@ module _ {T : Type 0} where
             after ∙ rw (
               target_ending,
               turn_sweep S.cells n old new l linked there other,
-            ) (at (is_named (map.remove S.cells n) old)),
+            ) (grind arith),
           )
-        where
-          at : (b : Bool)
-              → without (record S { cells = map.insert S.cells n (Ref new l) })
-              (cond b None (Some old))
-              ≡ record S {
-                cells = cond b (map.insert S.cells n (Ref new l))
-                    (map.remove (map.insert S.cells n (Ref new l)) old);
-              }
-          at true = refl
-          at false = refl
+
+-- ---- what is answered where a name should name another value
+
+-- what is answered of a value that was made at a location
+abbrev pub dropped_answer : Location → Result (Unit {0}) (Refused BorrowMutError)
+dropped_answer l = Err (refused.Borrow (writes.Dropped (record { created_at = l })))
+
+module _ {T : Type 0} where
+  module _ (S : State T) (n m : Name) (k : Location) (b : GenerationalPointer) where
+    -- nothing is there
+    pub points_gone : (own target : Option (Cell T)) → None ≡ target_in own
+        → false ≡ is_some (content_of own)
+        → IsTurned S S (dropped_answer k) (point S (box_of 0 n k) b own (Some m) target)
+    points_gone own target none gone = grind arith
+
+    module _ (l : Location) where
+      -- a value is there, which is no reference
+      pub points_value : (own target : Option (Cell T)) → location_of target ≡ Some l
+          → None ≡ target_in own → true ≡ is_some (content_of own)
+          → IsTurned S S (dropped_answer l) (point S (box_of 0 n k) b own (Some m) target)
+      points_value own target at none there = grind arith
+
+      -- a reference is there, but the other value isn't shared
+      pub points_plain : (own target : Option (Cell T)) (old : Name)
+          → location_of target ≡ Some l → Some old ≡ target_in own → false ≡ is_shared target
+          → IsTurned S S (dropped_answer l) (point S (box_of 0 n k) b own (Some m) target)
+      points_plain own target old at refers plain = grind arith
+
+    -- a reference is there that turns to a shared value
+    pub points_turn : (own target : Option (Cell T)) (old : Name) (R : State T)
+        (result : Result (Unit {0}) (Refused BorrowMutError))
+        → Some old ≡ target_in own → true ≡ is_shared target
+        → IfSome (location_of own) (λ l. IsTurned S R result (turn S n old m l))
+        → IsTurned S R result (point S (box_of 0 n k) b own (Some m) target)
+    points_turn (Some (Ref q l)) (Some (Shared c i)) old R result refers shared turns =
+        let same : old ≡ q = cc in rw same at turns
+    points_turn _ _ old R result refers shared turns = absurd cc

@@ -1,8 +1,7 @@
-use Rattle.store_slots.proofs
-use proofs.{all, and_parts, ap, arith, as_listed, at_drop_all, Bool, cell_under, CellName, cells_of}
-use proofs.{eqb-true, IfSome, is_named, is_shared, length, length-map, Name, name_of_cell, None}
-use proofs.{Option, option_eq, passed_free, passed_spared, Some, stopped, sym, take_away, true}
-use proofs.{◌&&◌, ◌∙◌, ◌≡◌, ◌≤◌}
+use Rattle.store_slots.proofs.{all, and_parts, ap, arith, at_drop_all, Bool, cell_under, CellName, cells_of, eqb-true}
+use Rattle.store_slots.proofs.{first_hindered, IfSome, is_named, is_shared, length, length-map, Name, name_of_cell}
+use Rattle.store_slots.proofs.{None, Option, option_eq, passed_free, passed_spared, Some, stopped, sym, take_away}
+use Rattle.store_slots.proofs.{true, ◌&&◌, ◌∙◌, ◌≡◌, ◌≤◌}
 use Rattle.std.proofs.Common.{map as list_map}
 use Rattle.store_slots.proofs.blocking_borrow.find_blocking_value.Goals as goal
 
@@ -19,27 +18,22 @@ spared_same same is lives None v known e = cc
 spared_same same is lives (Some k) v known e = ap lives (sym (is k v e)) ∙ known
 
 pub loop-name-preserved-in_default : goal.loop-name-preserved-in_default
-loop-name-preserved-in_default g c =
-    let slots = c.args.entries.now.slots in
-    let items = c.args.names.now in
-    let named = is_named (take_away (cells_of slots) (list_map name_of_cell items)) in (
-      passed_free slots named items _ none c.loop-name-test.true
-          (rw c.in_default.is at c.borrowed_value.ensures)
-          ∙ c.loop-name.invariant.0,
-      c.loop-name.invariant.1,
-    )
+loop-name-preserved-in_default g c = (
+  passed_free _ _ _ _ none c.loop-name-test.true (rw c.in_default.is at c.borrowed_value.ensures)
+      ∙ c.loop-name.invariant.0,
+  c.loop-name.invariant.1,
+)
 
 pub loop-name-preserved-then-eq : goal.loop-name-preserved-then-eq
 loop-name-preserved-then-eq g c =
     let slots = c.args.entries.now.slots in
-    let items = c.args.names.now in
-    let named = is_named (take_away (cells_of slots) (list_map name_of_cell items)) in
+    let named = is_named (take_away (cells_of slots) (list_map name_of_cell c.args.names.now)) in
     let lives = spared_same _ (λ a b e. let both = and_parts _ _ e in λ j. record {
       slot = eqb-true a.slot b.slot both.0 j;
       generation = eqb-true a.generation b.generation both.1 j;
     }) (λ m. is_shared (cell_under slots m) && named m) c.loop-name.spared c.in-Some.value
     c.loop-name.invariant.1 (sym c.eq.ensures ∙ c.if-eq.true) in (
-      passed_spared slots named items _ none c.loop-name-test.true _
+      passed_spared slots named _ _ none c.loop-name-test.true _
           (rw c.in-Some.is at c.borrowed_value.ensures) lives
           ∙ c.loop-name.invariant.0,
       c.loop-name.invariant.1,
@@ -47,33 +41,21 @@ loop-name-preserved-then-eq g c =
 
 pub returns-then-not-lives_on-clause-hindrance : goal.returns-then-not-lives_on-clause-hindrance
 returns-then-not-lives_on-clause-hindrance g c =
-    let slots = c.args.entries.now.slots in
-    let items = c.args.names.now in
-    let names = list_map name_of_cell items in
-    rw (as_listed (cells_of slots) names c.requires.linked, ← c.loop-name.invariant.0)
-    (stopped slots (is_named (take_away (cells_of slots) names)) items _ none
-    c.loop-name-test.true c.requires.linked.targets _
-    (rw c.in-Some.is at c.borrowed_value.ensures)
-    (sym c.lives_on.ensures ∙ c.if-not-lives_on.true))
+    rw (first_hindered _ _ c.requires.linked, ← c.loop-name.invariant.0)
+    (stopped _ _ _ _ none c.loop-name-test.true c.requires.linked.targets _
+    (rw c.in-Some.is at c.borrowed_value.ensures) (sym c.lives_on.ensures ∙ c.if-not-lives_on.true))
 
 pub loop-name-preserved : goal.loop-name-preserved
 loop-name-preserved g c =
-    let slots = c.args.entries.now.slots in
-    let items = c.args.names.now in
-    let named = is_named (take_away (cells_of slots) (list_map name_of_cell items)) in
     let lives = sym c.lives_on.ensures ∙ c.if-not-lives_on.false in (
-      passed_spared slots named items _ none c.loop-name-test.true _
-          (rw c.in-Some.is at c.borrowed_value.ensures) lives
+      passed_spared _ _ _ _ none c.loop-name-test.true _ (rw c.in-Some.is at c.borrowed_value.ensures) lives
           ∙ c.loop-name.invariant.0,
       lives,
     )
 
 pub returns-clause-hindrance : goal.returns-clause-hindrance
 returns-clause-hindrance g c =
-    let slots = c.args.entries.now.slots in
-    let names = list_map name_of_cell c.args.names.now in
-    let named = is_named (take_away (cells_of slots) names) in
-    let past : length names ≤ c.loop-name.name-index =
+    let past : length (list_map name_of_cell c.args.names.now) ≤ c.loop-name.name-index =
     omega (arith, length-map c.args.names.now name_of_cell, c.loop-name-test.false) in
-    as_listed (cells_of slots) names c.requires.linked
-    ∙ (sym c.loop-name.invariant.0 ∙ at_drop_all (all slots named) names _ past)
+    first_hindered _ _ c.requires.linked
+    ∙ (sym c.loop-name.invariant.0 ∙ at_drop_all (all _ _) _ _ past)

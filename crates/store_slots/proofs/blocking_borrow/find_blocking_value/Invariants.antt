@@ -1,5 +1,5 @@
-use Rattle.store_slots.proofs.{all, cell_under, cells_of, drop, IfSome, is_named, is_shared}
-use Rattle.store_slots.proofs.{name_of_cell, take_away, true, ◌&&◌, ◌≡◌}
+use Rattle.store_slots.proofs.{all, cell_under, cells_of, drop, IfSome, is_named, is_shared, name_of_cell, take_away}
+use Rattle.store_slots.proofs.{true, ◌&&◌, ◌≡◌}
 use Rattle.std.proofs.Common.{map as list_map}
 use Rattle.store_slots.proofs.blocking_borrow.find_blocking_value.Given as goal
 

@@ -1,7 +1,6 @@
-use Rattle.store_slots.proofs.{ap, bit, Cell, cell_under, CellName, count_by, Entry, get_cells}
-use Rattle.store_slots.proofs.{has_shared, is_shared, kind_in, List, living, Name}
-use Rattle.store_slots.proofs.{name_of_cell, Option, refers_among, refers_to, refl, Shared}
-use Rattle.store_slots.proofs.{Some, sum_by-cons, sym, true, [], ◌+◌, ◌∙◌, ◌∷◌, ◌≡◌}
+use Rattle.store_slots.proofs.{ap, bit, Cell, cell_under, CellName, count_by, Entry, get_cells, has_shared, is_shared}
+use Rattle.store_slots.proofs.{kind_in, List, living, Name, name_of_cell, Option, refers_among, refers_to, refl}
+use Rattle.store_slots.proofs.{Shared, Some, sum_by-cons, sym, true, [], ◌+◌, ◌∙◌, ◌∷◌, ◌≡◌}
 use Rattle.std.proofs.Common.{map as list_map}
 use Rattle.store_cells.specs.declared.entry.Kind.TheVariants as kind
 use Rattle.store_slots.proofs.blocking_borrow.lives_on.Goals as goal

@@ -1,5 +1,4 @@
-use Rattle.store_slots.proofs.{eq_by_cmp_equiv, is_name, name_of_cell, name_test, name_total}
-use Rattle.store_slots.proofs.{reference_to, sym, ◌∙◌}
+use Rattle.store_slots.proofs.{eq_by_cmp_equiv, is_name, name_of_cell, name_test, name_total, reference_to, sym, ◌∙◌}
 use Rattle.store_slots.proofs.blocking_borrow.refers_to.Goals as goal
 
 pub returns-in-Some : goal.returns-in-Some

@@ -1,12 +1,10 @@
-use Rattle.store_slots.proofs.{found_target, found_within, name_of_cell, ne_eqb, refl, sym}
-use Rattle.store_slots.proofs.{◌∙◌}
-use Rattle.store_slots.proofs.states.References.{reference_to}
+use Rattle.store_slots.proofs.{found_target, name_of_cell, ne_eqb, reference_to, refl, sym, ◌∙◌}
 use Rattle.store_slots.proofs.blocking_borrow.would_end.Goals as goal
 
 pub details-requires : goal.details-requires
 details-requires g c =
-    found_within (found_target c.args.entries.now.slots c.requires.linked.targets
-    (name_of_cell c.args.name) _ (rw c.in-Some.is at c.requires.target)).slot
+    (found_target c.args.entries.now.slots c.requires.linked.targets (name_of_cell c.args.name) _
+    (rw c.in-Some.is at c.requires.target)).within
 
 pub returns-in-Some : goal.returns-in-Some
 returns-in-Some g c =

@@ -1,4 +1,4 @@
-use Rattle.store_slots.proofs.{take, ◌≡◌, ◌≤◌, ℕ}
+use Rattle.store_slots.proofs.{take, ℕ, ◌≡◌, ◌≤◌}
 use Rattle.std.proofs.Common.{length, slice_get}
 use Rattle.store_slots.specs.Packing.{ArePacked}
 use Rattle.store_slots.proofs.packing.pack_slots.Given as goal

@@ -1,5 +1,4 @@
-use Rattle.store_slots.proofs.{all_seen, arith, bound_seen, free_seen, slots_seen, state_is}
-use Rattle.store_slots.proofs.{◌∙◌}
+use Rattle.store_slots.proofs.{all_seen, arith, bound_seen, free_seen, slots_seen, state_is, ◌∙◌}
 use Rattle.store_slots.proofs.slots.Slots.counts.Goals as goal
 
 pub returns-clause-slots : goal.returns-clause-slots

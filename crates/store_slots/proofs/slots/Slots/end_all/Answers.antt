@@ -4,11 +4,11 @@ use Rattle.store_slots.proofs.slots.Slots.end_all.Goals as goal
 
 pub remove_all-requires-clause-unborrowed : goal.remove_all-requires-clause-unborrowed
 remove_all-requires-clause-unborrowed g c =
-    unborrowed_seen c.self.inside.entries.slots c.self.view_is c.args.names.now
-    (sym c.are_unborrowed_values.ensures ∙ c.if-are_unborrowed_values.true)
+    unborrowed_seen _ c.self.view_is _ (sym c.are_unborrowed_values.ensures ∙ c.if-are_unborrowed_values.true)
 
 pub returns-then-are_unborrowed_values : goal.returns-then-are_unborrowed_values
-returns-then-are_unborrowed_values g c =
-    let free = unborrowed_free c.self.inside.entries.slots c.self.view_is c.args.names.now
-    (sym c.are_unborrowed_values.ensures ∙ c.if-are_unborrowed_values.true) c.requires.linked in
-    (free, c.remove_all.ensures)
+returns-then-are_unborrowed_values g c = (
+  unborrowed_free _ c.self.view_is _
+      (sym c.are_unborrowed_values.ensures ∙ c.if-are_unborrowed_values.true) c.requires.linked,
+  c.remove_all.ensures,
+)

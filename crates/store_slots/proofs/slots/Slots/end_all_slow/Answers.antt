@@ -1,9 +1,8 @@
 -- The end of a list of names.
-use Rattle.store_slots.proofs.{ap, at_drop_all, at_drop_more, Cell, CellName, cells_after}
-use Rattle.store_slots.proofs.{close, close_each, close_nothing, closing_linked, drop, Err}
-use Rattle.store_slots.proofs.{first_hindrance, FoundBorrowed, hindrance_is, hindrance_to}
-use Rattle.store_slots.proofs.{List, name_of_cell, NameMap, None, refl, slice_index_or}
-use Rattle.store_slots.proofs.{state_is, subst, sym, [], ◌+◌, ◌∙◌, ◌∷◌, ◌≡◌}
+use Rattle.store_slots.proofs.{ap, at_drop_all, at_drop_more, Cell, CellName, cells_after, close, close_each}
+use Rattle.store_slots.proofs.{close_nothing, closing_linked, drop, Err, first_hindrance, FoundBorrowed, hindrance_is}
+use Rattle.store_slots.proofs.{hindrance_to, List, name_of_cell, NameMap, None, refl, slice_index_or, state_is, subst}
+use Rattle.store_slots.proofs.{sym, [], ◌+◌, ◌∙◌, ◌∷◌, ◌≡◌}
 use Rattle.std.proofs.Common.{map as list_map}
 use Rattle.store_slots.proofs.slots.Slots.end_all_slow.Goals as goal
 
@@ -23,13 +22,12 @@ loop-name-preserved g c =
     let names = c.args.names.now in
     let i = c.loop-name.name-index in
     let none : CellName = record { slot = 0; generation = 0 } in
-    let n = name_of_cell (slice_index_or names i none) in
-    let rest = list_map name_of_cell (drop (i + 1) names) in
-    let closed = λ (names : List CellName). close S (list_map name_of_cell names) in
-    let here = at_drop_more closed names i none c.loop-name-test.true in
+    let here = at_drop_more (λ (names : List CellName). close S (list_map name_of_cell names)) names i none
+    c.loop-name-test.true in
     rw c.close.ensures (
-      closing_linked S.cells (n ∷ []) linked,
-      rw (← close_each S.cells n rest) (sym here ∙ c.loop-name.invariant.1),
+      closing_linked S.cells (name_of_cell (slice_index_or names i none) ∷ []) linked,
+      rw (← close_each S.cells (name_of_cell (slice_index_or names i none))
+          (list_map name_of_cell (drop (i + 1) names))) (sym here ∙ c.loop-name.invariant.1),
     )
 
 pub returns : goal.returns

@@ -1,15 +1,12 @@
-use Rattle.std.proofs.Common.{Option, Some, ◌≡◌, ◌∙◌, sym, refl, true, is_some}
+use Rattle.store_slots.proofs.{arith, Cell, cell_seen, is_some, location_of, name_of_cell, nothing, Option, sym, true}
+use Rattle.store_slots.proofs.{◌∙◌, ◌≡◌}
 use Rattle.generational_core.specs.Keeping.{boxed_at}
-use Rattle.store_slots.proofs.Common.{Cell, location_of, name_of_cell, Ref, Value}
-use Rattle.store_slots.proofs.states.Changes.{cell_seen, nothing}
 use Rattle.store_slots.proofs.slots.Slots.find.Goals as goal
 
 -- a cell that has a box is live, and the box was made where the cell was
 boxed : {T : Type 0} (c : Option (Cell T)) → is_some (boxed_at c) ≡ true
     → (is_some c ≡ true) × (boxed_at c ≡ location_of c)
-boxed (Some (Value content l)) is = (refl, refl)
-boxed (Some (Ref m l)) is = (refl, refl)
-boxed _ is = cc
+boxed c is = grind arith
 
 pub created_at-requires : goal.created_at-requires
 created_at-requires g c =

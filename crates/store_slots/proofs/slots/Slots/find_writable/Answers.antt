@@ -1,7 +1,5 @@
-use Rattle.store_slots.proofs.{ap, content_at, Err, FoundBorrowed, held_in, held_within}
-use Rattle.store_slots.proofs.{is_some, refusal_at, ◌∙◌}
-use Rattle.store_slots.proofs.{lent_write, name_of_cell, refl, refusal_to_write_at, Some}
-use Rattle.store_slots.proofs.{some_if, subst, sym, write_refusal, ◌≡◌}
+use Rattle.store_slots.proofs.{ap, content_at, Err, FoundBorrowed, held_in, is_some, lent_write, name_of_cell, refl}
+use Rattle.store_slots.proofs.{refusal_at, refusal_to_write_at, Some, some_if, subst, sym, write_refusal, ◌∙◌, ◌≡◌}
 use Rattle.store_slots.proofs.slots.Slots.find_writable.Goals as goal
 
 pub returns-in-Nothing : goal.returns-in-Nothing
@@ -9,18 +7,17 @@ returns-in-Nothing g c = rw (c.dropped_mut.ensures, c.in-Nothing.ensures) refl
 
 pub borrow_mut_error-requires : goal.borrow_mut_error-requires
 borrow_mut_error-requires g c =
-    held_within (held_in c.self.view_is (name_of_cell c.in-Read.value)
-    (some_if (λ o. is_some (write_refusal o)) _ refl c.in-Read.ensures.2)).held
+    (held_in c.self.view_is (some_if (λ o. is_some (write_refusal o)) _ refl c.in-Read.ensures.2)).within
 
 pub returns-in-Ok : goal.returns-in-Ok
 returns-in-Ok g c =
-    let f = held_in c.self.view_is (name_of_cell c.in-Read.value)
+    let f = held_in c.self.view_is
     (some_if (λ o. is_some (write_refusal o)) _ refl c.in-Read.ensures.2) in
     (c.in-Read.ensures.0, rw f.seen (rw f.there at c.in-Ok.ensures))
 
 pub returns-in-Err : goal.returns-in-Err
 returns-in-Err g c =
-    let f = held_in c.self.view_is (name_of_cell c.in-Read.value)
+    let f = held_in c.self.view_is
     (some_if (λ o. is_some (write_refusal o)) _ refl c.in-Read.ensures.2) in
     let same : refusal_to_write_at c.args.self.now.state (name_of_cell c.args.name)
     c.args.created_at ≡ write_refusal (Some f.content) =

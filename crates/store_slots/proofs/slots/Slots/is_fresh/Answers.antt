@@ -1,5 +1,4 @@
-use Rattle.store_slots.proofs.{ap, eq-eqb, eqb-true, fresh_of, none_of_fresh, state_is, sym}
-use Rattle.store_slots.proofs.{with_records, ◌∙◌}
+use Rattle.store_slots.proofs.{ap, eq-eqb, eqb-true, fresh_of, none_of_fresh, state_is, sym, with_records, ◌∙◌}
 use Rattle.std.specs.FinMap as map
 use Rattle.store_slots.proofs.slots.Slots.is_fresh.Goals as goal
 

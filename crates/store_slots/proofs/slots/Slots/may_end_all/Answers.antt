@@ -1,8 +1,6 @@
 -- Whether a borrow stands in the way of the end of a list of names.
-use Rattle.store_slots.proofs.{Cell, CellName, cells_of, false, hindrance_is, IfSome}
-use Rattle.store_slots.proofs.{is_none, is_some, name_of_cell, NameMap, None, none_map}
-use Rattle.store_slots.proofs.{Option, option_map, refl, refusal_of, Some, state_is, sym, true}
-use Rattle.store_slots.proofs.{unborrowed_free}
+use Rattle.store_slots.proofs.{arith, Cell, CellName, hindrance_is, IfSome, is_none, is_some, name_of_cell, NameMap}
+use Rattle.store_slots.proofs.{none_map, Option, option_map, refusal_of, Some, state_is, sym, true, unborrowed_free}
 use Rattle.store_slots.proofs.{◌∙◌, ◌≡◌}
 use Rattle.std.proofs.Common.{map as list_map}
 use Rattle.store_slots.proofs.slots.Slots.may_end_all.Goals as goal
@@ -11,23 +9,14 @@ use Rattle.store_slots.proofs.slots.Slots.may_end_all.Goals as goal
 found_refused : {T : Type 0} (cells : NameMap (Cell T)) (o : Option CellName)
     → IfSome o (λ m. is_some (refusal_of cells (Some (name_of_cell m))) ≡ true)
     → is_none (option_map name_of_cell o) ≡ is_none (refusal_of cells (option_map name_of_cell o))
-found_refused cells None borrowed = refl
-found_refused cells (Some m) borrowed = some _ borrowed
-  where
-    some : {X : Type 0} (o : Option X) → is_some o ≡ true → false ≡ is_none o
-    some None h = cc
-    some (Some x) h = refl
+found_refused cells o borrowed = grind arith
 
 pub returns-then-are_unborrowed_values : goal.returns-then-are_unborrowed_values
 returns-then-are_unborrowed_values g c =
-    let free = unborrowed_free c.self.inside.entries.slots c.self.view_is c.args.names.now
-    (sym c.are_unborrowed_values.ensures ∙ c.if-are_unborrowed_values.true) c.requires.linked in
-    rw free c.if-are_unborrowed_values.true
+    rw (unborrowed_free _ c.self.view_is _ (sym c.are_unborrowed_values.ensures
+    ∙ c.if-are_unborrowed_values.true) c.requires.linked) c.if-are_unborrowed_values.true
 
 pub returns-else-are_unborrowed_values : goal.returns-else-are_unborrowed_values
-returns-else-are_unborrowed_values g c = rw (
-  hindrance_is c.args.self.now.state (list_map name_of_cell c.args.names.now),
-  ← state_is c.self.view_is,
-  c.find_blocking_value.ensures.hindrance,
-) (none_map _ _ _ c.is_none.ensures
-    ∙ found_refused (cells_of c.self.inside.entries.slots) _ c.find_blocking_value.ensures.borrowed)
+returns-else-are_unborrowed_values g c =
+    rw (hindrance_is c.args.self.now.state (list_map name_of_cell c.args.names.now), ← state_is c.self.view_is, c.find_blocking_value.ensures.hindrance)
+    (none_map _ _ _ c.is_none.ensures ∙ found_refused _ _ c.find_blocking_value.ensures.borrowed)

@@ -1,12 +1,11 @@
 -- A reference that names another shared value.
-use Rattle.store_slots.proofs
-use proofs.{ap, AreReferred, cells_of, change_entry, count_less, count_more, counted_more, Entry}
-use proofs.{forgotten, get_cells, has_reference, has_shared, HasReference, HasShared, IfSome}
-use proofs.{is_shared, IsForgotten, IsLinked, IsUncounted, length, less_length, less_slotted, less_state, List, may_rise}
-use proofs.{more_length, more_slotted, more_state, Name, name_of_cell, Option, Ref, reference_there}
-use proofs.{reference_to, referring, refl, slice_get, slice_get_within, SlotsState, Some, state_of}
-use proofs.{sym, target_in, true, turned, turned_length, turned_referred, turned_slotted}
-use proofs.{turned_state, turned_target, ℕ, ◌∙◌, ◌≡◌}
+use Rattle.store_slots.proofs.{ap, AreReferred, cells_of, change_entry, count_less, count_more, counted_down}
+use Rattle.store_slots.proofs.{counted_more, counted_up, Entry, forgotten, get_cells, has_reference, has_shared}
+use Rattle.store_slots.proofs.{HasReference, HasShared, IfSome, is_shared, IsForgotten, IsLinked, IsRecounted}
+use Rattle.store_slots.proofs.{IsUncounted, length, List, may_rise, Name, name_of_cell, Ref, reference_there}
+use Rattle.store_slots.proofs.{reference_to, referring, refl, slice_get, slice_get_within, SlotsState, Some, state_of}
+use Rattle.store_slots.proofs.{sym, target_in, true, turned, turned_length, turned_referred, turned_slotted}
+use Rattle.store_slots.proofs.{turned_state, turned_target, ℕ, ◌∙◌, ◌≡◌}
 use Rattle.std.specs.FinMap as map
 use Rattle.store_slots.proofs.slots.Slots.redirect.Goals as goal
 
@@ -29,19 +28,19 @@ redirects {n = n} {o = o} v linked r s =
 -- the slots once the old target counts one less, and then once the reference names the new one
 module _ {T : Type 0} {slots : List (Entry T)} {start peak spare : ℕ} {now : SlotsState T}
     {n m o : Name} (h : Redirects slots start peak spare now n m o) where
-  abbrev gone : Option Name
-  gone = Some o
-
   old_there : HasShared slots o
   old_there = has_shared slots o (rw (← h.view) at h.was)
 
   abbrev less : List (Entry T)
-  less = count_less slots gone
+  less = count_less slots (Some o)
+
+  lesser : IsRecounted slots less
+  lesser = counted_down slots (Some o)
 
   same : record { state = state_of start peak less; spare = spare } ≡ now
-  same = rw (less_state slots gone start peak) h.view
+  same = rw (lesser.state start peak) h.view
 
-  forgets : AreReferred (λ q. 0) slots → IsForgotten slots (Some o) gone
+  forgets : AreReferred (λ q. 0) slots → IsForgotten slots (Some o) (Some o)
   forgets r =
       let was = rw (get_cells slots o) at (rw (← h.view) at h.was) in
       rw was at (forgotten slots r n (Some o) (rw (← h.view) at (sym h.refers)))
@@ -58,15 +57,15 @@ module _ {T : Type 0} {slots : List (Entry T)} {start peak spare : ℕ} {now : S
   abbrev after : List (Entry T)
   after = turned old m
 
-  after_is : {slots' : List (Entry T)} → IfSome (slice_get less m.slot) (λ t. slots'
-      ≡ change_entry less n.slot (λ e. record e {
+  after_is : {less' slots' : List (Entry T)} → less' ≡ less → IfSome (slice_get less' m.slot) (λ t. slots'
+      ≡ change_entry less' n.slot (λ e. record e {
         kept = referring (record { slot = m.slot; generation = t.generation }) e.kept;
       }))
       → slots' ≡ after
-  after_is told = rw target.there at told
+  after_is fewer told = rw target.there at (rw fewer at told)
 
   after_length : length (count_more after (Some m)) ≡ length slots
-  after_length = more_length after (Some m) ∙ (turned_length old m ∙ less_length slots gone)
+  after_length = (counted_up after (Some m)).long ∙ (turned_length old m ∙ lesser.long)
 
   -- the new target counts one less than there are
   after_counts : AreReferred (λ q. 0) slots → IsUncounted after (Some m)
@@ -77,7 +76,7 @@ module _ {T : Type 0} {slots : List (Entry T)} {start peak spare : ℕ} {now : S
 
   after_state : state_of start peak (count_more after (Some m))
       ≡ record now.state { cells = map.insert now.state.cells n (Ref m old.created) }
-  after_state = more_state after (Some m) start peak ∙ (turned_state old m start peak
+  after_state = (counted_up after (Some m)).state start peak ∙ (turned_state old m start peak
       ∙ ap (λ (x : SlotsState T). record x.state {
         cells = map.insert x.state.cells n (Ref m old.created);
       }) same)
@@ -87,17 +86,15 @@ module _ {T : Type 0} {slots : List (Entry T)} {start peak spare : ℕ} {now : S
 
 pub count_down-requires : goal.count_down-requires
 count_down-requires g c =
-    let h = redirects c.self.view_is c.requires.linked c.requires.refers c.requires.shared in record {
-      within = slice_get_within c.self.inside.entries.slots _ _ (old_there h).there;
-      some = (forgets h c.self.invariant.2).some;
-    }
+    let h = redirects c.self.view_is c.requires.linked c.requires.refers c.requires.shared in
+    record { within = (old_there h).within; some = (forgets h c.self.invariant.2).some }
 
 pub redirect-requires : goal.redirect-requires
 redirect-requires g c =
     let h = redirects c.self.view_is c.requires.linked c.requires.refers c.requires.shared in
     rw c.count_down.ensures.slots (record {
       within = slice_get_within (less h) _ _ (old h).there;
-      target = slice_get_within (less h) _ _ (target h).there;
+      target = (target h).within;
       refers = rw (old h).there refl;
     })
 
@@ -105,7 +102,7 @@ pub refer-requires : goal.refer-requires
 refer-requires g c =
     let h = redirects c.self.view_is c.requires.linked c.requires.refers c.requires.shared in
     let rise = may_rise (Some c.args.new) (after_counts h c.self.invariant.2) in
-    rw (after_is h (rw c.count_down.ensures.slots at c.redirect.ensures.slots))
+    rw (after_is h c.count_down.ensures.slots c.redirect.ensures.slots)
     (record { within = rise.0; few = rise.1 })
 
 pub invariant_of-self : goal.invariant_of-self
@@ -113,9 +110,9 @@ invariant_of-self g c =
     let inv = c.self.invariant in
     let h = redirects c.self.view_is c.requires.linked c.requires.refers c.requires.shared in
     let m = name_of_cell c.args.new in
-    let now = after_is h (rw c.count_down.ensures.slots at c.redirect.ensures.slots) in
+    let now = after_is h c.count_down.ensures.slots c.redirect.ensures.slots in
     rw (c.refer.ensures.slots, now, after_length h) (
-      more_slotted (turned_slotted (less_slotted inv.0 (gone h)) (old h) m) (Some m),
+      (counted_up (after h) (Some m)).table (turned_slotted ((lesser h).table inv.0) (old h) m),
       rw (c.refer.ensures.rooms, c.redirect.ensures.rooms, c.count_down.ensures.rooms) inv.1,
       counted_more (Some m) (after_counts h inv.2),
       inv.3,
@@ -124,5 +121,5 @@ invariant_of-self g c =
 pub returns : goal.returns
 returns g c =
     let h = redirects c.self.view_is c.requires.linked c.requires.refers c.requires.shared in
-    let now = after_is h (rw c.count_down.ensures.slots at c.redirect.ensures.slots) in
+    let now = after_is h c.count_down.ensures.slots c.redirect.ensures.slots in
     rw (names h, c.refer.ensures.slots, now, after_length h) (after_state h)

@@ -1,30 +1,25 @@
-use Rattle.store_slots.proofs.{changed, changed_length, filled_in, held_told, Here}
-use Rattle.store_slots.proofs.{invariant_changed, name_of_cell, not_told, ok_then, returned}
-use Rattle.store_slots.proofs.{[], ◌≡◌}
+use Rattle.store_slots.proofs.{changed_state, held_told, Here, invariant_changed, name_of_cell, not_told, ok_then}
+use Rattle.store_slots.proofs.{returned, []}
 use Rattle.store_slots.proofs.slots.Slots.release_write.Goals as goal
 
 pub invariant_of-self : goal.invariant_of-self
 invariant_of-self g c =
-    let f = held_told c.self.view_is (name_of_cell c.args.name) c.if-holds.ensures in
-    let inv = c.self.invariant in
+    let f = held_told c.self.view_is c.if-holds.ensures in
     let back = c.release_write.ensures in
     returned c.args.value c.release_write.result back.ok back.err
-    (λ e. invariant_changed _ f.held (λ d. Here c.args.value []) inv e back.rooms) (λ e. rw e inv)
+    (λ e. invariant_changed _ f.held (λ d. Here c.args.value []) c.self.invariant e back.rooms)
+    (λ e. rw e c.self.invariant)
 
 pub returns-then-holds-clause-known : goal.returns-then-holds-clause-known
 returns-then-holds-clause-known g c =
-    let f = held_told c.self.view_is (name_of_cell c.args.name) c.if-holds.ensures in
+    let f = held_told c.self.view_is c.if-holds.ensures in
     rw f.seen (rw f.there at c.release_write.ensures.known)
 
 pub returns-then-holds-clause-ok : goal.returns-then-holds-clause-ok
 returns-then-holds-clause-ok g c =
-    let f = held_told c.self.view_is (name_of_cell c.args.name) c.if-holds.ensures in
-    ok_then c.release_write.result
-    (λ (e : c.release_write.new.self.slots ≡ changed f.held (λ d. Here c.args.value [])).
-    rw (e, changed_length f.held (λ d. Here c.args.value []))
-    (filled_in c.self.view_is f (λ d. Here c.args.value [])))
+    let f = held_told c.self.view_is c.if-holds.ensures in
+    ok_then c.release_write.result (changed_state _ c.self.view_is f (λ d. Here c.args.value []))
     c.release_write.ensures.ok
 
 pub returns-clause-known : goal.returns-clause-known
-returns-clause-known g c =
-    rw (not_told _ c.self.view_is (name_of_cell c.args.name) c.if-holds.ensures) (λ h. h, λ h. h)
+returns-clause-known g c = rw (not_told _ c.self.view_is (name_of_cell c.args.name) c.if-holds.ensures) (λ h. h, λ h. h)
