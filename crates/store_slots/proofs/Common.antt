@@ -12,8 +12,8 @@ pub use Rattle.std.proofs.Common.{nat_cmp, nat_eq, nat_lt, None, not, Ok, OnErr,
 pub use Rattle.std.proofs.Common.{Result, slice_get, slice_index_or, slice_set, Some, subst, suc, sym, T, take, true}
 pub use Rattle.std.proofs.Common.{unwrap_or, zero, [], ℕ, ⊎_elim, ◌&&◌, ◌++◌, ◌+◌, ◌-◌, ◌<◌, ◌||◌, ◌∙◌, ◌∷◌, ◌≡◌, ◌≢◌}
 pub use Rattle.std.proofs.lemmas.{Bool.Decides.nat_tests, List.nil_from_length}
-pub use Rattle.std.proofs.lemmas.Bool.{and_from, and_parts, cases_eq, eq-eqb, eqb-true, le-leb, le-ltb, leb-true}
-pub use Rattle.std.proofs.lemmas.Bool.{lt-ltb, ltb-true, ne_eqb}
+pub use Rattle.std.proofs.lemmas.Bool.{and_from, and_parts, cases_eq, eq-eqb, eqb-true, le-leb, le-ltb, lt-ltb}
+pub use Rattle.std.proofs.lemmas.Bool.{ltb-true, ne_eqb}
 pub use Rattle.std.proofs.lemmas.List.{at_drop_all, at_drop_more, Folds.list_any-append, length-map, length-set}
 pub use Rattle.std.proofs.lemmas.List.{Sums.sum_by-cons}
 pub use Rattle.std.proofs.lemmas.Map.Keys.{IsDistinct-head, IsDistinct-tail}
@@ -54,16 +54,16 @@ pub use Entry.{cell_in, cell_of, cell_under, change_entry, content_in, Entry, Fo
 pub use Entry.{is_unborrowed_value, Kept, kind_in, less_read, one_read, referring, target_in, with_content}
 pub use Entry.Kept.{Empty, Live, Refers}
 pub use Rattle.store_cells.specs.declared.entry.Kind.{Kind}
-pub use Rattle.store_cells.specs.Data.{data_in, SlotData}
+pub use Rattle.store_cells.specs.Data.{SlotData}
 pub use Rattle.generational_errors.specs.declared.error.{Location.Location, Refused.Refused}
 pub use Rattle.generational_errors.specs.declared.error.BorrowMutError.{BorrowMutError}
 pub use Rattle.store_slots.specs.Removal.{live_target}
 pub use Rattle.store_slots.specs.SlotRows.{all_slot_rows, entry_rows, rows_from}
 pub use SlotsState.{AreReferred, borrowed_at, content_reached, Count, count_less, count_more, count_of, Finds}
-pub use SlotsState.{given_from, given_in, has_other_count, HasBegun, HasEnded, is_reusable, is_spent, IsReferred}
-pub use SlotsState.{IsSlotTable, IsTurned, live_from, names_up, reached, read_refusal_of, refers, refers_among}
-pub use SlotsState.{refusal_of, refusal_to_write_at, Retirements, shared_target, SlotsState, SlotTable, state_of}
-pub use SlotsState.{with_cell, with_records, would_end}
+pub use SlotsState.{given_from, given_in, has_other_count, HasBegun, is_reusable, is_spent, IsReferred, IsSlotTable}
+pub use SlotsState.{IsTurned, live_from, names_up, reached, read_refusal_of, refers, refers_among, refusal_of}
+pub use SlotsState.{refusal_to_write_at, Retirements, shared_target, SlotsState, SlotTable, state_of, with_cell}
+pub use SlotsState.{with_records, would_end}
 unfoldable pub use Rattle.std.specs.List.{IsDistinct}
 unfoldable pub use Rattle.generational_core.specs.Ending.{hindrance_to, sweep, take_away}
 unfoldable pub use Rattle.generational_core.specs.Names.{is_name}

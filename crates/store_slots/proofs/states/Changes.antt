@@ -6,11 +6,10 @@ use Common.{content_at, content_in, content_of, Count, count_of, Empty, Entry, E
 use Common.{false, fill, get-insert_name, given_in, given_of, has_no_borrow, HasBegun, how_many, IfErr, IfSome, inl}
 use Common.{inr, is_live, is_name, is_reusable, is_shared, is_some, is_spent, IsReferred, IsSlotTable, IsWritten}
 use Common.{Kept, Kind, last_generation, le-ltb, length, length-set, List, Live, live_target, Location, location_of}
-use Common.{lt-ltb, Name, name_exact, name_test, name_total, nat_cmp, nat_cmp_total, nat_eq, nat_lt, nat_tests}
-use Common.{ne_eqb, None, not, Ok, OnErr, OnOk, Option, passes, Ref, refers, refers_to, refill, refl, Result}
-use Common.{Retirements, set_written, Shared, shared_target, slice_get, slice_get_within, SlotsState, SlotTable, Some}
-use Common.{State, state_of, sym, target_in, true, Value, with_content, ℕ, ◌&&◌, ◌+◌, ◌-◌, ◌<◌, ◌||◌, ◌∙◌, ◌≡◌, ◌≢◌}
-use Common.{◌≤◌}
+use Common.{lt-ltb, Name, name_exact, name_test, name_total, NameMap, nat_cmp, nat_cmp_total, nat_eq, nat_lt}
+use Common.{nat_tests, ne_eqb, None, not, Ok, OnErr, OnOk, Option, passes, Ref, Refers, refers, refill, refl, Result}
+use Common.{Retirements, set_written, shared_target, slice_get, slice_get_within, SlotsState, SlotTable, Some, State}
+use Common.{state_of, sym, target_in, true, with_content, ℕ, ◌&&◌, ◌+◌, ◌-◌, ◌<◌, ◌||◌, ◌∙◌, ◌≡◌, ◌≢◌, ◌≤◌}
 use Rattle.store_slots.proofs.states.{States.get_cells, States.get_given, States.live_cell}
 use Rattle.std.specs.FinMap as map
 use Rattle.std.specs.FinSet as set
@@ -114,21 +113,15 @@ module _ {T : Type 0} {slots after : List (Entry T)} {i : ℕ} {t : Entry T}
       referred r (λ q other. ap (λ b. less q + bit b) (same q))
       (λ shared. let e = own shared in let b = ap bit (same name) in omega arith)
 
-  -- ---- a slot whose count changes
-
-  module _ {e : Entry T} (there : slice_get slots i ≡ Some e) (gen : t.generation ≡ e.generation)
-      (own : t.kept ≡ e.kept) where
-    pub cells_same : cells_of after ≡ cells_of slots
-    cells_same = map.same_map name_total name_exact _ _ (λ q.
-        rw (get_cells after q, get_cells slots q) (each_after
-        (λ k o. cell_in o q.generation ≡ cell_in (slice_get slots k) q.generation)
-        (rw (there, gen, own) refl) (λ k other. refl) q.slot))
-
-    pub given_same : (start : ℕ) → given_of start after ≡ given_of start slots
-    given_same start = given_kept start (λ g. rw (there, gen) refl)
-
-    pub state_same : (start peak : ℕ) → state_of start peak after ≡ state_of start peak slots
-    state_same start peak = rw (cells_same, given_same start) refl
+  -- a slot whose count changes
+  pub state_same : {e : Entry T} → slice_get slots i ≡ Some e → t.generation ≡ e.generation
+      → t.kept ≡ e.kept → (start peak : ℕ) → state_of start peak after ≡ state_of start peak slots
+  state_same there gen own start peak =
+      let same : cells_of after ≡ cells_of slots = map.same_map name_total name_exact _ _ (λ q.
+      rw (get_cells after q, get_cells slots q) (each_after
+      (λ k o. cell_in o q.generation ≡ cell_in (slice_get slots k) q.generation)
+      (rw (there, gen, own) refl) (λ k other. refl) q.slot)) in
+      rw (same, given_kept start (λ g. rw (there, gen) refl)) refl
 
 -- ---- what holds of the slots holds after a write
 
@@ -170,35 +163,35 @@ module _ {T : Type 0} {p : SlotTable T} (s : IsSlotTable p) {after : List (Entry
 
 -- ---- the slot of a live cell
 
--- its entry
-pub record IsFound {T : Type 0} (slots : List (Entry T)) (n : Name) : Type 0 where
-  pub kept : Kept T
+-- its entry, in which this is kept
+pub record IsKept {T : Type 0} (slots : List (Entry T)) (n : Name) (kept : Kept T) : Type 0 where
   pub references : ℕ
   pub there : slice_get slots n.slot
       ≡ Some (record { generation = n.generation; kept = kept; references = references })
   pub within : n.slot < length slots
-  pub live : is_live kept ≡ true
   pub cell : map.get (cells_of slots) n ≡ cell_of kept
+
+-- whatever cell it is
+pub record IsFound {T : Type 0} (slots : List (Entry T)) (n : Name) : Type 0 where
+  pub kept : Kept T
+  pub spot : IsKept slots n kept
+  pub open spot use *
+  pub live : is_live kept ≡ true
   pub holds : content_of (map.get (cells_of slots) n) ≡ content_in kept
 
--- the cell of a content
-abbrev pub cell_with : {T : Type 0} → Kind → Content T → Location → Cell T
-cell_with kind.Value c l = Value c l
-cell_with kind.Shared c l = Shared c l
-
--- its entry, where it has a value or has lent one
+-- where it has a value or has lent one
 pub record IsHeld {T : Type 0} (slots : List (Entry T)) (n : Name) : Type 0 where
   pub kind : Kind
   pub content : Content T
   pub created : Location
-  pub references : ℕ
-  pub there : slice_get slots n.slot ≡ Some (record {
-    generation = n.generation;
-    kept = Live kind content created;
-    references = references;
-  })
-  pub within : n.slot < length slots
-  pub cell : map.get (cells_of slots) n ≡ Some (cell_with kind content created)
+  pub spot : IsKept slots n (Live kind content created)
+  pub open spot use *
+
+-- where it is a reference
+pub record HasReference {T : Type 0} (slots : List (Entry T)) (n m : Name) : Type 0 where
+  pub created : Location
+  pub spot : IsKept slots n (Refers m created)
+  pub open spot use *
 
 module _ {T : Type 0} where
   content_kept : (k : Kept T) → content_of (cell_of k) ≡ content_in k
@@ -218,11 +211,13 @@ module _ {T : Type 0} where
           get_cells slots n ∙ rw (there, same) refl in
           record {
             kept = e.kept;
-            references = e.references;
-            there = there ∙ (λ i. Some (record e { generation = sym g i }));
-            within = slice_get_within slots n.slot _ there;
+            spot = record {
+              references = e.references;
+              there = there ∙ (λ i. Some (record e { generation = sym g i }));
+              within = slice_get_within slots n.slot _ there;
+              cell = cell;
+            };
             live = sym (live_cell e.kept) ∙ some_if test (cell_of e.kept) none h;
-            cell = cell;
             holds = rw cell (content_kept e.kept);
           }
       own e there false other h = cc
@@ -232,97 +227,79 @@ module _ {T : Type 0} where
       at None there h = cc
       at (Some e) there h = own e there _ refl h
 
-  module _ (kd : Kind) (c : Content T) (l : Location) where
-    cell_live : cell_of (Live kd c l) ≡ Some (cell_with kd c l)
-    cell_live = grind arith
-
-    content_live : content_of (Some (cell_with kd c l)) ≡ Some c
-    content_live = grind arith
-
-    refill_live : (d : Content T) → refill d (cell_with kd c l) ≡ cell_with kd d l
-    refill_live d = grind arith
-
-    refers_live : (q : Name) → refers_to q (cell_of (Live kd c l)) ≡ false
-    refers_live q = grind arith
-
-    shared_live : (d : Content T)
-        → is_shared (cell_of (Live kd c l)) ≡ is_shared (cell_of (Live kd d l))
-    shared_live d = grind arith
-
   pub held : (slots : List (Entry T)) (n : Name)
       → is_some (content_of (map.get (cells_of slots) n)) ≡ true → IsHeld slots n
   held slots n h =
       let f = found slots n (λ o. is_some (content_of o)) refl h in
       let holds = rw f.cell at h in
       let is : (kd : Kind) × (c : Content T) × (l : Location) × (f.kept ≡ Live kd c l) = grind arith in
-      record {
-        kind = is.0;
-        content = is.1;
-        created = is.2;
-        references = f.references;
-        there = rw is.3 at f.there;
-        within = f.within;
-        cell = f.cell ∙ ap cell_of is.3 ∙ cell_live is.0 is.1 is.2;
-      }
+      record { kind = is.0; content = is.1; created = is.2; spot = rw is.3 at f.spot }
+
+  pub has_reference : (slots : List (Entry T)) (n m : Name)
+      → target_in (map.get (cells_of slots) n) ≡ Some m → HasReference slots n m
+  has_reference slots n m h =
+      let f = found slots n (λ c. is_some (target_in c)) refl (ap is_some h) in
+      let refers = rw f.cell at h in
+      let is : (l : Location) × (f.kept ≡ Refers m l) = grind arith in
+      record { created = is.0; spot = rw is.1 at f.spot }
+
+-- something else is kept in it
+module _ {T : Type 0} {slots : List (Entry T)} {n : Name} {kept : Kept T} (f : IsKept slots n kept)
+    (k : Kept T → Kept T) where
+  abbrev pub rekept : List (Entry T)
+  rekept = change_entry slots n.slot (λ e. record e { kept = k e.kept })
+
+  abbrev rekept_entry : Entry T
+  rekept_entry = record { generation = n.generation; kept = k kept; references = f.references }
+
+  pub rekept_written : IsWritten slots rekept n.slot rekept_entry
+  rekept_written = rw f.there (set_written slots n.slot rekept_entry _ f.there)
+
+  pub rekept_length : length rekept ≡ length slots
+  rekept_length = rw (f.there, length-set) refl
+
+  -- a cell is put into the machine's map, or the name is taken out of it
+  pub rekept_put : (c : Cell T) → cell_of (k kept) ≡ Some c
+      → cells_of rekept ≡ map.insert (cells_of slots) n c
+  rekept_put = cells_put rekept_written (λ g e. rw (f.there, e) refl)
+
+  pub rekept_taken : cell_of (k kept) ≡ None → cells_of rekept ≡ map.remove (cells_of slots) n
+  rekept_taken = cells_taken rekept_written (λ g e. rw (f.there, e) refl)
+
+  pub rekept_state : (start peak : ℕ) {cells : NameMap (Cell T)} → cells_of rekept ≡ cells
+      → state_of start peak rekept ≡ record (state_of start peak slots) { cells = cells }
+  rekept_state start peak is = rw (is, given_kept rekept_written start (λ g. rw f.there refl)) refl
 
 module _ {T : Type 0} {slots : List (Entry T)} {n : Name} (f : IsHeld slots n)
     (h : Content T → Content T) where
   abbrev pub changed : List (Entry T)
-  changed = change_entry slots n.slot (λ e. record e { kept = with_content h e.kept })
-
-  abbrev filled_entry : Entry T
-  filled_entry = record {
-    generation = n.generation;
-    kept = Live f.kind (h f.content) f.created;
-    references = f.references;
-  }
-
-  written : IsWritten slots changed n.slot filled_entry
-  written = rw f.there (set_written slots n.slot filled_entry _ f.there)
+  changed = rekept f.spot (with_content h)
 
   -- another content is the machine's
   pub state_changed : (start peak : ℕ)
       → state_of start peak changed ≡ fill (state_of start peak slots) n (h f.content)
-  state_changed start peak = rw (
-    cells_put written (λ g e. rw (f.there, e) refl)
-        (cell_with f.kind (h f.content) f.created) (cell_live f.kind (h f.content) f.created),
-    given_kept written start (λ g. rw f.there refl),
-    changed_there by_name (cells_of slots) n (refill (h f.content)) _ f.cell,
-    refill_live f.kind f.content f.created (h f.content),
-  ) refl
+  state_changed start peak =
+      let own = live_cells f.kind f.content (h f.content) f.created in
+      rw (changed_there by_name (cells_of slots) n (refill (h f.content)) own.0 (f.cell ∙ own.1))
+      (rekept_state f.spot (with_content h) start peak (rekept_put f.spot (with_content h) _ own.2))
+    where
+      live_cells : (k : Kind) (c d : Content T) (l : Location) → (x : Cell T)
+          × (cell_of (Live k c l) ≡ Some x) × (cell_of (Live k d l) ≡ Some (refill d x))
+      live_cells kind.Value c d l = (_, refl, refl)
+      live_cells kind.Shared c d l = (_, refl, refl)
 
   pub referred_changed : {less : Name → ℕ} → AreReferred less slots → AreReferred less changed
-  referred_changed r =
-      referred_still written r
-      (λ q. rw (f.there, refers_live f.kind f.content f.created q)
-      (sym (refers_live f.kind (h f.content) f.created q)))
-      (λ shared. rw f.there at (r.each n.slot)
-      (shared_live f.kind f.content f.created (h f.content) ∙ shared))
-
-  pub changed_length : length changed ≡ length slots
-  changed_length = rw (f.there, length-set) refl
+  referred_changed r = referred_still (rekept_written f.spot (with_content h)) r
+      (λ q. rw f.there (grind arith))
+      (λ shared. let own = rw f.there at (r.each n.slot) in own (grind arith))
 
 module _ {T : Type 0} {slots : List (Entry T)} {n : Name} (f : IsFound slots n) where
-  abbrev pub ended : List (Entry T)
-  ended = change_entry slots n.slot (λ e. record e { kept = Empty })
-
-  abbrev ended_entry : Entry T
-  ended_entry = record { generation = n.generation; kept = Empty; references = f.references }
-
-  pub emptied : IsWritten slots ended n.slot ended_entry
-  emptied = rw f.there (set_written slots n.slot ended_entry _ f.there)
-
   -- an end of a slot's cell takes its name out of the machine's map
+  abbrev pub ended : List (Entry T)
+  ended = rekept f.spot (λ k. Empty)
+
   pub cells_ended : cells_of ended ≡ map.remove (cells_of slots) n
-  cells_ended = cells_taken emptied (λ g e. rw (f.there, e) refl) refl
-
-  pub state_ended : (start peak : ℕ) → state_of start peak ended
-      ≡ record (state_of start peak slots) { cells = map.remove (cells_of slots) n }
-  state_ended start peak =
-      rw (cells_ended, given_kept emptied start (λ g. rw f.there refl)) refl
-
-  pub ended_length : length ended ≡ length slots
-  ended_length = rw (f.there, length-set) refl
+  cells_ended = rekept_taken f.spot (λ k. Empty) refl
 
 -- ---- what holds of the slots holds after these changes
 
@@ -334,14 +311,14 @@ module _ {T : Type 0} {p : SlotTable T} (s : IsSlotTable p) where
   module _ {n : Name} (f : IsFound p.slots n) where
     pub some_live : 1 ≤ p.counts.usable
     some_live =
-        let c = rw (f.there, f.live) at ((emptied f).count (λ e. is_live e.kept)) in
+        let c = rw (f.there, f.live) at ((rekept_written f.spot (λ k. Empty)).count (λ e. is_live e.kept)) in
         let l = s.counted in omega arith
 
     pub not_pooled : set.contains p.free n.slot ≡ false
     not_pooled = s.pooled n.slot ∙ rw (f.there, f.live) refl
 
     slotted_by : (now : set.FinSet nat_cmp) (left : ℕ) (spent : Bool)
-        → is_spent (ended_entry f) ≡ spent
+        → (nat_lt n.generation last_generation) ≡ spent
         → ((k : ℕ) → set.contains now k ≡ cond (nat_eq k n.slot) spent (set.contains p.free k))
         → set.len now ≡ set.len p.free + bit spent → left + 1 ≡ p.counts.usable + bit spent
         → left ≤ p.counts.usable
@@ -351,8 +328,8 @@ module _ {T : Type 0} {p : SlotTable T} (s : IsSlotTable p) where
           slots = ended f;
         })
     slotted_by now left spent is pooled stocked counted fewer =
-        let same = ended_length f in
-        slotted s (emptied f) now p.rooms (record p.counts { usable = left })
+        let same = rekept_length f.spot (λ k. Empty) in
+        slotted s (rekept_written f.spot (λ k. Empty)) now p.rooms (record p.counts { usable = left })
         (λ k. rw is (pooled k))
         (rw (f.there, f.live, is) (omega arith)) (rw (f.there, f.live, is) (omega arith))
         (let r = s.roomy in omega arith)
@@ -401,12 +378,13 @@ pub invariant_changed : {T : Type 0} {free : set.FinSet nat_cmp} {rooms start : 
     (r : Retirements) {before after : EntryList T} {n : Name} (f : IsHeld before.slots n)
     (h : Content T → Content T) → Invariant free rooms start r before
     → after.slots ≡ changed f h → after.rooms ≡ before.rooms → Invariant free rooms start r after
-invariant_changed r f h inv slots rooms = rw (slots, rooms, changed_length f h) (
-  slotted_still inv.0 (written f h) f.there refl refl (changed_length f h),
-  inv.1,
-  referred_changed f h inv.2,
-  inv.3,
-)
+invariant_changed r f h inv slots rooms =
+    let long = rekept_length f.spot (with_content h) in rw (slots, rooms, long) (
+      slotted_still inv.0 (rekept_written f.spot (with_content h)) f.there refl refl long,
+      inv.1,
+      referred_changed f h inv.2,
+      inv.3,
+    )
 
 -- ---- the state that contracts see
 
@@ -458,7 +436,7 @@ module _ {T : Type 0} {now : SlotsState T} {start peak spare : ℕ} {slots : Lis
   pub held_in : {n : Name} → is_some (content_at now.state n) ≡ true → IsSeen slots now.state n
   held_in {n} h =
       let f = held slots n (rw (← view) at h) in
-      record { held = f; seen = rw (← view, f.cell) (content_live f.kind f.content f.created) }
+      record { held = f; seen = rw (← view, f.cell) (content_kept (Live f.kind f.content f.created)) }
 
   -- a slot holds a content of which the slots tell
   pub held_told : {n : Name} → true ≡ is_some (content_of (cell_under slots n))
@@ -477,7 +455,7 @@ pub changed_state : {T : Type 0} {now : SlotsState T} {start spare : ℕ} (r : R
     → (f : IsSeen slots now.state n) (h : Content T → Content T) → after ≡ changed f.held h
     → state_of start (count_of r (length after)).peak after ≡ fill now.state n (h f.content)
 changed_state r view f h is =
-    rw (is, changed_length f.held h, ← view) (state_changed f.held h _ _)
+    rw (is, rekept_length f.spot (with_content h), ← view) (state_changed f.held h _ _)
 
 -- what holds of a result's two ways
 pub either : {A E : Type 0} (r : Result A E) {P Q X : Type 0} → OnOk r P → OnErr r Q → (P → X)

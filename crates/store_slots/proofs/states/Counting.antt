@@ -1,15 +1,15 @@
 -- The counts of references where a cell comes or goes, and where a reference names another value.
 use Rattle.store_slots.proofs.Common
-use Common.{ap, AreReferred, arith, bit, Bool, by_name, Cell, cell_in, cell_of, cell_under, CellName, cells_of}
-use Common.{change_entry, cond, cond_same, cond_some, Count, count_less, count_more, Entry, eq-eqb, false}
-use Common.{get-insert_apart, HasTargets, how_many, IfSome, IfSome_then, is_err, is_live, is_name, is_named}
-use Common.{is_shared, is_some, IsReferred, IsSlotTable, IsUnborrowed, IsWritten, Kept, kept_data, length, length-set}
-use Common.{List, Location, lt-ltb, many_some, many_within, Name, name_apart, name_here, name_of_cell, named_by}
-use Common.{named_gives, nat_cmp, nat_lt, ne_eqb, None, OnErr, Option, option_map, passes, Ref, referring, refers}
-use Common.{Refers, refers_to, refl, Result, set_written, shared_target, slice_get, SlotData, SlotTable, Some}
-use Common.{state_of, suc, sym, target_in, true, zero, [], ℕ, ◌+◌, ◌-◌, ◌<◌, ◌∙◌, ◌≡◌, ◌≢◌}
-use Rattle.store_slots.proofs.states.Changes.{cells_put, emptied, ended, found, given_kept, IsFound, referred}
-use Rattle.store_slots.proofs.states.Changes.{slotted_still, state_same}
+use Common.{ap, AreReferred, arith, bit, Bool, by_name, Cell, cell_of, cell_under, CellName, cells_of, change_entry}
+use Common.{cond, cond_some, Count, count_less, count_more, Empty, Entry, eq-eqb, false, get-insert_apart, HasTargets}
+use Common.{how_many, IfSome, IfSome_then, is_err, is_live, is_name, is_named, is_shared, is_some, IsReferred}
+use Common.{IsSlotTable, IsUnborrowed, IsWritten, kept_data, length, length-set, List, Location, lt-ltb, many_some}
+use Common.{many_within, Name, name_apart, name_here, name_of_cell, named_by, named_gives, nat_cmp, nat_lt, ne_eqb}
+use Common.{None, OnErr, Option, option_map, passes, Ref, referring, refers, refers_to, refl, Result, set_written}
+use Common.{shared_target, slice_get, SlotData, SlotTable, Some, state_of, suc, sym, target_in, true, zero, [], ℕ}
+use Common.{◌+◌, ◌-◌, ◌<◌, ◌∙◌, ◌≡◌, ◌≢◌}
+use Rattle.store_slots.proofs.states.Changes.{ended, found, HasReference, IsFound, referred, rekept, rekept_length}
+use Rattle.store_slots.proofs.states.Changes.{rekept_put, rekept_state, rekept_written, slotted_still, state_same}
 use Rattle.store_slots.proofs.states.References.{count_of, has_shared, named_count, reference_to}
 use Rattle.store_slots.proofs.states.{States.get_cells, States.not_named}
 use Rattle.store_cells.specs.Data.{SlotData as slot}
@@ -112,23 +112,14 @@ module _ {T : Type 0} where
           let no = rw gone at (targets it.0 m it.1 it.2) in cc
 
   -- what isn't live is no cell, and refers to nothing
-  dead_none : (k : Kept T) → is_live k ≡ false → cell_of k ≡ None
-  dead_none k dead = grind arith
-
   dead_refers : (q : Name) (o : Option (Entry T)) → passes (λ e. is_live e.kept) o ≡ false
       → passes (refers q) o ≡ false
-  dead_refers q None dead = refl
-  dead_refers q (Some e) dead = ap (refers_to q) (dead_none e.kept dead)
+  dead_refers q o dead = grind arith
 
   new_fresh : (slots : List (Entry T)) (i g : ℕ)
       → passes (λ e. is_live e.kept) (slice_get slots i) ≡ false
       → map.get (cells_of slots) (record { slot = i; generation = g }) ≡ None
-  new_fresh slots i g dead =
-      get_cells slots (record { slot = i; generation = g }) ∙ at (slice_get slots i) dead
-    where
-      at : (o : Option (Entry T)) → passes (λ e. is_live e.kept) o ≡ false → cell_in o g ≡ None
-      at None dead = refl
-      at (Some e) dead = rw (dead_none e.kept dead) (cond_same _ None)
+  new_fresh slots i g dead = get_cells slots (record { slot = i; generation = g }) ∙ grind arith
 
   -- a content without borrows is a cell, which names what the content does
   pub unborrowed_cell : (d : SlotData T) (l : Location) → IsUnborrowed d
@@ -260,74 +251,39 @@ pub referred_ended : {T : Type 0} {slots : List (Entry T)} {n : Name} (f : IsFou
     {target : Option Name} → target ≡ target_in (map.get (cells_of slots) n)
     → AreReferred (λ q. bit (is_target target q)) slots → AreReferred (λ m. 0) (ended f)
 referred_ended f is r =
-    referred (emptied f) r
+    referred (rekept_written f.spot (λ k. Empty)) r
     (λ q other. let own = ap bit (refers_target q (cell_of f.kept)) in
     rw (f.there, is, f.cell) (omega arith))
     (λ shared. absurd cc)
 
 -- ---- a reference that names another shared value, and the counts of both
 
--- the slot of a reference
-pub record HasReference {T : Type 0} (slots : List (Entry T)) (n m : Name) : Type 0 where
-  pub created : Location
-  pub references : ℕ
-  pub there : slice_get slots n.slot ≡ Some (record {
-    generation = n.generation;
-    kept = Refers m created;
-    references = references;
-  })
-
 module _ {T : Type 0} where
-  pub has_reference : (slots : List (Entry T)) (n m : Name)
-      → target_in (map.get (cells_of slots) n) ≡ Some m → HasReference slots n m
-  has_reference slots n m h =
-      let f = found slots n (λ c. is_some (target_in c)) refl (ap is_some h) in
-      let refers = rw f.cell at h in
-      let is : (l : Location) × (f.kept ≡ Refers m l) = grind arith in
-      record { created = is.0; references = f.references; there = rw is.1 at f.there }
-
   -- the reference names another cell
   module _ {slots : List (Entry T)} {n old : Name} (f : HasReference slots n old) (new : Name) where
     abbrev pub turned : List (Entry T)
-    turned = change_entry slots n.slot (λ e. record e { kept = referring new e.kept })
-
-    abbrev turned_entry : Entry T
-    turned_entry = record {
-      generation = n.generation;
-      kept = Refers new f.created;
-      references = f.references;
-    }
-
-    turned_written : IsWritten slots turned n.slot turned_entry
-    turned_written = rw f.there (set_written slots n.slot turned_entry _ f.there)
-
-    pub turned_length : length turned ≡ length slots
-    turned_length = rw (f.there, length-set) refl
+    turned = rekept f.spot (referring new)
 
     turned_cells : cells_of turned ≡ map.insert (cells_of slots) n (Ref new f.created)
-    turned_cells = cells_put turned_written (λ g e. rw (f.there, e) refl) (Ref new f.created) refl
+    turned_cells = rekept_put f.spot (referring new) (Ref new f.created) refl
 
     pub turned_state : (start peak : ℕ) → state_of start peak turned
         ≡ record (state_of start peak slots)
         { cells = map.insert (cells_of slots) n (Ref new f.created) }
-    turned_state start peak =
-        rw (turned_cells, given_kept turned_written start (λ g. rw f.there refl)) refl
+    turned_state start peak = rekept_state f.spot (referring new) start peak turned_cells
 
     -- where the old target counts it no more, the new one doesn't count it yet
     pub turned_referred : AreReferred (λ q. bit (is_name q old)) slots
         → AreReferred (λ q. bit (is_name q new)) turned
     turned_referred r =
-        referred turned_written r (λ q other. rw f.there (omega arith)) (λ shared. absurd cc)
-
-    pub reference_there : map.get (cells_of slots) n ≡ Some (Ref old f.created)
-    reference_there =
-        get_cells slots n ∙ rw (f.there, eq-eqb n.generation n.generation refl) refl
+        referred (rekept_written f.spot (referring new)) r (λ q other. rw f.there (omega arith))
+        (λ shared. absurd cc)
 
     -- the new target is shared as before
     pub turned_target : is_shared (map.get (cells_of slots) new) ≡ true
         → is_shared (map.get (cells_of turned) new) ≡ true
     turned_target shared =
-        let apart : new ≢ n = λ z. let no = rw (z, reference_there) at shared in cc in rw (
+        let apart : new ≢ n = λ z. let no = rw (z, f.cell) at shared in cc in rw (
           turned_cells,
           get-insert_apart by_name (cells_of slots) n (Ref new f.created) new apart,
         ) shared
@@ -336,5 +292,5 @@ module _ {T : Type 0} where
   pub turned_slotted : {p : SlotTable T} → IsSlotTable p → {n old : Name}
       (f : HasReference p.slots n old) (new : Name)
       → IsSlotTable (record p { slots = turned f new })
-  turned_slotted s f new =
-      slotted_still s (turned_written f new) f.there refl refl (turned_length f new)
+  turned_slotted s f new = slotted_still s (rekept_written f.spot (referring new)) f.there refl refl
+      (rekept_length f.spot (referring new))

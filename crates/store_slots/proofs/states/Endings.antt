@@ -1,11 +1,11 @@
 -- The end of one name, by the value that goes with it.
 use Rattle.store_slots.proofs.Common
-use Common.{arith, Bool, Borrow, borrowed_end, BorrowMutError, by_name, Cell, cells_after, changed_there, close}
-use Common.{close_one, cond, content_at, false, fill, first_hindrance, FoundBorrowed, get-changed_here}
-use Common.{get-remove_apart, get-remove_here, has_no_borrow, HasEnded, Here, hindrance_to, is_named, is_none}
-use Common.{is_some, is_unborrowed_value, IsLinked, Lent, List, live_target, Location, Name, name_exact, name_total}
-use Common.{NameMap, None, one_hindered, Option, Ref, refill, refl, refusal_of, Refused, Result, Some, State}
-use Common.{target_in, true, unborrowed_value, Value, would_end, write_refusal, [], ◌∙◌, ◌∷◌, ◌≡◌, ◌≢◌}
+use Common.{arith, Bool, Borrow, borrowed_end, by_name, Cell, cells_after, changed_there, close, close_one, cond}
+use Common.{content_at, false, fill, first_hindrance, get-changed_here, get-remove_apart, get-remove_here}
+use Common.{has_no_borrow, Here, hindrance_to, is_named, is_some, is_unborrowed_value, IsLinked, Lent, List}
+use Common.{live_target, Location, Name, name_exact, name_total, NameMap, None, one_hindered, Option, Ref, refill}
+use Common.{refl, refusal_of, Some, State, target_in, true, unborrowed_value, Value, would_end, write_refusal, []}
+use Common.{◌∙◌, ◌∷◌, ◌≡◌, ◌≢◌}
 use Rattle.std.specs.FinMap as map
 
 module _ {T : Type 0} where
@@ -20,13 +20,6 @@ module _ {T : Type 0} where
       → hindrance_to S names ≡ first_hindrance S.cells (cells_after S.cells names) names
   unfolding hindrance_to
   hindrance_is S names = refl
-
-  -- where something hinders the end of names, and nothing has changed, that is what is answered
-  pub refused_end : (S : State T) (names : List Name) (R : State T)
-      (r : Result (Unit {0}) (Refused BorrowMutError)) → R ≡ S
-      → is_none (hindrance_to S names) ≡ false → FoundBorrowed (hindrance_to S names) r
-      → HasEnded S R names r
-  refused_end S names R r same hindered found = grind arith
 
   -- the state without the cell of a value that goes
   abbrev pub without : State T → Option Name → State T

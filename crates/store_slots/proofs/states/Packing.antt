@@ -1,7 +1,7 @@
 -- One slot more is packed, in the place of one that was packed in an earlier state.
 use Rattle.store_slots.proofs.Common
-use Common.{and_from, ap, append-nil, arith, BaseRow, Cell, cell_of, cells_of, drop, Entry, entry_rows, eq-eqb, Err}
-use Common.{get_bare_cell, IfSome, inl, inr, IsSlotTable, le-leb, length, length-append, List, Location, None, Ok}
+use Common.{ap, append-nil, arith, BaseRow, Cell, cell_of, cells_of, drop, Entry, entry_rows, eq-eqb, Err}
+use Common.{get_bare_cell, IfSome, inl, inr, IsSlotTable, length, length-append, List, Location, nat_tests, None, Ok}
 use Common.{OnOk, Option, option_map, Ref, refl, Result, rows_from, Shared, slice_get, slice_get_cases, SlotTable}
 use Common.{Some, State, state_of, subst, suc, sym, take, unwrap_or, Value, zero, [], ℕ, ⊎_elim, ◌++◌, ◌+◌, ◌<◌, ◌∙◌}
 use Common.{◌∷◌, ◌≡◌, ◌≤◌}
@@ -82,7 +82,7 @@ module _ {A : Type 0} (number k : ℕ) (es : List (Entry A)) (whole : List BaseR
 
 module _ {A : Type 0} where
   -- one that is small is packed without a whole row
-  pub small_packed : (number slot : ℕ) (e : Entry A) (whole : List BaseRow) (p : PackedSlot × Location)
+  small_packed : (number slot : ℕ) (e : Entry A) (whole : List BaseRow) (p : PackedSlot × Location)
       → IsSmall slot p e → IsPacked number slot e whole whole p
   small_packed number slot e whole p small = record {
     more = [];
@@ -90,14 +90,6 @@ module _ {A : Type 0} where
     many = small.none;
     rows = small.rows number [];
   }
-
-  pub small_made : (number slot : ℕ) (o : Option (Entry A)) (whole : List BaseRow) (p : PackedSlot)
-      (l : Location) → IfSome o (λ e. WasMadeIn e l)
-      → IfSome o (λ e. (k : Location) → WasMadeIn e k → IsSmall slot (p, k) e)
-      → IfSome o (λ e. IsPacked number slot e whole whole (p, l))
-  small_made number slot None whole p l made small = tt
-  small_made number slot (Some e) whole p l made small =
-      small_packed number slot e whole (p, l) (small l made)
 
   -- one that is as it was is packed already
   pub stayed : (number k : ℕ) (es : List (Entry A)) (whole : List BaseRow)
@@ -242,8 +234,7 @@ module _ {A : Type 0} {p : SlotTable A} (s : IsSlotTable p) (S : State A)
   told_past slot g e l there of = (
     ap (λ (S : State A). set.contains S.given (record { slot = slot; generation = g })) (sym seen)
         ∙ get_given p.start p.slots (record { slot = slot; generation = g })
-        ∙ rw (there, of.0) (and_from _ _ (le-leb p.start e.generation (rw there at (s.begun slot)))
-        (le-leb e.generation e.generation (omega arith))),
+        ∙ rw (there, of.0) (let begun = rw there at (s.begun slot) in grind (arith, nat_tests)),
     λ b is.
         bare_made (cell_of e.kept) l of.1 b (
         sym (bare_in p.slots S (ap (λ (S : State A). S.cells) seen) slot g e there of.0) ∙ is),

@@ -6,7 +6,8 @@ use Common.{is_unborrowed_value, IsLinked, leads_to, List, Location, Name, name_
 use Common.{option_map, reached, read_refusal, read_refusal_of, Ref, refusal_at, SlotsState, Some, State, state_of}
 use Common.{sym, target_in, true, would_end, write_refusal, [], ℕ, ◌∙◌, ◌∷◌, ◌≡◌}
 use Rattle.store_slots.proofs.states.Changes.{cell_seen, free_in, held_in, IsSeen}
-use Rattle.store_slots.proofs.states.{Endings.ending_hinders, References.reference_to}
+use Rattle.store_slots.proofs.states.{Endings.ending_hinders, Endings.EndsFree, Endings.free_ends}
+use Rattle.store_slots.proofs.states.{References.reference_to}
 use Rattle.std.specs.FinMap as map
 
 -- nothing is found of what isn't there
@@ -84,6 +85,16 @@ module _ {T : Type 0} where
         → b ≡ d → is_unborrowed_value (map.get now.state.cells n) ≡ d
     unborrowed_told n is free = sym (rw (cell_seen slots view n) at is) ∙ free
 
+    -- such a value is reached by its own box, and ends by itself
+    pub free_told : (n : Name) → IsLinked now.state.cells → {b : Bool}
+        → b ≡ is_unborrowed_value (cell_under slots n) → b ≡ true → EndsFree now.state n
+    free_told n linked is free = free_ends now.state linked (unborrowed_told n is free)
+
+    pub own_reached : (n : Name) {b : Bool} → b ≡ is_unborrowed_value (cell_under slots n) → b ≡ true
+        → (reached now.state n ≡ Some n) × (read_refusal (content_at now.state n) ≡ None)
+        × (write_refusal (content_at now.state n) ≡ None)
+    own_reached n is free = let own = unborrowed_told n is free in grind arith
+
     pub none_reached : (n : Name) → None ≡ leads_to (cell_under slots n) n
         → has_no_borrow (content_reached now.state (reached now.state n)) ≡ true → ⊥
     none_reached n to free = let none = rw (← reached_seen n to) at free in cc
@@ -114,13 +125,6 @@ module _ {T : Type 0} where
     ending_in linked {n} {m} to =
         let f = held_in view (ending_there now.state linked n m to) in
         record { place = f; hinders = ending_hinders now.state n linked _ to ∙ ap write_refusal f.seen }
-
-  -- a value without borrows that isn't shared is reached by its own box
-  pub unborrowed_reached : (S : State T) (n : Name)
-      → is_unborrowed_value (map.get S.cells n) ≡ true
-      → (reached S n ≡ Some n) × (read_refusal (content_at S n) ≡ None)
-      × (write_refusal (content_at S n) ≡ None)
-  unborrowed_reached S n free = grind arith
 
   -- what isn't refused to a writer isn't refused to a reader
   pub unread : (c : Option (Content T)) → write_refusal c ≡ None → read_refusal c ≡ None

@@ -4,7 +4,7 @@ use Common.{Action, ap, arith, Bool, BorrowRefusal, Cell, Content, content_of, D
 use Common.{hindrance_at, hindrance_to, is_hindered, is_name, is_named, is_none, is_shared, is_some, IsLinked}
 use Common.{Location, may_set, Name, name_of, None, not, Option, point, Ref, refl, Shared, Some, State, sym}
 use Common.{target_in, tells_of_borrow, true, turn, unless, would_end, write_refusal, [], ◌∙◌, ◌∷◌, ◌≡◌}
-use Rattle.store_slots.proofs.states.{Endings.ending_hinders, Turns.hinders, Turns.IsReference, Turns.left}
+use Rattle.store_slots.proofs.states.{Endings.ending_hinders, Turns.hinders, Turns.left}
 use Rattle.std.specs.FinMap as map
 
 module _ {T : Type 0} where
@@ -29,11 +29,10 @@ module _ {T : Type 0} where
       → IsLinked S.cells → map.get S.cells n ≡ Some (Ref old l) → is_name old new ≡ false
       → is_none (hindrance_to S (n ∷ [])) ≡ not (is_hindered a (turn S n old new l).0)
   turn_free S n old new l a linked there other =
-      let r : IsReference S n old = record { created = l; there = there } in
       let d = would_end (is_named (map.remove S.cells n)) (map.get S.cells n) n in
       let same = ending_hinders S n linked d refl
-      ∙ sym (hinders r new linked other d refl) in
-      let cells = left r new linked in
+      ∙ sym (hinders S n old new l there linked other d refl) in
+      let cells = left S n old new l there linked in
       rw other (ap is_none same ∙ free_unless S a (hindrance_at S.cells cells old) _
       (let tells = write_tells (content_of (map.get S.cells old)) in grind arith))
 

@@ -1,13 +1,13 @@
 -- How many references name a cell, also where some names end.
 use Rattle.store_slots.proofs.Common
 use Common.{AllByRecursion, among, ap, AreReferred, arith, away_absent, away_each, away_nothing, away_one}
-use Common.{away_shared, bit, both_ways, Cell, cell_of, cell_under, cells_of, Entry, eq-eqb, eq_by_cmp_equiv, false}
-use Common.{HasTargets, how_many, is_name, is_named, is_ref, is_shared, is_some, IsDistinct, IsDistinct-head}
+use Common.{away_shared, bit, both_ways, Cell, cell_of, cell_under, cells_of, Empty, Entry, eq-eqb, eq_by_cmp_equiv}
+use Common.{false, HasTargets, how_many, is_name, is_named, is_ref, is_shared, is_some, IsDistinct, IsDistinct-head}
 use Common.{IsDistinct-tail, List, Location, lt-ltb, ltb-true, many_some, Name, name_here, name_total, named_from}
 use Common.{named_gives, nat_lt, nat_tests, None, Option, passes, Ref, refers, refers_among, refers_to, refl, Shared}
 use Common.{Some, some_of_many, sum_by-cons, sym, take_away, target_in, true, Value, without_view, [], ℕ, ⊎_elim, ◌+◌}
 use Common.{◌∙◌, ◌∷◌, ◌≡◌}
-use Rattle.store_slots.proofs.states.Changes.{cells_ended, emptied, ended, found, IsFound}
+use Rattle.store_slots.proofs.states.Changes.{cells_ended, ended, found, IsFound, rekept_written}
 use Rattle.store_slots.proofs.states.{States.get_cells}
 use Rattle.std.specs.FinMap as map
 
@@ -63,7 +63,7 @@ module _ {T : Type 0} (slots : List (Entry T)) where
         left = ended f;
         cells = away_one (cells_of slots) n (ap is_shared there ∙ plain) ∙ sym (cells_ended f);
         counts = λ m.
-            let count = (emptied f).count (refers m) in
+            let count = (rekept_written f.spot (λ k. Empty)).count (refers m) in
             let was = ap (λ o. bit (passes (refers m) o)) f.there in
             let own = ap (λ c. bit (refers_to m c)) (sym f.cell ∙ get_cells slots n) in
             omega (arith, count, was, own);

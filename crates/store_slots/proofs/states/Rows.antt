@@ -110,18 +110,10 @@ module _ {A : Type 0} where
       → AreApart name_cmp (list_map bare_entry (live_from i es))
   live_apart i [] = tt
   live_apart i (e ∷ es) =
-      at (live_apart (i + 1) es) (record { slot = i; generation = e.generation }) refl
-      (cell_of e.kept)
-    where
-      at : AreApart name_cmp (list_map bare_entry (live_from (i + 1) es))
-          → (n : Name) → n.slot ≡ i → (o : Option (Cell A))
-          → AreApart name_cmp (list_map bare_entry (with_cell n o (live_from (i + 1) es)))
-      at rest n here None = rest
-      at rest n here (Some c) = (
-        find_bare n (live_from (i + 1) es)
-            ∙ ap (option_map bare_cell) (find_below (i + 1) es n (omega arith)),
-        rest,
-      )
+      let n : Name = record { slot = i; generation = e.generation } in
+      let none = find_bare n (live_from (i + 1) es) ∙ ap (option_map bare_cell)
+      (find_below (i + 1) es n (omega arith)) in
+      let rest = live_apart (i + 1) es in grind arith
 
   cells_read : (slots : List (Entry A))
       → put (map.empty {R = name_cmp}) (list_map bare_entry (live_from 0 slots))

@@ -1,14 +1,15 @@
 -- The state for which a store's slots stand: what is at a name, which names were given, and how
 -- many slots are live, free and retired.
 use Rattle.store_slots.proofs.Common
-use Common.{and_from, and_parts, ap, arith, bit, Bool, by_number, Cell, cell_in, cell_of, cell_under, cells_of, cond}
+use Common.{and_from, ap, arith, bit, Bool, by_number, Cell, cell_in, cell_of, cell_under, cells_of, cond, cond_same}
 use Common.{count_all, Entry, eq-eqb, eq_by_cmp, false, free, fresh, get-keep, get_lasts, given_from, given_in}
 use Common.{given_of, HasBegun, how_many, inl, inr, is_free, is_live, is_name, is_retired, is_some, is_spent, IsFresh}
-use Common.{IsLast, IsNew, IsSlotTable, Kept, last_generation, last_name, le-leb, leb, leb-true, len_passing, length}
-use Common.{List, list_any, list_any-append, live_from, ltb, Name, name_cmp, name_test, name_total, names_up, nat_cmp}
-use Common.{nat_eq, nat_lt, nat_tests, ne_eqb, nil_from_length, None, not, one_last, Option, option_map, or-false}
-use Common.{passes, refl, retired, slice_get, slice_get_past, slots, slots_of, SlotTable, Some, State, state_of, suc}
-use Common.{sym, true, unwrap_or, with_cell, zero, [], ℕ, ◌&&◌, ◌+◌, ◌-◌, ◌<◌, ◌||◌, ◌∙◌, ◌∷◌, ◌≡◌, ◌≢◌, ◌≤◌}
+use Common.{IsLast, IsNew, IsSlotTable, Kept, last_generation, last_name, le-leb, leb, len_passing, length, List}
+use Common.{list_any, list_any-append, live_from, ltb, Name, name_cmp, name_test, name_total, names_up, nat_cmp}
+use Common.{nat_eq, nat_lt, nat_tests, ne_eqb, nil_from_length, None, not, one_last, Option, option_map, option_or}
+use Common.{or-false, passes, refl, retired, slice_get, slice_get_past, slots, slots_of, SlotTable, Some, State}
+use Common.{state_of, suc, sym, true, unwrap_or, with_cell, zero, [], ℕ, ◌&&◌, ◌+◌, ◌-◌, ◌<◌, ◌||◌, ◌∙◌, ◌∷◌, ◌≡◌}
+use Common.{◌≢◌, ◌≤◌}
 use Rattle.std.specs.FinMap as map
 use Rattle.std.specs.FinSet as set
 
@@ -18,37 +19,33 @@ not_named q m other = rw (name_test q m, ne_eqb q.slot m.slot other) refl
 
 module _ {T : Type 0} where
   -- the list of live cells at a name that isn't, and that may be, its first one's
-  find_apart : (n here : Name) (c : Option (Cell T)) (rest : List (Name × Cell T))
-      → is_name n here ≡ false
-      → map.find name_cmp n (with_cell here c rest) ≡ map.find name_cmp n rest
+  find_with : (n here : Name) (c : Option (Cell T)) (rest : List (Name × Cell T))
+      → map.find name_cmp n (with_cell here c rest)
+      ≡ cond (is_name n here) (option_or c (map.find name_cmp n rest)) (map.find name_cmp n rest)
   unfolding is_name
-  find_apart n here c rest is = grind arith
-
-  find_here : (n here : Name) (c : Option (Cell T)) (rest : List (Name × Cell T))
-      → map.find name_cmp n rest ≡ None
-      → map.find name_cmp n (with_cell here c rest) ≡ cond (is_name n here) c None
-  unfolding is_name
-  find_here n here c rest none = grind arith
+  find_with n here None rest = sym (cond_same _ _)
+  find_with n here (Some c) rest = refl
 
   pub find_below : (i : ℕ) (slots : List (Entry T)) (n : Name) → n.slot < i
       → map.find name_cmp n (live_from i slots) ≡ None
   find_below i [] n h = refl
   find_below i (e ∷ slots) n h =
       let here : Name = record { slot = i; generation = e.generation } in
-      find_apart n here (cell_of e.kept) _ (not_named n here (λ same. omega arith))
-      ∙ find_below (i + 1) slots n (omega arith)
+      find_with n here (cell_of e.kept) _
+      ∙ rw (not_named n here (λ same. omega arith)) (find_below (i + 1) slots n (omega arith))
 
   find_at : (i : ℕ) (slots : List (Entry T)) (n : Name) (k : ℕ) → n.slot ≡ i + k
       → map.find name_cmp n (live_from i slots) ≡ cell_in (slice_get slots k) n.generation
   find_at i [] n k is = refl
   find_at i (e ∷ slots) n (suc k) is =
       let here : Name = record { slot = i; generation = e.generation } in
-      find_apart n here (cell_of e.kept) _ (not_named n here (λ same. omega arith))
-      ∙ find_at (i + 1) slots n k (omega arith)
+      find_with n here (cell_of e.kept) _
+      ∙ rw (not_named n here (λ same. omega arith)) (find_at (i + 1) slots n k (omega arith))
   find_at i (e ∷ slots) n zero is =
       let here : Name = record { slot = i; generation = e.generation } in
-      find_here n here (cell_of e.kept) _ (find_below (i + 1) slots n (omega arith))
-      ∙ rw (name_test n here, eq-eqb n.slot i (omega arith)) refl
+      find_with n here (cell_of e.kept) _
+      ∙ rw (name_test n here, eq-eqb n.slot i (omega arith), find_below (i + 1) slots n (omega arith))
+      (grind arith)
 
   -- what the machine's map has at a name
   pub get_cells : (slots : List (Entry T)) (n : Name)
@@ -92,7 +89,8 @@ any_up : (q : Name) (slot from count : ℕ)
 unfolding is_name
 any_up q slot from zero = grind (arith, nat_tests)
 any_up q slot from (suc k) =
-    rw (name_test q (record { slot = slot; generation = from + k }), any_up q slot from k) (grind (arith, nat_tests))
+    rw (name_test q (record { slot = slot; generation = from + k }), any_up q slot from k)
+    (grind (arith, nat_tests))
 
 up_to : (start last g : ℕ)
     → (leb start g && ltb g (start + (last + 1 - start))) ≡ (leb start g && leb g last)
@@ -145,12 +143,8 @@ module _ {T : Type 0} {p : SlotTable T} (s : IsSlotTable p) where
   last_of k None none = λ n h is. let no = rw (given_is n, is, none) at h in cc
   last_of k (Some e) there = (
     rw (given_is (record { slot = k; generation = e.generation }), there)
-        (and_from _ _ (le-leb p.start e.generation (rw there at (s.begun k)))
-        (le-leb e.generation e.generation (omega arith))),
-    λ n h is.
-        let given = rw (given_is n, is, there) at h in
-        leb-true n.generation e.generation
-        (and_parts (leb p.start n.generation) (leb n.generation e.generation) given).1,
+        (let begun = rw there at (s.begun k) in grind (arith, nat_tests)),
+    λ n h is. let given = rw (given_is n, is, there) at h in grind (arith, nat_tests),
   )
 
   pub get_last : (k : ℕ)

@@ -1,39 +1,20 @@
 -- What becomes of a reference's old target where it names another, and what is answered, as the machine
 -- says it.
 use Rattle.store_slots.proofs.Common
-use Common.{arith, BorrowMutError, BorrowRefusal, box_of, by_name, Cell, cond, content_of, Err, false, FoundBorrowed}
+use Common.{arith, BorrowMutError, box_of, by_name, Cell, cond, content_of, Err, false, FoundBorrowed}
 use Common.{GenerationalPointer, get-insert_apart, hindrance_at, IfSome, is_name, is_named, is_shared, is_some}
 use Common.{IsLinked, IsTurned, live_target, Location, location_of, Name, NameMap, None, Ok, Option, point, Ref, refl}
-use Common.{refusal_of, Refused, Result, Shared, Some, State, subst, sweep, sym, target_in, true, turn, turn_hindered}
+use Common.{refusal_of, Refused, Result, Shared, Some, State, sweep, sym, target_in, true, turn, turn_hindered}
 use Common.{turn_sweep, would_end, ◌∙◌, ◌≡◌, ◌≢◌}
-use Rattle.store_slots.proofs.states.{Endings.borrowed_ending, Endings.without, References.reference_to}
+use Rattle.store_slots.proofs.states.{Endings.borrowed_ending, Endings.without}
 use Rattle.std.specs.FinMap as map
 use Rattle.generational_errors.specs.declared.error.Refused.TheVariants as refused
 use Rattle.generational_errors.specs.declared.error.BorrowMutError.TheVariants as writes
 
--- the refusal that a refusal tells is there
-troubled : (t : Option BorrowRefusal) (e : Refused BorrowMutError) → FoundBorrowed t (Err e)
-    → (x : BorrowRefusal) × (t ≡ Some x)
-troubled t e found = grind arith
-
 module _ {T : Type 0} where
-  -- the cell of a reference
-  pub record IsReference (S : State T) (n m : Name) : Type 0 where
-    pub created : Location
-    pub there : map.get S.cells n ≡ Some (Ref m created)
-
-  pub reference_is : (S : State T) {n m : Name} → target_in (map.get S.cells n) ≡ Some m
-      → IsReference S n m
-  reference_is S h = let r = reference_to _ _ h in record { created = r.0; there = r.1 }
-
-  module _ {S : State T} {n old : Name} (r : IsReference S n old) (new : Name)
+  -- a reference that is to name another value
+  module _ (S : State T) (n old new : Name) (l : Location) (there : map.get S.cells n ≡ Some (Ref old l))
       (linked : IsLinked S.cells) where
-    abbrev l : Location
-    l = r.created
-
-    abbrev there : map.get S.cells n ≡ Some (Ref old l)
-    there = r.there
-
     abbrev pub left : NameMap (Cell T)
     left = sweep (map.insert S.cells n (Ref new l))
 
@@ -65,8 +46,7 @@ module _ {T : Type 0} where
       pub turns_refused : (e : Refused BorrowMutError)
           → FoundBorrowed (refusal_of S.cells d) (Err e) → IsTurned S S (Err e) (turn S n old new l)
       turns_refused e found =
-          let t = troubled (refusal_of S.cells d) e found in
-          rw (other, hinders ∙ t.1) (subst (λ x. FoundBorrowed x (Err e)) t.1 found, refl)
+          rw (other, hinders) (grind arith)
 
       pub turns_done : (R : State T) → refusal_of S.cells d ≡ None
           → R ≡ without (record S { cells = map.insert S.cells n (Ref new l) }) d

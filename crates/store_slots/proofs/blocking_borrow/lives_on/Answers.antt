@@ -1,6 +1,6 @@
-use Rattle.store_slots.proofs.{ap, bit, Cell, cell_under, CellName, count_by, Entry, get_cells, has_shared, is_shared}
-use Rattle.store_slots.proofs.{kind_in, List, living, Name, name_of_cell, Option, refers_among, refers_to, refl}
-use Rattle.store_slots.proofs.{Shared, Some, sum_by-cons, sym, true, [], ◌+◌, ◌∙◌, ◌∷◌, ◌≡◌}
+use Rattle.store_slots.proofs.{ap, arith, bit, Cell, cell_under, CellName, count_by, Entry, get_cells, has_shared}
+use Rattle.store_slots.proofs.{is_shared, kind_in, List, living, Name, name_of_cell, Option, refers_among, refers_to}
+use Rattle.store_slots.proofs.{refl, Some, sum_by-cons, sym, true, [], ◌+◌, ◌∙◌, ◌∷◌, ◌≡◌}
 use Rattle.std.proofs.Common.{map as list_map}
 use Rattle.store_cells.specs.declared.entry.Kind.TheVariants as kind
 use Rattle.store_slots.proofs.blocking_borrow.lives_on.Goals as goal
@@ -8,8 +8,7 @@ use Rattle.store_slots.proofs.blocking_borrow.lives_on.Goals as goal
 -- what is of this kind is a shared cell
 kind_shared : {T : Type 0} (cell : Option (Cell T)) → Some kind.Shared ≡ kind_in cell
     → is_shared cell ≡ true
-kind_shared (Some (Shared c l)) e = refl
-kind_shared _ e = cc
+kind_shared cell e = grind arith
 
 -- how many of a list's names refer to a cell
 listed : {T : Type 0} (slots : List (Entry T)) (items : List CellName) (m : Name)

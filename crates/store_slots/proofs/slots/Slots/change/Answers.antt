@@ -10,7 +10,8 @@ change-requires g c =
     }
 
 pub unreachable-requires : goal.unreachable-requires
-unreachable-requires g c = none_reached _ c.self.view_is (name_of_cell c.args.name) c.in_default.ensures c.requires.free
+unreachable-requires g c =
+    none_reached _ c.self.view_is (name_of_cell c.args.name) c.in_default.ensures c.requires.free
 
 pub invariant_of-self : goal.invariant_of-self
 invariant_of-self g c =

@@ -4,10 +4,10 @@ use Rattle.store_slots.proofs.slots.Slots.end_slow.Goals as goal
 use goal.{in-Some+else-not-is_unborrowed, in_default}
 
 pub would_end-ending-requires-clause-target : goal.would_end-ending-requires-clause-target
-would_end-ending-requires-clause-target g c = target_told _ c.self.view_is (name_of_cell c.args.name) c.target-target.ensures
+would_end-ending-requires-clause-target g c = target_told _ c.self.view_is _ c.target-target.ensures
 
 pub take_away-requires-clause-target : goal.take_away-requires-clause-target
-take_away-requires-clause-target g c = target_told _ c.self.view_is (name_of_cell c.args.name) c.target-target.ensures
+take_away-requires-clause-target g c = target_told _ c.self.view_is _ c.target-target.ensures
 
 pub is_unborrowed-requires : goal.is_unborrowed-requires
 is_unborrowed-requires g c =

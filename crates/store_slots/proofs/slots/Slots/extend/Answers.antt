@@ -1,5 +1,5 @@
 -- A cell in a new slot.
-use Rattle.store_slots.proofs.{ap, arith, counted_in, data_in, free_seen, may_rise, one_made, pushes, state_is, ◌∙◌}
+use Rattle.store_slots.proofs.{ap, arith, counted_in, free_seen, may_rise, one_made, pushes, state_is, ◌∙◌}
 use Rattle.std.specs.FinSet as set
 use Rattle.store_slots.proofs.slots.Slots.extend.Goals as goal
 
@@ -15,7 +15,7 @@ refer-requires g c =
     let view = state_is c.self.view_is in
     let spare = ap (λ x. x.spare) c.self.view_is in
     let none = free_seen inv.0 view ∙ c.requires.none in
-    let put = pushes inv.0 inv.2 view c.requires.linked (data_in c.args.content) c.args.created_at c.requires.unborrowed
+    let put = pushes inv.0 inv.2 view c.requires.linked _ c.args.created_at c.requires.unborrowed
     c.requires.target (set.empty_of_len _ none) (omega (arith, c.requires.room)) in
     let rise = may_rise c.target-target.result (rw c.target-target.ensures put.uncounted) in
     rw c.push.ensures.pushed (record { within = rise.0; few = rise.1 })
@@ -26,7 +26,7 @@ invariant_of-self g c =
     let view = state_is c.self.view_is in
     let spare = ap (λ x. x.spare) c.self.view_is in
     let none = free_seen inv.0 view ∙ c.requires.none in
-    let put = pushes inv.0 inv.2 view c.requires.linked (data_in c.args.content) c.args.created_at c.requires.unborrowed
+    let put = pushes inv.0 inv.2 view c.requires.linked _ c.args.created_at c.requires.unborrowed
     c.requires.target (set.empty_of_len _ none) (omega (arith, c.requires.room)) in
     let more = counted_in put c.target-target.ensures c.push.ensures.pushed c.refer.ensures.slots in
     rw (more.long, one_made c.self.inside.counts _ inv.3) (
@@ -42,7 +42,7 @@ returns g c =
     let view = state_is c.self.view_is in
     let spare = ap (λ x. x.spare) c.self.view_is in
     let none = free_seen inv.0 view ∙ c.requires.none in
-    let put = pushes inv.0 inv.2 view c.requires.linked (data_in c.args.content) c.args.created_at c.requires.unborrowed
+    let put = pushes inv.0 inv.2 view c.requires.linked _ c.args.created_at c.requires.unborrowed
     c.requires.target (set.empty_of_len _ none) (omega (arith, c.requires.room)) in
     let more = counted_in put c.target-target.ensures c.push.ensures.pushed c.refer.ensures.slots in
     record {

@@ -1,9 +1,9 @@
 -- What hinders the end of a name.
-use Rattle.store_slots.proofs.{ending_hinders, ending_in, name_of_cell, target_told}
+use Rattle.store_slots.proofs.{ending_hinders, ending_in, target_told}
 use Rattle.store_slots.proofs.slots.Slots.find_blocking_borrow.Goals as goal
 
 pub would_end-requires-clause-target : goal.would_end-requires-clause-target
-would_end-requires-clause-target g c = target_told _ c.self.view_is (name_of_cell c.args.name) c.target-target.ensures
+would_end-requires-clause-target g c = target_told _ c.self.view_is _ c.target-target.ensures
 
 pub borrow_mut_error-requires : goal.borrow_mut_error-requires
 borrow_mut_error-requires g c = (ending_in c.self.view_is c.requires c.in-Some.ensures).within

@@ -1,9 +1,6 @@
-use Rattle.store_slots.proofs.{ap, content_at, Err, FoundBorrowed, held_in, is_some, lent_write, name_of_cell, refl}
-use Rattle.store_slots.proofs.{refusal_at, refusal_to_write_at, Some, some_if, subst, sym, write_refusal, ◌∙◌, ◌≡◌}
+use Rattle.store_slots.proofs.{ap, content_at, Err, FoundBorrowed, held_in, is_some, name_of_cell, refl, refusal_at}
+use Rattle.store_slots.proofs.{refusal_to_write_at, Some, some_if, subst, sym, write_refusal, ◌∙◌, ◌≡◌}
 use Rattle.store_slots.proofs.slots.Slots.find_writable.Goals as goal
-
-pub returns-in-Nothing : goal.returns-in-Nothing
-returns-in-Nothing g c = rw (c.dropped_mut.ensures, c.in-Nothing.ensures) refl
 
 pub borrow_mut_error-requires : goal.borrow_mut_error-requires
 borrow_mut_error-requires g c =
@@ -25,6 +22,3 @@ returns-in-Err g c =
     (λ m. write_refusal (content_at c.args.self.now.state m))) c.in-Read.ensures.0
     ∙ ap write_refusal f.seen in
     subst (λ t. FoundBorrowed t (Err c.in-Err.refused)) (sym same) (rw f.there at c.in-Err.ensures)
-
-pub returns-in-Lent : goal.returns-in-Lent
-returns-in-Lent g c = lent_write c.args.self.now.state.cells _ _ _ c.in-Lent.ensures

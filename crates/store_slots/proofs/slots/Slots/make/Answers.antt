@@ -1,6 +1,6 @@
 -- A cell in a slot that is free, or in a new one.
-use Rattle.store_slots.proofs.{ap, arith, counted_in, data_in, err_holds, free, free_are, free_seen, may_rise}
-use Rattle.store_slots.proofs.{nat_cmp, reuses, state_is, sym, taken_less, taken_within, ◌∙◌}
+use Rattle.store_slots.proofs.{ap, arith, counted_in, err_holds, free, free_are, free_seen, may_rise, nat_cmp, reuses}
+use Rattle.store_slots.proofs.{state_is, sym, taken_less, taken_within, ◌∙◌}
 use Rattle.std.specs.FinSet as set
 use Rattle.store_slots.proofs.slots.Slots.make.Goals as goal
 
@@ -32,7 +32,7 @@ refill-generation-requires-clause-within g c = taken_within c.self.invariant.0 _
 pub refer-requires : goal.refer-requires
 refer-requires g c =
     let put = reuses c.self.invariant.0 c.self.invariant.2 (state_is c.self.view_is) c.requires.linked
-    (data_in c.args.content) c.args.created_at c.requires.unborrowed c.requires.target c.in-Some.ensures.member
+    _ c.args.created_at c.requires.unborrowed c.requires.target c.in-Some.ensures.member
     c.refill-generation.ensures.generation in
     let rise = may_rise c.target-target.result (rw c.target-target.ensures put.uncounted) in
     rw c.refill-generation.ensures.filled (record { within = rise.0; few = rise.1 })
@@ -40,7 +40,7 @@ refer-requires g c =
 pub invariant_of-self-2 : goal.invariant_of-self-2
 invariant_of-self-2 g c =
     let inv = c.self.invariant in
-    let put = reuses inv.0 inv.2 (state_is c.self.view_is) c.requires.linked (data_in c.args.content) c.args.created_at
+    let put = reuses inv.0 inv.2 (state_is c.self.view_is) c.requires.linked _ c.args.created_at
     c.requires.unborrowed c.requires.target c.in-Some.ensures.member c.refill-generation.ensures.generation in
     let more = counted_in put c.target-target.ensures c.refill-generation.ensures.filled c.refer.ensures.slots in
     rw (more.long, c.in-Some.ensures.taken, c.take.ensures.rooms) (
@@ -53,7 +53,7 @@ invariant_of-self-2 g c =
 pub returns-clause-ok : goal.returns-clause-ok
 returns-clause-ok g c =
     let inv = c.self.invariant in
-    let put = reuses inv.0 inv.2 (state_is c.self.view_is) c.requires.linked (data_in c.args.content) c.args.created_at
+    let put = reuses inv.0 inv.2 (state_is c.self.view_is) c.requires.linked _ c.args.created_at
     c.requires.unborrowed c.requires.target c.in-Some.ensures.member c.refill-generation.ensures.generation in
     let more = counted_in put c.target-target.ensures c.refill-generation.ensures.filled c.refer.ensures.slots in
     let spare = ap (λ x. x.spare) c.self.view_is in

@@ -18,5 +18,8 @@ returns-then-are_unborrowed_values g c =
 
 pub returns-else-are_unborrowed_values : goal.returns-else-are_unborrowed_values
 returns-else-are_unborrowed_values g c =
-    rw (hindrance_is c.args.self.now.state (list_map name_of_cell c.args.names.now), ← state_is c.self.view_is, c.find_blocking_value.ensures.hindrance)
-    (none_map _ _ _ c.is_none.ensures ∙ found_refused _ _ c.find_blocking_value.ensures.borrowed)
+    rw (
+      hindrance_is c.args.self.now.state (list_map name_of_cell c.args.names.now),
+      ← state_is c.self.view_is,
+      c.find_blocking_value.ensures.hindrance,
+    ) (none_map _ _ _ c.is_none.ensures ∙ found_refused _ _ c.find_blocking_value.ensures.borrowed)

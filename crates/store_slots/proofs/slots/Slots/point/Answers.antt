@@ -29,14 +29,11 @@ returns-then-not-shared g c b =
     let there = some_if (λ o. is_some (content_of o)) _ refl c.requires.there in
     rw c.dropped_mut-then-not-shared.ensures (points_plain _ _ _ _ b _ _ _ _
     (created_in c.self.view_is (found_in c.self.view_is there) c.details-then-not-shared.ensures.created)
-    (target_told _ c.self.view_is (name_of_cell c.args.name) c.in-Some.ensures) (sym c.if-not-shared.true ∙ c.requires.shared))
+    (target_told _ c.self.view_is _ c.in-Some.ensures) (sym c.if-not-shared.true ∙ c.requires.shared))
 
 pub turn-requires-clause-refers : goal.turn-requires-clause-refers
-turn-requires-clause-refers g c = sym (target_told _ c.self.view_is (name_of_cell c.args.name) c.in-Some.ensures)
+turn-requires-clause-refers g c = sym (target_told _ c.self.view_is _ c.in-Some.ensures)
 
 pub returns : goal.returns
-returns g c b = points_turn _ _ _ _ b _ _ _ _ _ (target_told _ c.self.view_is (name_of_cell c.args.name) c.in-Some.ensures)
+returns g c b = points_turn _ _ _ _ b _ _ _ _ _ (target_told _ c.self.view_is _ c.in-Some.ensures)
     (sym c.if-not-shared.false ∙ c.requires.shared) c.turn.ensures
-
-pub turn-requires-clause-shared : goal.turn-requires-clause-shared
-turn-requires-clause-shared g c = sym c.requires.shared ∙ c.if-not-shared.false

@@ -2,10 +2,9 @@
 use Rattle.store_slots.proofs.{ap, AreReferred, cells_of, change_entry, count_less, count_more, counted_down}
 use Rattle.store_slots.proofs.{counted_more, counted_up, Entry, forgotten, get_cells, has_reference, has_shared}
 use Rattle.store_slots.proofs.{HasReference, HasShared, IfSome, is_shared, IsForgotten, IsLinked, IsRecounted}
-use Rattle.store_slots.proofs.{IsUncounted, length, List, may_rise, Name, name_of_cell, Ref, reference_there}
-use Rattle.store_slots.proofs.{reference_to, referring, refl, slice_get, slice_get_within, SlotsState, Some, state_of}
-use Rattle.store_slots.proofs.{sym, target_in, true, turned, turned_length, turned_referred, turned_slotted}
-use Rattle.store_slots.proofs.{turned_state, turned_target, ℕ, ◌∙◌, ◌≡◌}
+use Rattle.store_slots.proofs.{IsUncounted, length, List, may_rise, Name, name_of_cell, Ref, reference_to, referring}
+use Rattle.store_slots.proofs.{refl, rekept_length, slice_get, SlotsState, Some, state_of, sym, target_in, true}
+use Rattle.store_slots.proofs.{turned, turned_referred, turned_slotted, turned_state, turned_target, ℕ, ◌∙◌, ◌≡◌}
 use Rattle.std.specs.FinMap as map
 use Rattle.store_slots.proofs.slots.Slots.redirect.Goals as goal
 
@@ -65,7 +64,7 @@ module _ {T : Type 0} {slots : List (Entry T)} {start peak spare : ℕ} {now : S
   after_is fewer told = rw target.there at (rw fewer at told)
 
   after_length : length (count_more after (Some m)) ≡ length slots
-  after_length = (counted_up after (Some m)).long ∙ (turned_length old m ∙ lesser.long)
+  after_length = (counted_up after (Some m)).long ∙ (rekept_length old.spot (referring m) ∙ lesser.long)
 
   -- the new target counts one less than there are
   after_counts : AreReferred (λ q. 0) slots → IsUncounted after (Some m)
@@ -82,7 +81,7 @@ module _ {T : Type 0} {slots : List (Entry T)} {start peak spare : ℕ} {now : S
       }) same)
 
   names : map.get now.state.cells n ≡ Some (Ref o old.created)
-  names = sym (ap (λ (x : SlotsState T). map.get x.state.cells n) same) ∙ reference_there old m
+  names = sym (ap (λ (x : SlotsState T). map.get x.state.cells n) same) ∙ old.cell
 
 pub count_down-requires : goal.count_down-requires
 count_down-requires g c =
@@ -93,7 +92,7 @@ pub redirect-requires : goal.redirect-requires
 redirect-requires g c =
     let h = redirects c.self.view_is c.requires.linked c.requires.refers c.requires.shared in
     rw c.count_down.ensures.slots (record {
-      within = slice_get_within (less h) _ _ (old h).there;
+      within = (old h).within;
       target = (target h).within;
       refers = rw (old h).there refl;
     })

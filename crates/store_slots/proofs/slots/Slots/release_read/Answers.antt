@@ -16,4 +16,5 @@ returns-then-holds g c =
 
 pub returns-else-holds : goal.returns-else-holds
 returns-else-holds g c =
-    rw (c.if-holds.false, not_told _ c.self.view_is (name_of_cell c.args.name) c.if-holds.ensures) (record { known = refl; after = refl })
+    rw (c.if-holds.false, not_told _ c.self.view_is (name_of_cell c.args.name) c.if-holds.ensures)
+    (record { known = refl; after = refl })

@@ -22,4 +22,5 @@ returns-then-holds-clause-ok g c =
     c.release_write.ensures.ok
 
 pub returns-clause-known : goal.returns-clause-known
-returns-clause-known g c = rw (not_told _ c.self.view_is (name_of_cell c.args.name) c.if-holds.ensures) (λ h. h, λ h. h)
+returns-clause-known g c =
+    rw (not_told _ c.self.view_is (name_of_cell c.args.name) c.if-holds.ensures) (λ h. h, λ h. h)

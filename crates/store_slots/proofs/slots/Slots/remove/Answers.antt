@@ -1,10 +1,10 @@
 -- A cell that goes.
-use Rattle.store_slots.proofs.{ap, AreReferred, arith, change_entry, content_at, content_in, count_less, counted_down}
-use Rattle.store_slots.proofs.{Empty, ended, ended_length, Entry, forgotten, found_in, is_some, IsForgotten, IsFound}
+use Rattle.store_slots.proofs.{ap, AreReferred, arith, cells_ended, change_entry, content_at, content_in, count_less}
+use Rattle.store_slots.proofs.{counted_down, Empty, ended, Entry, forgotten, found_in, is_some, IsForgotten, IsFound}
 use Rattle.store_slots.proofs.{IsRecounted, length, List, live_seen, live_target, may_fall, Name, None, not_pooled}
-use Rattle.store_slots.proofs.{one_retired, Option, referred_ended, refl, shared_target, SlotsState, slotted_freed}
-use Rattle.store_slots.proofs.{slotted_retired, some_live, state_ended, state_of, sym, target_in, true, write_refusal}
-use Rattle.store_slots.proofs.{ℕ, ◌∙◌, ◌≡◌}
+use Rattle.store_slots.proofs.{one_retired, Option, referred_ended, refl, rekept_length, rekept_state, shared_target}
+use Rattle.store_slots.proofs.{SlotsState, slotted_freed, slotted_retired, some_live, state_of, sym, target_in, true}
+use Rattle.store_slots.proofs.{write_refusal, ℕ, ◌∙◌, ◌≡◌}
 use Rattle.std.specs.FinMap as map
 use Rattle.store_slots.proofs.slots.Slots.remove.Goals as goal
 
@@ -48,7 +48,7 @@ module _ {T : Type 0} {slots : List (Entry T)} {start peak spare : ℕ} {now : S
   free_entry free = rw (← cell.holds) (rw (← same) at free)
 
   after_length : length (ended cell) ≡ length slots
-  after_length = ended_length cell ∙ lesser.long
+  after_length = rekept_length cell.spot (λ k. Empty) ∙ lesser.long
 
   long : {less after : List (Entry T)} → less ≡ count_less slots named
       → after ≡ change_entry less n.slot (λ e. record e { kept = Empty }) → length after ≡ length slots
@@ -60,7 +60,7 @@ module _ {T : Type 0} {slots : List (Entry T)} {start peak spare : ℕ} {now : S
 
   after_state : state_of start peak (ended cell)
       ≡ record now.state { cells = map.remove now.state.cells n }
-  after_state = state_ended cell start peak
+  after_state = rekept_state cell.spot (λ k. Empty) start peak (cells_ended cell)
       ∙ ap (λ (x : SlotsState T). record x.state { cells = map.remove x.state.cells n }) same
 
 pub forget-requires : goal.forget-requires

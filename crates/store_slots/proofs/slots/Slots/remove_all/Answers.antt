@@ -1,17 +1,9 @@
 -- Values without borrows that are taken away one after the other.
-use Rattle.store_slots.proofs.{at_drop_all, at_drop_more, CellName, left_ends, left_none, left_rest, List, refl}
+use Rattle.store_slots.proofs.{at_drop_all, at_drop_more, CellName, left_ends, left_none, left_rest, List}
 use Rattle.store_slots.proofs.slots.Slots.remove_all.Goals as goal
 
 abbrev none : CellName
 none = record { slot = 0; generation = 0 }
-
-pub loop-name-init : goal.loop-name-init
-loop-name-init g c = record {
-  linked = c.requires.linked;
-  free = c.requires.unborrowed;
-  apart = c.requires.apart;
-  ends = refl;
-}
 
 pub remove-requires : goal.remove-requires
 remove-requires g c =

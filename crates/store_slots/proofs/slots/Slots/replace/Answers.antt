@@ -7,7 +7,8 @@ replace-requires g c =
     record { within = f.within; free = rw f.there f.free }
 
 pub unreachable-requires : goal.unreachable-requires
-unreachable-requires g c = none_reached _ c.self.view_is (name_of_cell c.args.name) c.in_default.ensures c.requires
+unreachable-requires g c =
+    none_reached _ c.self.view_is (name_of_cell c.args.name) c.in_default.ensures c.requires
 
 pub invariant_of-self : goal.invariant_of-self
 invariant_of-self g c =

@@ -5,7 +5,8 @@ use goal.{in-None+in-Some-reach, in-Some}
 
 pub returns-in-None-reach-clause-err : goal.returns-in-None-reach-clause-err
 returns-in-None-reach-clause-err g c =
-    rw (c.dropped.ensures, ← reached_seen _ c.self.view_is (name_of_cell c.args.name) c.in-None-reach.ensures) refl
+    let none = reached_seen _ c.self.view_is (name_of_cell c.args.name) c.in-None-reach.ensures in
+    rw (c.dropped.ensures, ← none) refl
 
 pub borrow_error-requires : goal.borrow_error-requires
 borrow_error-requires g c =
