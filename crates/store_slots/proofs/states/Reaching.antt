@@ -2,18 +2,13 @@
 use Rattle.store_slots.proofs.Common
 use Common.{ap, arith, Bool, BorrowRefusal, Cell, cell_under, CellName, Content, content_at, content_of}
 use Common.{content_reached, Entry, false, has_no_borrow, hindrance_to, is_named, is_none, is_shared, is_some}
-use Common.{is_unborrowed_value, IsLinked, leads_to, List, Location, Name, name_of_cell, NameMap, None, not, Option}
+use Common.{is_unborrowed_value, IsLinked, leads_to, List, Location, Name, name_of_cell, NameMap, None, Option}
 use Common.{option_map, reached, read_refusal, read_refusal_of, Ref, refusal_at, SlotsState, Some, State, state_of}
 use Common.{sym, target_in, true, would_end, write_refusal, [], ℕ, ◌∙◌, ◌∷◌, ◌≡◌}
 use Rattle.store_slots.proofs.states.Changes.{cell_seen, free_in, held_in, IsSeen}
 use Rattle.store_slots.proofs.states.{Endings.ending_hinders, Endings.EndsFree, Endings.free_ends}
 use Rattle.store_slots.proofs.states.{References.reference_to}
 use Rattle.std.specs.FinMap as map
-
--- nothing is found of what isn't there
-pub none_map : {A B : Type 0} (f : A → B) (o : Option A) (none : Bool)
-    → is_some o ≡ not none → none ≡ is_none (option_map f o)
-none_map f o none e = grind arith
 
 pub some_map : {A B : Type 0} (f : A → B) (o : Option A) → is_some o ≡ is_some (option_map f o)
 some_map f o = grind arith
@@ -139,15 +134,7 @@ module _ {T : Type 0} where
     pub lent_write : refusal_at r l (λ m. write_refusal (content_of (map.get cells m))) ≡ Some t
     lent_write = grind arith
 
-  -- a reference leads to what it names
-  leads_named : (o : Option (Cell T)) (n m : Name) → Some m ≡ target_in o → Some m ≡ leads_to o n
-  leads_named o n m h = grind arith
-
-  -- and what names nothing to itself, where it has a box
-  leads_own : (o : Option (Cell T)) (n m : Name) → None ≡ target_in o → Some m ≡ leads_to o n
-      → (m ≡ n) × (is_shared o ≡ false)
-  leads_own o n m none leads = grind arith
-
+  -- a reference leads to what it names, and what names nothing to itself, where it has a box
   module _ {now : SlotsState T} {start peak spare : ℕ} {slots : List (Entry T)}
       (view : record { state = state_of start peak slots; spare = spare } ≡ now)
       (linked : IsLinked now.state.cells) {n : Name} {m : CellName} where
@@ -157,7 +144,7 @@ module _ {T : Type 0} where
         let ref = reference_to (map.get now.state.cells n) (name_of_cell m)
         (sym (rw (cell_seen slots view n) at named)) in
         record {
-          way = reached_in view linked (leads_named (cell_under slots n) n (name_of_cell m) named);
+          way = reached_in view linked (grind arith);
           shared = sym (linked.targets n (name_of_cell m) ref.0 ref.1);
         }
 
@@ -165,7 +152,7 @@ module _ {T : Type 0} where
         → Some (name_of_cell m) ≡ leads_to (cell_under slots n) n
         → IsLed slots now.state n (m, false)
     led_own none leads =
-        let own = leads_own (cell_under slots n) n (name_of_cell m) none leads in
+        let own : (name_of_cell m ≡ n) × (is_shared (cell_under slots n) ≡ false) = grind arith in
         record {
           way = reached_in view linked leads;
           shared = rw (own.0, ← cell_seen slots view n) (sym own.1);
