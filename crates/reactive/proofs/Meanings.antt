@@ -1,74 +1,54 @@
 -- A node means at most one value, a node on a cycle means none, answers that are meant may be put for
--- questions, and a change elsewhere, or a new node, leaves what a node means.
-use Rattle.std.specs.Prelude.{◌≡◌, List, [], ◌∷◌, ◌++◌, ◌⊎◌}
-use Rattle.std.proofs.Common.{refl, sym, ap, subst, ⊎_elim}
-use Rattle.reactive.specs.declared.key.Key.{Key}
-use Rattle.reactive.specs.Plans.{Plan, Give, Stop, Ask, Asked, Follows}
-use Rattle.reactive.specs.Meaning.{Graph, Gives, gives, goes_on, Means, AllMean, Needs, IsMute, IsCyclic}
-use Rattle.reactive.specs.Meaning.{IsClosed}
+-- questions, and a new node leaves what others mean.
+use Rattle.reactive.proofs.Common.{AllMean, arith, Ask, Asked, Follows, Give, Gives, gives, goes_on, Graph}
+use Rattle.reactive.proofs.Common.{IsCyclic, IsMute, Key, List, Means, Needs, None, Option, Plan, Ran, refl}
+use Rattle.reactive.proofs.Common.{Some, Stop, subst, sym, [], ⊎_elim, ◌++◌, ◌∷◌, ◌≡◌, ◌⊎◌}
 
 module _ {T : Type 0} where
-  -- what is asked first, of plans that are equal
-  is_ask : Plan T → Type 0
-  is_ask (Ask k next) = Unit {0}
-  is_ask p = ⊥
+  -- a plan that some answers follow asks for the first, and the others follow what it goes on with
+  pub first_asked : (p : Plan T) (a : Asked T) (rest : List (Asked T)) (q : Plan T) → Follows p (a ∷ rest) q
+      → (next : T → Plan T) × (p ≡ Ask a.key next) × Follows (next a.value) rest q
+  first_asked p a rest q f = grind arith
 
-  is_stop : Plan T → Type 0
-  is_stop Stop = Unit {0}
-  is_stop p = ⊥
+  -- and goes on to ask for each later one
+  pub follows_to : (p : Plan T) (before after : List (Asked T)) (a : Asked T) (q : Plan T)
+      → Follows p (before ++ a ∷ after) q → (next : T → Plan T) × Follows p before (Ask a.key next)
+  follows_to p [] after a q f = let n = first_asked p a after q f in (n.0, n.1)
+  follows_to p (b ∷ rest) after a q f =
+      let n = first_asked p b (rest ++ a ∷ after) q f in
+      let got = follows_to (n.0 b.value) rest after a q n.2 in
+      (got.0, subst (λ x. Follows x (b ∷ rest) (Ask a.key got.0)) (sym n.1) (refl, got.1))
 
-  asked_key : Key → Plan T → Key
-  asked_key d (Ask k next) = k
-  asked_key d p = d
+  -- a plan that asks for this node, gives this value, or stops
+  abbrev pub Comes : Option Key → Option T → Plan T → Type 0
+  Comes (Some k) result q = (next : T → Plan T) × (q ≡ Ask k next)
+  Comes None (Some v) q = q ≡ Give v
+  Comes None None q = q ≡ Stop
 
-  pub give-ask : (v : T) (k : Key) (next : T → Plan T) → Give v ≡ Ask k next → ⊥
-  unfolding is_ask
-  give-ask v k next e = subst is_ask (sym e) tt
-
-  pub stop-ask : (k : Key) (next : T → Plan T) → Stop ≡ Ask k next → ⊥
-  unfolding is_ask
-  stop-ask k next e = subst is_ask (sym e) tt
-
-  pub ask-key : (j k : Key) (m n : T → Plan T) → Ask j m ≡ Ask k n → j ≡ k
-  unfolding asked_key
-  ask-key j k m n e = ap (asked_key j) e
-
-  pub follows_more : (p : Plan T) (answers : List (Asked T)) (k : Key) (next : T → Plan T) (a : T)
-      → Follows p answers (Ask k next)
-      → Follows p (answers ++ record { key = k; value = a } ∷ []) (next a)
-  follows_more p [] k next a e =
-      subst (λ q. Follows q (record { key = k; value = a } ∷ []) (next a)) (sym e) (refl, refl)
-  follows_more (Ask j m) (b ∷ rest) k next a (e, h) = (e, follows_more (m b.value) rest k next a h)
-  follows_more (Give v) (b ∷ rest) k next a h = absurd h
-  follows_more Stop (b ∷ rest) k next a h = absurd h
+  -- what a run's answers lead to
+  pub ran_to : (p : Plan T) (answers : List (Asked T)) (lacks : Option Key) (result : Option T)
+      → Ran p answers lacks result → (q : Plan T) × Follows p answers q × Comes lacks result q
+  ran_to (Give v) [] l r h = (Give v, refl, rw (h.0, h.1) refl)
+  ran_to Stop [] l r h = (Stop, refl, rw (h.0, h.1) refl)
+  ran_to (Ask k next) [] l r h = (Ask k next, refl, rw h (next, refl))
+  ran_to (Ask k next) (a ∷ rest) l r h =
+      let m = ran_to (next a.value) rest l r h.1 in (m.0, (h.0, m.1), m.2)
+  ran_to p (a ∷ rest) l r h = absurd h
 
 module _ {T : Type 0} (G : Graph T) where
-  same_at : {a b : T} (next : T → Plan T) (v : T) → a ≡ b → Gives G (next a) v → Gives G (next b) v
-  same_at next v e h = subst (λ x. Gives G (next x) v) e h
-
-  pub all_more : (answers : List (Asked T)) (k : Key) (a : T) → AllMean G answers → Means G k a
-      → AllMean G (answers ++ record { key = k; value = a } ∷ [])
-  all_more [] k a all m = (m, tt)
-  all_more (b ∷ rest) k a (h, all) m = (h, all_more rest k a all m)
-
   -- a plan gives at most one value, so a node means at most one
   pub same : (p : Plan T) (v : T) → Gives G p v → (w : T) → Gives G p w → v ≡ w
   same _ _ (gives v) w (gives _) = refl
   same _ _ (goes_on k next a v d e) w (goes_on _ _ b _ f g) =
-      same (next b) v (same_at next v (same (G k) a d b f) e) w g
-
-  pub means_one : (k : Key) (v w : T) → Means G k v → Means G k w → v ≡ w
-  means_one k v w d e = same (G k) v d w e
+      same (next b) v (rw (same (G k) a d b f) at e) w g
 
   -- a plan gives what is left of it gives, after answers that are meant
   pub walked : (p : Plan T) (answers : List (Asked T)) (q : Plan T) (v : T)
       → Follows p answers q → AllMean G answers → Gives G q v → Gives G p v
-  walked p [] q v e all h = subst (λ x. Gives G x v) (sym e) h
-  walked (Ask k next) (a ∷ rest) q v (e, f) (m, all) h =
-      goes_on k next a.value v (subst (λ j. Means G j a.value) (sym e) m)
-      (walked (next a.value) rest q v f all h)
-  walked (Give w) (a ∷ rest) q v f all h = absurd f
-  walked Stop (a ∷ rest) q v f all h = absurd f
+  walked p [] q v e all h = rw e h
+  walked p (a ∷ rest) q v f (m, all) h =
+      let n = first_asked p a rest q f in
+      rw n.1 (goes_on a.key n.0 a.value v m (walked (n.0 a.value) rest q v n.2 all h))
 
   -- what stands in a derivation of a plan that asks
   inside : (k : Key) (next : T → Plan T) (v : T) → Gives G (Ask k next) v
@@ -76,30 +56,16 @@ module _ {T : Type 0} (G : Graph T) where
   inside _ _ _ (goes_on k next a v d e) = (a, d, e)
 
   -- and the other way round
-  pub left : (p : Plan T) (answers : List (Asked T)) (q : Plan T) (v : T)
+  left : (p : Plan T) (answers : List (Asked T)) (q : Plan T) (v : T)
       → Follows p answers q → AllMean G answers → Gives G p v → Gives G q v
-  left p [] q v e all h = subst (λ x. Gives G x v) e h
-  left (Ask k next) (a ∷ rest) q v (e, f) (m, all) h =
-      let got = inside k next v h in
-      left (next a.value) rest q v f all (same_at next v
-      (same (G k) got.0 got.1 a.value (subst (λ j. Means G j a.value) (sym e) m)) got.2)
-  left (Give w) (a ∷ rest) q v f all h = absurd f
-  left Stop (a ∷ rest) q v f all h = absurd f
-
-  -- what is asked for means something where the plan gives a value
-  pub first : (k : Key) (next : T → Plan T) (v : T) → Gives G (Ask k next) v → (a : T) × Means G k a
-  first k next v h = let got = inside k next v h in (got.0, got.1)
-
-  pub needed : (j k : Key) (v : T) → Needs G j k → Means G j v → (a : T) × Means G k a
-  needed j k v (answers, next, all, f) d = first k next v (left (G j) answers (Ask k next) v f all d)
-
-  stopped_at : (p : Plan T) (v : T) → Stop ≡ p → Gives G p v → ⊥
-  unfolding is_stop
-  stopped_at _ _ e (gives w) = subst is_stop e tt
-  stopped_at _ _ e (goes_on k next a w d h) = subst is_stop e tt
+  left p [] q v e all h = rw e at h
+  left p (a ∷ rest) q v f (m, all) h =
+      let n = first_asked p a rest q f in
+      let got = inside a.key n.0 v (rw n.1 at h) in
+      left (n.0 a.value) rest q v n.2 all (rw (same (G a.key) got.0 got.1 a.value m) at got.2)
 
   pub stopped : (v : T) → Gives G Stop v → ⊥
-  stopped v h = stopped_at Stop v refl h
+  stopped v h = grind arith
 
   -- a node whose rule gave up means nothing; nor does one that needs a node which means nothing
   pub gave_up : (j : Key) (answers : List (Asked T)) → AllMean G answers → Follows (G j) answers Stop
@@ -107,57 +73,34 @@ module _ {T : Type 0} (G : Graph T) where
   gave_up j answers all f v d = stopped v (left (G j) answers Stop v f all d)
 
   pub needs_mute : (j k : Key) → Needs G j k → IsMute G k → IsMute G j
-  needs_mute j k n mute v d = let got = needed j k v n d in mute got.0 got.1
+  needs_mute j k (answers, next, all, f) mute v d =
+      let got = inside k next v (left (G j) answers (Ask k next) v f all d) in mute got.0 got.1
 
   -- a node on a cycle means nothing
   module _ (C : Key → Type 0) (cyclic : IsCyclic G C) where
-    around : (p : Plan T) (v : T) → Gives G p v
-        → (answers : List (Asked T)) (k : Key) (next : T → Plan T)
+    around : (p : Plan T) (v : T) → Gives G p v → (answers : List (Asked T)) (k : Key) (next : T → Plan T)
         → C k → AllMean G answers → Follows p answers (Ask k next) → ⊥
-    around _ _ (gives v) [] k next c all f = give-ask v k next f
-    around _ _ (gives v) (a ∷ rest) k next c all f = absurd f
+    around _ _ (gives v) [] k next c all f = cc
+    around _ _ (gives v) (a ∷ rest) k next c all f = f
     around _ _ (goes_on j m a v d e) [] k next c all f =
-        let on = cyclic j (subst C (sym (ask-key j k m next f)) c) in
-        around (G j) a d on.2.0 on.0 on.2.1 on.1 on.2.2 on.2.3
+        let is : k ≡ j = cc in
+        let on = cyclic j (rw is at c) in around (G j) a d on.2.0 on.0 on.2.1 on.1 on.2.2 on.2.3
     around _ _ (goes_on j m a v d e) (b ∷ rest) k next c (mean, all) (is, f) =
-        let eq = same (G j) a d b.value (subst (λ x. Means G x b.value) (sym is) mean) in
-        around (m a) v e rest k next c all (subst (λ x. Follows (m x) rest (Ask k next)) (sym eq) f)
+        around (m a) v e rest k next c all
+        (rw (← same (G j) a d b.value (rw (← is) at mean)) at f)
 
     pub cyclic_mute : (j : Key) → C j → IsMute G j
-    cyclic_mute j c v d =
-        let on = cyclic j c in around (G j) v d on.2.0 on.0 on.2.1 on.1 on.2.2 on.2.3
-
--- where two graphs agree on a set of nodes that has what they need, these mean the same in both
-module _ {T : Type 0} (G H : Graph T) (D : Key → Type 0)
-    (agree : (k : Key) → D k → G k ≡ H k) (closed : IsClosed G D) where
-  carried : (p : Plan T) (v : T) → Gives G p v
-      → (j : Key) → D j → (answers : List (Asked T)) → AllMean G answers → Follows (G j) answers p
-      → Gives H p v
-  carried _ _ (gives v) j c answers all f = gives v
-  carried _ _ (goes_on k next a v d e) j c answers all f =
-      let in_set = closed j k c (answers, next, all, f) in
-      goes_on k next a v
-      (subst (λ p. Gives H p a) (agree k in_set) (carried (G k) a d k in_set [] tt refl))
-      (carried (next a) v e j c (answers ++ record { key = k; value = a } ∷ [])
-      (all_more G answers k a all d) (follows_more (G j) answers k next a f))
-
-  pub stays : (k : Key) (v : T) → D k → Means G k v → Means H k v
-  stays k v c d = subst (λ p. Gives H p v) (agree k c) (carried (G k) v d k c [] tt refl)
+    cyclic_mute j c v d = let on = cyclic j c in around (G j) v d on.2.0 on.0 on.2.1 on.1 on.2.2 on.2.3
 
 -- where a plan is put for one that stopped, what meant something means it still
 module _ {T : Type 0} (G H : Graph T) (more : (k : Key) → (G k ≡ Stop) ⊎ (G k ≡ H k)) where
   more_at : (k : Key) (v : T) → Means G k v → Gives H (G k) v → Means H k v
-  more_at k v d h = ⊎_elim (λ stops. absurd (stopped G v (subst (λ p. Gives G p v) stops d)))
-      (λ e. subst (λ p. Gives H p v) e h) (more k)
+  more_at k v d h = ⊎_elim (λ stops. absurd (stopped G v (rw stops at d))) (λ e. rw e at h) (more k)
 
-  pub grown : (p : Plan T) (v : T) → Gives G p v → Gives H p v
+  grown : (p : Plan T) (v : T) → Gives G p v → Gives H p v
   grown _ _ (gives v) = gives v
-  grown _ _ (goes_on k next a v d e) =
-      goes_on k next a v (more_at k a d (grown (G k) a d)) (grown (next a) v e)
-
-  pub grown_node : (k : Key) (v : T) → Means G k v → Means H k v
-  grown_node k v d = more_at k v d (grown (G k) v d)
+  grown _ _ (goes_on k next a v d e) = goes_on k next a v (more_at k a d (grown (G k) a d)) (grown (next a) v e)
 
   pub grown_all : (answers : List (Asked T)) → AllMean G answers → AllMean H answers
   grown_all [] all = tt
-  grown_all (a ∷ rest) (d, all) = (grown_node a.key a.value d, grown_all rest all)
+  grown_all (a ∷ rest) (d, all) = (more_at a.key a.value d (grown (G a.key) a.value d), grown_all rest all)

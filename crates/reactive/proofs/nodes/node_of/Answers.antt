@@ -1,7 +1,4 @@
-use Rattle.std.proofs.Common.{refl, sym, ◌∙◌}
-use Rattle.generational_sessions.proofs.callers.Ids.{found_sees}
-use Rattle.reactive.specs.Tables.{pointer_in}
-use Rattle.reactive.proofs.Stores.{not_found}
+use Rattle.reactive.proofs.{found_sees, not_found, pointer_in, refl, sym, ◌∙◌}
 use Rattle.reactive.proofs.nodes.node_of.Goals as goal
 
 pub returns-in-Some : goal.returns-in-Some

@@ -1,7 +1,4 @@
-use Rattle.std.proofs.Common.{◌≡◌, ◌++◌, List}
-use Rattle.reactive.specs.declared.effects.Told.{Told}
-use Rattle.reactive.specs.Graphs.{kind_in, plans_in}
-use Rattle.reactive.specs.Hearing.{AllHear}
+use Rattle.reactive.proofs.{AllHear, kind_in, List, plans_in, Told, ◌++◌, ◌≡◌}
 use Rattle.reactive.proofs.effects.Effects.flush.Given as goal
 
 -- The effects before this one heard what their nodes mean.

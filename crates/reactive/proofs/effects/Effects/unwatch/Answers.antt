@@ -1,5 +1,4 @@
-use Rattle.std.proofs.Common.{rules}
-use Rattle.std.proofs.lemmas.Fn.{filter_same}
+use Rattle.reactive.proofs.{filter_same, rules}
 use Rattle.reactive.proofs.effects.Effects.unwatch.Goals as goal
 
 pub returns : goal.returns

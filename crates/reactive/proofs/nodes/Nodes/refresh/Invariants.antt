@@ -1,10 +1,5 @@
-use Rattle.std.proofs.Common.{◌≡◌, [], true}
-use Rattle.std.specs.Prelude.{is_some}
-use Rattle.generational_sessions.specs.PlainStores.{IsSimple}
-use Rattle.reactive.specs.Graphs.{kinds_of}
-use Rattle.reactive.specs.Meaning.{Graph}
-use Rattle.reactive.specs.Refreshing.{IsOnTheWay}
-use Rattle.reactive.specs.Tables.{IsSound, known_of, nodes_in}
+use Rattle.reactive.proofs.{Graph, is_some, IsOnTheWay, IsSimple, IsSound, kinds_of, known_of, nodes_in, true}
+use Rattle.reactive.proofs.{[], ◌≡◌}
 use Rattle.reactive.proofs.nodes.Nodes.refresh.Given as goal
 
 -- It is on the way from the node that was asked for; where that was known, this is the first step.

@@ -1,7 +1,4 @@
-use Rattle.std.proofs.Common.{take}
-use Rattle.generational_sessions.specs.PlainStores.{IsSimple}
-use Rattle.reactive.specs.Ending.{HasLost}
-use Rattle.reactive.specs.Tables.{nodes_in}
+use Rattle.reactive.proofs.{HasLost, IsSimple, nodes_in, take}
 use Rattle.reactive.proofs.nodes.Nodes.remove_all.Given as goal
 
 -- The nodes of the keys before this one have ended, and no other has.

@@ -1,4 +1,4 @@
-use Rattle.reactive.proofs.Stores.{some_blank}
+use Rattle.reactive.proofs.{some_blank}
 use Rattle.reactive.proofs.nodes.Nodes.take.Goals as goal
 
 pub returns-clause-put : goal.returns-clause-put

@@ -1,6 +1,4 @@
-use Rattle.std.proofs.Common.{◌≡◌, List, take, map as list_map}
-use Rattle.reactive.specs.Plans.{Asked}
-use Rattle.reactive.specs.Tables.{AllStand, AreKnown, nodes_in}
+use Rattle.reactive.proofs.{AllStand, AreKnown, Asked, List, list_map, nodes_in, take, ◌≡◌}
 use Rattle.reactive.proofs.nodes.Nodes.verify.Given as goal
 
 -- The answers before the place are known to be right.
