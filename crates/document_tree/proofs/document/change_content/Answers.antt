@@ -1,5 +1,4 @@
-use Rattle.std.proofs.Common.{rules, refl}
-use Rattle.std.specs.Fn.{FnOnceReturnsAtMut}
+use Rattle.document_tree.proofs.{FnOnceReturnsAtMut, refl, rules}
 use Rattle.document_tree.proofs.document.change_content.Goals as goal
 
 pub returns : goal.returns

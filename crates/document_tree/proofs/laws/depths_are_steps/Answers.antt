@@ -1,4 +1,4 @@
-use Rattle.document_tree.proofs.Outlining.{deep_below, deep_places}
+use Rattle.document_tree.proofs.{deep_below, deep_places}
 use Rattle.document_tree.proofs.laws.depths_are_steps.Goals as goal
 
 pub returns : goal.returns

@@ -1,4 +1,4 @@
-use Rattle.document_tree.proofs.Outlining.{outline_below, outline_within}
+use Rattle.document_tree.proofs.{outline_below, outline_within}
 use Rattle.document_tree.proofs.laws.outlines_stay_below.Goals as goal
 
 pub returns : goal.returns

@@ -1,4 +1,4 @@
-use Rattle.document_tree.proofs.Showing.{shows_live}
+use Rattle.document_tree.proofs.{shows_live}
 use Rattle.document_tree.proofs.document.Document.clear_gone.Goals as goal
 
 pub returns-clause-shown : goal.returns-clause-shown

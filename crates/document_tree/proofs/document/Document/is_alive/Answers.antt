@@ -1,6 +1,4 @@
-use Rattle.std.proofs.Common.{ap, ◌∙◌}
-use Rattle.std.specs.Prelude.{is_some}
-use Rattle.document_tree.proofs.Showing.{live_shows, target_reached}
+use Rattle.document_tree.proofs.{ap, is_some, live_shows, target_reached, ◌∙◌}
 use Rattle.document_tree.proofs.document.Document.is_alive.Goals as goal
 
 pub returns : goal.returns

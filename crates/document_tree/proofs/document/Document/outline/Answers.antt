@@ -1,7 +1,7 @@
-use Rattle.std.proofs.Common.{arith, rules}
-use Rattle.document_tree.proofs.Outlining.{all_read, limit_read, read_after, reading}
+use Rattle.document_tree.proofs.{all_read, arith, limit_read, read_after, reading, rules}
 use Rattle.document_tree.proofs.document.Document.outline.Goals as goal
-use Rattle.document_tree.proofs.document.Document.outline.Goals.{else-loop-waiting-test, then-loop-waiting-test+in_default}
+use Rattle.document_tree.proofs.document.Document.outline.Goals.{else-loop-waiting-test}
+use Rattle.document_tree.proofs.document.Document.outline.Goals.{then-loop-waiting-test+in_default}
 
 pub loop-waiting-preserved : goal.loop-waiting-preserved
 loop-waiting-preserved g c = record {

@@ -1,5 +1,4 @@
-use Rattle.std.proofs.Common.{◌≡◌, ◌≤◌, ◌-◌, ◌∷◌, ◌++◌, [], length, reverse}
-use Rattle.document_tree.specs.Outlines.{outline_of}
+use Rattle.document_tree.proofs.{length, outline_of, reverse, [], ◌++◌, ◌-◌, ◌∷◌, ◌≡◌, ◌≤◌}
 use Rattle.document_tree.proofs.document.Document.outline.Given as goal
 
 -- what was read, and then what is read of the places that wait, the last of them first

@@ -1,9 +1,8 @@
-use Rattle.std.proofs.Common.{◌+◌, arith, reverse, rules}
-use Rattle.document_tree.specs.Outlines.{children_in}
-use Rattle.document_tree.proofs.Outlining.{all_read, come_after, deep_reading, limit_read, read_after}
-use Rattle.document_tree.proofs.Outlining.{shallow_after}
+use Rattle.document_tree.proofs.{all_read, arith, children_in, come_after, deep_reading, limit_read}
+use Rattle.document_tree.proofs.{read_after, reverse, rules, shallow_after, ◌+◌}
 use Rattle.document_tree.proofs.document.Document.outline_with_depth.Goals as goal
-use Rattle.document_tree.proofs.document.Document.outline_with_depth.Goals.{else-loop-waiting-test, then-loop-waiting-test+in_default}
+use Rattle.document_tree.proofs.document.Document.outline_with_depth.Goals.{else-loop-waiting-test}
+use Rattle.document_tree.proofs.document.Document.outline_with_depth.Goals.{then-loop-waiting-test+in_default}
 
 pub loop-waiting-preserved : goal.loop-waiting-preserved
 loop-waiting-preserved g c = record {

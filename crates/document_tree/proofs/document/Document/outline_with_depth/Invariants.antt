@@ -1,6 +1,4 @@
-use Rattle.std.proofs.Common.{◌≡◌, ◌≤◌, ◌-◌, ◌∷◌, ◌++◌, [], length, reverse}
-use Rattle.std.specs.List.{All}
-use Rattle.document_tree.specs.Outlines.{deep_outline_of}
+use Rattle.document_tree.proofs.{All, deep_outline_of, length, reverse, [], ◌++◌, ◌-◌, ◌∷◌, ◌≡◌, ◌≤◌}
 use Rattle.document_tree.proofs.document.Document.outline_with_depth.Given as goal
 
 -- what was read, and then what is read of the places that wait, the last of them first; none waits

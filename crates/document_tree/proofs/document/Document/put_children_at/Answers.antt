@@ -1,10 +1,5 @@
-use Rattle.std.proofs.Common.{◌≡◌, ◌++◌, [], ap, map, reverse, rules, sym, ◌∙◌}
-use Rattle.std.specs.Prelude.{unwrap_or}
-use Rattle.std.proofs.lemmas.Iterator.{YieldsList-from_map}
-use Rattle.std.proofs.lemmas.Iterator.Adapters.{YieldsList-from_rev_slice, items_from_extend}
-use Rattle.std.proofs.lemmas.Iterator.Consumers.{YieldsList-at}
-use Rattle.document_tree.specs.Outlines.{children_in}
-use Rattle.document_tree.proofs.Outlining.{on_ok}
+use Rattle.document_tree.proofs.{ap, children_in, items_from_extend, on_ok_weaker, rules, unwrap_or}
+use Rattle.document_tree.proofs.{YieldsList-at, YieldsList-from_map, YieldsList-from_rev_slice, [], ◌≡◌}
 use Rattle.document_tree.proofs.document.Document.put_children_at.Goals as goal
 
 pub returns-in-Ok : goal.returns-in-Ok
@@ -12,9 +7,8 @@ returns-in-Ok g c =
     let children = c.in-Ok.children.now in
     let is : children_in c.args.self.now c.args.place ≡ children =
     ap (λ o. unwrap_or o []) c.in-Ok.ensures.seen in
-    on_ok c.extend.result (items_from_extend c.extend.result c.extend.ensures.ran
+    on_ok_weaker c.extend.result (λ held. rw is held.0)
+    (items_from_extend c.extend.result c.extend.ensures.ran
     (YieldsList-from_map _ (λ q. (c.args.depth, q))
     (YieldsList-at c.map.ensures.source (YieldsList-from_rev_slice children cc))
     c.map.ensures.closure (λ x r q k. search rules)))
-    (λ held. held.0
-    ∙ ap (λ l. c.args.places.now.items ++ map (λ q. (c.args.depth, q)) (reverse l)) (sym is))

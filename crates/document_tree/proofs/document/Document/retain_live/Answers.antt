@@ -1,5 +1,4 @@
-use Rattle.std.proofs.Common.{rules}
-use Rattle.std.proofs.lemmas.Fn.{filter_same}
+use Rattle.document_tree.proofs.{filter_same, rules}
 use Rattle.document_tree.proofs.document.Document.retain_live.Goals as goal
 
 pub returns : goal.returns

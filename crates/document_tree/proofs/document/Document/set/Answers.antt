@@ -1,7 +1,5 @@
-use Rattle.std.proofs.Common.{rules, sym, ap, ◌∙◌, ◌≡◌}
-use Rattle.document_tree.specs.Documents.{shown_by, with_content}
-use Rattle.document_tree.proofs.Keeping.{stays_kept}
-use Rattle.document_tree.proofs.Showing.{changes_part, may_change}
+use Rattle.document_tree.proofs.{ap, changes_part, may_change, rules, shown_by, stays_kept, sym, with_content}
+use Rattle.document_tree.proofs.{◌∙◌, ◌≡◌}
 use Rattle.document_tree.proofs.document.Document.set.Goals as goal
 
 pub change_value-requires-clause-free : goal.change_value-requires-clause-free
@@ -11,23 +9,19 @@ change_value-requires-clause-free g c =
 pub invariant_of-self : goal.invariant_of-self
 invariant_of-self g c = stays_kept _ _ c.change_value.ensures.set tt c.self.invariant
 
-pub returns-clause-shown : goal.returns-clause-shown
-returns-clause-shown g c q is =
+pub returns : goal.returns
+returns g c =
     let done = c.change_value.ensures in
     let called = done.called in
     let told : shown_by done.new ≡ with_content c.args.content (shown_by done.old) = search rules in
-    let it = changes_part c.args.place (g.met.S.AnyStorage.sound _) done in
-    rw (← c.self.view_is) (it.1.here q (rw c.self.view_is is)
-    ∙ (told ∙ ap (with_content c.args.content) (sym it.0)))
-
-pub returns-clause-others : goal.returns-clause-others
-returns-clause-others g c = rw (← c.self.view_is)
-    (changes_part c.args.place (g.met.S.AnyStorage.sound _) c.change_value.ensures).1.others
-
-pub returns-clause-parts : goal.returns-clause-parts
-returns-clause-parts g c = rw (← c.self.view_is)
-    (changes_part c.args.place (g.met.S.AnyStorage.sound _) c.change_value.ensures).1.parts
-
-pub returns-clause-kept : goal.returns-clause-kept
-returns-clause-kept g c = rw (← c.self.view_is)
-    (changes_part c.args.place (g.met.S.AnyStorage.sound _) c.change_value.ensures).1.kept
+    let (was, it) = changes_part c.args.place (g.met.S.AnyStorage.sound _) done in
+    let gone = c.in_default.ensures.gone in rw (← c.self.view_is) (record {
+      shown = λ q is. it.here q is ∙ (told ∙ ap (with_content c.args.content) (sym was));
+      others = it.others;
+      parts = it.parts;
+      kept = it.kept;
+      gone = search rules;
+      told = tt;
+      back = tt;
+      refused = tt;
+    })
