@@ -1,5 +1,5 @@
 -- The test of two locations decides whether they are the same by their letters.
-use Rattle.std.proofs.Common.{◌≡◌, ℕ, ◌<◌, List, length, get_or, true, ap, ◌∙◌, arith}
+use Rattle.std.proofs.Common.{◌≡◌, ℕ, ◌<◌, List, length, get_or, true, arith}
 use Rattle.std.proofs.lemmas.List.{get_or_default}
 use Rattle.std.specs.Bool.{Decides}
 use Rattle.std.proofs.lemmas.Grind.{common_steps}
@@ -9,19 +9,11 @@ use Rattle.generational_errors.specs.Texts.{same_location}
 use Rattle.shared_records.specs.Letters.{lettered}
 use Rattle.shared_records.specs.Decoding.{nowhere, IsAt}
 
-pub locations_decide : (a b : Location) → Decides (same_location a b) (lettered a ≡ lettered b)
-locations_decide a b =
-    let h = bytes_eq-Decides a.file.now b.file.now in
-    grind (arith, common_steps, h)
+locations_decide : (a b : Location) → Decides (same_location a b) (lettered a ≡ lettered b)
+locations_decide a b = grind (arith, common_steps, bytes_eq-Decides a.file.now b.file.now)
 
 -- where the test says so, the location is in the table
 pub same_places : (places : List Location) (i n : ℕ) (at d : Location) → i < length places → n ≡ i
     → same_location (get_or places i d) at ≡ true → IsAt places n at
 same_places places i n at d within is same =
-    let same_letters = locations_decide (get_or places i d) at in
-    let l : lettered (get_or places i d) ≡ lettered at = grind (arith, common_steps, same_letters) in
-    record {
-      within = omega arith;
-      same = ap (λ k. lettered (get_or places k nowhere)) is
-          ∙ (ap lettered (get_or_default places i nowhere d within) ∙ l);
-    }
+    grind (arith, common_steps, locations_decide (get_or places i d) at, get_or_default places i nowhere d within)
