@@ -1,10 +1,10 @@
 -- What holds of a table when nodes are made, set or ended.
-use Rattle.reactive.proofs.Common.{AllMean, AllStand, arith, Asked, Graph, graph_of, inl, inr, IsPut, IsReset}
-use Rattle.reactive.proofs.Common.{IsSound, IsWalk, Key, List, Means, Node, None, Plan, plan_at, refl, Some}
-use Rattle.reactive.proofs.Common.{Stop, sym, Table, ℕ, [], ⊎_elim, ◌<◌, ◌∙◌, ◌∷◌, ◌≡◌, ◌≤◌, ◌⊎◌}
+use Rattle.reactive.proofs.Common.{AllMean, arith, Asked, Graph, graph_of, inl, inr, IsPut, IsReset, IsSound}
+use Rattle.reactive.proofs.Common.{IsWalk, Key, List, Means, Node, None, Plan, plan_at, refl, Some, Stands}
+use Rattle.reactive.proofs.Common.{Stop, sym, Table, ℕ, [], ⊎_elim, ◌<◌, ◌∙◌, ◌≡◌, ◌≤◌, ◌⊎◌}
 use Rattle.reactive.proofs.Keys.{key_cases}
 use Rattle.reactive.proofs.Meanings.{grown_all, stopped}
-use Rattle.reactive.proofs.Tables.{none_stops}
+use Rattle.reactive.proofs.Tables.{none_stops, stand_all}
 
 -- Each node is as it was, or was reset; no answer that is meant is that of a node which was reset, and
 -- answers that were meant are.
@@ -15,14 +15,12 @@ module _ {T R : Type 0} {plan : R → Plan T} {G : Graph T} {now : ℕ} (next : 
     → New a.key → next ≤ since → ⊥)
     (known : (since : ℕ) (answers : List (Asked T)) → since ≤ now → since ≡ next
     → (since ≡ now → AllMean G answers) → AllMean (graph_of plan new) answers) where
-  stand : (since : ℕ) (answers : List (Asked T)) → since ≤ now → (since ≡ now → AllMean G answers)
-      → AllStand old since answers → AllStand new since answers
-  stand since [] le mean all = tt
-  stand since (a ∷ rest) le mean (h, all) = (
-    λ m there low. ⊎_elim (λ was. h m was low) (λ reset. let changed = reset.0.changed in
-        absurd (never since a le (λ e. (mean e).0) reset.1 (omega (arith, low, changed)))) (each a.key m there),
-    stand since rest le (λ e. (mean e).1) all,
-  )
+  stands : (since : ℕ) → since ≤ now → (a : Asked T) → (since ≡ now → Means G a.key a.value)
+      → Stands old since a → Stands new since a
+  stands since le a mean h m there low = ⊎_elim (λ was. h m was low)
+      (λ reset. let changed = reset.0.changed in
+      absurd (never since a le mean reset.1 (omega (arith, low, changed))))
+      (each a.key m there)
 
   walk : (k : Key) (n : Node T R) → new k ≡ Some n → (v : T) → n.value ≡ Some v
       → (old k ≡ Some n) ⊎ (IsReset plan next n × New k) → IsWalk (graph_of plan new) next new k n v
@@ -33,7 +31,7 @@ module _ {T R : Type 0} {plan : R → Plan T} {G : Graph T} {now : ℕ} (next : 
         answers = w.answers;
         asked = w.asked;
         leads = rw plans at w.leads;
-        stand = stand n.checked w.answers low w.fresh w.stand;
+        stand = stand_all G now n.checked old new (stands n.checked low) w.answers w.fresh w.stand;
         fresh = λ e. known n.checked w.answers low e w.fresh;
       }
   walk k n at v value (inr (reset, is_new)) = record {

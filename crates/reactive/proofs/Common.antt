@@ -12,9 +12,8 @@ pub use Rattle.generational_sessions.proofs.callers.SimpleStores.{made_simple, s
 pub use Rattle.reactive.specs.Chains.{AllGoOn, Chain, GoesOn}
 pub use Rattle.reactive.specs.Changing.{IsReset, IsResetTo}
 pub use Rattle.reactive.specs.Ending.{HasLost, IsAmong}
-pub use Rattle.reactive.specs.Graphs.{GraphState, HasKind, HasPlan, IsKept, IsUnruled, IsUnset, kind_by}
-pub use Rattle.reactive.specs.Graphs.{kind_by_rule, kind_in, kinds_of, plans_in, shown_in}
-pub use Rattle.reactive.specs.Graphs.Kind.{NoNode, Source}
+pub use Rattle.reactive.specs.Graphs.{GraphState, HasKind, HasPlan, IsKept, kind_by, kind_by_rule, kind_in}
+pub use Rattle.reactive.specs.Graphs.{kinds_of, plans_in, shown_in}
 pub use Rattle.reactive.specs.Hearing.{AllHear, Hears, Says}
 pub use Rattle.reactive.specs.Looks.{IsAsked, LeadsTo, Stepped}
 pub use Rattle.reactive.specs.Meaning.{AllMean, gives, Gives, goes_on, Graph, IsCyclic, IsMute, Means, Needs}
@@ -45,6 +44,6 @@ pub use Rattle.generational_sessions.proofs.{callers.PlainStores.reach_apart, ca
 pub use Rattle.generational_sessions.specs.{PlainStores.IsSimple}
 pub use Rattle.reactive.specs.{declared.effects.Effect.Effect, declared.effects.Told.Told}
 pub use Rattle.reactive.specs.{declared.fault.Fault.Fault, declared.key.Key.Key, declared.look.Frame.Frame}
-pub use Rattle.reactive.specs.{declared.look.Step.Step, declared.node.Node.Node}
+pub use Rattle.reactive.specs.{declared.look.Step.Step, declared.node.Node.Node, Graphs.Kind.Source}
 pub use Rattle.std.proofs.{lemmas.Fn.filter_same, Math.Seq.take-append_seam}
 pub use Rattle.std.specs.{Borrow.Bor, Global.Vec, Vec.vec_items}

@@ -1,11 +1,10 @@
 -- What calls leave of a graph that is kept.
 use Rattle.reactive.proofs.Common
-use Common.{arith, Blames, Bor, Err, Fault, fresh_sees, fresh_simple, Give, graph_of, GraphState}
-use Common.{HasKind, HasLost, HasPlan, IfErr, IfOk, IfSome, IsAmong, IsFresh, IsKept, IsPut, IsReset}
-use Common.{IsResetTo, IsSimple, IsSound, IsUnruled, IsUnset, Key, kind_by, kind_by_rule, kind_in, kinds_of}
-use Common.{known_by, List, Means, Node, nodes_in, None, NoNode, Ok, OnErr, OnOk, Option, option_copied, Plan}
-use Common.{plan_at, plan_by, plans_in, pointer_in, Refreshed, Result, shown_in, Some, Source, State, Stop}
-use Common.{subst, sym, Table, ℕ, ◌<◌, ◌≡◌}
+use Common.{arith, Blames, Bor, Err, Fault, fresh_sees, fresh_simple, Give, GraphState, HasKind}
+use Common.{HasLost, HasPlan, IfErr, IfOk, IfSome, IsAmong, IsFresh, IsKept, IsPut, IsReset, IsResetTo}
+use Common.{IsSimple, IsSound, Key, kind_by, kind_by_rule, kind_in, kinds_of, known_by, List, Means, Node}
+use Common.{nodes_in, None, Ok, OnErr, OnOk, Option, option_copied, Plan, plan_at, plan_by, plans_in}
+use Common.{pointer_in, Refreshed, Result, shown_in, Some, Source, State, subst, sym, Table, ℕ, ◌<◌, ◌≡◌}
 use Rattle.reactive.proofs.Changing.{ended_sound, made_sound, set_sound}
 use Rattle.reactive.proofs.Keys.{key_cases}
 use Rattle.reactive.proofs.Meanings.{same}
@@ -19,10 +18,6 @@ module _ {T R : Type 0} where
     where
       at : (j : Key) → kinds_of new j ≡ kinds_of old j
       at j = grind (arith, key_cases j k, put.others j)
-
-  -- a source isn't set where it isn't given a rule
-  pub unset : (g : GraphState T R) (k : Key) (f : Fault) → kind_in g k ≡ Source → IsUnruled g k f → IsUnset g k f
-  unset g k f is h = grind arith
 
   -- from one graph to another a node was put in the place of a key's, in a later revision
   abbrev pub IsRenewed : GraphState T R → Key → Option R → Option T → GraphState T R → Type 0
@@ -51,7 +46,8 @@ module _ {T R : Type 0} {plan : R → Plan T} where
 
   pub kept_same : (old new : GraphState T R) → IsKept plan old
       → (new.state ≡ old.state) × (new.revision ≡ old.revision) → IsKept plan new
-  kept_same old new kept (state, revision) = subst (IsKept plan) (λ i. record { state = sym state i; revision = sym revision i }) kept
+  kept_same old new kept (state, revision) =
+      subst (IsKept plan) (λ i. record { state = sym state i; revision = sym revision i }) kept
 
   -- ---- a node that was made, or not
 
@@ -107,7 +103,8 @@ module _ {T R : Type 0} {plan : R → Plan T} where
         gives = λ v is. grind (arith, shows v);
         changed = reset.changed;
         checked = reset.checked;
-      } in record { simple = simple; sound = set_sound (nodes_in new.state) kept.sound k n put new.revision later its }
+      } in
+      record { simple = simple; sound = set_sound (nodes_in new.state) kept.sound k n put new.revision later its }
   kept_reset (Err e) old new k rule value put kept simple refused shows = kept_same old new kept refused
 
   -- ---- nodes that have ended, or not
@@ -130,19 +127,14 @@ module _ {T R E : Type 0} (r : Result (Unit {0}) E) where
     pub reset_plan : (plan : R → Plan T) → OnOk r (HasPlan plan old k (plan_by plan rule value) new)
     reset_plan plan = grind arith
 
-  -- nodes that have ended stop, and the others are as they were
-  module _ (old new : Table T R) (gone : List Key) (lost : OnOk r (HasLost old gone new)) where
-    pub lost_gone : OnOk r ((k : Key) → IsAmong k gone → kinds_of new k ≡ NoNode)
-    lost_gone = grind arith
+  -- nodes that have ended are gone, and the others are as they were: so is what is told of them
+  module _ {X : Type 0} (told : Option (Node T R) → X) where
+    pub lost_gone : (old new : Table T R) (gone : List Key) → OnOk r (HasLost old gone new)
+        → OnOk r ((k : Key) → IsAmong k gone → told (new k) ≡ told None)
+    lost_gone old new gone lost = grind arith
 
-    pub lost_stop : (plan : R → Plan T) → OnOk r ((k : Key) → IsAmong k gone → graph_of plan new k ≡ Stop)
-    lost_stop plan = grind arith
-
-  module _ (old new : GraphState T R) (gone : List Key)
-      (lost : OnOk r (HasLost (nodes_in old.state) gone (nodes_in new.state)))
-      (refused : OnErr r ((new.state ≡ old.state) × (new.revision ≡ old.revision))) where
-    pub lost_kept : (k : Key) → (IsAmong k gone → ⊥) → kind_in new k ≡ kind_in old k
-    lost_kept k not = grind arith
-
-    pub lost_others : (plan : R → Plan T) (k : Key) → (IsAmong k gone → ⊥) → plans_in plan new k ≡ plans_in plan old k
-    lost_others plan k not = grind arith
+    pub lost_kept : (old new : GraphState T R) (gone : List Key)
+        → OnOk r (HasLost (nodes_in old.state) gone (nodes_in new.state))
+        → OnErr r ((new.state ≡ old.state) × (new.revision ≡ old.revision))
+        → (k : Key) → (IsAmong k gone → ⊥) → told (nodes_in new.state k) ≡ told (nodes_in old.state k)
+    lost_kept old new gone lost refused k other = grind arith

@@ -1,12 +1,12 @@
 -- Effects hear one after another.
-use Rattle.reactive.proofs.Common.{add-one, AllHear, ap, append-nil, append_assoc, arith, Bool, drop, Effect}
-use Rattle.reactive.proofs.Common.{Err, Fault, Graph, Hears, Key, length, List, nil_from_length, None, Ok}
-use Rattle.reactive.proofs.Common.{refl, Result, same_Some, Says, set, slice_get, Some, suc, sym, take}
-use Rattle.reactive.proofs.Common.{take-append_seam, Told, zero, ℕ, [], ◌++◌, ◌+◌, ◌∷◌, ◌≡◌, ◌≤◌}
+use Rattle.reactive.proofs.Common.{AllHear, ap, append-nil, append_assoc, arith, Bool, drop, Effect, Err}
+use Rattle.reactive.proofs.Common.{Fault, Graph, Hears, Key, length, List, nil_from_length, None, Ok, refl}
+use Rattle.reactive.proofs.Common.{Result, same_Some, Says, set, slice_get, Some, suc, sym, take}
+use Rattle.reactive.proofs.Common.{take-append_seam, Told, zero, ℕ, [], ◌++◌, ◌∷◌, ◌≡◌, ◌≤◌}
 
 module _ {T : Type 0} (same : T → T → Bool) (G : Graph T) where
   -- one more effect hears what its node means
-  hear_more : (n : ℕ) (old now : List (Effect T)) (told one : List (Told T)) (e f : Effect T)
+  pub hear_more : (n : ℕ) (old now : List (Effect T)) (told one : List (Told T)) (e f : Effect T)
       (a : Result T Fault) → AllHear same G n old now told → slice_get now n ≡ Some e → Says G e.key a
       → Hears same e a f one → AllHear same G (suc n) old (set now n f) (told ++ one)
   hear_more zero (o ∷ old) (m ∷ now) told one e f a (same_now, none) is says hears =
@@ -26,11 +26,6 @@ module _ {T : Type 0} (same : T → T → Bool) (G : Graph T) where
     ),
   )
   hear_more (suc n) old now told one e f a h is says hears = absurd h
-
-  pub hear_next : (n : ℕ) (old now : List (Effect T)) (told one : List (Told T)) (e f : Effect T)
-      (a : Result T Fault) → AllHear same G n old now told → slice_get now n ≡ Some e → Says G e.key a
-      → Hears same e a f one → AllHear same G (n + 1) old (set now n f) (told ++ one)
-  hear_next n old now told one e f a h is says hears = rw add-one (hear_more n old now told one e f a h is says hears)
 
   -- there are as many effects as before, and at least those that have heard
   all_length : (n : ℕ) (old now : List (Effect T)) (told : List (Told T)) → AllHear same G n old now told

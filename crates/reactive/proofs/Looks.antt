@@ -3,8 +3,8 @@ use Rattle.reactive.proofs.Common.{AllStand, ap, AreKnown, arith, Asked, false, 
 use Rattle.reactive.proofs.Common.{inl, inr, is_some, IsAsked, IsMute, IsSound, IsWalk, Key, known_by}
 use Rattle.reactive.proofs.Common.{LeadsTo, length, List, list_map, Needs, Node, None, none-some, Option}
 use Rattle.reactive.proofs.Common.{Plan, Ran, refl, same_Some, Shows, slice_get, slice_index_or, Some}
-use Rattle.reactive.proofs.Common.{some_live, Stands, Stop, subst, suc, sym, Table, take, true, zero, ℕ, []}
-use Rattle.reactive.proofs.Common.{◌++◌, ◌+◌, ◌<◌, ◌∙◌, ◌∷◌, ◌≡◌, ◌≤◌}
+use Rattle.reactive.proofs.Common.{some_live, Stands, subst, suc, sym, Table, take, true, vec_items, zero, ℕ}
+use Rattle.reactive.proofs.Common.{[], ◌++◌, ◌+◌, ◌<◌, ◌∙◌, ◌∷◌, ◌≡◌, ◌≤◌}
 use Rattle.reactive.proofs.Meanings.{follows_to, gave_up, needs_mute, ran_to, stopped}
 use Rattle.reactive.proofs.Tables.{all_mean, known_node, known_shows, none_stops, plan_here, shown_known}
 
@@ -62,20 +62,11 @@ module _ {T R : Type 0} (nodes : Table T R) (now : ℕ) where
 
 module _ {T R : Type 0} {plan : R → Plan T} {G : Graph T} {now : ℕ} {nodes : Table T R}
     (s : IsSound plan G now nodes) (k : Key) where
-  -- ---- a node that has ended, and one without rule or value
-
-  pub ended_mute : nodes k ≡ None → IsMute G k
-  ended_mute none v d = stopped G v (rw (none_stops s k none) at d)
-
-  -- and one that needs a node which has ended
+  -- a node that needs one which has ended means nothing
   pub needs_gone : (j : Key) → Needs G k j → nodes j ≡ None → IsMute G k
   needs_gone j n none = needs_mute G k j n (λ v d. stopped G v (rw (none_stops s j none) at d))
 
   module _ (n : Node T R) (at : nodes k ≡ Some n) where
-    pub blank_mute : n.rule ≡ None → is_some (known_by now (Some n)) ≡ false → IsMute G k
-    blank_mute none miss v d =
-        let e : G k ≡ Stop = grind (arith, plan_here s k n at) in stopped G v (rw e at d)
-
     pub known_here : is_some (known_by now (Some n)) ≡ true → (v : T) × Shows nodes now k v
     known_here hit =
         let v = some_live (known_by now (Some n)) hit in
@@ -83,7 +74,8 @@ module _ {T R : Type 0} {plan : R → Plan T} {G : Graph T} {now : ℕ} {nodes :
 
     -- ---- what a rule's run comes to
 
-    module _ (rule : R) (has : n.rule ≡ Some rule) (answers : List (Asked T)) (known : AreKnown nodes now answers) where
+    module _ (rule : R) (has : n.rule ≡ Some rule) (answers : List (Asked T))
+        (known : AreKnown nodes now answers) where
       plan_is : G k ≡ plan rule
       plan_is = cc (plan_here s k n at)
 
@@ -115,6 +107,10 @@ module _ {T R : Type 0} {plan : R → Plan T} {G : Graph T} {now : ℕ} {nodes :
         absurd (let is = shown_known now nodes k u shows in grind arith)
 
     module _ (v : T) (value : n.value ≡ Some v) (w : IsWalk G now nodes k n v) where
+      pub kept_leads : (rule : R) → n.rule ≡ Some rule → AreKnown nodes now w.answers
+          → LeadsTo G now nodes k n v (vec_items n.reads)
+      kept_leads rule has known = let asked = w.asked in let leads = w.leads in search
+
       -- a kept answer's node is needed, where those before it are what their nodes mean
       pub asked_needs : (j : Key) (place : ℕ) → IsAsked nodes now w.answers j place → Needs G k j
       asked_needs j place a =

@@ -1,22 +1,16 @@
 -- What holds of a table when one of its nodes is settled, and that it leaves what was found before.
-use Rattle.reactive.proofs.Common.{AllMean, AllStand, ap, AreKnown, arith, Asked, Give, gives, Graph, inl}
-use Rattle.reactive.proofs.Common.{inr, IsAdvanced, IsPut, IsSettled, IsSound, IsWalk, Key, LeadsTo, Leaves}
-use Rattle.reactive.proofs.Common.{List, Means, Node, Plan, Shows, Some, Stands, Step, Stepped, sym, Table}
-use Rattle.reactive.proofs.Common.{Vec, vec_items, ℕ, [], ⊎_elim, ◌∙◌, ◌∷◌, ◌≡◌, ◌≤◌, ◌⊎◌}
+use Rattle.reactive.proofs.Common.{AllStand, ap, AreKnown, arith, Asked, Give, gives, Graph, inl, inr}
+use Rattle.reactive.proofs.Common.{IsAdvanced, IsPut, IsSettled, IsSound, IsWalk, Key, LeadsTo, Leaves, List}
+use Rattle.reactive.proofs.Common.{Means, Node, Plan, Shows, Some, Stands, Step, Stepped, sym, Table, Vec}
+use Rattle.reactive.proofs.Common.{vec_items, ℕ, [], ⊎_elim, ◌∙◌, ◌∷◌, ◌≡◌, ◌≤◌, ◌⊎◌}
 use Rattle.reactive.proofs.Keys.{key_cases}
 use Rattle.reactive.proofs.Meanings.{same, walked}
-use Rattle.reactive.proofs.Tables.{all_mean, known_means, plan_here}
+use Rattle.reactive.proofs.Tables.{all_mean, known_means, plan_here, stand_all}
 
 module _ {T R : Type 0} {G : Graph T} {now : ℕ} {old new : Table T R} (l : Leaves G now old new) where
   pub known_left : (answers : List (Asked T)) → AreKnown old now answers → AreKnown new now answers
   known_left [] all = tt
   known_left (a ∷ rest) (h, all) = (l.known a.key a.value h, known_left rest all)
-
-  pub stand_left : (since : ℕ) (answers : List (Asked T)) → since ≤ now → (since ≡ now → AllMean G answers)
-      → AllStand old since answers → AllStand new since answers
-  stand_left since [] le mean all = tt
-  stand_left since (a ∷ rest) le mean (h, all) =
-      (l.stand since a le (λ e. (mean e).0) h, stand_left since rest le (λ e. (mean e).1) all)
 
   unfoldable pub walk_left : (k : Key) (n : Node T R) (v : T) → n.checked ≤ now → IsWalk G now old k n v
       → IsWalk G now new k n v
@@ -24,7 +18,7 @@ module _ {T R : Type 0} {G : Graph T} {now : ℕ} {old new : Table T R} (l : Lea
     answers = w.answers;
     asked = w.asked;
     leads = w.leads;
-    stand = stand_left n.checked w.answers le w.fresh w.stand;
+    stand = stand_all G now n.checked old new (λ a. l.stand n.checked a le) w.answers w.fresh w.stand;
     fresh = w.fresh;
   }
 

@@ -69,7 +69,8 @@ module _ {T R : Type 0} where
       own = seen_store S b s (free_seen b s simple writes free)
 
       -- a set puts a node in the place of one
-      pub set_had : {Q : State (Node T R)} (new old : Node T R) → Meets S (SetValue b new) (Old old) Q → nodes_in S k ≡ Some old
+      pub set_had : {Q : State (Node T R)} (new old : Node T R) → Meets S (SetValue b new) (Old old) Q
+          → nodes_in S k ≡ Some old
       set_had new old m = same_id_sees S (pointer_in k) b (sym is) ∙ (sets b new old m).0
 
       pub set_puts : {Q : State (Node T R)} (new old : Node T R) → Meets S (SetValue b new) (Old old) Q
@@ -86,6 +87,7 @@ module _ {T R : Type 0} where
       pub end_none : {Q : State (Node T R)} → Meets S (End b) Done Q → nodes_in Q k ≡ None
       end_none {Q} m = same_id_sees Q (pointer_in k) b (sym is) ∙ unseen Q b (ends b {U = Unit {0}} (Ok tt) m)
 
-      pub end_others : {Q : State (Node T R)} → Meets S (End b) Done Q → (j : Key) → j ≢ k → nodes_in Q j ≡ nodes_in S j
+      pub end_others : {Q : State (Node T R)} → Meets S (End b) Done Q → (j : Key) → j ≢ k
+          → nodes_in Q j ≡ nodes_in S j
       end_others m j ne = others_left _ _ m b (pointer_in j) own
           (λ apart. same_value _ _ _ _ s m (pointer_in j) apart tt) (λ e. ne (same_key j k (sym e ∙ is)))

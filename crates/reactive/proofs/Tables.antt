@@ -1,8 +1,8 @@
 -- What is known of a table's nodes is what they mean.
-use Rattle.reactive.proofs.Common.{AllMean, AreGiven, AreKnown, arith, Asked, asked_of, eq-eqb, eqb-true}
-use Rattle.reactive.proofs.Common.{Give, gives, Graph, IsKnown, IsSound, Key, known_by, known_of, List, Means}
-use Rattle.reactive.proofs.Common.{Node, None, Option, Plan, plan_by, refl, Shows, Some, Stop, Table, ℕ, []}
-use Rattle.reactive.proofs.Common.{⊎_elim, ◌++◌, ◌∷◌, ◌≡◌}
+use Rattle.reactive.proofs.Common.{AllMean, AllStand, AreGiven, AreKnown, arith, Asked, asked_of, eq-eqb}
+use Rattle.reactive.proofs.Common.{eqb-true, Give, gives, Graph, IsKnown, IsSound, Key, known_by, known_of}
+use Rattle.reactive.proofs.Common.{List, Means, Node, None, Option, Plan, plan_by, refl, Shows, Some, Stands}
+use Rattle.reactive.proofs.Common.{Stop, Table, ℕ, [], ⊎_elim, ◌++◌, ◌∷◌, ◌≡◌}
 use Rattle.reactive.proofs.Meanings.{walked}
 
 module _ {T : Type 0} (shown : Key → Option T) where
@@ -58,3 +58,12 @@ module _ {T R : Type 0} {plan : R → Plan T} {G : Graph T} {now : ℕ} {nodes :
   pub all_mean : (answers : List (Asked T)) → AreKnown nodes now answers → AllMean G answers
   all_mean [] all = tt
   all_mean (a ∷ rest) (h, all) = (known_means a.key a.value h, all_mean rest all)
+
+-- where answers stand one by one in another table too, they stand there all
+pub stand_all : {T R : Type 0} (G : Graph T) (now since : ℕ) (old new : Table T R)
+    → ((a : Asked T) → (since ≡ now → Means G a.key a.value) → Stands old since a → Stands new since a)
+    → (answers : List (Asked T)) → (since ≡ now → AllMean G answers) → AllStand old since answers
+    → AllStand new since answers
+stand_all G now since old new each [] mean all = tt
+stand_all G now since old new each (a ∷ rest) mean (h, all) =
+    (each a (λ e. (mean e).0) h, stand_all G now since old new each rest (λ e. (mean e).1) all)

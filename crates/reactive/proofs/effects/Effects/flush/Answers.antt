@@ -1,5 +1,5 @@
-use Rattle.reactive.proofs.{all_heard, all_kept, ap, append-nil, append_assoc, arith, get_or, hear_next, refl}
-use Rattle.reactive.proofs.{rules, set-get_or, slice_get-get_or, sym, [], ◌++◌, ◌∙◌}
+use Rattle.reactive.proofs.{add-one, all_heard, all_kept, ap, append-nil, append_assoc, arith, get_or}
+use Rattle.reactive.proofs.{hear_more, refl, rules, set-get_or, slice_get-get_or, sym, [], ◌++◌, ◌∙◌}
 use Rattle.reactive.proofs.effects.Effects.flush.Goals as goal
 
 pub returns-in_err-hear : goal.returns-in_err-hear
@@ -32,9 +32,9 @@ loop-effect-preserved g c =
       (
         inv.1.0 ++ heard.2.0,
         heard.2.1 ∙ (ap (λ xs. xs ++ heard.2.0) inv.1.1 ∙ append_assoc c.args.told.now.items inv.1.0 heard.2.0),
-        hear_next g.T.Value.is_same _ place _ items inv.1.0 heard.2.0 (get_or items place c.effect-item.result)
-            c.hear.new.self heard.0 inv.1.2 (slice_get-get_or items place _ (omega (arith, c.loop-effect-test.true)))
-            (rw inv.0 at heard.1) heard.2.2,
+        rw add-one (hear_more g.T.Value.is_same _ place _ items inv.1.0 heard.2.0
+            (get_or items place c.effect-item.result) c.hear.new.self heard.0 inv.1.2
+            (slice_get-get_or items place _ (omega (arith, c.loop-effect-test.true))) (rw inv.0 at heard.1) heard.2.2),
       ),
       c.hear.ensures.kinds ∙ inv.2,
     )

@@ -1,4 +1,4 @@
-use Rattle.reactive.proofs.{asked_goes, asked_needs, kept_walk, known_here, needs_gone, sym, ◌∙◌}
+use Rattle.reactive.proofs.{asked_goes, asked_needs, kept_leads, kept_walk, known_here, needs_gone, sym, ◌∙◌}
 use Rattle.reactive.proofs.nodes.Nodes.judge.Goals as goal
 
 pub returns-then-is_known-clause-looked : goal.returns-then-is_known-clause-looked
@@ -11,7 +11,7 @@ returns-in-Same-clause-looked g c = λ G k s at goes.
     let (v, value, (w, known)) = kept_walk s k n at c.in-Some-place.from (rw c.in-Some-place.is at goes)
     (sym c.is_known.ensures ∙ c.if-is_known.false) (sym c.is_some.ensures ∙ c.if-is_some.true) in
     let all = c.in-Same.ensures w.answers (w.asked ∙ sym c.deref.ensures.value) w.stand known in
-    (n, at, (v, value, record { rule = c.in-Some.rule; has = c.in-Some.is; answers = w.answers; asked = w.asked; leads = w.leads; known = all }))
+    (n, at, (v, value, kept_leads s k n at v value w c.in-Some.rule c.in-Some.is all))
 
 pub returns-in-Unknown-clause-looked : goal.returns-in-Unknown-clause-looked
 returns-in-Unknown-clause-looked g c = λ G k s at goes.

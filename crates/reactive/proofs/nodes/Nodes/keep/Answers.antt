@@ -9,7 +9,8 @@ returns g c =
       simple = c.replace.ensures.simple;
       kept = λ old at. (
         n,
-        rw (← same_Some c.in-Some.node old (sym c.in-Some.ensures.old ∙ at), ← c.in-Some.ensures.revision) c.settled-settled.ensures,
+        (let same = same_Some c.in-Some.node old (sym c.in-Some.ensures.old ∙ at) in
+            rw (← same, ← c.in-Some.ensures.revision) c.settled-settled.ensures),
         put,
       );
       kinds = put_kinds _ _ c.args.key c.in-Some.node n c.in-Some.ensures.old

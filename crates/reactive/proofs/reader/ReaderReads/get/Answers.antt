@@ -6,7 +6,8 @@ pub returns-in-Ok-clause-some : goal.returns-in-Ok-clause-some
 returns-in-Ok-clause-some g c =
     let shown = known_of (nodes_in (g.S.AnyStorage.state c.args.self.now.store.now)) c.args.self.now.revision in
     let is : shown c.args.key ≡ Some c.in-Ok.copy = sym c.in-Some.ensures ∙ ap Some (sym c.in-Ok.ensures.copy) in
-    (rw (c.in-Ok.ensures.noted) (asked_more shown c.args.self.now.reads.items c.args.key c.in-Ok.copy is), search rules, search rules)
+    let more = asked_more shown c.args.self.now.reads.items c.args.key c.in-Ok.copy is in
+    (rw c.in-Ok.ensures.noted more, search rules, search rules)
 
 pub returns-in-Ok-clause-right : goal.returns-in-Ok-clause-right
 returns-in-Ok-clause-right g c = λ shown h.
