@@ -23,7 +23,8 @@ pub use Rattle.generational_core.specs.Boxes.{box_of, name_in, name_of}
 pub use Rattle.generational_core.specs.Cells.{Cell, Content, is_shared, location_of, refill}
 pub use Rattle.generational_core.specs.Cells.Cell.{Ref, Value}
 pub use Rattle.generational_core.specs.Ending.{hindrance_at, sweep}
-pub use Rattle.generational_core.specs.Leaving.{BeginsNoBorrow, HasNoBorrows, IsUnchanged, LeavesContent}
+pub use Rattle.generational_core.specs.Leaving.{BeginsNoBorrow, GivesOther, HasNoBorrows, IsUnchanged}
+pub use Rattle.generational_core.specs.Leaving.{LeavesContent}
 pub use Rattle.generational_core.specs.Machine.{act, Action, Answer, cell_at, NewNames, own_cell, point, turn}
 pub use Rattle.generational_core.specs.Machine.Action.{End, MakeShared, Point, Refer, SetValue}
 pub use Rattle.generational_core.specs.Machine.Answer.{Done, Made, Old}

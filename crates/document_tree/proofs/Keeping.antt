@@ -5,7 +5,7 @@ use Common.{Cell, cell_at, Content, content_at, Done, End, end_refused, eq-eqb, 
 use Common.{GenerationalPointer, get-insert_apart, get-insert_here, hindrance_at, is_making, is_shared}
 use Common.{is_some, IsKept, IsReference, IsSound, keep_each, Location, MakeShared, may_lack, Meets}
 use Common.{meets_each, meets_follows, Name, name_cmp, name_of, NameMap, new_content, NewNames, no_names}
-use Common.{None, Option, OutOfMemory, own_cell, point, Point, quiet_free, quiet_fresh, quiet_stays, reach}
+use Common.{None, Option, OutOfMemory, own_cell, Point, point, quiet_free, quiet_fresh, quiet_stays, reach}
 use Common.{reaches, read_refused, Ref, ref_reaches, Refer, refer_short, refill, refl, rests, seen_reached}
 use Common.{SetValue, Some, State, sweep, test_sees, true, turn, Value, value_in, write_refusal, ℕ, ◌∙◌, ◌≡◌}
 use Rattle.std.specs.FinMap as map

@@ -3,8 +3,8 @@ use Rattle.document_tree.proofs.Common
 use Common.{add-one, All, All-append, All-cons, All-contains_itself, All-head, All-map, All-nil, All-pop}
 use Common.{All-tail, All-weaker, append-nil, append_assoc, arith, children_in, deep_outline_of, IsBelow}
 use Common.{IsBelowBy, length, length_push, List, map, map-append, map-id, map-map, nil_from_length}
-use Common.{outline_of, Part, Place, refl, reverse, reverse-append, reverse-reverse, Some, State, suc, zero}
-use Common.{ℕ, [], ◌++◌, ◌+◌, ◌-◌, ◌<◌, ◌∷◌, ◌≡◌, ◌≤◌}
+use Common.{outline_of, Part, Place, refl, reverse, reverse-append, reverse-reverse, Some, State, suc, sym}
+use Common.{zero, ℕ, [], ◌++◌, ◌+◌, ◌-◌, ◌<◌, ◌∷◌, ◌≡◌, ◌≤◌}
 
 -- what is read of a list that waits, up to a limit: its first, and then the children of that and the rest
 pub record IsReading {X : Type 0} (children : X → List X) (read : ℕ → List X → List X) : Type 0 where
@@ -51,7 +51,8 @@ module _ {X : Type 0} {children : X → List X} {read : ℕ → List X → List 
 map_reverse : {X Y : Type 0} (f : X → Y) (xs : List X) → map f (reverse xs) ≡ reverse (map f xs)
 map_reverse f [] = refl
 map_reverse f (x ∷ xs) =
-    rw (reverse-append (x ∷ []) xs, map-append f (reverse xs) (x ∷ []), map_reverse f xs, reverse-append (f x ∷ []) (map f xs)) refl
+    rw (reverse-append (x ∷ []) xs, map-append f (reverse xs) (x ∷ []), map_reverse f xs)
+    (sym (reverse-append (f x ∷ []) (map f xs)))
 
 -- the children of the last place that waits come in its place, the first one last
 pub come_after : (depth : ℕ) (children : List Place) (left kept : List (ℕ × Place))

@@ -1,8 +1,8 @@
 -- What places show after each call of their document.
 use Rattle.document_tree.proofs.Common
 use Common.{Action, Answer, ap, arith, can_write, Cell, cell_at, Changes, children_of, Content, filter, fresh}
-use Common.{fresh_sees, GenerationalPointer, given_other, HasNoBorrows, inl, inr, is_some, IsKept, IsSame}
-use Common.{IsSound, IsUnchanged, leads_to, leaves, Leaves, LeavesContent, List, live_among, Location}
+use Common.{fresh_sees, GenerationalPointer, given_other, GivesOther, HasNoBorrows, inl, inr, is_some, IsKept}
+use Common.{IsSame, IsSound, IsUnchanged, leads_to, Leaves, leaves, LeavesContent, List, live_among, Location}
 use Common.{location_of, Made, Meets, meets_cases, meets_given, meets_number, MutBor, Name, name_cases}
 use Common.{name_of, None, Old, Once, Option, Part, part_in, Place, quiet_free, quiet_gone, reach}
 use Common.{reached_boxed, Refer, refl, same_id_reach, same_value_there, seen_reached, sets, SetValue, Shown}
@@ -65,12 +65,14 @@ module _ {T : Type 0} where
     left_made q leaving made = left_place
         (leaves D E call answer s m q.raw leaving (given_other D E call answer q.raw m made))
 
-    -- each other place, where each of another name is left
+    -- each other place, by a call that leaves the boxes of each other name
     pub left_other : (a : GenerationalPointer) → a.id.store ≡ D.number
-        → ((q : Place) → name_of a ≢ name_of q.raw → Leaves D q E)
+        → ((q : Place) → name_of a ≢ name_of q.raw → LeavesContent D call q.raw × GivesOther call answer q.raw)
         → (q : Place) → a.id ≢ q.raw.id → Leaves D q E
-    left_other a own left q other =
+    left_other a own leaving q other =
         let number = meets_number D E call answer m in
+        let left : name_of a ≢ name_of q.raw → Leaves D q E =
+        λ ne. let l = leaving q ne in left_place (leaves D E call answer s m q.raw l.0 l.1) in
         grind (arith, name_cases (name_of a) (name_of q.raw), unreached D q.raw, unreached E q.raw, unreached_shown)
 
   -- ---- changes of one part
@@ -144,7 +146,9 @@ module _ {T : Type 0} where
   pub target_reached : {D : State (Part T)} → IsKept D → (b : GenerationalPointer)
       → is_some (target_of D b) ≡ is_some (reach D b)
   unfolding reach
-  target_reached {D} kept b = grind (arith, names_alike D.number (name_of b) (map.get D.cells (name_of b)) (kept.linked (name_of b)))
+  target_reached {D} kept b =
+      let linked = kept.linked (name_of b) in
+      grind (arith, names_alike D.number (name_of b) (map.get D.cells (name_of b)) linked)
 
   -- ---- where a part was added
 

@@ -1,6 +1,5 @@
-use Rattle.document_tree.proofs.{ap, leaves, left_made, left_other, left_place, made_new, meets_given}
-use Rattle.document_tree.proofs.{meets_tells, rules, share_short, shared_apart, shown_of, Some, stays_kept}
-use Rattle.document_tree.proofs.{◌∙◌}
+use Rattle.document_tree.proofs.{ap, left_made, left_other, made_new, meets_given, meets_tells, rules}
+use Rattle.document_tree.proofs.{share_short, shared_apart, shown_of, Some, stays_kept, ◌∙◌}
 use Rattle.document_tree.proofs.document.Document.add.Goals as goal
 
 pub invariant_of-self-2 : goal.invariant_of-self-2
@@ -13,8 +12,7 @@ returns g c =
     let new = made_new _ _ _ _ step in rw (← c.self.view_is) (record {
       shown = ap shown_of (meets_tells _ _ _ _ step).0
           ∙ ap (λ places. Some (record { content = c.args.content; children = places })) c.new-children.ensures.items;
-      others = left_other _ _ (sound _) step c.in-Ok.raw new.0
-          (λ p ne. left_place (leaves _ _ _ _ (sound _) step p.raw tt ne));
+      others = left_other _ _ (sound _) step c.in-Ok.raw new.0 (λ p ne. (tt, ne));
       left = λ q. left_made _ _ (sound _) step q tt;
       alone = λ q. shared_apart _ _ _ (sound _) step q.raw;
       new = λ q made same. cc (made, new.1);

@@ -1,7 +1,7 @@
-use Rattle.document_tree.proofs.{ap, is_some, IsSame, leaves, left_other, left_place, meets_given, None}
-use Rattle.document_tree.proofs.{Ok, part_ends, Place, point_done, points, points_seen, same_part_shown}
-use Rattle.document_tree.proofs.{same_place_part, shown_in, shown_of, shown_store, some_shown, stays_kept}
-use Rattle.document_tree.proofs.{sym, true≢false, ◌∙◌, ◌≡◌}
+use Rattle.document_tree.proofs.{ap, is_some, IsSame, left_other, meets_given, None, Ok, part_ends}
+use Rattle.document_tree.proofs.{Place, point_done, points, points_seen, same_part_shown, same_place_part}
+use Rattle.document_tree.proofs.{shown_in, shown_of, shown_store, some_shown, stays_kept, sym, true≢false}
+use Rattle.document_tree.proofs.{◌∙◌, ◌≡◌}
 use Rattle.document_tree.proofs.document.Document.lead.Goals as goal
 
 pub unreachable-requires : goal.unreachable-requires
@@ -19,10 +19,12 @@ returns g c =
     let sound = g.met.S.AnyStorage.sound in
     let step = c.in-Ok.ensures in
     let place = c.args.place in
-    let there : shown_in c.args.self.now place ≡ None → ⊥ = λ none. true≢false (sym c.requires.place ∙ ap is_some none) in
-    let part = λ (q : Place) (same : IsSame place q). same_place_part _ place q same ∙ points _ _ {U = Unit {0}} (Ok tt) step in
+    let there : shown_in c.args.self.now place ≡ None → ⊥ =
+    λ none. true≢false (sym c.requires.place ∙ ap is_some none) in
+    let part = λ (q : Place) (same : IsSame place q).
+    same_place_part _ place q same ∙ points _ _ {U = Unit {0}} (Ok tt) step in
     let others = left_other _ _ (sound _) step place.raw (shown_store (sound _) place (rw c.self.view_is there))
-    (λ p ne. left_place (leaves _ _ _ _ (sound _) step p.raw ne tt)) in
+    (λ p ne. (ne, tt)) in
     rw (← c.self.view_is) (record {
       part = part;
       shown = λ q same. same_part_shown _ place q (same_place_part _ place q same)

@@ -1,6 +1,6 @@
-use Rattle.document_tree.proofs.{ap, inr, leaves, left_made, left_other, left_place, made_new, meets_given}
-use Rattle.document_tree.proofs.{meets_tells, refer_lacks, refers_from, refl, shown_of, some_shown}
-use Rattle.document_tree.proofs.{stays_kept, sym, true≢false}
+use Rattle.document_tree.proofs.{ap, inr, left_made, left_other, made_new, meets_given, meets_tells}
+use Rattle.document_tree.proofs.{refer_lacks, refers_from, refl, shown_of, some_shown, stays_kept, sym}
+use Rattle.document_tree.proofs.{true≢false}
 use Rattle.document_tree.proofs.document.Document.repeat.Goals as goal
 
 pub unreachable-requires : goal.unreachable-requires
@@ -21,8 +21,7 @@ returns g c =
       part = tells.0;
       shown = ap shown_of (tells.1 (sound _));
       here = refers_from _ _ step;
-      others = left_other _ _ (sound _) step c.in-Ok.raw new.0
-          (λ p ne. left_place (leaves _ _ _ _ (sound _) step p.raw tt ne));
+      others = left_other _ _ (sound _) step c.in-Ok.raw new.0 (λ p ne. (tt, ne));
       left = λ q. left_made _ _ (sound _) step q tt;
       new = λ q made same. cc (made, new.1);
       made = new.2;
