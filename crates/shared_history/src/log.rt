@@ -122,7 +122,7 @@ impl<const NUMBER: u64, M: Count, L: Count, C: Count, R: Count> Log<NUMBER, M, L
     }
 
     // Appends a step of the tally's worker, for which there is room.
-    #[tactic(auto, using(crate::proofs::Appending::one_more))]
+    #[tactic(auto, using(crate::proofs::Appending::one_more, crate::proofs::Appending::few, std::proofs::lemmas::Grind::common_steps))]
     #[inline(always)]
     fn append<E: Entry>(&mut self, entry: E, tally: &mut Tally<M, L, C, R>)
         requires room { 0 < self.old.room }
