@@ -4,8 +4,7 @@ use Rattle.signals.proofs.signal.Signal.get.Goals as goal
 pub unreachable-requires : goal.unreachable-requires
 unreachable-requires g c =
     let guard = Ok c.in_ok-guard.guard in
-    let read = c.guards_stay_known.ensures.read _ _ _ _ guard c.in_ok-guard.ensures in
-    let none = sym c.in-None.is ∙ (c.deref.ensures ∙ read.1) in absurd cc
+    let read = c.guards_stay_known.ensures.read _ _ _ _ guard c.in_ok-guard.ensures in cc (read.1)
 
 pub returns : goal.returns
 returns g c =

@@ -5,7 +5,7 @@ pub unreachable-requires : goal.unreachable-requires
 unreachable-requires g c =
     let rest = c.released_borrows_leave_the_rest.ensures in
     let release = rw c.set_value.ensures at c.in-Err-release.ensures in
-    let ok = (rest.written _ _ _ _ _ _ _ _ (Err _) c.in-Ok.ensures release).0 in absurd cc
+    cc ((rest.written _ _ _ _ _ _ _ _ (Err _) c.in-Ok.ensures release).0)
 
 pub returns : goal.returns
 returns g c =
