@@ -14,10 +14,8 @@ module _ {T R : Type 0} where
   -- a node that was put where one of its kind was leaves what each key is
   pub put_kinds : (old new : Table T R) (k : Key) (n m : Node T R) → old k ≡ Some n
       → kind_by_rule m.rule ≡ kind_by_rule n.rule → IsPut old k m new → kinds_of new ≡ kinds_of old
-  put_kinds old new k n m is same put = λ i j. at j i
-    where
-      at : (j : Key) → kinds_of new j ≡ kinds_of old j
-      at j = grind (arith, key_cases j k, put.others j)
+  put_kinds old new k n m is same put = λ i j.
+      (let at : kinds_of new j ≡ kinds_of old j = grind (arith, key_cases j k, put.others j) in at) i
 
   -- from one graph to another a node was put in the place of a key's, in a later revision
   abbrev pub IsRenewed : GraphState T R → Key → Option R → Option T → GraphState T R → Type 0

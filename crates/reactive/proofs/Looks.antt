@@ -4,18 +4,11 @@ use Rattle.reactive.proofs.Common.{inl, inr, is_some, IsAsked, IsMute, IsSound, 
 use Rattle.reactive.proofs.Common.{LeadsTo, length, List, list_map, Needs, Node, None, none-some, Option}
 use Rattle.reactive.proofs.Common.{Plan, Ran, refl, same_Some, Shows, slice_get, slice_index_or, Some}
 use Rattle.reactive.proofs.Common.{some_live, Stands, subst, suc, sym, Table, take, true, vec_items, zero, ℕ}
-use Rattle.reactive.proofs.Common.{[], ◌++◌, ◌+◌, ◌<◌, ◌∙◌, ◌∷◌, ◌≡◌, ◌≤◌}
-use Rattle.reactive.proofs.Meanings.{follows_to, gave_up, needs_mute, ran_to, stopped}
+use Rattle.reactive.proofs.Common.{[], ◌+◌, ◌<◌, ◌∙◌, ◌∷◌, ◌≡◌, ◌≤◌}
+use Rattle.reactive.proofs.Meanings.{asked_to, gave_up, needs_mute, ran_to, stopped}
 use Rattle.reactive.proofs.Tables.{all_mean, known_node, known_shows, none_stops, plan_here, shown_known}
 
 module _ {T : Type 0} where
-  -- the answers before a place, that at the place, and those after it
-  parted : (answers : List (Asked T)) (place : ℕ) (a : Asked T) → slice_get answers place ≡ Some a
-      → (after : List (Asked T)) × (answers ≡ take place answers ++ a ∷ after)
-  parted [] place a is = absurd (none-some a is)
-  parted (b ∷ rest) zero a is = (rest, cc)
-  parted (b ∷ rest) (suc place) a is = let got = parted rest place a is in (got.0, cc (got.1))
-
   -- the answer to the question at a place
   answer_at : (answers : List (Asked T)) (place : ℕ) (d : Key) → place < length (list_map (λ a. a.key) answers)
       → (a : Asked T) × (slice_get answers place ≡ Some a)
@@ -114,10 +107,8 @@ module _ {T R : Type 0} {plan : R → Plan T} {G : Graph T} {now : ℕ} {nodes :
       -- a kept answer's node is needed, where those before it are what their nodes mean
       pub asked_needs : (j : Key) (place : ℕ) → IsAsked nodes now w.answers j place → Needs G k j
       asked_needs j place a =
-          let parts = parted w.answers place a.answer a.there in
-          let got = follows_to (G k) (take place w.answers) parts.0 a.answer (Give v) (rw parts.1 at w.leads) in
-          rw a.of at (let need : Needs G k a.answer.key =
-          (take place w.answers, got.0, all_mean s (take place w.answers) a.before, got.1) in need)
+          let got = asked_to (G k) w.answers place a.answer (Give v) w.leads a.there in
+          rw (← a.of) (take place w.answers, got.0, all_mean s (take place w.answers) a.before, got.1)
 
       pub asked_goes : (j : Key) (place : ℕ) → IsAsked nodes now w.answers j place
           → GoesOn G now nodes k (Some place)

@@ -1,8 +1,9 @@
 -- A node means at most one value, a node on a cycle means none, answers that are meant may be put for
 -- questions, and a new node leaves what others mean.
-use Rattle.reactive.proofs.Common.{AllMean, arith, Ask, Asked, Follows, Give, Gives, gives, goes_on, Graph}
-use Rattle.reactive.proofs.Common.{IsCyclic, IsMute, Key, List, Means, Needs, None, Option, Plan, Ran, refl}
-use Rattle.reactive.proofs.Common.{Some, Stop, subst, sym, [], ⊎_elim, ◌++◌, ◌∷◌, ◌≡◌, ◌⊎◌}
+use Rattle.reactive.proofs.Common.{AllMean, arith, Ask, Asked, Follows, Give, gives, Gives, goes_on, Graph}
+use Rattle.reactive.proofs.Common.{IsCyclic, IsMute, Key, List, Means, Needs, None, none-some, Option, Plan}
+use Rattle.reactive.proofs.Common.{Ran, refl, same_Some, slice_get, Some, Stop, subst, suc, sym, take, zero}
+use Rattle.reactive.proofs.Common.{ℕ, [], ⊎_elim, ◌∷◌, ◌≡◌, ◌⊎◌}
 
 module _ {T : Type 0} where
   -- a plan that some answers follow asks for the first, and the others follow what it goes on with
@@ -10,14 +11,16 @@ module _ {T : Type 0} where
       → (next : T → Plan T) × (p ≡ Ask a.key next) × Follows (next a.value) rest q
   first_asked p a rest q f = grind arith
 
-  -- and goes on to ask for each later one
-  pub follows_to : (p : Plan T) (before after : List (Asked T)) (a : Asked T) (q : Plan T)
-      → Follows p (before ++ a ∷ after) q → (next : T → Plan T) × Follows p before (Ask a.key next)
-  follows_to p [] after a q f = let n = first_asked p a after q f in (n.0, n.1)
-  follows_to p (b ∷ rest) after a q f =
-      let n = first_asked p b (rest ++ a ∷ after) q f in
-      let got = follows_to (n.0 b.value) rest after a q n.2 in
-      (got.0, subst (λ x. Follows x (b ∷ rest) (Ask a.key got.0)) (sym n.1) (refl, got.1))
+  -- and asks for each later one after those before it
+  pub asked_to : (p : Plan T) (answers : List (Asked T)) (place : ℕ) (a : Asked T) (q : Plan T)
+      → Follows p answers q → slice_get answers place ≡ Some a
+      → (next : T → Plan T) × Follows p (take place answers) (Ask a.key next)
+  asked_to p [] place a q f is = absurd (none-some a is)
+  asked_to p (b ∷ rest) zero a q f is = let n = first_asked p b rest q f in (n.0, rw (← same_Some b a is) n.1)
+  asked_to p (b ∷ rest) (suc place) a q f is =
+      let n = first_asked p b rest q f in
+      let got = asked_to (n.0 b.value) rest place a q n.2 is in
+      (got.0, subst (λ x. Follows x (b ∷ take place rest) (Ask a.key got.0)) (sym n.1) (refl, got.1))
 
   -- a plan that asks for this node, gives this value, or stops
   abbrev pub Comes : Option Key → Option T → Plan T → Type 0

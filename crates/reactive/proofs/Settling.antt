@@ -46,15 +46,9 @@ module _ {T R : Type 0} {plan : R → Plan T} {G : Graph T} {now : ℕ} {old new
 
   stands : (since : ℕ) (a : Asked T) → since ≤ now → (since ≡ now → Means G a.key a.value)
       → Stands old since a → Stands new since a
-  stands since a le mean h n there low = ⊎_elim
-      (λ same_node. ⊎_elim
-      (λ changed. let e : since ≡ now = omega (arith, changed, ap (λ x. x.changed) same_node.1) in
-      let one = same G (G k) v means a.value (rw same_node.0 at (mean e)) in cc (settled.value, same_node.1))
-      (λ kept. let low : was.changed ≤ since = omega (arith, kept.0, ap (λ x. x.changed) same_node.1) in
-      cc (h was (cc) low, settled.value, kept.1, same_node.1))
-      settled.changed)
-      (λ before. h n before low)
-      (each a.key n there)
+  stands since a le mean h n there low =
+      let one : since ≡ now → a.key ≡ k → v ≡ a.value = λ e is. same G (G k) v means a.value (rw is at (mean e)) in
+      grind (arith, each a.key n there, h was, h n)
 
   stays_known : (j : Key) (w : T) → Shows old now j w → Shows new now j w
   stays_known j w known = ⊎_elim

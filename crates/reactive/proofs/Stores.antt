@@ -2,7 +2,7 @@
 use Rattle.reactive.proofs.Common
 use Common.{ap, arith, Bool, box_with, can_write, Done, End, ends, false, free_seen, GenerationalBox}
 use Common.{GenerationalBoxId, GenerationalPointer, IfNone, IfSome, is_some, IsPut, IsSimple, IsSoundStore}
-use Common.{Key, led_box, Location, made, Made, made_apart, made_new, Make, Meets, name_in, name_of, Node}
+use Common.{Key, led_box, Location, Made, made, made_apart, made_new, Make, Meets, name_in, name_of, Node}
 use Common.{nodes_in, None, Ok, Old, Option, others_left, pointer_in, pointer_of, reach_apart, reaches, refl}
 use Common.{same_id_reach, same_id_sees, same_value, seen_reached, seen_store, sets, SetValue, Some, State}
 use Common.{stuck_unseen, sym, Table, true, unseen, value_in, ◌∙◌, ◌≡◌, ◌≢◌}
