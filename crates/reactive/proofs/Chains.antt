@@ -38,15 +38,6 @@ module _ {T : Type 0} (G : Graph T) where
   cyclic goal round j (k, ([], (need, is))) = (k, rw is round, need)
   cyclic goal round j (k, (p ∷ rest, (need, (e, (q, m, c))))) = (k, (q, (rest, (rw e m, c))), need)
 
-  cycle_mute : (start : Key) (path : List Frame) (top : Frame) (next : Key) → Chain G start path top.key
-      → Needs G top.key next → (i : ℕ) (f : Frame) → slice_get (path ++ top ∷ []) i ≡ Some f → f.key ≡ next
-      → IsMute G start × IsMute G next
-  cycle_mute start path top next c n i f is same =
-      let whole = chain_more start path top next c n in
-      let round = rw same at (leads_member next start (path ++ top ∷ []) whole i f is) in
-      let mute = cyclic_mute G (Leads next) (cyclic next round) next round in
-      (chain_mute start (path ++ top ∷ []) next whole mute, mute)
-
 module _ {T R : Type 0} (G : Graph T) (now : ℕ) (nodes : Table T R) where
   all_more : (path : List Frame) (f : Frame) → AllGoOn G now nodes path
       → GoesOn G now nodes f.key f.place → AllGoOn G now nodes (path ++ f ∷ [])
@@ -121,4 +112,10 @@ module _ {T R : Type 0} {plan : R → Plan T} {G : Graph T} {now : ℕ} {start :
   pub way_round : (next : Key) (place : Option ℕ) → Needs G top.key next → (i : ℕ) (f : Frame)
       → slice_get (path ++ record { key = top.key; place = place } ∷ []) i ≡ Some f → f.key ≡ next
       → IsMute G start × IsMute G next
-  way_round next place = cycle_mute G start path (record { key = top.key; place = place }) next o.chain
+  way_round next place needs i f is same =
+      let here : Frame = record { key = top.key; place = place } in
+      let all = path ++ here ∷ [] in
+      let chain = chain_more G start path here next o.chain needs in
+      let round = rw same at (leads_member G next start all chain i f is) in
+      let mute = cyclic_mute G (Leads G next) (cyclic G next round) next round in
+      (chain_mute G start all next chain mute, mute)

@@ -1,7 +1,6 @@
 -- The names of std, of the machine and of the specs that the proofs here cite, passed on from one place.
 pub use Rattle.generational_core.proofs.machine.Calling.{ends, made, made_apart, seen_reached, sets, unseen}
 pub use Rattle.generational_core.proofs.machine.Seeing.{led_box, reaches}
-pub use Rattle.generational_core.specs.Boxes.{name_in, name_of}
 pub use Rattle.generational_core.specs.Machine.Action.{End, Make, SetValue}
 pub use Rattle.generational_core.specs.Machine.Answer.{Done, Made, Old}
 pub use Rattle.generational_core.specs.State.{IsSound as IsSoundStore, State}
@@ -34,8 +33,8 @@ pub use Rattle.std.specs.Prelude.{IfErr, IfNone, IfOk, IfSome, is_some, map as l
 pub use Rattle.std.specs.Prelude.{option_copied, slice_get, slice_index_or, ◌⊎◌}
 pub use Rattle.generational_core.proofs.{machine.Ends.some_live, machine.Leaving.same_value}
 pub use Rattle.generational_core.proofs.{machine.Stepping.made_new, machine.Unborrowed.quiet_ends}
-pub use Rattle.generational_core.specs.{Answers.pointer_of, Borrowing.can_write, Conditions.IsFresh}
-pub use Rattle.generational_core.specs.{declared.boxes.GenerationalBox.GenerationalBox}
+pub use Rattle.generational_core.specs.{Answers.pointer_of, Borrowing.can_write, Boxes.name_of}
+pub use Rattle.generational_core.specs.{Conditions.IsFresh, declared.boxes.GenerationalBox.GenerationalBox}
 pub use Rattle.generational_core.specs.{declared.boxes.GenerationalBoxId.GenerationalBoxId}
 pub use Rattle.generational_core.specs.{declared.boxes.GenerationalPointer.GenerationalPointer}
 pub use Rattle.generational_core.specs.{Keeping.box_with, Seeing.value_in, Steps.Meets}

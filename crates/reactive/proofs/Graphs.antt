@@ -1,10 +1,10 @@
 -- What calls leave of a graph that is kept.
 use Rattle.reactive.proofs.Common
-use Common.{arith, Blames, Bor, Err, Fault, fresh_sees, fresh_simple, Give, GraphState, HasKind}
-use Common.{HasLost, HasPlan, IfErr, IfOk, IfSome, IsAmong, IsFresh, IsKept, IsPut, IsReset, IsResetTo}
-use Common.{IsSimple, IsSound, Key, kind_by, kind_by_rule, kind_in, kinds_of, known_by, List, Means, Node}
-use Common.{nodes_in, None, Ok, OnErr, OnOk, Option, option_copied, Plan, plan_at, plan_by, plans_in}
-use Common.{pointer_in, Refreshed, Result, shown_in, Some, Source, State, subst, sym, Table, ℕ, ◌<◌, ◌≡◌}
+use Common.{arith, Blames, Bor, Err, Fault, fresh_sees, fresh_simple, Give, GraphState, HasKind, HasLost}
+use Common.{HasPlan, IfErr, IfOk, IfSome, IsAmong, IsFresh, IsKept, IsPut, IsReset, IsResetTo, IsSimple}
+use Common.{IsSound, Key, kind_by, kind_by_rule, kind_in, kinds_of, known_by, List, Means, Node, nodes_in}
+use Common.{None, Ok, OnErr, OnOk, Option, option_copied, Plan, plan_at, plan_by, plans_in, pointer_in}
+use Common.{Refreshed, Result, shown_in, Some, Source, State, subst, sym, Table, ℕ, ◌<◌, ◌≡◌}
 use Rattle.reactive.proofs.Changing.{ended_sound, made_sound, set_sound}
 use Rattle.reactive.proofs.Keys.{key_cases}
 use Rattle.reactive.proofs.Meanings.{same}
@@ -96,12 +96,7 @@ module _ {T R : Type 0} {plan : R → Plan T} where
       → OnErr r ((new.state ≡ old.state) × (new.revision ≡ old.revision))
       → ((v : T) → value ≡ Some v → plan_by plan rule value ≡ Give v) → IsKept plan new
   kept_reset (Ok u) old new k rule value (n, reset, later, put) kept simple refused shows =
-      let its : IsReset plan new.revision n = record {
-        asked = reset.asked;
-        gives = λ v is. grind (arith, shows v);
-        changed = reset.changed;
-        checked = reset.checked;
-      } in
+      let its : IsReset plan new.revision n = grind (arith, shows) in
       record { simple = simple; sound = set_sound (nodes_in new.state) kept.sound k n put new.revision later its }
   kept_reset (Err e) old new k rule value put kept simple refused shows = kept_same old new kept refused
 

@@ -3,8 +3,8 @@ use Rattle.reactive.proofs.Common.{AllStand, ap, AreKnown, arith, Asked, false, 
 use Rattle.reactive.proofs.Common.{inl, inr, is_some, IsAsked, IsMute, IsSound, IsWalk, Key, known_by}
 use Rattle.reactive.proofs.Common.{LeadsTo, length, List, list_map, Needs, Node, None, none-some, Option}
 use Rattle.reactive.proofs.Common.{Plan, Ran, refl, same_Some, Shows, slice_get, slice_index_or, Some}
-use Rattle.reactive.proofs.Common.{some_live, Stands, subst, suc, sym, Table, take, true, vec_items, zero, ℕ}
-use Rattle.reactive.proofs.Common.{[], ◌+◌, ◌<◌, ◌∙◌, ◌∷◌, ◌≡◌, ◌≤◌}
+use Rattle.reactive.proofs.Common.{some_live, Stands, suc, sym, Table, take, true, vec_items, zero, ℕ, []}
+use Rattle.reactive.proofs.Common.{◌+◌, ◌<◌, ◌∙◌, ◌∷◌, ◌≡◌, ◌≤◌}
 use Rattle.reactive.proofs.Meanings.{asked_to, gave_up, needs_mute, ran_to, stopped}
 use Rattle.reactive.proofs.Tables.{all_mean, known_node, known_shows, none_stops, plan_here, shown_known}
 
@@ -114,7 +114,4 @@ module _ {T R : Type 0} {plan : R → Plan T} {G : Graph T} {now : ℕ} {nodes :
           → GoesOn G now nodes k (Some place)
       asked_goes j place a = inr (λ m there u is.
           let same = same_Some n m (sym at ∙ there) in
-          let one : v ≡ u = cc in
-          subst (λ x. (z : IsWalk G now nodes k x u) × AreKnown nodes now (take place z.answers)) same
-          (subst (λ y. (z : IsWalk G now nodes k n y) × AreKnown nodes now (take place z.answers)) one
-          (w, a.before)))
+          let one : v ≡ u = cc in rw (← same, ← one) (w, a.before))

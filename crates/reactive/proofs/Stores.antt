@@ -1,11 +1,11 @@
 -- The nodes of a store are found by their keys, and change as the machine says.
 use Rattle.reactive.proofs.Common
-use Common.{ap, arith, Bool, box_with, can_write, Done, End, ends, false, free_seen, GenerationalBox}
+use Common.{arith, Bool, box_with, can_write, Done, End, ends, false, free_seen, GenerationalBox}
 use Common.{GenerationalBoxId, GenerationalPointer, IfNone, IfSome, is_some, IsPut, IsSimple, IsSoundStore}
-use Common.{Key, led_box, Location, Made, made, made_apart, made_new, Make, Meets, name_in, name_of, Node}
-use Common.{nodes_in, None, Ok, Old, Option, others_left, pointer_in, pointer_of, reach_apart, reaches, refl}
-use Common.{same_id_reach, same_id_sees, same_value, seen_reached, seen_store, sets, SetValue, Some, State}
-use Common.{stuck_unseen, sym, Table, true, unseen, value_in, ◌∙◌, ◌≡◌, ◌≢◌}
+use Common.{Key, led_box, Location, made, Made, made_apart, made_new, Make, Meets, name_of, Node, nodes_in}
+use Common.{None, Ok, Old, Option, others_left, pointer_in, pointer_of, reach_apart, reaches, same_id_reach}
+use Common.{same_id_sees, same_value, seen_reached, seen_store, sets, SetValue, Some, State, stuck_unseen}
+use Common.{sym, Table, true, unseen, value_in, ◌∙◌, ◌≡◌, ◌≢◌}
 
 -- ---- the box that is found by an id
 
@@ -42,11 +42,7 @@ module _ {T R : Type 0} where
       (b : GenerationalBox (Node T R)) (k : Key) (is : (pointer_of b).id ≡ k.id)
       (m : Meets S (Make None n l) (Made (pointer_of b)) Q) where
     pub made_none : nodes_in S k ≡ None
-    made_none = at (nodes_in S k) refl
-      where
-        at : (o : Option (Node T R)) → nodes_in S k ≡ o → nodes_in S k ≡ None
-        at None e = e
-        at (Some x) e = absurd (made_apart None n l (Ok b) s m (pointer_in k) x e (ap name_in is))
+    made_none = grind (arith, made_apart None n l (Ok b) s m (pointer_in k))
 
     pub made_puts : IsPut (nodes_in S) k n (nodes_in Q)
     made_puts = record {
