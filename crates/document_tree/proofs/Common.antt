@@ -18,18 +18,16 @@ pub use Rattle.generational_core.proofs.machine.Unborrowed.{quiet_stays, test_se
 pub use Rattle.generational_core.proofs.maps.Maps.{by_name, get-insert_apart, get-insert_here, name_cases}
 pub use Rattle.generational_core.proofs.maps.Maps.{named_gives}
 pub use Rattle.generational_core.specs.Answers.{end_refused, read_refused}
-pub use Rattle.generational_core.specs.Borrowing.{can_write, leads_to, write_refusal}
+pub use Rattle.generational_core.specs.Borrowing.{can_write, leads_to}
 pub use Rattle.generational_core.specs.Boxes.{box_of, name_in, name_of}
 pub use Rattle.generational_core.specs.Cells.{Cell, Content, is_shared, location_of, refill}
-pub use Rattle.generational_core.specs.Cells.Cell.{Ref, Value}
-pub use Rattle.generational_core.specs.Ending.{hindrance_at, sweep}
 pub use Rattle.generational_core.specs.Leaving.{BeginsNoBorrow, GivesOther, HasNoBorrows, IsUnchanged}
 pub use Rattle.generational_core.specs.Leaving.{LeavesContent}
-pub use Rattle.generational_core.specs.Machine.{act, Action, Answer, cell_at, NewNames, own_cell, point, turn}
+pub use Rattle.generational_core.specs.Machine.{act, Action, Answer, cell_at, NewNames}
 pub use Rattle.generational_core.specs.Machine.Action.{End, MakeShared, Point, Refer, SetValue}
 pub use Rattle.generational_core.specs.Machine.Answer.{Done, Made, Old}
 pub use Rattle.generational_core.specs.Names.{Name, name_cmp, NameMap}
-pub use Rattle.generational_core.specs.State.{content_at, IsSound, State}
+pub use Rattle.generational_core.specs.State.{IsSound, State}
 pub use Rattle.generational_core.specs.StepCalls.{target_in, target_of}
 pub use Rattle.generational_core.specs.Steps.{Meets, no_names}
 pub use Rattle.generational_sessions.proofs.callers.Ids.{same_id_reach, same_value_there, unreached}
@@ -51,7 +49,7 @@ unfoldable pub use Rattle.document_tree.specs.Outlines.{deep_outline_of, outline
 pub use Rattle.document_tree.specs.{declared.part.Part.Part, declared.place.Place.Place, Keeping.IsKept}
 pub use Rattle.generational_core.proofs.{machine.Linking.refilled_shared, machine.Resting.rests}
 pub use Rattle.generational_core.proofs.{machine.Seeing.reaches, machine.Telling.meets_tells}
-pub use Rattle.generational_core.specs.{Conditions.fresh}
+pub use Rattle.generational_core.specs.{Cells.Cell.Value, Conditions.fresh}
 pub use Rattle.generational_core.specs.{declared.boxes.GenerationalPointer.GenerationalPointer, Slots.free}
 pub use Rattle.generational_errors.specs.{declared.error.BorrowError.BorrowError}
 pub use Rattle.generational_errors.specs.{declared.error.BorrowMutError.BorrowMutError}

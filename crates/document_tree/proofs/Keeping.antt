@@ -1,13 +1,12 @@
 -- A document's store: which calls leave it one, and what is never refused there.
 use Rattle.document_tree.proofs.Common
 use Common.{act, act_start, Action, Answer, ap, arith, BeginsNoBorrow, BorrowError, BorrowMutError, by_name}
-use Common.{Cell, cell_at, Content, content_at, Done, End, end_refused, eq-eqb, eqb-true, false, free, fresh}
-use Common.{GenerationalPointer, get-insert_apart, get-insert_here, hindrance_at, is_making, is_shared}
-use Common.{is_some, IsKept, IsReference, IsSound, keep_each, Location, MakeShared, may_lack, Meets}
-use Common.{meets_each, meets_follows, Name, name_cmp, name_of, NameMap, new_content, NewNames, no_names}
-use Common.{None, Option, OutOfMemory, own_cell, Point, point, quiet_free, quiet_fresh, quiet_stays, reach}
-use Common.{reaches, read_refused, Ref, ref_reaches, Refer, refer_short, refill, refl, rests, seen_reached}
-use Common.{SetValue, Some, State, sweep, test_sees, true, turn, Value, value_in, write_refusal, ℕ, ◌∙◌, ◌≡◌}
+use Common.{Cell, Content, Done, End, end_refused, eq-eqb, eqb-true, false, free, fresh, GenerationalPointer}
+use Common.{get-insert_apart, get-insert_here, is_making, is_some, IsKept, IsReference, IsSound, keep_each}
+use Common.{Location, MakeShared, may_lack, Meets, meets_each, meets_follows, Name, name_cmp, name_of}
+use Common.{NameMap, new_content, NewNames, no_names, None, Option, OutOfMemory, Point, quiet_free}
+use Common.{quiet_fresh, quiet_stays, reaches, read_refused, ref_reaches, Refer, refer_short, refill, refl}
+use Common.{rests, seen_reached, SetValue, Some, State, test_sees, Value, value_in, ℕ, ◌∙◌, ◌≡◌}
 use Rattle.std.specs.FinMap as map
 use Rattle.std.specs.FinSet as set
 use Rattle.generational_errors.specs.declared.error.Refused as error
@@ -105,33 +104,13 @@ module _ {C : Type 0} where
       → value_in S a ≡ Some v → value_in S b ≡ Some w → (e : error.Refused BorrowMutError)
       → Meets S (Point a b) (end_refused e) R → ⊥
   point_done {S} s k a b v w seen saw e m =
+      let at = seen_reference s k a v seen in
+      let to = seen_reference s k b w saw in
+      let old = ref_reaches S a at.shared at.created_at s at.own at.cell in
+      let new = ref_reaches S b to.shared to.created_at s to.own to.cell in
+      let r = rests S a (quiet_free S k.unborrowed a at.shared old.0) in
+      let same : r.0 ≡ at.shared = cc (r.1.reaches, old.0) in
+      let unlent = rw same at r.1.free in
+      let goes : (f : NewNames) → (act S (Point a b) f).0 ≡ Done =
+      λ f. grind (arith, test_sees S b s, eq-eqb a.id.store S.number at.own, at.cell, new, unlent) in
       let done = done_always (Point a b) (end_refused e) goes m in grind arith
-    where
-      at : IsReference S a
-      at = seen_reference s k a v seen
-
-      to : IsReference S b
-      to = seen_reference s k b w saw
-
-      old : (reach S a ≡ Some at.shared) × (is_shared (map.get S.cells at.shared) ≡ true)
-      old = ref_reaches S a at.shared at.created_at s at.own at.cell
-
-      new : (reach S b ≡ Some to.shared) × (is_shared (map.get S.cells to.shared) ≡ true)
-      new = ref_reaches S b to.shared to.created_at s to.own to.cell
-
-      unlent : write_refusal (content_at S at.shared) ≡ None
-      unlent =
-          let r = rests S a (quiet_free S k.unborrowed a at.shared old.0) in
-          let same : r.0 ≡ at.shared = cc (r.1.reaches, old.0) in rw same at r.1.free
-
-      unhindered : (left : NameMap (Cell C)) → hindrance_at S.cells left at.shared ≡ None
-      unhindered left = grind (arith, unlent)
-
-      turned : (n : Name) (l : Location) → (turn S (name_of a) at.shared n l).0 ≡ Done
-      turned n l = grind (arith, unhindered (sweep (map.insert S.cells (name_of a) (Ref n l))))
-
-      pointed : (point S a b (own_cell S a.id) (reach S b) (cell_at S (reach S b))).0 ≡ Done
-      pointed = grind (arith, eq-eqb a.id.store S.number at.own, at.cell, new, turned to.shared at.created_at)
-
-      goes : (f : NewNames) → (act S (Point a b) f).0 ≡ Done
-      goes f = grind (arith, test_sees S b s, saw, pointed)

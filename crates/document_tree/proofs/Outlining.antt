@@ -48,17 +48,11 @@ module _ {X : Type 0} {children : X → List X} {read : ℕ → List X → List 
       rw (r.first limit p waiting) (All-cons P p _ here (all_of P goes limit (children p ++ waiting)
       (All-append P (children p) waiting (goes p here) (All-tail P p waiting all))))
 
-map_reverse : {X Y : Type 0} (f : X → Y) (xs : List X) → map f (reverse xs) ≡ reverse (map f xs)
+pub map_reverse : {X Y : Type 0} (f : X → Y) (xs : List X) → map f (reverse xs) ≡ reverse (map f xs)
 map_reverse f [] = refl
 map_reverse f (x ∷ xs) =
     rw (reverse-append (x ∷ []) xs, map-append f (reverse xs) (x ∷ []), map_reverse f xs)
     (sym (reverse-append (f x ∷ []) (map f xs)))
-
--- the children of the last place that waits come in its place, the first one last
-pub come_after : (depth : ℕ) (children : List Place) (left kept : List (ℕ × Place))
-    → left ≡ kept ++ map (λ q. (depth, q)) (reverse children)
-    → left ≡ kept ++ reverse (map (λ q. (depth, q)) children)
-come_after depth children left kept is = rw (map_reverse {Y = ℕ × Place} (λ q. (depth, q)) children) at is
 
 -- none waits deeper than so many places were read
 pub shallow_after : (p : ℕ × Place) (places more waiting rest left : List (ℕ × Place))
@@ -75,11 +69,8 @@ shallow_after p places more waiting rest left children is waits goes all =
 module _ {T : Type 0} (D : State (Part T)) where
   pub reading : IsReading (children_in D) (outline_of D)
   unfolding outline_of
-  reading = record {
-    ended = λ waiting. refl;
-    none = elim [ zero ↦ refl | suc limit ↦ refl ];
-    first = λ limit p waiting. refl;
-  }
+  reading =
+      record { ended = λ _. refl; none = elim [ zero ↦ refl | suc limit ↦ refl ]; first = λ _ _ _. refl }
 
   -- the children of a place with its depth, each one step deeper
   abbrev pub deeper : ℕ × Place → List (ℕ × Place)
@@ -87,11 +78,8 @@ module _ {T : Type 0} (D : State (Part T)) where
 
   pub deep_reading : IsReading deeper (deep_outline_of D)
   unfolding deep_outline_of
-  deep_reading = record {
-    ended = λ waiting. refl;
-    none = elim [ zero ↦ refl | suc limit ↦ refl ];
-    first = λ limit p waiting. refl;
-  }
+  deep_reading =
+      record { ended = λ _. refl; none = elim [ zero ↦ refl | suc limit ↦ refl ]; first = λ _ _ _. refl }
 
   -- the places of an outline with depths are those of the outline
   pub deep_places : (limit : ℕ) (waiting : List (ℕ × Place))

@@ -7,7 +7,7 @@ use Common.{location_of, Made, Meets, meets_cases, meets_given, meets_number, Mu
 use Common.{name_of, None, Old, Once, Option, Part, part_in, Place, quiet_free, quiet_gone, reach}
 use Common.{reached_boxed, Refer, refl, same_id_reach, same_value_there, seen_reached, sets, SetValue, Shown}
 use Common.{shown_by, shown_in, shown_of, Some, some_live, State, sym, target_in, target_of, true, unreached}
-use Common.{unseen, Value, value_in, WasMade, with_children, ℕ, ⊎_elim, ◌∙◌, ◌≡◌, ◌≢◌, ◌⊎◌}
+use Common.{unseen, Value, value_in, WasMade, with_children, ℕ, ◌≡◌, ◌≢◌, ◌⊎◌}
 use Rattle.std.specs.FinMap as map
 use Rattle.generational_core.specs.Changing as change
 
@@ -55,9 +55,6 @@ module _ {T : Type 0} where
   pub left_place : {D E : State (Part T)} {p : Place} → IsUnchanged D p.raw E → Leaves D p E
   left_place left = record { part = left.reached; shown = ap shown_of left.seen }
 
-  left_twice : {D E F : State (Part T)} {p : Place} → Leaves D p E → Leaves E p F → Leaves D p F
-  left_twice first second = record { part = second.part ∙ first.part; shown = second.shown ∙ first.shown }
-
   module _ {D E : State (Part T)} (call : Action (Part T)) (answer : Answer (Part T)) (s : IsSound D)
       (m : Meets D call answer E) where
     -- a place that was made before, by a call that makes another
@@ -102,13 +99,7 @@ module _ {T : Type 0} where
 
   changed_twice : {D E F : State (Part T)} {p : Place} {x y : Option (Shown T)}
       → Changes D p x E → Changes E p y F → Changes D p y F
-  changed_twice {p = p} first second = record {
-    here = λ q same. second.here q (first.parts q ∙ (same ∙ sym (first.parts p)));
-    others = λ q other. left_twice (first.others q other)
-        (second.others q (λ same. other (sym (first.parts q) ∙ (same ∙ first.parts p))));
-    parts = λ q. second.parts q ∙ first.parts q;
-    kept = λ q made. second.kept q (first.kept q made);
-  }
+  changed_twice {D} {E} {F} {p} first second = grind (arith, first.parts p)
 
   -- where a part's children were taken out and put back each place is left
   pub put_back : {D E F : State (Part T)} {p : Place} (list rest after : List Place)
@@ -117,9 +108,8 @@ module _ {T : Type 0} where
       → children_of (shown_in D p) ≡ Some list → (q : Place) → Leaves D q F
   put_back {D} {E} {p = p} list rest after first second same old q =
       let both = changed_twice first second in
-      let shows : with_children (λ xs. after) (shown_in E p) ≡ shown_in D p = grind (arith, first.here p refl) in
-      ⊎_elim (λ is. record { part = both.parts q; shown = both.here q is ∙ (shows ∙ sym (same_part_shown D p q is)) })
-      (both.others q) (name_or_none (part_in D q) (part_in D p))
+      let cases = name_or_none (part_in D q) (part_in D p) in
+      grind (arith, first.here p refl, both.parts q, both.here q, both.others q, same_part_shown D p q)
 
   -- what a part shows whose children were looked through while they were out
   pub shows_live : {D E F : State (Part T)} {p : Place} (list rest after : List Place)

@@ -1,5 +1,5 @@
-use Rattle.document_tree.proofs.{all_read, arith, children_in, come_after, deep_reading, limit_read}
-use Rattle.document_tree.proofs.{read_after, reverse, rules, shallow_after, ◌+◌}
+use Rattle.document_tree.proofs.{all_read, arith, children_in, deep_reading, limit_read, map_reverse}
+use Rattle.document_tree.proofs.{read_after, reverse, rules, shallow_after}
 use Rattle.document_tree.proofs.document.Document.outline_with_depth.Goals as goal
 use Rattle.document_tree.proofs.document.Document.outline_with_depth.Goals.{else-loop-waiting-test}
 use Rattle.document_tree.proofs.document.Document.outline_with_depth.Goals.{then-loop-waiting-test+in_default}
@@ -12,8 +12,7 @@ loop-waiting-preserved g c = record {
       c.in-Some.ensures.items c.in_ok-put_children_at.ensures c.loop-waiting.invariant.shallow;
   read = read_after (deep_reading c.args.self.now) c.args.limit (c.in-Some.depth, c.in-Some.next)
       _ _ _ _ _ (omega arith) c.in-Some.ensures.items c.in_ok-push.ensures.items
-      (come_after (c.in-Some.depth + 1) (children_in c.args.self.now c.in-Some.next) _ _
-      c.in_ok-put_children_at.ensures)
+      (rw map_reverse at c.in_ok-put_children_at.ensures)
       c.loop-waiting.invariant.read;
 }
 
