@@ -11,6 +11,7 @@ use Common.{unseen, Value, value_in, WasMade, with_children, ℕ, ◌≡◌, ◌
 use Rattle.std.specs.FinMap as map
 use Rattle.generational_core.specs.Changing as change
 
+-- two names that may be none are the same or not
 name_or_none : (x y : Option Name) → (x ≡ y) ⊎ (x ≢ y)
 name_or_none (Some n) (Some m) = grind (arith, name_cases n m)
 name_or_none None None = inl refl

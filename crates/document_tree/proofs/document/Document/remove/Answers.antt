@@ -8,8 +8,8 @@ returns-in_err-find-clause-ended g c q same =
     same_part_shown _ _ q (same_place_part _ _ q same) ∙ c.in_err-find.ensures.gone.0 refl
 
 pub unreachable-requires : goal.unreachable-requires
-unreachable-requires g c =
-    cc (quiet_ends _ {U = Unit {0}} (Err c.in-Err.field-0) c.self.invariant.unborrowed c.in-Err.ensures)
+unreachable-requires g c = true≢false (sym (quiet_ends _ {U = Unit {0}} (Err c.in-Err.field-0)
+    c.self.invariant.unborrowed c.in-Err.ensures))
 
 pub invariant_of-self : goal.invariant_of-self
 invariant_of-self g c = stays_kept _ _ c.in-Ok.ensures tt c.self.invariant
