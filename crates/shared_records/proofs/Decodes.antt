@@ -1,5 +1,7 @@
 -- Decoding, one item more, and where the tables grow.
-use Rattle.std.proofs.Common.{◌≡◌, ℕ, zero, suc, ◌+◌, ◌*◌, ◌/◌, ◌%◌, ◌<◌, ◌≤◌, List, [], ◌∷◌, ◌++◌, length, get_or, Option, Some, None, option_map, option_to_list, refl, ap, ◌∙◌, arith, append_assoc, length-append, rules}
+use Rattle.std.proofs.Common.{◌≡◌, ℕ, zero, suc, ◌+◌, ◌*◌, ◌/◌, ◌%◌, ◌<◌, ◌≤◌, List, [], ◌∷◌, ◌++◌, length}
+use Rattle.std.proofs.Common.{get_or, Option, Some, None, option_map, option_to_list, refl, ap, ◌∙◌, arith}
+use Rattle.std.proofs.Common.{append_assoc, length-append, rules}
 use Rattle.std.proofs.lemmas.List.{append-nil, get_or_append_left}
 use Rattle.generational_errors.specs.declared.error.Location.{Location}
 use Rattle.shared_records.specs.declared.step.Step.{Step}

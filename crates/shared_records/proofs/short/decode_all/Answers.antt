@@ -15,7 +15,8 @@ loop-item-preserved c =
     let i = c.loop-item.item-index in
     let one = take_more xs i (short.Name 0 0 0) c.loop-item-test.true in
     let told = c.step_at-step.ensures in
+    let steps = c.loop-item.invariant.steps in
     let reached = c.loop-item.invariant.reached in record {
-      steps = rw (c.in_ok-push_some.ensures, c.loop-item.invariant.steps, one, decode_snoc, ← reached, ← told, append_assoc);
+      steps = rw (c.in_ok-push_some.ensures, steps, one, decode_snoc, ← reached, ← told, append_assoc);
       reached = rw (c.go_on-reached.ensures, one, reached_snoc, ← reached, told) refl;
     }
