@@ -1,149 +1,86 @@
 -- What a caller sees after one row has changed.
-use Rattle.std.proofs.Common.{◌≡◌, ◌≢◌, ◌||◌, Bool, true, false, cond, List, [], ◌∷◌, ◌++◌, map}
-use Rattle.std.proofs.Common.{Option, None, Some, refl, sym, ap, subst, ◌∙◌, ⊎_elim}
-use Rattle.std.specs.Prelude.{is_some, option_map}
-use Rattle.std.specs.Cmp.{IsEquivalence}
-use Rattle.std.specs.HashMap.Eq.{lookup_congr}
-use Rattle.std.specs.List.{AllByRecursion, IsDistinct}
-use Rattle.std.specs.Map.{lookup, remove_entry, set_value}
-use Rattle.std.proofs.lemmas.Bool.{cases_Bool, false_from_ne_true, or_cases, true≢false}
-use Rattle.std.proofs.lemmas.List.{map-append}
-use Rattle.std.proofs.lemmas.List.Folds.{list_any-append}
-use Rattle.std.proofs.lemmas.Map.Made.{lookup-map_values}
-use Rattle.std.proofs.lemmas.Map.Steps.{set_value_same}
-use Rattle.generational_core.specs.Boxes.{name_of}
-use Rattle.generational_core.specs.Machine.Action.{End, Make}
-use Rattle.generational_core.specs.Machine.Answer.{Done, Made}
-use Rattle.generational_core.specs.Names.{among, is_name}
-use Rattle.generational_core.specs.Seeing.{value_in}
-use Rattle.generational_core.specs.State.{State, IsSound}
-use Rattle.generational_core.specs.Steps.{Meets}
-use Rattle.generational_core.proofs.machine.Calling.{listed_last}
-use Rattle.generational_core.proofs.machine.Resting.{free_sees}
-use Rattle.generational_core.proofs.machine.Unborrowed.{quiet_free}
-use Rattle.generational_core.proofs.maps.Maps.{name_same}
-use Rattle.generational_errors.specs.declared.error.Location.{Location}
-use Rattle.session_table.specs.declared.entry.Entry.{Entry}
-use Rattle.session_table.specs.declared.session.Session.{Session}
-use Rattle.session_table.specs.Entries.{pointer_in}
-use Rattle.session_table.specs.Keeping.{Held, IsKept, held_in, held_of}
-use Rattle.session_table.specs.Sessions.{LiveSession, names_in, names_of, stores_of, with_entry, without_entry}
-use Rattle.session_table.specs.Tables.{has_session, keeps, live, live_row, session_in, table_of}
-use Rattle.session_table.proofs.Keeping.{forgotten_kept, put_kept}
+use Rattle.session_table.proofs.Common
+use Common.{[], among, ap, arith, Bool, by_option, cond, Done, End, Entry, false, free_sees, GenerationalPointer}
+use Common.{Held, held_in, held_of, is_name, is_some, IsEquivalence, IsKept, IsPlain, IsSound, List}
+use Common.{list_any-append, live, live_row, Location, lookup, lookup-map_values, lookup_congr, Made, Make, map}
+use Common.{map-append, Meets, name_apart, name_here, name_of, names_in, names_of, NewOwner, None, Old, Option}
+use Common.{option_map, others_left, Owned, pointer_in, quiet_free, reach_apart, refl, ReleaseOwner, remove_entry}
+use Common.{same_value, seen_reached, seen_store, Session, set_value, sets, SetValue, Some, State, stores_of, sym}
+use Common.{true, value_in, with_entry, without_entry, ◌++◌, ◌||◌, ◌∙◌, ◌∷◌, ◌≡◌, ◌≢◌}
+use Rattle.session_table.proofs.Keeping.{ended_kept, ended_left, ended_shows, forgotten_kept, login_kept}
+use Rattle.session_table.proofs.Keeping.{put_kept, renamed_kept, same_kept}
 use Rattle.session_table.proofs.Removing.{found_all, found_named, named_removed, removed_all, removed_once}
-use Rattle.session_table.proofs.Rows.{session_row}
-
-mapped_cond : {X Y : Type 0} (f : X → Y) (b : Bool) (x y : Option X)
-    → option_map f (cond b x y) ≡ cond b (option_map f x) (option_map f y)
-mapped_cond f true x y = refl
-mapped_cond f false x y = refl
 
 -- a row's session that is to a caller what it was
-mapped_set : {I K T : Type 0} (test : I → Bool) (es : List (I × Session K T)) (w : Session K T)
-    → map live_row (set_value test es w) ≡ set_value test (map live_row es) (live w)
-mapped_set test [] w = refl
-mapped_set {I} {K} {T} test (e ∷ es) w = at (test e.0) (mapped_set test es w)
-  where
-    at : (b : Bool) → map live_row (set_value test es w) ≡ set_value test (map live_row es) (live w)
-        → map live_row (cond b ((e.0, w) ∷ es) (e ∷ set_value test es w))
-        ≡ cond b ((e.0, live w) ∷ map live_row es) (live_row e ∷ set_value test (map live_row es) (live w))
-    at true rest = refl
-    at false rest = ap (λ (xs : List (I × LiveSession K T)). live_row e ∷ xs) rest
-
 pub same_sessions : {I K T : Type 0} (test : I → Bool) (es : List (I × Session K T)) (s w : Session K T)
     → lookup test es ≡ Some s → live w ≡ live s → map live_row (set_value test es w) ≡ map live_row es
-same_sessions test es s w found same = mapped_set test es w ∙ set_value_same test (map live_row es) (live w)
-    (lookup-map_values live test es ∙ (ap (option_map live) found ∙ ap Some (sym same)))
+same_sessions test [] s w found same = refl
+same_sessions test (e ∷ es) s w found same = grind (arith, same_sessions test es s w)
 
-pub same_table : {I K T : Type 0} (S R : State T) (old new : List (I × Session K T)) → R ≡ S
-    → map live_row new ≡ map live_row old → table_of R new ≡ table_of S old
-same_table S R old new state sessions j = record { state = state j; sessions = sessions j }
+-- the session of an id that has a row, and of one that has none
+pub session_of : {I K T : Type 0} (test : I → Bool) (rows : List (I × Session K T))
+    {o : Option (Session K T)} → lookup test rows ≡ o → lookup test (map live_row rows) ≡ option_map live o
+session_of test rows is = lookup-map_values live test rows ∙ ap (option_map live) is
+
+pub no_row : {I K T : Type 0} (test : I → Bool) (rows : List (I × Session K T))
+    → is_some (lookup test (map live_row rows)) ≡ false → lookup test rows ≡ None
+no_row test rows none = by_option (lookup test rows) (λ is. is) (λ s is. cc (session_of test rows is))
 
 -- what has no value is none
 pub no_value : {X : Type 0} (o : Option X) → is_some o ≡ false → o ≡ None
-no_value None none = refl
-no_value (Some x) none = absurd (true≢false none)
+no_value o none = grind arith
 
--- ids that are equal have one row
-module _ {I K T : Type 0} {eq : I → I → Bool} (laws : IsEquivalence eq) (rows : List (I × Session K T))
-    (k : I) where
-  pub one_held : (q : I) → eq k q ≡ true → {o : Option (Session K T)} → lookup (eq k) rows ≡ o
-      → held_in eq rows q ≡ option_map held_of o
-  one_held q t is = ap (option_map held_of) (sym (lookup_congr eq laws.congr rows k q t) ∙ is)
+-- the row of an id is another one, or is new, or gone
+pub record IsChange {I R : Type 0} (eq : I → I → Bool) (old new : List (I × R)) (k : I) (was now : Option R) : Type 0 where
+  pub laws : IsEquivalence eq
+  pub there : lookup (eq k) old ≡ was
+  pub after : (q : I) → lookup (eq q) new ≡ cond (eq k q) now (lookup (eq q) old)
 
-pub has_row : {I K T : Type 0} (eq : I → I → Bool) (S : State T) (rows : List (I × Session K T)) (k : I)
-    {o : Option (Session K T)} → lookup (eq k) rows ≡ o → session_in eq (table_of S rows) k ≡ option_map live o
-has_row eq S rows k is = session_row eq S rows k ∙ ap (option_map live) is
+pub changed : {I R : Type 0} {eq : I → I → Bool} (laws : IsEquivalence eq) {old new : List (I × R)} (k : I)
+    {was now : Option R} → lookup (eq k) old ≡ was
+    → ((q : I) → lookup (eq q) new ≡ cond (eq k q) now (lookup (eq q) old)) → IsChange eq old new k was now
+changed laws k there after = record { laws = laws; there = there; after = after }
 
--- an id without a session has no row
-pub no_row : {I K T : Type 0} (eq : I → I → Bool) (S : State T) (rows : List (I × Session K T)) (k : I)
-    → has_session eq (table_of S rows) k ≡ false → lookup (eq k) rows ≡ None
-no_row {I} {K} {T} eq S rows k none = at (lookup (eq k) rows) refl
-  where
-    at : (o : Option (Session K T)) → lookup (eq k) rows ≡ o → lookup (eq k) rows ≡ None
-    at None is = is
-    at (Some s) is = absurd (true≢false (sym (ap is_some (has_row eq S rows k is)) ∙ none))
+module _ {I K T : Type 0} {eq : I → I → Bool} {old new : List (I × Session K T)} {k : I}
+    {was now : Option (Session K T)} (c : IsChange eq old new k was now) where
+  same_id : (q : I) → eq k q ≡ true → lookup (eq q) old ≡ was
+  same_id q t = cc (lookup_congr eq c.laws.congr old k q t, c.there)
 
--- where the rows were the same before
-pub over : {I K T : Type 0} (eq : I → I → Bool) {old mid : List (I × Session K T)}
-    (new : List (I × Session K T)) (k : I) (w : Option (Session K T)) → mid ≡ old
-    → ((q : I) → lookup (eq q) new ≡ cond (eq k q) w (lookup (eq q) mid))
-    → (q : I) → lookup (eq q) new ≡ cond (eq k q) w (lookup (eq q) old)
-over eq new k w same update q = update q ∙ ap (λ es. cond (eq k q) w (lookup (eq q) es)) same
+  pub held_there : (q : I) → eq k q ≡ true → held_in eq old q ≡ option_map held_of was
+  held_there q t = ap (option_map held_of) (same_id q t)
 
-module _ {I K T : Type 0} {eq : I → I → Bool} (laws : IsEquivalence eq)
-    (old new : List (I × Session K T)) (k : I) (w : Option (Session K T))
-    (update : (q : I) → lookup (eq q) new ≡ cond (eq k q) w (lookup (eq q) old)) where
-  pub now_held : (q : I) → held_in eq new q
-      ≡ cond (eq k q) (option_map held_of w) (held_in eq old q)
-  now_held q = ap (option_map held_of) (update q) ∙ mapped_cond held_of (eq k q) w (lookup (eq q) old)
+  pub held_after : (q : I) → held_in eq new q ≡ cond (eq k q) (option_map held_of now) (held_in eq old q)
+  held_after q = grind (arith, c.after q)
 
   -- one whose owner and entries are as they were
-  pub same_held : (s : Session K T) → lookup (eq k) old ≡ Some s
-      → option_map held_of w ≡ Some (held_of s) → (q : I) → held_in eq new q ≡ held_in eq old q
-  same_held s found is q = now_held q ∙ ⊎_elim
-      (λ t. ap (λ b. cond b (option_map held_of w) (held_in eq old q)) t
-      ∙ (is ∙ sym (one_held laws old k q t found)))
-      (λ f. ap (λ b. cond b (option_map held_of w) (held_in eq old q)) f) (cases_Bool (eq k q))
+  pub same_rows : {S : State T} → IsKept S eq (held_in eq old)
+      → option_map held_of now ≡ option_map held_of was → IsKept S eq (held_in eq new)
+  same_rows kept same = same_kept kept (λ q. grind (arith, held_after q, held_there q))
 
-  module _ (S R : State T) where
-    pub now_session : (q : I) → session_in eq (table_of R new) q
-        ≡ cond (eq k q) (option_map live w) (session_in eq (table_of S old) q)
-    now_session q = session_row eq R new q ∙ (ap (option_map live) (update q)
-        ∙ (mapped_cond live (eq k q) w (lookup (eq q) old)
-        ∙ ap (cond (eq k q) (option_map live w)) (sym (session_row eq S old q))))
+  pub now_session : (q : I) → lookup (eq q) (map live_row new)
+      ≡ cond (eq k q) (option_map live now) (lookup (eq q) (map live_row old))
+  now_session q = grind (arith, c.after q, session_of (eq q) old refl, session_of (eq q) new refl)
 
-    pub own_session : session_in eq (table_of R new) k ≡ option_map live w
-    own_session = now_session k
-        ∙ ap (λ b. cond b (option_map live w) (session_in eq (table_of S old) k)) (laws.refl k)
+  pub own_session : lookup (eq k) (map live_row new) ≡ option_map live now
+  own_session = grind (arith, now_session k, c.laws.refl k)
 
-    pub other_sessions : (q : I) → eq k q ≡ false
-        → session_in eq (table_of R new) q ≡ session_in eq (table_of S old) q
-    other_sessions q f = now_session q
-        ∙ ap (λ b. cond b (option_map live w) (session_in eq (table_of S old) q)) f
+  pub other_sessions : (q : I) → eq k q ≡ false → lookup (eq q) (map live_row new) ≡ lookup (eq q) (map live_row old)
+  other_sessions q f = grind (arith, now_session q)
 
 -- a value that is put
-module _ {I K T : Type 0} {eq : I → I → Bool} (laws : IsEquivalence eq) (S R : State T) (sound : IsSound S)
-    (old new : List (I × Session K T)) (k : I) (s w : Session K T) (kept : IsKept S eq (held_in eq old))
-    (found : lookup (eq k) old ≡ Some s)
-    (update : (q : I) → lookup (eq q) new ≡ cond (eq k q) (Some w) (lookup (eq q) old)) (key : K)
-    (e : Entry T) (owner : w.owner ≡ s.owner)
+module _ {I K T : Type 0} {eq : I → I → Bool} {old new : List (I × Session K T)} {k : I} {s w : Session K T}
+    (c : IsChange eq old new k (Some s) (Some w)) (key : K) (e : Entry T)
     (entries : w.entries.entries ≡ s.entries.entries ++ (key, e) ∷ []) where
   grown_names : names_of w.entries.entries ≡ names_of s.entries.entries ++ name_of (pointer_in e) ∷ []
-  grown_names = ap names_of entries
-      ∙ map-append (λ (x : K × Entry T). name_of (pointer_in x.1)) s.entries.entries ((key, e) ∷ [])
+  grown_names = grind (arith, map-append (λ (x : K × Entry T). name_of (pointer_in x.1)) s.entries.entries ((key, e) ∷ []))
 
-  grown_stores : stores_of w.entries.entries
-      ≡ stores_of s.entries.entries ++ (pointer_in e).id.store ∷ []
-  grown_stores = ap stores_of entries
-      ∙ map-append (λ (x : K × Entry T). (pointer_in x.1).id.store) s.entries.entries ((key, e) ∷ [])
+  grown_stores : stores_of w.entries.entries ≡ stores_of s.entries.entries ++ (pointer_in e).id.store ∷ []
+  grown_stores = grind (arith, map-append (λ (x : K × Entry T). (pointer_in x.1).id.store) s.entries.entries ((key, e) ∷ []))
 
-  pub put_rows : (v : T) (l : Location) → Meets S (Make (Some s.owner) v l) (Made (pointer_in e)) R
-      → IsKept R eq (held_in eq new)
-  put_rows v l m = put_kept S R sound kept laws k (held_of s) v l e.raw
-      (λ q. now_held laws old new k (Some w) update q
-      ∙ ap (λ h. cond (eq k q) (Some h) (held_in eq old q)) grown)
-      (λ q t. one_held laws old k q t found) m
+  pub put_rows : {S R : State T} → IsSound S → IsKept S eq (held_in eq old) → w.owner ≡ s.owner → (v : T) (l : Location)
+      → Meets S (Make (Some s.owner) v l) (Made (pointer_in e)) R → IsKept R eq (held_in eq new)
+  put_rows {S} {R} sound kept owner v l m = put_kept S R sound kept c.laws k (held_of s) (held_there c) v l e.raw
+      (λ q. held_after c q ∙ ap (λ h. cond (eq k q) (Some h) (held_in eq old q)) grown) m
     where
       grown : held_of w ≡ record {
         owner = s.owner;
@@ -152,106 +89,120 @@ module _ {I K T : Type 0} {eq : I → I → Bool} (laws : IsEquivalence eq) (S R
       }
       grown j = record { owner = owner j; names = grown_names j; stores = grown_stores j }
 
-  pub put_session : w.used_at ≡ s.used_at → session_in eq (table_of R new) k
-      ≡ option_map (with_entry key e) (session_in eq (table_of S old) k)
-  put_session used = own_session laws old new k (Some w) update S R
-      ∙ (ap Some grown ∙ sym (ap (option_map (with_entry key e)) (has_row eq S old k found)))
-    where
-      grown : live w ≡ with_entry key e (live s)
-      grown j = record { used_at = used j; entries = entries j }
+  pub put_session : w.used_at ≡ s.used_at → lookup (eq k) (map live_row new) ≡ Some (with_entry key e (live s))
+  put_session at = grind (arith, own_session c)
+
+  -- what is listed is the new entry, and what was
+  grown_listed : (f : Entry T) → among (names_of w.entries.entries) (name_of (pointer_in f))
+      ≡ (among (names_of s.entries.entries) (name_of (pointer_in f)) || is_name (name_of (pointer_in f)) (name_of (pointer_in e)))
+  grown_listed f = grind (arith, grown_names, list_any-append)
 
   -- the id keeps the new entry
-  pub put_keeps : keeps eq (table_of R new) k e ≡ true
-  put_keeps = ap (λ o. among (names_in o) (name_of (pointer_in e)))
-      (own_session laws old new k (Some w) update S R)
-      ∙ (ap (λ names. among names (name_of (pointer_in e))) grown_names
-      ∙ listed_last (names_of s.entries.entries) (name_of (pointer_in e)))
+  pub put_keeps : among (names_in (lookup (eq k) (map live_row new))) (name_of (pointer_in e)) ≡ true
+  put_keeps = grind (arith, own_session c, grown_listed e, name_here (name_of (pointer_in e)))
 
-  -- what is kept of the others
   module _ (q : I) (f : Entry T) where
-    kept_here : eq k q ≡ true
-        → keeps eq (table_of S old) q f ≡ among (names_of s.entries.entries) (name_of (pointer_in f))
-    kept_here t = ap (λ o. among (names_in o) (name_of (pointer_in f))) (session_row eq S old q
-        ∙ ap (option_map live) (sym (lookup_congr eq laws.congr old k q t) ∙ found))
-
-    keeps_here : eq k q ≡ true → keeps eq (table_of R new) q f
-        ≡ keeps eq (table_of S old) q f || among (name_of (pointer_in e) ∷ []) (name_of (pointer_in f))
-    keeps_here t = ap (λ o. among (names_in o) (name_of (pointer_in f)))
-        (now_session laws old new k (Some w) update S R q
-        ∙ ap (λ b. cond b (Some (live w)) (session_in eq (table_of S old) q)) t)
-        ∙ (ap (λ names. among names (name_of (pointer_in f))) grown_names
-        ∙ (list_any-append (is_name (name_of (pointer_in f))) (names_of s.entries.entries) _
-        ∙ ap (λ b. b || among (name_of (pointer_in e) ∷ []) (name_of (pointer_in f))) (sym (kept_here t))))
-
-    keeps_beside : eq k q ≡ false → keeps eq (table_of R new) q f ≡ keeps eq (table_of S old) q f
-    keeps_beside apart = ap (λ o. among (names_in o) (name_of (pointer_in f)))
-        (other_sessions laws old new k (Some w) update S R q apart)
-
-    pub put_still : keeps eq (table_of S old) q f ≡ true → keeps eq (table_of R new) q f ≡ true
-    put_still was = ⊎_elim
-        (λ t. keeps_here t ∙ ap (λ b. b || among (name_of (pointer_in e) ∷ []) (name_of (pointer_in f))) was)
-        (λ apart. keeps_beside apart ∙ was) (cases_Bool (eq k q))
+    -- what was kept is kept, and nothing else of what was given
+    pub put_still : among (names_in (lookup (eq q) (map live_row old))) (name_of (pointer_in f)) ≡ true
+        → among (names_in (lookup (eq q) (map live_row new))) (name_of (pointer_in f)) ≡ true
+    put_still was = grind (arith, now_session c q, same_id c q, session_of (eq q) old refl, grown_listed f)
 
     pub put_unkept : name_of (pointer_in e) ≢ name_of (pointer_in f)
-        → keeps eq (table_of S old) q f ≡ false → keeps eq (table_of R new) q f ≡ false
-    put_unkept ne was = ⊎_elim
-        (λ t. keeps_here t
-        ∙ (ap (λ b. b || among (name_of (pointer_in e) ∷ []) (name_of (pointer_in f))) was ∙ unlisted))
-        (λ apart. keeps_beside apart ∙ was) (cases_Bool (eq k q))
-      where
-        unlisted : among (name_of (pointer_in e) ∷ []) (name_of (pointer_in f)) ≡ false
-        unlisted = false_from_ne_true _ (λ listed. ⊎_elim
-            (λ same. ne (sym (name_same (name_of (pointer_in f)) (name_of (pointer_in e)) same)))
-            (λ none. true≢false (sym none)) (or_cases _ _ listed))
+        → among (names_in (lookup (eq q) (map live_row old))) (name_of (pointer_in f)) ≡ false
+        → among (names_in (lookup (eq q) (map live_row new))) (name_of (pointer_in f)) ≡ false
+    put_unkept ne was =
+        let apart = name_apart (name_of (pointer_in f)) (name_of (pointer_in e)) in
+        grind (arith, now_session c q, same_id c q, session_of (eq q) old refl, grown_listed f, apart)
 
 -- an entry that is taken out
-module _ {I K T : Type 0} {eq : I → I → Bool} (laws : IsEquivalence eq) (S : State T) (sound : IsSound S)
-    (old : List (I × Session K T)) (k : I) (s : Session K T) (kept : IsKept S eq (held_in eq old))
-    (found : lookup (eq k) old ≡ Some s) (test : K → Bool) (e : Entry T)
-    (there : lookup test s.entries.entries ≡ Some e) where
+module _ {I K T : Type 0} {eq : I → I → Bool} {S : State T} (sound : IsSound S) (old : List (I × Session K T)) (k : I)
+    {s : Session K T} (kept : IsKept S eq (held_in eq old)) (found : lookup (eq k) old ≡ Some s) (test : K → Bool)
+    {e : Entry T} (there : lookup test s.entries.entries ≡ Some e) where
   row : held_in eq old k ≡ Some (held_of s)
   row = ap (option_map held_of) found
 
   -- it is of the store, is listed, and shows something
   pub row_own : (pointer_in e).id.store ≡ S.number
-  row_own = (found_all test (λ (x : K × Entry T). (pointer_in x.1).id.store) (λ n. n ≡ S.number)
-      s.entries.entries e there (kept.own k (held_of s) row)).1
-
-  row_listed : among (names_of s.entries.entries) (name_of (pointer_in e)) ≡ true
-  row_listed = found_named test s.entries.entries e there
+  row_own = found_all test (λ (x : Entry T). (pointer_in x).id.store) (λ n. n ≡ S.number) s.entries.entries e there
+      (kept.own k (held_of s) row)
 
   pub row_shows : (v : T) × (value_in S (pointer_in e) ≡ Some v)
   row_shows =
-      let to = kept.live k (held_of s) row (pointer_in e) row_listed row_own in
+      let to = kept.live k (held_of s) row (pointer_in e) (found_named test s.entries.entries e there) row_own in
       free_sees S (pointer_in e) sound (quiet_free S kept.unborrowed (pointer_in e) to.0 to.1)
 
-  module _ (R : State T) (new : List (I × Session K T)) (w : Session K T)
-      (update : (q : I) → lookup (eq q) new ≡ cond (eq k q) (Some w) (lookup (eq q) old))
-      (entries : w.entries.entries ≡ remove_entry test s.entries.entries) where
-    pub forgotten_rows : w.owner ≡ s.owner → Meets S (End (pointer_in e)) Done R
-        → IsKept R eq (held_in eq new)
-    forgotten_rows owner m = forgotten_kept S R sound kept laws k (held_of s) (held_of w)
-        (now_held laws old new k (Some w) update) (λ q t. one_held laws old k q t found) (pointer_in e) m owner
-        (λ n. ap (λ es. among (names_of es) n) entries
-        ∙ named_removed test s.entries.entries e there (kept.once k (held_of s) row) n)
-        (subst (λ es. IsDistinct is_name (names_of es)) (sym entries)
-        (removed_once test s.entries.entries (kept.once k (held_of s) row)))
-        (subst (λ es. AllByRecursion (λ n. n ≡ S.number) (stores_of es)) (sym entries)
-        (removed_all test (λ (x : K × Entry T). (pointer_in x.1).id.store) (λ n. n ≡ S.number)
-        s.entries.entries (kept.own k (held_of s) row)))
-        row_listed row_own
+  pub forgotten_rows : {R : State T} {new : List (I × Session K T)} {w : Session K T}
+      → IsChange eq old new k (Some s) (Some w) → w.entries.entries ≡ remove_entry test s.entries.entries
+      → w.owner ≡ s.owner → Meets S (End (pointer_in e)) Done R → IsKept R eq (held_in eq new)
+  forgotten_rows {R} {w = w} c entries owner m =
+      let once = kept.once k (held_of s) row in
+      forgotten_kept S R sound kept c.laws k (held_of s) (held_there c) (held_of w) (held_after c) (pointer_in e) m owner
+      (λ n. ap (λ es. among (names_of es) n) entries ∙ named_removed test s.entries.entries e there once n)
+      (rw entries (removed_once test s.entries.entries once))
+      (rw entries (removed_all test (λ (x : K × Entry T). (pointer_in x.1).id.store) (λ n. n ≡ S.number)
+      s.entries.entries (kept.own k (held_of s) row)))
+      (found_named test s.entries.entries e there) row_own
 
 -- the id's session has lost it
-pub forgotten_session : {I K T : Type 0} {eq : I → I → Bool} → IsEquivalence eq → (S R : State T)
-    (old new : List (I × Session K T)) (k : I) (s w : Session K T) → lookup (eq k) old ≡ Some s
-    → ((q : I) → lookup (eq q) new ≡ cond (eq k q) (Some w) (lookup (eq q) old))
-    → (same : K → K → Bool) (key : K)
+pub forgotten_session : {I K T : Type 0} {eq : I → I → Bool} {old new : List (I × Session K T)} {k : I}
+    {s w : Session K T} → IsChange eq old new k (Some s) (Some w) → (same : K → K → Bool) (key : K)
     → w.entries.entries ≡ remove_entry (same key) s.entries.entries → w.used_at ≡ s.used_at
-    → session_in eq (table_of R new) k
-    ≡ option_map (without_entry same key) (session_in eq (table_of S old) k)
-forgotten_session {I} {K} {T} {eq} laws S R old new k s w found update same key entries used =
-    own_session laws old new k (Some w) update S R
-    ∙ (ap Some lost ∙ sym (ap (option_map (without_entry same key)) (has_row eq S old k found)))
-  where
-    lost : live w ≡ without_entry same key (live s)
-    lost j = record { used_at = used j; entries = entries j }
+    → lookup (eq k) (map live_row new) ≡ Some (without_entry same key (live s))
+forgotten_session c same key entries at = grind (arith, own_session c)
+
+-- a session that ends
+module _ {I K T : Type 0} {eq : I → I → Bool} {S R : State T} (sound : IsSound S) {old new : List (I × Session K T)} {k : I}
+    {s : Session K T} (kept : IsKept S eq (held_in eq old)) (c : IsChange eq old new k (Some s) None)
+    (m : Meets S (ReleaseOwner s.owner) Done R) where
+  pub ended_rows : IsKept R eq (held_in eq new)
+  ended_rows = ended_kept S R sound kept c.laws k (held_of s) (held_there c) (held_after c) m
+
+  -- what it kept shows nothing, and all else is left
+  pub row_ended : (e : Entry T) → among (names_of s.entries.entries) (name_of (pointer_in e)) ≡ true
+      → value_in R (pointer_in e) ≡ None
+  row_ended e = ended_shows S R sound kept c.laws k (held_of s) (held_there c) (held_after c) m (pointer_in e)
+
+  pub row_left : (e : Entry T) → among (names_of s.entries.entries) (name_of (pointer_in e)) ≡ false
+      → value_in R (pointer_in e) ≡ value_in S (pointer_in e)
+  row_left e out = (ended_left S R sound kept c.laws k (held_of s) (held_there c) (held_after c) m (pointer_in e) out).seen
+
+-- a session that begins
+pub login_rows : {I K T : Type 0} {eq : I → I → Bool} {S R : State T} (sound : IsSound S) {old new : List (I × Session K T)}
+    {k : I} {s : Session K T} (kept : IsKept S eq (held_in eq old)) (c : IsChange eq old new k None (Some s))
+    → s.entries.entries ≡ [] → Meets S NewOwner (Owned s.owner) R → IsKept R eq (held_in eq new)
+login_rows {eq = eq} {S} {R} sound {old = old} {k = k} {s = s} kept c empty m = login_kept S R sound kept c.laws k s.owner
+    (λ q. held_after c q ∙ ap (λ es. cond (eq k q) (Some (record { owner = s.owner; names = names_of es; stores = stores_of es }))
+    (held_in eq old q)) empty) (held_there c) m
+
+-- an id that had no session has none after another went, and one whose session went to another has none
+pub still_none : {I R : Type 0} {eq : I → I → Bool} {old new : List (I × R)} {k : I} {was : Option R}
+    → IsChange eq old new k was None → (q : I) → lookup (eq q) old ≡ None → lookup (eq q) new ≡ None
+still_none c q none = grind (arith, c.after q)
+
+pub left_none : {I K T : Type 0} {eq : I → I → Bool} {old mid new : List (I × Session K T)} {k t : I}
+    {s w : Session K T} → IsChange eq old mid k (Some s) None → IsChange eq mid new t None (Some w)
+    → lookup (eq t) old ≡ None → lookup (eq k) (map live_row new) ≡ None
+left_none {eq = eq} {old = old} {k = k} {t} c d free =
+    grind (arith, now_session d k, own_session c, c.there, lookup_congr eq c.laws.congr old t k)
+
+-- a session that gets another id
+pub renamed_rows : {I K T : Type 0} {eq : I → I → Bool} {S : State T} {old mid new : List (I × Session K T)}
+    {k t : I} {s : Session K T} → IsKept S eq (held_in eq old) → IsChange eq old mid k (Some s) None
+    → IsChange eq mid new t None (Some s) → lookup (eq t) old ≡ None → IsKept S eq (held_in eq new)
+renamed_rows {eq = eq} {old = old} {k = k} {t} {s} kept c d free = renamed_kept kept c.laws k t (held_of s)
+    (λ q. held_after d q ∙ ap (cond (eq t q) (Some (held_of s))) (held_after c q)) (held_there c)
+    (λ q same. cc (lookup_congr eq c.laws.congr old t q same))
+
+-- a value that is set leaves each other box
+pub set_beside : {T : Type 0} {S R : State T} → IsSound S → IsPlain S → (a b : GenerationalPointer) (v old : T)
+    → Meets S (SetValue a v) (Old old) R → a.id ≢ b.id → value_in R b ≡ value_in S b
+set_beside sound plain a b v old m other =
+    let saw = (sets _ _ _ m).0 in
+    let to = seen_reached _ _ _ saw in
+    others_left _ _ m a b (seen_store _ _ sound (ap is_some saw)) (λ ne. same_value _ _ _ _ sound m _
+    (λ same. ne (reach_apart _ plain _ _ to.0 to.1 (sym same))) tt) other
+
+-- a row whose owner and entries are as they were
+pub same_held : {K T : Type 0} (s w : Session K T) → w.owner ≡ s.owner → w.entries.entries ≡ s.entries.entries
+    → ◌≡◌ {A = Option Held} (Some (held_of w)) (Some (held_of s))
+same_held s w owner entries j = Some (record { owner = owner j; names = names_of (entries j); stores = stores_of (entries j) })

@@ -1,8 +1,4 @@
-use Rattle.std.proofs.Common.{Err, sym}
-use Rattle.std.proofs.lemmas.Bool.{true≢false}
-use Rattle.generational_core.specs.Machine.{OwnerName}
-use Rattle.generational_core.proofs.machine.Ends.{some_live}
-use Rattle.generational_core.proofs.machine.Unborrowed.{quiet_releases}
+use Rattle.session_table.proofs.{Err, OwnerName, quiet_releases, some_live, sym, true≢false}
 use Rattle.session_table.proofs.session.Session.end.Goals as goal
 
 pub unreachable-requires : goal.unreachable-requires

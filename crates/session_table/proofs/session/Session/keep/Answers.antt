@@ -1,7 +1,5 @@
-use Rattle.std.proofs.Common.{sym, ap, ◌∙◌, ◌++◌, ◌∷◌, [], is_some}
-use Rattle.std.specs.Map.{lookup}
 use Rattle.indexmap.proofs.CallerLemmas.{insert_entry-new}
-use Rattle.session_table.proofs.Calls.{no_value}
+use Rattle.session_table.proofs.{[], ap, no_value, sym, ◌++◌, ◌∙◌, ◌∷◌}
 use Rattle.session_table.proofs.session.Session.keep.Goals as goal
 
 pub returns-clause-entries : goal.returns-clause-entries
@@ -9,5 +7,5 @@ returns-clause-entries g c =
     let none = no_value _ (sym c.contains_key.ensures ∙ c.if-contains_key.false) in
     c.in-Ok-insert.ensures.entries
     ∙ (insert_entry-new g.K.PartialEq.eq c.reserve.new.self c.args.key (record { raw = c.in-Ok.raw })
-    (ap (λ es. lookup (g.K.PartialEq.eq c.args.key) es) c.reserve.ensures.entries ∙ none)
+    (rw c.reserve.ensures.entries none)
     ∙ ap (λ es. es ++ (c.args.key, record { raw = c.in-Ok.raw }) ∷ []) c.reserve.ensures.entries)

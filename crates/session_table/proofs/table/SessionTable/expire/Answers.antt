@@ -1,5 +1,4 @@
-use Rattle.std.proofs.Common.{arith, ap, not, ◌∙◌}
-use Rattle.session_table.proofs.Ending.{shed_ids, shed_kept, sheds_old}
+use Rattle.session_table.proofs.{ap, arith, not, shed_ids, shed_kept, sheds_old, ◌∙◌}
 use Rattle.session_table.proofs.table.SessionTable.expire.Goals as goal
 
 pub places-preserved-then-is_old_at : goal.places-preserved-then-is_old_at

@@ -1,4 +1,4 @@
-use Rattle.session_table.proofs.Rows.{kept_orderly}
+use Rattle.session_table.proofs.{kept_orderly}
 use Rattle.session_table.proofs.table.SessionTable.len.Goals as goal
 
 pub returns-clause-orderly : goal.returns-clause-orderly

@@ -1,21 +1,9 @@
-use Rattle.std.proofs.Common.{sym, ap, refl, ◌∙◌}
-use Rattle.std.specs.Prelude.{is_some}
-use Rattle.generational_core.proofs.machine.Calling.{seen_reached, sets}
-use Rattle.generational_core.proofs.machine.Leaving.{same_value}
-use Rattle.generational_core.proofs.machine.Stepping.{meets_given}
-use Rattle.generational_core.proofs.machine.Unborrowed.{quiet_sees}
-use Rattle.generational_sessions.proofs.callers.Ids.{others_left, seen_store}
-use Rattle.generational_sessions.proofs.callers.PlainStores.{reach_apart}
-use Rattle.generational_sessions.proofs.callers.Tickets.{set_next}
-use Rattle.session_table.specs.Entries.{pointer_in}
-use Rattle.session_table.specs.Tables.{TableState, shown_in}
-use Rattle.session_table.proofs.Keeping.{set_kept}
+use Rattle.session_table.proofs.{pointer_in, quiet_sees, refl, set_beside, set_kept, sets, sym, ◌∙◌}
 use Rattle.session_table.proofs.table.SessionTable.set.Goals as goal
 
 pub set-requires : goal.set-requires
 set-requires g c = quiet_sees _ c.self.invariant.unborrowed _ (g.met.S.AnyStorage.sound _)
-    ∙ (ap (λ (t : TableState _ _ _). is_some (shown_in t c.args.entry)) c.self.view_is
-    ∙ (sym c.shows.ensures ∙ c.if-not-shows.false))
+    ∙ rw (← c.self.view_is) at (sym c.shows.ensures ∙ c.if-not-shows.false)
 
 pub invariant_of-self : goal.invariant_of-self
 invariant_of-self g c = set_kept _ _ (g.met.S.AnyStorage.sound _) c.self.invariant _ _ _ c.set.ensures.1
@@ -24,11 +12,5 @@ pub returns-clause-shown : goal.returns-clause-shown
 returns-clause-shown g c = (sets _ _ _ c.set.ensures.1).2 _ refl
 
 pub returns-clause-others : goal.returns-clause-others
-returns-clause-others g c f other =
-    let sound = g.met.S.AnyStorage.sound in
-    let saw = (sets _ _ _ c.set.ensures.1).0 in
-    let to = seen_reached _ _ _ saw in
-    rw (← c.self.view_is) (others_left _ _ c.set.ensures.1 (pointer_in c.args.entry)
-    (pointer_in f) (seen_store _ _ (sound _) (ap is_some saw))
-    (λ ne. same_value _ _ _ _ (sound _) c.set.ensures.1 _
-    (λ same. ne (reach_apart _ c.self.invariant.plain _ _ to.0 to.1 (sym same))) tt) other)
+returns-clause-others g c f = rw (← c.self.view_is) (set_beside (g.met.S.AnyStorage.sound _) c.self.invariant.plain
+    (pointer_in c.args.entry) (pointer_in f) _ _ c.set.ensures.1)

@@ -1,26 +1,12 @@
-use Rattle.std.proofs.Common.{sym, ap, refl, ◌∙◌}
-use Rattle.std.specs.Prelude.{is_some}
-use Rattle.generational_core.proofs.machine.Calling.{seen_reached, sets}
-use Rattle.generational_core.proofs.machine.Leaving.{same_value}
-use Rattle.generational_core.proofs.machine.Stepping.{meets_given}
-use Rattle.generational_core.proofs.machine.Unborrowed.{quiet_sees}
-use Rattle.generational_sessions.proofs.callers.Ids.{others_left, seen_store}
-use Rattle.generational_sessions.proofs.callers.PlainStores.{reach_apart}
-use Rattle.generational_sessions.proofs.callers.Tickets.{set_next}
-use Rattle.session_table.specs.Entries.{pointer_in}
-use Rattle.session_table.specs.Tables.{TableState, shown_in}
-use Rattle.session_table.proofs.Keeping.{set_kept}
+use Rattle.session_table.proofs.{pointer_in, quiet_sees, refl, set_beside, set_kept, sets, sym, ◌∙◌}
 use Rattle.session_table.proofs.table.SessionTable.update.Goals as goal
 
-pub change_value-requires-clause-free : goal.change_value-requires-clause-free
-change_value-requires-clause-free g c = rw c.pointer.ensures
-    (quiet_sees _ c.self.invariant.unborrowed _ (g.met.S.AnyStorage.sound _)
-    ∙ (ap (λ (t : TableState _ _ _). is_some (shown_in t c.args.entry)) c.self.view_is
-    ∙ (sym c.shows.ensures ∙ c.if-not-shows.false)))
-
-pub change_value-requires-clause-callable : goal.change_value-requires-clause-callable
-change_value-requires-clause-callable g c =
-    rw c.pointer.ensures (rw (← c.self.view_is) at c.requires)
+pub change_value-requires : goal.change_value-requires
+change_value-requires g c = rw c.pointer.ensures (record {
+  free = quiet_sees _ c.self.invariant.unborrowed _ (g.met.S.AnyStorage.sound _)
+      ∙ rw (← c.self.view_is) at (sym c.shows.ensures ∙ c.if-not-shows.false);
+  callable = rw (← c.self.view_is) at c.requires;
+})
 
 pub invariant_of-self : goal.invariant_of-self
 invariant_of-self g c =
@@ -33,12 +19,5 @@ returns-clause-changed g c =
     rw (← c.self.view_is) (done.old, done.new, set.0, done.called, set.2 _ refl)
 
 pub returns-clause-others : goal.returns-clause-others
-returns-clause-others g c e other =
-    let sound = g.met.S.AnyStorage.sound in
-    let step = rw c.pointer.ensures at c.change_value.ensures.set in
-    let saw = (sets _ _ _ step).0 in
-    let to = seen_reached _ _ _ saw in
-    rw (← c.self.view_is) (others_left _ _ step (pointer_in c.args.entry) (pointer_in e)
-    (seen_store _ _ (sound _) (ap is_some saw))
-    (λ ne. same_value _ _ _ _ (sound _) step _
-    (λ same. ne (reach_apart _ c.self.invariant.plain _ _ to.0 to.1 (sym same))) tt) other)
+returns-clause-others g c e = rw (← c.self.view_is) (set_beside (g.met.S.AnyStorage.sound _) c.self.invariant.plain
+    (pointer_in c.args.entry) (pointer_in e) _ _ (rw c.pointer.ensures at c.change_value.ensures.set))
