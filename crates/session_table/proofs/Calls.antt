@@ -31,7 +31,8 @@ pub no_value : {X : Type 0} (o : Option X) → is_some o ≡ false → o ≡ Non
 no_value o none = grind arith
 
 -- the row of an id is another one, or is new, or gone
-pub record IsChange {I R : Type 0} (eq : I → I → Bool) (old new : List (I × R)) (k : I) (was now : Option R) : Type 0 where
+pub record IsChange {I R : Type 0} (eq : I → I → Bool) (old new : List (I × R)) (k : I)
+    (was now : Option R) : Type 0 where
   pub laws : IsEquivalence eq
   pub there : lookup (eq k) old ≡ was
   pub after : (q : I) → lookup (eq q) new ≡ cond (eq k q) now (lookup (eq q) old)
@@ -94,7 +95,8 @@ module _ {I K T : Type 0} {eq : I → I → Bool} {old new : List (I × Session 
 
   -- what is listed is the new entry, and what was
   grown_listed : (f : Entry T) → among (names_of w.entries.entries) (name_of (pointer_in f))
-      ≡ (among (names_of s.entries.entries) (name_of (pointer_in f)) || is_name (name_of (pointer_in f)) (name_of (pointer_in e)))
+      ≡ (among (names_of s.entries.entries) (name_of (pointer_in f))
+      || is_name (name_of (pointer_in f)) (name_of (pointer_in e)))
   grown_listed f = grind (arith, grown_names, list_any-append)
 
   -- the id keeps the new entry

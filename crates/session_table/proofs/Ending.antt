@@ -1,10 +1,10 @@
 -- Rows of which one is taken out, and tables whose old sessions end.
 use Rattle.session_table.proofs.Common
-use Common.{[], among, ap, arith, Bool, by_option, cases_Bool, EndsAt, Entry, false, get_take, has_session}
-use Common.{held_in, if_young, inl, inr, is_some, is_young, IsEquivalence, IsKept, IsOrderly, keeps, length, List}
-use Common.{LiveSession, lookup_congr, name_of, names_of, None, place_from_lookup, pointer_in, rules, Session}
+use Common.{[], ap, arith, Bool, by_option, EndsAt, Entry, false, get_take, has_session}
+use Common.{held_in, if_young, is_young, IsEquivalence, IsKept, IsOrderly, keeps, length, List}
+use Common.{LiveSession, lookup_congr, None, place_from_lookup, rules, Session}
 use Common.{session_in, shown_in, slice_get, slice_get_within, Some, State, swap_remove, table_of, TableState}
-use Common.{take, take-set, take-take, true, WasPut, ℕ, ⊎_elim, ◌+◌, ◌-◌, ◌<◌, ◌∙◌, ◌∷◌, ◌≡◌, ◌≤◌, ◌⊎◌}
+use Common.{take, take-set, take-take, true, WasPut, ℕ, ◌+◌, ◌-◌, ◌<◌, ◌∙◌, ◌∷◌, ◌≡◌, ◌≤◌, ◌⊎◌}
 use Rattle.session_table.proofs.Keeping.{no_rows}
 
 -- what stands before a place stays there
@@ -37,46 +37,23 @@ module _ {I K T : Type 0} {eq : I → I → Bool} {time : ℕ} where
     pub sheds_young : place < length b.sessions
         → ((e : I × LiveSession K T) → slice_get b.sessions place ≡ Some e → is_young time e.1 ≡ true)
         → Sheds eq time (place + 1) a b
-    sheds_young lt here = record {
-      within = omega (arith, lt);
-      fewer = s.fewer;
-      young = λ i e below at. grind (arith, here e, s.young i e);
-      sessions = s.sessions;
-      left = s.left;
-      put = s.put;
-      ticket = s.ticket;
-    }
+    sheds_young lt here = grind (arith, here, s.young, s.sessions, s.left)
 
     -- what an id has it had
     had : (id : I) (x : LiveSession K T) → session_in eq b id ≡ Some x → session_in eq a id ≡ Some x
     had id x is = grind (arith, s.sessions id)
 
     -- or old, and ends
-    pub sheds_old : IsEquivalence eq → {c : TableState I K T} → (e : EndsAt eq place b c) → is_young time e.ended.1 ≡ false
-        → Sheds eq time place a c
-    sheds_old laws {c} e old = record {
-      within = omega (arith, e.fewer, slice_get_within b.sessions place e.ended e.there);
-      fewer = omega (arith, s.fewer, e.fewer);
-      young = λ i x lt at.
-          s.young i x lt (cc (get_take b.sessions place i lt, get_take c.sessions place i lt, e.before));
-      sessions = λ id. grind (
-        arith,
-        e.sessions id,
-        s.sessions id,
-        had e.ended.0 e.ended.1 e.found,
-        lookup_congr eq laws.congr a.sessions e.ended.0 id,
-      );
-      left = λ x. ⊎_elim
-          (λ t. inr (
-            e.gone x t,
-            (e.ended.0, cc (had e.ended.0 e.ended.1 e.found), grind (arith, e.sessions e.ended.0, laws.refl e.ended.0)),
-          ))
-          (λ f. ⊎_elim (λ same. inl (e.left x f ∙ same))
-          (λ none. inr (e.left x f ∙ none.0, (none.1.0, none.1.1, grind (arith, e.sessions none.1.0)))) (s.left x))
-          (cases_Bool (among (names_of e.ended.1.entries) (name_of (pointer_in x))));
-      put = λ x was. e.put x (s.put x was);
-      ticket = e.ticket ∙ s.ticket;
-    }
+    pub sheds_old : IsEquivalence eq → {c : TableState I K T} → (e : EndsAt eq place b c)
+        → is_young time e.ended.1 ≡ false → Sheds eq time place a c
+    sheds_old laws {c} e old =
+        let was = had e.ended.0 e.ended.1 e.found in
+        let within = slice_get_within b.sessions place e.ended e.there in
+        let alike = lookup_congr eq laws.congr a.sessions e.ended.0 in
+        let own = laws.refl e.ended.0 in
+        let before = get_take b.sessions place in
+        let after = get_take c.sessions place in
+        grind (arith, e.sessions, s.sessions, was, alike, own, e.gone, e.left, s.left, s.young, before, after, within)
 
     -- ---- once each session is young
 
@@ -95,14 +72,11 @@ module _ {I K T : Type 0} {eq : I → I → Bool} {time : ℕ} where
 
       pub shed_kept : (id : I) (e : Entry T) → keeps eq a id e ≡ true → has_session eq b id ≡ true
           → shown_in b e ≡ shown_in a e
-      shed_kept id e kept has = ⊎_elim (λ same. same) (λ none. cc (keepers id none.1.0 e kept none.1.1)) (s.left e)
+      shed_kept id e kept has = grind (arith, s.left e, keepers id)
 
       pub shed_gone : IsOrderly eq b → (id : I) (e : Entry T) → keeps eq a id e ≡ true
           → has_session eq b id ≡ false → shown_in b e ≡ None
-      shed_gone now id e kept hasnt = by_option (shown_in b e) (λ is. is) (λ v is.
-          let k = now.kept e (ap is_some is) in
-          by_option (session_in eq b k.0) (λ none. cc (k.1)) (λ x some.
-          cc (keepers id k.0 e kept (grind (arith, had k.0 x some, k.1)))))
+      shed_gone now id e kept hasnt = grind (arith, now.kept e, keepers id, had)
 
       pub shed_none : (e : Entry T) → shown_in a e ≡ None → shown_in b e ≡ None
       shed_none e none = grind (arith, s.left e)

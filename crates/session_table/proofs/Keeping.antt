@@ -9,7 +9,7 @@ use Common.{last_record, LeavesBox, LeavesOwner, List, list_any-append, lists, L
 use Common.{Make, MakesNoReference, Meets, meets_number, Name, name_cases, name_cmp, name_here, name_of}
 use Common.{name_same, name_total, nat_cmp, nat_eq, NewOwner, None, Ok, Old, Option, Owned, owned, OwnerName}
 use Common.{Ownership, ownership, pointer_of, quiet_fresh, quiet_stays, reach, reaches, recursion_from_All, refl}
-use Common.{release_leaves, ReleaseOwner, same_reach, seen_reached, SetValue, Some, some_live, State}
+use Common.{release_leaves, ReleaseOwner, same_reach, seen_reached, SetValue, Some, State}
 use Common.{stays_listed, stays_plain, subst, sym, true, unknown_owner, unlisted, unseen, value_in, ℕ, ⊎_elim}
 use Common.{◌++◌, ◌||◌, ◌∙◌, ◌∷◌, ◌≡◌, ◌≢◌, ◌⊎◌}
 use Rattle.generational_core.specs.Conditions.{names_in as owned_names}
@@ -41,18 +41,11 @@ no_rows _ = None
 
 module _ {I T : Type 0} (eq : I → I → Bool) where
   pub fresh_kept : (number start next : ℕ) → IsKept (fresh {T = T} number start next) eq no_rows
-  fresh_kept number start next = record {
-    unborrowed = quiet_fresh number start next;
-    plain = fresh_plain number start next;
-    listed = fresh_listed number start next;
-    apart = grind arith;
-    held = grind arith;
-    once = grind arith;
-    own = grind arith;
-    known = λ o r is. grind (arith, map.get-empty {X = Ownership} nat_cmp);
-    kept = λ b m to. grind (arith, reaches, map.get-empty {X = Cell T} name_cmp);
-    live = grind arith;
-  }
+  fresh_kept number start next =
+      let quiet = quiet_fresh {T = T} number start next in
+      let plain = fresh_plain {T = T} number start next in
+      let listed = fresh_listed {T = T} number start next in
+      grind (arith, quiet, plain, listed, reaches, map.get-empty {X = Ownership} nat_cmp, map.get-empty {X = Cell T} name_cmp)
 
   -- where there are no rows a box shows nothing, and the store has no record of an owner
   pub empty_shows : (S : State T) → IsKept S eq no_rows → (b : GenerationalPointer) → value_in S b ≡ None
@@ -127,15 +120,9 @@ module _ {I T : Type 0} {eq : I → I → Bool} (S R : State T) (s : IsSound S) 
         held = λ i h is. ⊎_elim (λ new. new.2.held) (λ old. old.3.held) (split i h is);
         once = λ i h is. grind (arith, split i h is);
         own = λ i h is. grind (arith, split i h is);
-        known = λ o r is. ⊎_elim
-            (λ same. let h = some_live now (owner r (rw same is)) in
-            (at, h.0, here h.0 h.1, grind (arith, row)))
-            (λ ne. let old = k.known o r (sym (others o ne) ∙ is) in
-            (old.0, old.1, grind (arith, update old.0, there old.0, owned), old.3)) (owner_cases own o);
-        kept = λ b m to. ⊎_elim
-            (λ new. by_option now (λ none. cc) (λ h is. (at, h, here h is, grind arith)))
-            (λ apart. let old = k.kept b m apart.1 in
-            (old.0, old.1, grind (arith, update old.0, there old.0), old.3)) (reached b m to);
+        known = λ o r is.
+            grind (arith, k.known o, others o, owner, here, update, there, owned, owner_cases own o);
+        kept = λ b n to. grind (arith, reached b n to, k.kept b, update, there, here);
         live = λ i h is. ⊎_elim (λ new. new.2.live) (λ old. old.3.live) (split i h is);
       }
 
@@ -202,9 +189,7 @@ module _ {I T : Type 0} {eq : I → I → Bool} (S R : State T) (s : IsSound S) 
     other_names : (i : I) (h : Held) → eq at i ≡ false → rows i ≡ Some h → (n : Name)
         → among h.names n ≡ true → among its.0.names n ≡ false
     other_names i h f is n listed =
-        let was = k.held i h is in
-        k.listed.apart h.owner x.owner was.0 its.0 n (λ e. other_owner i h f is (sym e)) was.1 its.1
-        (was.2.lists n listed)
+        grind (arith, k.held i h is, its, k.listed.apart h.owner x.owner, other_owner i h f is)
 
     -- ---- a value that is put
 
@@ -269,30 +254,24 @@ module _ {I T : Type 0} {eq : I → I → Bool} (S R : State T) (s : IsSound S) 
 
     -- ---- a session that ends
 
-    module _ {after : I → Option Held} (update : (i : I) → after i ≡ cond (eq at i) None (rows i)) (m : Meets S (ReleaseOwner x.owner) Done R) where
+    module _ {after : I → Option Held} (update : (i : I) → after i ≡ cond (eq at i) None (rows i))
+        (m : Meets S (ReleaseOwner x.owner) Done R) where
       owned_reach : (b : GenerationalPointer) → among its.0.names (name_of b) ≡ true → reach R b ≡ None
       owned_reach b = ends_owned x.owner {U = Unit {0}} {V = OwnerName} (Ok tt) m _ b its.1 (omega (arith, its.2.single))
 
       -- what its owner lists and it doesn't had ended before
       ended_before : (b : GenerationalPointer) → among its.0.names (name_of b) ≡ true
           → among x.names (name_of b) ≡ false → reach S b ≡ None
-      ended_before b owns out = by_option (reach S b) (λ none. none) (λ n is.
-          let was = k.kept b n is in
-          grind (arith, there was.0, other_names was.0 was.1))
+      ended_before b owns out = grind (arith, k.kept b, there, other_names)
 
       pub ended_shows : (b : GenerationalPointer) → among x.names (name_of b) ≡ true → value_in R b ≡ None
       ended_shows b was = unseen R b (owned_reach b (its.2.lists (name_of b) was))
 
       -- and each other box is left
       pub ended_left : (b : GenerationalPointer) → among x.names (name_of b) ≡ false → IsUnchanged S b R
-      ended_left b out = ⊎_elim
-          (λ owns. let before = ended_before b owns out in
-          let after = owned_reach b owns in record {
-            reached = cc;
-            content = λ n to. cc;
-            seen = cc (unseen R b after, unseen S b before);
-          })
-          (release_leaves S R x.owner Done s m its.0 its.1 b) (cases_Bool (among its.0.names (name_of b)))
+      ended_left b out =
+          let left = release_leaves S R x.owner Done s m its.0 its.1 b in
+          grind (arith, ended_before b, owned_reach b, left, unseen S b, unseen R b)
 
       gone : ownership R x.owner ≡ None
       gone = by_cond (λ o. o ≡ None) (nat_eq x.owner.store R.number)
@@ -302,7 +281,11 @@ module _ {I T : Type 0} {eq : I → I → Bool} (S R : State T) (s : IsSound S) 
       ended_kept = changed_kept _ _ m tt tt laws at x.owner (Some x) None there update refl tt
           (λ i h f is. (
             other_owner i h f is,
-            row_still _ _ m i h is (other_owner i h f is) (λ b listed. (ap (λ r. among (owned_names r) (name_of b)) (held_record S x.owner its.0 its.1) ∙ other_names i h f is (name_of b) listed, tt)),
+            row_still _ _ m i h is (other_owner i h f is) (λ b listed. (
+              ap (λ r. among (owned_names r) (name_of b)) (held_record S x.owner its.0 its.1)
+                  ∙ other_names i h f is (name_of b) listed,
+              tt,
+            )),
           ))
           (λ o ne. keeps_record _ _ m o ne tt) (λ r is. cc gone)
           (λ b n to. ⊎_elim (λ owns. cc (owned_reach b owns)) (λ free. inr (
@@ -313,8 +296,8 @@ module _ {I T : Type 0} {eq : I → I → Bool} (S R : State T) (s : IsSound S) 
 
     -- ---- an entry that ends
 
-    module _ {after : I → Option Held} (y : Held) (update : (i : I) → after i ≡ cond (eq at i) (Some y) (rows i)) (b : GenerationalPointer)
-        (m : Meets S (End b) Done R) (owner : y.owner ≡ x.owner)
+    module _ {after : I → Option Held} (y : Held) (update : (i : I) → after i ≡ cond (eq at i) (Some y) (rows i))
+        (b : GenerationalPointer) (m : Meets S (End b) Done R) (owner : y.owner ≡ x.owner)
         (names : (n : Name) → among y.names n ≡ cond (is_name n (name_of b)) false (among x.names n)) where
       -- what the row lists it listed, and has another name
       named : (n : Name) → among y.names n ≡ true → (among x.names n ≡ true) × (name_of b ≢ n)
@@ -363,36 +346,24 @@ module _ {I T : Type 0} {eq : I → I → Bool} {S : State T} {rows after : I �
     (update : (i : I) → after i ≡ cond (eq t i) (Some h) (cond (eq k i) None (rows i)))
     (there : (i : I) → eq k i ≡ true → rows i ≡ Some h) (free : (i : I) → eq t i ≡ true → rows i ≡ None)
   where
-    -- a row has the new id, or it is another's
-    is_row : (i : I) (g : Held) → after i ≡ Some g
-        → ((eq t i ≡ true) × (h ≡ g)) ⊎ ((eq k i ≡ false) × (rows i ≡ Some g))
-    is_row i g is = grind (arith, update i)
-
     -- each row was one, and is one
     was_row : (i : I) (g : Held) → after i ≡ Some g → (j : I) × (rows j ≡ Some g)
-    was_row i g is = ⊎_elim (λ new. (k, there k (laws.refl k) ∙ ap Some new.1)) (λ old. (i, old.1)) (is_row i g is)
+    was_row i g is = ⊎_elim (λ new. (k, grind (arith, update i, there k, laws.refl k)))
+        (λ old. (i, grind (arith, update i))) (cases_Bool (eq t i))
 
     now_row : (i : I) (g : Held) → rows i ≡ Some g → (j : I) × (after j ≡ Some g)
-    now_row i g is = ⊎_elim (λ moved. (t, grind (arith, update t, laws.refl t, there i)))
-        (λ other. (i, grind (arith, update i, free i))) (cases_Bool (eq k i))
+    now_row i g is = grind (arith, update, laws.refl t, there i, free i)
 
     pub renamed_kept : IsKept S eq after
     renamed_kept = record {
       unborrowed = kept.unborrowed;
       plain = kept.plain;
       listed = kept.listed;
-      apart = λ i j g f is on same. grind (
-        arith,
-        is_row i g is,
-        is_row j f on,
-        kept.apart i j g f,
-        kept.apart k j g f,
-        kept.apart i k g f,
-        there k,
-        laws.refl k,
-        laws.congr t i j,
-        laws.symm k i,
-      );
+      apart = λ i j g f is on same.
+          let first = kept.apart k j g f in
+          let second = kept.apart i k g f in
+          let alike = laws.congr t i j in
+          grind (arith, update i, update j, kept.apart i j g f, first, second, there k, laws.refl k, alike, laws.symm k i);
       held = λ i g is. let was = was_row i g is in kept.held was.0 g was.1;
       once = λ i g is. let was = was_row i g is in kept.once was.0 g was.1;
       own = λ i g is. let was = was_row i g is in kept.own was.0 g was.1;

@@ -1,14 +1,15 @@
 -- Entries of which one is taken out.
 use Rattle.session_table.proofs.Common
-use Common.{[], All-from_recursion, All-map-remove_entry, AllByRecursion, among, arith, Bool, cases_Bool, cond}
+use Common.{[], All-from_recursion, All-map-remove_entry, AllByRecursion, among, arith, Bool, cond}
 use Common.{cond_both, Entry, false, is_name, IsDistinct, List, lookup, map, Name, name_here, name_of, name_same}
-use Common.{names_of, pointer_in, recursion_from_All, refl, remove_entry, same_Some, Some, true, ⊎_elim, ◌∷◌, ◌≡◌}
+use Common.{names_of, pointer_in, recursion_from_All, remove_entry, Some, true, ◌∷◌, ◌≡◌}
+use Rattle.std.proofs.lemmas.List.Folds.{list_any_none}
 
 -- a name from which all of a list differ isn't among them
 unnamed : (m n : Name) (names : List Name) → AllByRecursion (λ x. is_name m x ≡ false) names
     → is_name n m ≡ true → among names n ≡ false
-unnamed m n [] apart same = refl
-unnamed m n (x ∷ names) apart same = grind (arith, name_same n m same, unnamed m n names apart.1 same)
+unnamed m n names apart same =
+    rw (name_same n m same) (list_any_none (is_name m) names (All-from_recursion _ _ apart))
 
 module _ {K T : Type 0} (test : K → Bool) where
   -- what is found is among all
@@ -36,8 +37,7 @@ module _ {K T : Type 0} (test : K → Bool) where
   pub found_all : {X : Type 0} (f : Entry T → X) (P : X → Type 0) (es : List (K × Entry T)) (e : Entry T)
       → lookup test es ≡ Some e → AllByRecursion P (map (λ x. f x.1) es) → P (f e)
   found_all f P [] e is all = cc
-  found_all f P (x ∷ es) e is all = ⊎_elim (λ t. rw (← same_Some x.1 e (grind arith)) all.0)
-      (λ g. found_all f P es e (grind arith) all.1) (cases_Bool (test x.0))
+  found_all f P (x ∷ es) e is all = grind (arith, found_all f P es e)
 
   -- what holds of all of them holds of those that are left
   pub removed_all : {X : Type 0} (f : K × Entry T → X) (P : X → Type 0) (es : List (K × Entry T))
@@ -49,7 +49,8 @@ module _ {K T : Type 0} (test : K → Bool) where
       → IsDistinct is_name (names_of (remove_entry test es))
   unfolding IsDistinct
   removed_once [] once = once
-  removed_once (x ∷ es) once = cond_both (test x.0) _ _ (λ (left : List (K × Entry T)). IsDistinct is_name (names_of left)) (λ _. once.1)
+  removed_once (x ∷ es) once = cond_both (test x.0) _ _
+      (λ (left : List (K × Entry T)). IsDistinct is_name (names_of left)) (λ _. once.1)
       (λ _. (
         removed_all (λ y. name_of (pointer_in y.1)) (λ n. is_name (name_of (pointer_in x.1)) n ≡ false) es once.0,
         removed_once es once.1,

@@ -1,9 +1,9 @@
 -- What a caller sees of rows, and what they say of the store.
 use Rattle.session_table.proofs.Common
-use Common.{among, ap, arith, Bool, by_option, Entry, false, false_from_ne_true, free_sees, Held, held_in}
+use Common.{among, ap, arith, Bool, by_option, Entry, false, free_sees, Held, held_in}
 use Common.{held_of, is_some, IsDistinct, IsKept, IsOrderly, IsSound, keeps, keys_of, keys_of-map_values, List}
 use Common.{live, lookup, lookup-map_values, name_of, option_map, ownership, pointer_in, quiet_free, seen_reached}
-use Common.{Session, session_in, Some, some_live, State, table_of, true, value_in, ◌∙◌, ◌≡◌}
+use Common.{Session, session_in, Some, State, table_of, true, ◌≡◌}
 
 module _ {I K T : Type 0} (eq : I → I → Bool) (S : State T) (rows : List (I × Session K T)) where
   -- the session of an id is that of its row
@@ -29,28 +29,9 @@ module _ {I K T : Type 0} (eq : I → I → Bool) (S : State T) (rows : List (I 
     -- no entry is kept by two ids
     pub kept_once : (i j : I) (e : Entry T) → eq i j ≡ false → keeps eq (table_of S rows) i e ≡ true
         → keeps eq (table_of S rows) j e ≡ false
-    kept_once i j e ne one = false_from_ne_true _ (λ two.
-        let a = kept_row i e one in
-        let b = kept_row j e two in
-        let first = k.held i a.0 a.1 in
-        let second = k.held j b.0 b.1 in
-        cc (
-          second.2.lists (name_of (pointer_in e)) b.2,
-          k.listed.apart a.0.owner b.0.owner first.0 second.0 (name_of (pointer_in e))
-              (λ same. cc (k.apart i j a.0 b.0 a.1 b.1 same)) first.1 second.1 (first.2.lists _ a.2),
-        ))
+    kept_once i j e ne one =
+        grind (arith, kept_row i e, kept_row j e, k.held i, k.held j, k.listed.apart, k.apart i j)
 
     pub kept_orderly : IsSound S → IsDistinct eq (keys_of rows) → IsOrderly eq (table_of S rows)
-    kept_orderly s once = record {
-      once = rw (keys_of-map_values live rows) once;
-      kept = λ e shown.
-          let v = some_live (value_in S (pointer_in e)) shown in
-          let to = seen_reached S (pointer_in e) v.0 v.1 in
-          let by = k.kept (pointer_in e) to.0 to.1 in
-          (by.0, keeps_row by.0 by.1 e by.2 ∙ by.3);
-      live = λ i e kept own.
-          let row = kept_row i e kept in
-          let to = k.live i row.0 row.1 (pointer_in e) row.2 own in
-          ap is_some (free_sees S (pointer_in e) s (quiet_free S k.unborrowed (pointer_in e) to.0 to.1)).1;
-      apart = kept_once;
-    }
+    kept_orderly s once = let keys = keys_of-map_values live rows in
+        grind (arith, keys, kept_once, kept_row, keeps_row, k.kept, k.live, seen_reached, free_sees, quiet_free S k.unborrowed)

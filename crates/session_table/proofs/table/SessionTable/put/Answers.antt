@@ -25,7 +25,8 @@ pub returns : goal.returns
 returns g c =
     let found = sym c.in-Some.ensures.value in
     let sound = g.met.S.AnyStorage.sound c.self.inside.store in
-    let change = changed g.met.I.Eq.laws c.args.id.now found ((c.get_mut.follows.holds c.keep.new.self).3 (ap is_some found)).0 in
+    let change = changed g.met.I.Eq.laws c.args.id.now found
+    ((c.get_mut.follows.holds c.keep.new.self).3 (ap is_some found)).0 in
     let step = c.in-Ok.ensures.step in
     let entry = c.in-Ok.entry in
     let entries = c.in-Ok.ensures.entries in
