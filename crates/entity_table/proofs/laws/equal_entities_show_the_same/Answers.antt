@@ -1,6 +1,4 @@
-use Rattle.generational_core.proofs.maps.Maps.{same_ids}
-use Rattle.generational_sessions.proofs.callers.Ids.{same_id_sees}
-use Rattle.entity_table.specs.Entities.{pointer_in}
+use Rattle.entity_table.proofs.{pointer_in, same_id_sees, same_ids}
 use Rattle.entity_table.proofs.laws.equal_entities_show_the_same.Goals as goal
 
 pub returns : goal.returns

@@ -1,6 +1,4 @@
-use Rattle.std.proofs.Common.{rules, arith, refl, ◌∙◌}
-use Rattle.std.proofs.lemmas.Option.{slice_get_read}
-use Rattle.entity_table.proofs.Removals.{last_within, placed_moved, read_last}
+use Rattle.entity_table.proofs.{arith, last_within, placed_moved, read_last, refl, rules, slice_get_read, ◌∙◌}
 use Rattle.entity_table.proofs.rows.remove_row.Goals as goal
 
 pub index_mut-requires : goal.index_mut-requires

@@ -1,6 +1,5 @@
-use Rattle.std.proofs.Common.{◌≡◌, length}
-use Rattle.entity_table.specs.Tables.{element_in}
-use Rattle.entity_table.specs.Walking.{joined}
+use Rattle.entity_table.specs.{Tables.element_in, Walking.joined}
+use Rattle.std.proofs.Common.{length, ◌≡◌}
 use Rattle.entity_table.proofs.walk.first_joined.Given as goal
 
 abbrev pub invariant-loop-entity : goal.invariant-loop-entity

@@ -1,4 +1,4 @@
-use Rattle.std.proofs.Common.{◌≡◌, length}
+use Rattle.std.proofs.Common.{length, ◌≡◌}
 use Rattle.entity_table.specs.Components.{listed_parts}
 use Rattle.entity_table.proofs.walk.first_part.Given as goal
 

@@ -1,4 +1,4 @@
-use Rattle.entity_table.proofs.Listing.{listed_every, listed_rise, listed_seen, listed_shown}
+use Rattle.entity_table.proofs.{listed_every, listed_rise, listed_seen, listed_shown}
 use Rattle.entity_table.proofs.components.ComponentTable.iter.Goals as goal
 
 pub new-requires : goal.new-requires

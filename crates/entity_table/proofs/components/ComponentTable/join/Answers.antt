@@ -1,8 +1,4 @@
-use Rattle.std.proofs.Common.{◌∙◌}
-use Rattle.generational_sessions.proofs.callers.Ids.{same_id_sees}
-use Rattle.entity_table.specs.Entities.{slot_in}
-use Rattle.entity_table.specs.Tables.{element_in}
-use Rattle.entity_table.proofs.Joining.{joined_each, joined_rise, joined_sees}
+use Rattle.entity_table.proofs.{element_in, joined_each, joined_rise, joined_sees, same_id_sees, slot_in, ◌∙◌}
 use Rattle.entity_table.proofs.components.ComponentTable.join.Goals as goal
 
 pub returns-clause-shown : goal.returns-clause-shown

@@ -1,7 +1,4 @@
-use Rattle.std.proofs.Common.{rules, arith, subst, length, ◌≡◌}
-use Rattle.std.specs.Prelude.{◌+◌, ◌-◌}
-use Rattle.entity_table.specs.Sweeping.{Sweeps}
-use Rattle.entity_table.proofs.Sweeping.{sweeps_begun}
+use Rattle.entity_table.proofs.{arith, length, rules, subst, Sweeps, sweeps_begun, ◌+◌, ◌-◌, ◌≡◌}
 use Rattle.entity_table.proofs.components.ComponentTable.sweep.Goals as goal
 
 pub loop-slot-init : goal.loop-slot-init
@@ -13,8 +10,7 @@ pub loop-slot-preserved : goal.loop-slot-preserved
 loop-slot-preserved g c =
     let slot : c.loop-slot.slot ≡ (c.loop-slot.slot - 1) + 1 = omega (arith, c.loop-slot-test.true) in (
       c.sweep_slot.ensures.swept c.args.self.now
-          (subst (Sweeps c.args.table.now c.args.self.now c.loop-slot.self) slot
-          c.loop-slot.invariant.0),
+          (subst (Sweeps c.args.table.now c.args.self.now c.loop-slot.self) slot c.loop-slot.invariant.0),
       c.sweep_slot.ensures.listed,
     )
 

@@ -1,5 +1,4 @@
-use Rattle.entity_table.specs.Components.{AreListed}
-use Rattle.entity_table.specs.Sweeping.{Sweeps}
+use Rattle.entity_table.specs.{Components.AreListed, Sweeping.Sweeps}
 use Rattle.entity_table.proofs.components.ComponentTable.sweep.Given as goal
 
 abbrev pub invariant-loop-slot : goal.invariant-loop-slot

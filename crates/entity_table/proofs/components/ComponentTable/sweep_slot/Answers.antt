@@ -1,5 +1,4 @@
-use Rattle.std.proofs.Common.{sym, ◌∙◌}
-use Rattle.entity_table.proofs.Sweeping.{sweeps_empty, sweeps_gone, sweeps_live}
+use Rattle.entity_table.proofs.{sweeps_empty, sweeps_gone, sweeps_live, sym, ◌∙◌}
 use Rattle.entity_table.proofs.components.ComponentTable.sweep_slot.Goals as goal
 
 pub returns-in_default-clause-swept : goal.returns-in_default-clause-swept

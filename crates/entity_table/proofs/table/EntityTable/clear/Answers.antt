@@ -1,8 +1,5 @@
-use Rattle.std.proofs.Common.{ap, arith, length, sym, ◌∙◌, ◌≡◌, ◌<◌}
-use Rattle.std.specs.Prelude.{◌-◌}
-use Rattle.std.proofs.lemmas.Option.{slice_get_within}
-use Rattle.entity_table.proofs.Keeping.{dense_empty}
-use Rattle.entity_table.proofs.Removals.{none_last, removed_length}
+use Rattle.entity_table.proofs.{ap, arith, dense_empty, length, none_last, removed_length, slice_get_within, sym}
+use Rattle.entity_table.proofs.{◌-◌, ◌<◌, ◌∙◌, ◌≡◌}
 use Rattle.entity_table.proofs.table.EntityTable.clear.Goals as goal
 
 pub loop-last-init : goal.loop-last-init

@@ -1,6 +1,5 @@
+use Rattle.entity_table.specs.{declared.entity.Entity.Entity, Tables.WasSpawned}
 use Rattle.std.proofs.Common.{length}
-use Rattle.entity_table.specs.declared.entity.Entity.{Entity}
-use Rattle.entity_table.specs.Tables.{WasSpawned}
 use Rattle.entity_table.proofs.table.EntityTable.clear.Given as goal
 
 abbrev pub invariant-loop-last : goal.invariant-loop-last

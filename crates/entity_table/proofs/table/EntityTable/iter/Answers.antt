@@ -1,9 +1,4 @@
-use Rattle.std.proofs.Common.{sym, ap, ◌∙◌}
-use Rattle.std.proofs.lemmas.List.{map-id}
-use Rattle.generational_core.specs.Seeing.{value_in}
-use Rattle.entity_table.specs.Entities.{pointer_in}
-use Rattle.entity_table.proofs.Keeping.{kept_dense}
-use Rattle.entity_table.proofs.Walking.{all_seen, shown_all, shown_sees}
+use Rattle.entity_table.proofs.{all_seen, kept_dense, map-id, pointer_in, shown_all, shown_sees, ◌∙◌}
 use Rattle.entity_table.proofs.table.EntityTable.iter.Goals as goal
 
 pub new-requires : goal.new-requires
@@ -16,8 +11,7 @@ returns-clause-rows g c = rw (← c.self.view_is, c.new.ensures, c.as_slice.ensu
 pub returns-clause-shown : goal.returns-clause-shown
 returns-clause-shown g c =
     rw (← c.self.view_is, c.new.ensures, c.as_slice.ensures.value) (λ row e v is.
-    let it = shown_sees (λ e. e) pointer_in _ _ row e v is in
-    ap (λ x. value_in (g.S.AnyStorage.state c.self.inside.store) (pointer_in x)) (sym it.3) ∙ it.4)
+    let it = shown_sees (λ e. e) pointer_in _ _ row e v is in rw it.3 at it.4)
 
 pub returns-clause-dense : goal.returns-clause-dense
 returns-clause-dense g c = rw (← c.self.view_is) (kept_dense c.self.invariant)

@@ -1,9 +1,5 @@
-use Rattle.std.proofs.Common.{rules, arith, subst, length, ◌≡◌}
-use Rattle.std.specs.Prelude.{◌+◌, ◌-◌}
-use Rattle.std.specs.Fn.{FnReturnsAt}
-use Rattle.entity_table.specs.Tables.{IsDense, Sifts}
-use Rattle.entity_table.proofs.Keeping.{kept_dense}
-use Rattle.entity_table.proofs.Sifting.{sifted, sifts_begun}
+use Rattle.entity_table.proofs.{arith, FnReturnsAt, IsDense, kept_dense, length, rules, sifted, Sifts}
+use Rattle.entity_table.proofs.{sifts_begun, subst, ◌+◌, ◌-◌, ◌≡◌}
 use Rattle.entity_table.proofs.table.EntityTable.retain.Goals as goal
 
 pub loop-row-init : goal.loop-row-init

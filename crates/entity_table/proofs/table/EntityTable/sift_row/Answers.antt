@@ -1,13 +1,11 @@
-use Rattle.std.proofs.Common.{sym, subst, ◌∙◌}
-use Rattle.std.specs.Fn.{FnReturnsAt}
-use Rattle.entity_table.proofs.Sifting.{sifts_failed, sifts_passed}
+use Rattle.entity_table.proofs.{sifts_failed, sifts_passed, sym, ◌∙◌}
 use Rattle.entity_table.proofs.table.EntityTable.sift_row.Goals as goal
 
 pub returns-then-passes : goal.returns-then-passes
 returns-then-passes g c first s =
     let answer = c.passes.ensures in
     sifts_passed s c.in-Some.entity (sym c.at.ensures.row ∙ c.in-Some.is) answer.0 answer.1
-    (subst (FnReturnsAt g.F.Fn c.args.test.now answer.0) c.if-passes.true answer.2)
+    (rw c.if-passes.true at answer.2)
 
 pub returns : goal.returns
 returns g c first s =
@@ -16,4 +14,4 @@ returns g c first s =
     sifts_failed s c.in-Some.entity (sym c.at.ensures.row ∙ c.in-Some.is) answer.0 answer.1
     c.at.ensures.dense
     (record { gone = end.gone; others = end.others; row = end.row; kept = end.kept })
-    (subst (FnReturnsAt g.F.Fn c.args.test.now answer.0) c.if-passes.false answer.2)
+    (rw c.if-passes.false at answer.2)

@@ -1,6 +1,4 @@
-use Rattle.std.proofs.Common.{ap, length, sym, ◌∙◌}
-use Rattle.entity_table.specs.Entities.{pointer_in}
-use Rattle.entity_table.proofs.Walking.{shown_length}
+use Rattle.entity_table.proofs.{ap, length, pointer_in, shown_length, sym, ◌∙◌}
 use Rattle.entity_table.proofs.walk.IterExactSizeIterator.len.Goals as goal
 
 pub returns-clause-value : goal.returns-clause-value

@@ -1,6 +1,4 @@
-use Rattle.std.proofs.Common.{ap, arith, length}
-use Rattle.entity_table.specs.Entities.{pointer_in}
-use Rattle.entity_table.proofs.Walking.{shown_length}
+use Rattle.entity_table.proofs.{ap, arith, length, pointer_in, shown_length}
 use Rattle.entity_table.proofs.walk.IterIterator.size_hint.Goals as goal
 
 pub returns-clause-lower : goal.returns-clause-lower
