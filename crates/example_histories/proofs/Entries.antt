@@ -1,38 +1,15 @@
 -- Finite maps computed as lists: what stands in them is written out, entry by entry.
-use Rattle.std.proofs.Common.{◌≡◌, ℕ, Bool, true, false, not, cond, List, [], Option, None, Some}
-use Rattle.std.proofs.Common.{refl, sym, ap, subst, ◌∙◌}
-use Rattle.std.specs.Prelude.{T, length, map as list_map, ◌||◌}
-use Rattle.std.specs.declared.cmp.Ordering.{Ordering}
-use Rattle.std.specs.Ordering.{nat_cmp, eq_by_cmp}
-use Rattle.std.specs.Cmp.{IsTotalOrder, nat_cmp_total}
-use Rattle.std.specs.List.{filter, list_any}
-use Rattle.std.proofs.lemmas.Cmp.{on_total, then_total}
-use Rattle.std.proofs.lemmas.Map.Lookups.{exact_unsigned, exact_pairs}
+use Rattle.std.specs.{declared.cmp.Ordering.Ordering, FinMap.Entries.find-where_key}
+use Rattle.std.specs.{FinMap.Entries.is_sorted-where_key, List.filter, List.list_any, Ordering.eq_by_cmp}
+use Rattle.generational_core.specs.{Cells.is_shared, Cells.refers_to, Ending.sweep, Ending.take_away, Names.among}
+use Rattle.generational_core.specs.{State.is_named}
+use Rattle.example_histories.proofs.Common.{[], ap, Bool, by_number, Cell, change, cond, false, find, is_sorted}
+use Rattle.example_histories.proofs.Common.{List, Name, name_cmp, nat_cmp, not, Option, put, refl, Some, subst}
+use Rattle.example_histories.proofs.Common.{sym, true, ℕ, ◌||◌, ◌∙◌, ◌≡◌}
+use Rattle.std.proofs.Common.{arith, None}
+use Rattle.std.specs.Prelude.{length, map as list_map, T}
+use Rattle.generational_core.proofs.maps.Maps.{by_name, by_option, IsKeyOrder}
 use Rattle.std.specs.FinMap as map
-use Rattle.std.specs.FinMap.{put, find, is_sorted}
-use Rattle.std.specs.FinMap.Entries.{find-where_key, is_sorted-where_key}
-use Rattle.generational_core.specs.Names.{Name, name_cmp, among, change, change_if}
-use Rattle.generational_core.specs.Cells.{Cell, is_shared, refers_to}
-use Rattle.generational_core.specs.State.{is_named}
-use Rattle.generational_core.specs.Ending.{sweep, take_away}
-
--- an order of keys, which tells them apart
-pub record IsKeyOrder {K : Type 0} (R : K → K → Ordering) : Type 0 where
-  pub total : IsTotalOrder R
-  pub exact : map.IsAntisymmetric R
-
--- the orders of names, and of numbers
-pub by_name : IsKeyOrder name_cmp
-by_name = record {
-  total = then_total (on_total (λ (s : Name). s.slot) nat_cmp_total)
-      (on_total (λ (s : Name). s.generation) nat_cmp_total);
-  exact = λ a b h. ap (λ (p : ℕ × ℕ). record { slot = p.0; generation = p.1 })
-      (exact_pairs nat_cmp nat_cmp exact_unsigned exact_unsigned (a.slot, a.generation)
-      (b.slot, b.generation) h);
-}
-
-pub by_number : IsKeyOrder nat_cmp
-by_number = record { total = nat_cmp_total; exact = map.nat_cmp-IsAntisymmetric }
 
 -- the entries in which what stands at a key, if anything does, is changed by f
 abbrev pub change_entry : {K X : Type 0} (R : K → K → Ordering)
@@ -85,12 +62,8 @@ module _ {K X : Type 0} (R : K → K → Ordering) where
     pub changed_there : (k : K) (f : X → X) → IsKeyOrder R
         → change (map.from_sorted {R = R} es) k f ≡ map.from_sorted (alter R k f es)
     unfolding change
-    changed_there k f o = ap (change_if (map.from_sorted es) k f) (get_there k) ∙ each (find R k es)
-      where
-        each : (x : Option X) → change_if (map.from_sorted {R = R} es) k f x
-            ≡ map.from_sorted (change_entry R k f es x)
-        each None = refl
-        each (Some x) = put_there k (f x) o
+    changed_there k f o = by_option (find R k es) (λ none. cc (get_there k))
+        (λ x some. cc (get_there k, put_there k (f x) o))
 
     -- to remove a key is to keep the others
     pub removed_there : (k : K) → IsKeyOrder R → map.remove (map.from_sorted {R = R} es) k
@@ -105,8 +78,7 @@ module _ {K X : Type 0} (R : K → K → Ordering) where
         others q = not (eq_by_cmp R q k)
 
         turn : {A : Type 0} (b : Bool) (x y : A) → cond b x y ≡ cond (not b) y x
-        turn true x y = refl
-        turn false x y = refl
+        turn b x y = grind arith
 
 -- ---- cells that go
 

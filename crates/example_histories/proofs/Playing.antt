@@ -1,43 +1,29 @@
 -- Rows, computed from states that are written out.
-use Rattle.std.proofs.Common.{◌≡◌, ℕ, ◌+◌, List, [], ◌∷◌, ◌++◌, Option, Some, cond, true, false}
-use Rattle.std.proofs.Common.{refl, sym, ap, subst, ◌∙◌, inl, inr, ⊎_elim}
-use Rattle.std.specs.Prelude.{Bool, not, ◌&&◌, ◌||◌, ◌↔◌, nat_eq, max, unwrap_or}
-use Rattle.std.proofs.lemmas.Bool.{and_parts, eqb-true, not-true, or_cases}
-use Rattle.std.specs.Ordering.{nat_cmp}
-use Rattle.std.proofs.Math.ListN.{take, drop}
-use Rattle.std.proofs.lemmas.List.{take-append-drop}
-use Rattle.std.specs.FinMap as map
-use Rattle.std.specs.FinMap.{find, put, is_sorted}
-use Rattle.std.specs.FinSet as set
-use Rattle.generational_core.specs.declared.borrow.Borrow.{Borrow}
+use Rattle.std.proofs.{Common.◌+◌, lemmas.Bool.and_parts}
+use Rattle.generational_core.specs.{Answers.value_behind, Boxes.name_of, Cells.Content, Cells.Content.Lent}
+use Rattle.generational_core.specs.{Cells.refill, declared.borrow.Borrow.Borrow, Ending.close, Machine.add_cell}
+use Rattle.generational_core.specs.{Machine.read_at, Machine.unless, Machine.write_at, Names.NameMap}
+use Rattle.generational_core.specs.{State.IsSound, State.Owners}
+use Rattle.generational_core.proofs.{machine.Soundness.fresh_sound, machine.Stepping.meets_sound}
+use Rattle.example_histories.proofs.Common
+use Common.{[], act, Action, Answer, ap, arith, Bool, by_number, Cell, change, cond, contains-insert_name, drop}
+use Common.{false, find, fresh, Guard, Here, hindrance_to, inl, inr, is_sorted, limit_tickets, List, Location}
+use Common.{Name, name_cmp, Names, nat_cmp, NewNames, not, NumbersExhausted, Option, Outcome, owner, Ownership}
+use Common.{put, reach, refl, refusal_to_read, refusal_to_write, Refused, Shared, Some, State, subst, sym, take}
+use Common.{take-append-drop, true, ℕ, ⊎_elim, ◌++◌, ◌||◌, ◌↔◌, ◌∙◌, ◌∷◌, ◌≡◌}
+use Rattle.std.specs.Prelude.{max, nat_eq, unwrap_or, ◌&&◌}
 use Rattle.generational_core.specs.declared.boxes.GenerationalPointer.{GenerationalPointer}
-use Rattle.generational_errors.specs.declared.error.Location.{Location}
-use Rattle.generational_errors.specs.declared.error.StoreError.TheVariants.{NumbersExhausted}
-use Rattle.generational_core.specs.Names.{Name, Names, NameMap, name_cmp, change}
-use Rattle.generational_core.specs.Cells.{Cell, Content, refill}
-use Rattle.generational_core.specs.Cells.Content.{Here, Lent}
-use Rattle.generational_core.specs.Answers.{value_behind}
-use Rattle.generational_core.specs.Conditions.{fresh}
-use Rattle.generational_core.specs.State.{State, Ownership, Owners, IsSound}
-use Rattle.generational_core.specs.Boxes.{name_of}
-use Rattle.generational_core.specs.Borrowing.{Guard, reach, refusal_to_read, refusal_to_write}
-use Rattle.generational_core.specs.Ending.{close, hindrance_to}
-use Rattle.generational_core.specs.Machine.{Action, Answer, NewNames, Outcome, act, read_at, write_at}
-use Rattle.generational_core.specs.Machine.{add_cell, unless}
-use Rattle.generational_core.specs.Machine.Action.{Make, MakeShared, Refer, NewOwner, LeakOwner, End}
-use Rattle.generational_core.specs.Machine.Action.{Read, Write}
-use Rattle.generational_core.specs.Machine.Answer.{Made, Refused, Reads, Writes, Done, Owned}
-use Rattle.generational_core.specs.Slots.{Fits, free, is_free, last_name, lasts, slots, slots_of}
-use Rattle.generational_core.specs.Steps.{AreNew, IsNew, Takes, last_ticket, limit_tickets, may_lack}
-use Rattle.generational_core.specs.Steps.{needs_memory, no_names, takes_ticket}
-use Rattle.generational_core.specs.Cells.Cell.{Shared}
-use Rattle.generational_core.proofs.maps.Maps.{contains-insert_name}
-use Rattle.generational_core.proofs.machine.Soundness.{fresh_sound}
-use Rattle.generational_core.proofs.machine.Stepping.{meets_sound}
-use Rattle.example_histories.specs.Rows.{Told, Row, Tells, guard, owner, counted}
-use Rattle.example_histories.specs.Rows.Line.{Call, Ask, Open, Count}
-use Rattle.example_histories.specs.Rows.Told.{Says, Lacks, Opens}
-use Rattle.example_histories.proofs.Entries.{entries, by_number, get_there, put_there}
+use Rattle.generational_core.specs.Machine.Action.{End, LeakOwner, Make, MakeShared, NewOwner, Read, Refer, Write}
+use Rattle.generational_core.specs.Machine.Answer.{Done, Made, Owned, Reads, Writes}
+use Rattle.generational_core.specs.Slots.{free, is_free, last_name, lasts, slots, slots_of}
+use Rattle.generational_core.specs.Steps.{AreNew, IsNew, last_ticket, may_lack, needs_memory, no_names, Takes}
+use Rattle.generational_core.specs.Steps.{takes_ticket}
+use Rattle.example_histories.specs.Rows.{counted, guard, Row, Tells, Told}
+use Rattle.example_histories.specs.Rows.Line.{Ask, Call, Count, Open}
+use Rattle.example_histories.specs.Rows.Told.{Lacks, Opens, Says}
+use Rattle.example_histories.proofs.Entries.{entries, get_there, put_there}
+use Rattle.std.specs.FinMap as map
+use Rattle.std.specs.FinSet as set
 
 -- ---- names, as they are computed
 
@@ -63,23 +49,7 @@ module _ {T : Type 0} where
 
   -- what is computed is so
   new_name : (S : State T) (n : Name) → is_new S n ≡ true → IsNew S n
-  new_name S n h =
-      let both = and_parts (not (set.contains S.given n)) _ h in
-      record { ungiven = not-true _ both.0; fits = ⊎_elim first next (or_cases _ _ both.1) }
-    where
-      first : (nat_eq (free S) 0 && (nat_eq n.slot (slots S) && nat_eq n.generation S.start)) ≡ true
-          → Fits S n
-      first h =
-          let p = and_parts (nat_eq (free S) 0) _ h in
-          let q = and_parts (nat_eq n.slot (slots S)) _ p.1 in
-          inl (eqb-true _ _ p.0, eqb-true _ _ q.0, eqb-true _ _ q.1)
-
-      next : (map.contains_key (slots_of S) n.slot && (is_free S n.slot
-          && nat_eq n.generation ((last_name S n.slot).generation + 1))) ≡ true → Fits S n
-      next h =
-          let p = and_parts (map.contains_key (slots_of S) n.slot) _ h in
-          let q = and_parts (is_free S n.slot) _ p.1 in
-          inr (p.0, q.0, eqb-true _ _ q.1)
+  new_name S n h = grind arith
 
   new_names : (S : State T) (a : Action T) (f : NewNames) → are_new S a f ≡ true → AreNew S a f
   new_names S (Make o v l) f h = new_name S f.first h
@@ -223,8 +193,7 @@ module _ {T : Type 0} where
 
     pub read_same : (l : Location) (x : Option Name) (y : Option (Content T))
         → read_at S l x y ≡ read_to l x y
-    read_same l (Some m) (Some (Here v readers)) = refl
-    read_same l _ _ = refl
+    read_same l x y = grind arith
 
     abbrev pub write_to : Location → Option Name → Option (Content T) → Outcome T
     write_to l (Some m) (Some (Here v readers)) =
@@ -233,8 +202,7 @@ module _ {T : Type 0} where
 
     pub write_same : (l : Location) (x : Option Name) (y : Option (Content T))
         → write_at S l x y ≡ write_to l x y
-    write_same l (Some m) (Some (Here v readers)) = refl
-    write_same l _ _ = refl
+    write_same l x y = grind arith
 
     -- what each call comes to, once it is looked up what stands at its names
     module _ (hc : is_sorted name_cmp c ≡ true) (ho : is_sorted nat_cmp o ≡ true) where

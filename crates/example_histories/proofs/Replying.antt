@@ -1,28 +1,16 @@
 -- Rows of sessions, computed from states that are written out.
-use Rattle.std.proofs.Common.{◌≡◌, ℕ, List, [], ◌∷◌, ◌++◌, cond, true, false, refl, sym, subst, inl}
-use Rattle.std.specs.Prelude.{Bool, ◌↔◌, slice_set}
-use Rattle.std.proofs.Math.ListN.{take, drop}
-use Rattle.std.proofs.lemmas.List.{take-append-drop}
-use Rattle.std.specs.FinMap.{is_sorted}
-use Rattle.std.specs.Ordering.{nat_cmp}
-use Rattle.generational_core.specs.Borrowing.{Guard}
-use Rattle.generational_core.specs.Cells.{Cell}
-use Rattle.generational_core.specs.Conditions.{fresh}
-use Rattle.generational_core.specs.Machine.{Action, Answer, NewNames, Outcome, act}
-use Rattle.generational_core.specs.Machine.Answer.{Refused}
-use Rattle.generational_core.specs.Names.{Name, Names, name_cmp}
-use Rattle.generational_core.specs.State.{State, Ownership}
-use Rattle.generational_core.specs.Steps.{limit_tickets}
-use Rattle.generational_errors.specs.declared.error.StoreError.TheVariants.{NumbersExhausted}
-use Rattle.generational_sessions.specs.declared.calls.Call.{Call}
-use Rattle.generational_sessions.specs.Session.{Held, Request, SessionReply, SessionState}
-use Rattle.generational_sessions.specs.Session.{Settles, ask, gives, reply_of, settle, spend}
-use Rattle.generational_sessions.specs.Session.Held.{Nothing, Writing}
-use Rattle.generational_sessions.specs.Session.Request.{Asks, Tells, Swaps}
-use Rattle.generational_sessions.specs.Session.SessionReply.{TheOld}
-use Rattle.generational_sessions.specs.SoundSession.{IsSoundSession}
+use Rattle.generational_sessions.specs.{declared.calls.Call.Call, Session.Held.Writing, Session.Request.Asks}
+use Rattle.generational_sessions.specs.{Session.Request.Swaps, Session.Request.Tells, Session.SessionReply.TheOld}
+use Rattle.generational_sessions.specs.{SoundSession.IsSoundSession}
+use Rattle.example_histories.proofs.Common
+use Common.{[], act, Action, Answer, arith, Bool, Cell, cond, drop, false, fresh, Guard, inl, is_sorted}
+use Common.{limit_tickets, List, Name, name_cmp, Names, nat_cmp, NewNames, Nothing, NumbersExhausted, Outcome}
+use Common.{Ownership, refl, Refused, State, subst, sym, take, take-append-drop, true, ℕ, ◌++◌, ◌↔◌, ◌∷◌, ◌≡◌}
+use Rattle.std.specs.Prelude.{slice_set}
+use Rattle.generational_sessions.specs.Session.{ask, gives, Held, reply_of, Request, SessionReply, SessionState}
+use Rattle.generational_sessions.specs.Session.{settle, Settles, spend}
 use Rattle.generational_sessions.proofs.sessions.Sessions.{fresh_kept, session_kept}
-use Rattle.example_histories.specs.SessionRows.{Replies, SessionRow, TakesNew, comes_to}
+use Rattle.example_histories.specs.SessionRows.{comes_to, Replies, SessionRow, TakesNew}
 use Rattle.example_histories.proofs.Playing.{is_short, outcome, stage, taken, takes}
 
 module _ {T : Type 0} where
@@ -40,8 +28,7 @@ module _ {T : Type 0} where
   steps s c f (Swaps p g v old) new = (refl, refl)
 
   all_new : (S : State T) (f : NewNames) (r : Request T) → takes_new S f r ≡ true → TakesNew S f r
-  all_new S f (Asks a) h = taken S a (limit_tickets S (act S a f)).0 f h
-  all_new S f _ h = tt
+  all_new S f r h = grind (arith, taken)
 
 -- a row that is computed: names are tested, and what holds of sessions follows
 unfoldable pub Plays : {T : Type 0} → SessionState T → SessionRow T → Type 0

@@ -1,30 +1,22 @@
-use Rattle.std.proofs.Common.{◌≡◌, ℕ, sym, ap, inl, inr, refl, ⊎_elim, arith, ◌∙◌, ◌||◌}
-use Rattle.std.proofs.lemmas.Bool.{true≢false}
-use Rattle.std.specs.Prelude.{[], ◌∷◌}
+use Rattle.example_histories.proofs.Common.{[], contains-insert_name, fresh, Here, hindrance_to, inl, inr}
+use Rattle.example_histories.proofs.Common.{is_name, Location, reach, Ref, refl, refusal_to_read}
+use Rattle.example_histories.proofs.Common.{refusal_to_write, Shared, Value, ⊎_elim, ◌#◌, ◌∷◌}
+use Rattle.generational_core.proofs.maps.Maps.{name_here}
+use Rattle.example_histories.specs.Rows.{Tells}
+use Rattle.example_histories.proofs.Playing.{cut, more_given, none_given, one_owner, plays, plays_tell, reader}
 use Rattle.std.specs.FinSet as set
-use Rattle.generational_core.specs.Names.{is_name}
-use Rattle.generational_core.specs.Cells.Cell.{Value, Shared, Ref}
-use Rattle.generational_core.specs.Cells.Content.{Here}
-use Rattle.generational_core.specs.Borrowing.{reach, refusal_to_read, refusal_to_write}
-use Rattle.generational_core.specs.Ending.{hindrance_to}
-use Rattle.generational_core.specs.Conditions.{fresh}
-use Rattle.generational_errors.specs.declared.error.Location.{Location}
-use Rattle.generational_core.proofs.maps.Maps.{contains-insert_name, name_here}
 use Rattle.example_histories.specs.Histories as row
-use Rattle.example_histories.specs.Rows.{Tells, ◌#◌}
-use Rattle.example_histories.proofs.Playing.{plays, plays_tell, none_given, more_given, cut, one_owner, reader}
 use Rattle.example_histories.proofs.owners.Goals as goal
-
-one_not_none : ◌≡◌ {A = ℕ} 1 0 → ⊥
-one_not_none e = omega arith
 
 -- a name that was given once isn't new
 twice : {T : Type 0} (u v w : T) (L M R W : Location)
     → Tells (fresh 7 1 0) (row.one_name_twice u v w L M R W) → ⊥
 unfolding Tells
-twice {T} u v w L M R W h = true≢false (sym (contains-insert_name _ (0 # 1) (0 # 1)
-    ∙ ap (λ x. x || set.contains (fresh {T = T} 7 1 0).given (0 # 1)) (name_here (0 # 1)))
-    ∙ h.3.1.ungiven)
+twice {T} u v w L M R W h = cc (
+  contains-insert_name (fresh {T = T} 7 1 0).given (0 # 1) (0 # 1),
+  name_here (0 # 1),
+  h.3.1.ungiven,
+)
 
 -- A long row is cut where a state is written out: its cells, the names given, the owners, the next
 -- ticket and the peak.
@@ -64,12 +56,10 @@ returns g c =
       next_generation_fits = λ u v w L M R W.
           inr (simp (plays, none, more), simp (plays, none, more), simp (plays, none, more));
       no_new_slot_fits = λ u v w L M R W h.
-          ⊎_elim (λ l. one_not_none (simp (plays, none, more) at l.0))
-          (λ r. true≢false (sym (simp (plays, none, more) at r.0))) h;
+          ⊎_elim (λ l. cc (simp (plays, none, more) at l.0)) (λ r. cc (simp (plays, none, more) at r.0)) h;
       new_slot_fits = λ u v w L M R W.
           inl (simp (plays, none, more), simp (plays, none, more), refl);
       no_name_twice = twice;
       no_other_name_fits = λ u v w L M R W h.
-          ⊎_elim (λ l. one_not_none (sym (simp (plays, none, more) at l.1)))
-          (λ r. true≢false (sym (simp (plays, none, more) at r.1))) h;
+          ⊎_elim (λ l. cc (simp (plays, none, more) at l.1)) (λ r. cc (simp (plays, none, more) at r.1)) h;
     }

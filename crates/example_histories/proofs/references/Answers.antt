@@ -1,12 +1,7 @@
-use Rattle.std.specs.Prelude.{[], ◌∷◌}
+use Rattle.example_histories.proofs.Common.{[], Here, hindrance_to, is_name, reach, Ref, refusal_to_read}
+use Rattle.example_histories.proofs.Common.{refusal_to_write, Shared, Value, ◌#◌, ◌∷◌}
+use Rattle.example_histories.proofs.Playing.{cut, more_given, none_given, one_owner, plays, plays_tell, reader}
 use Rattle.std.specs.FinSet as set
-use Rattle.generational_core.specs.Names.{is_name}
-use Rattle.generational_core.specs.Cells.Cell.{Value, Shared, Ref}
-use Rattle.generational_core.specs.Cells.Content.{Here}
-use Rattle.generational_core.specs.Borrowing.{reach, refusal_to_read, refusal_to_write}
-use Rattle.generational_core.specs.Ending.{hindrance_to}
-use Rattle.example_histories.specs.Rows.{◌#◌}
-use Rattle.example_histories.proofs.Playing.{plays, plays_tell, none_given, more_given, cut, one_owner, reader}
 use Rattle.example_histories.proofs.references.Goals as goal
 
 -- A long row is cut where a state is written out: its cells, the names given, the owners, the next

@@ -1,14 +1,10 @@
-use Rattle.std.specs.Prelude.{[], ◌∷◌, refl}
-use Rattle.generational_core.specs.Names.{is_name}
-use Rattle.generational_core.specs.Borrowing.{reach, refusal_to_read, refusal_to_write}
-use Rattle.generational_core.specs.Ending.{hindrance_to}
+use Rattle.example_histories.proofs.Common.{[], Here, hindrance_to, is_name, Nothing, owner, reach, refl}
+use Rattle.example_histories.proofs.Common.{refusal_to_read, refusal_to_write, Value, ◌#◌, ◌∷◌}
+use Rattle.generational_sessions.specs.Session.Held.{Boxed, Owning}
+use Rattle.example_histories.specs.Rows.{box}
+use Rattle.example_histories.proofs.Playing.{more_given, none_given, one_owner, plays}
+use Rattle.example_histories.proofs.Replying.{cut, plays_reply, replying}
 use Rattle.std.specs.FinSet as set
-use Rattle.generational_core.specs.Cells.Cell.{Value}
-use Rattle.generational_core.specs.Cells.Content.{Here}
-use Rattle.generational_sessions.specs.Session.Held.{Boxed, Owning, Nothing}
-use Rattle.example_histories.specs.Rows.{box, owner, ◌#◌}
-use Rattle.example_histories.proofs.Playing.{plays, none_given, more_given, one_owner}
-use Rattle.example_histories.proofs.Replying.{plays_reply, replying, cut}
 use Rattle.example_histories.proofs.sessions.Goals as goal
 
 pub returns : goal.returns
