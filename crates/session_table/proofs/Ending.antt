@@ -1,10 +1,10 @@
 -- Rows of which one is taken out, and tables whose old sessions end.
 use Rattle.session_table.proofs.Common
-use Common.{[], ap, arith, Bool, by_option, EndsAt, Entry, false, get_take, has_session}
-use Common.{held_in, if_young, is_young, IsEquivalence, IsKept, IsOrderly, keeps, length, List}
-use Common.{LiveSession, lookup_congr, None, place_from_lookup, rules, Session}
-use Common.{session_in, shown_in, slice_get, slice_get_within, Some, State, swap_remove, table_of, TableState}
-use Common.{take, take-set, take-take, true, WasPut, ℕ, ◌+◌, ◌-◌, ◌<◌, ◌∙◌, ◌∷◌, ◌≡◌, ◌≤◌, ◌⊎◌}
+use Common.{[], ap, arith, Bool, by_option, EndsAt, Entry, false, get_take, has_session, held_in, if_young}
+use Common.{is_young, IsEquivalence, IsKept, IsOrderly, keeps, length, List, LiveSession, lookup_congr, None}
+use Common.{place_from_lookup, rules, Session, session_in, shown_in, slice_get, slice_get_within, Some, State}
+use Common.{swap_remove, table_of, TableState, take, take-set, take-take, true, WasPut, ℕ, ◌+◌, ◌-◌, ◌<◌, ◌∙◌}
+use Common.{◌∷◌, ◌≡◌, ◌≤◌, ◌⊎◌}
 use Rattle.session_table.proofs.Keeping.{no_rows}
 
 -- what stands before a place stays there

@@ -9,9 +9,9 @@ use Common.{last_record, LeavesBox, LeavesOwner, List, list_any-append, lists, L
 use Common.{Make, MakesNoReference, Meets, meets_number, Name, name_cases, name_cmp, name_here, name_of}
 use Common.{name_same, name_total, nat_cmp, nat_eq, NewOwner, None, Ok, Old, Option, Owned, owned, OwnerName}
 use Common.{Ownership, ownership, pointer_of, quiet_fresh, quiet_stays, reach, reaches, recursion_from_All, refl}
-use Common.{release_leaves, ReleaseOwner, same_reach, seen_reached, SetValue, Some, State}
-use Common.{stays_listed, stays_plain, subst, sym, true, unknown_owner, unlisted, unseen, value_in, ℕ, ⊎_elim}
-use Common.{◌++◌, ◌||◌, ◌∙◌, ◌∷◌, ◌≡◌, ◌≢◌, ◌⊎◌}
+use Common.{release_leaves, ReleaseOwner, same_reach, seen_reached, SetValue, Some, State, stays_listed}
+use Common.{stays_plain, subst, sym, true, unknown_owner, unlisted, unseen, value_in, ℕ, ⊎_elim, ◌++◌, ◌||◌, ◌∙◌}
+use Common.{◌∷◌, ◌≡◌, ◌≢◌, ◌⊎◌}
 use Rattle.generational_core.specs.Conditions.{names_in as owned_names}
 use Rattle.std.specs.FinMap as map
 

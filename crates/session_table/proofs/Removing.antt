@@ -1,8 +1,8 @@
 -- Entries of which one is taken out.
-use Rattle.session_table.proofs.Common
-use Common.{[], All-from_recursion, All-map-remove_entry, AllByRecursion, among, arith, Bool, cond}
-use Common.{cond_both, Entry, false, is_name, IsDistinct, List, lookup, map, Name, name_here, name_of, name_same}
-use Common.{names_of, pointer_in, recursion_from_All, remove_entry, Some, true, ◌∷◌, ◌≡◌}
+use Rattle.session_table.proofs.Common.{[], All-from_recursion, All-map-remove_entry, AllByRecursion, among}
+use Rattle.session_table.proofs.Common.{arith, Bool, cond, cond_both, Entry, false, is_name, IsDistinct, List}
+use Rattle.session_table.proofs.Common.{lookup, map, Name, name_here, name_of, name_same, names_of, pointer_in}
+use Rattle.session_table.proofs.Common.{recursion_from_All, remove_entry, Some, true, ◌∷◌, ◌≡◌}
 use Rattle.std.proofs.lemmas.List.Folds.{list_any_none}
 
 -- a name from which all of a list differ isn't among them

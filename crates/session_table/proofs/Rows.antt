@@ -1,9 +1,9 @@
 -- What a caller sees of rows, and what they say of the store.
-use Rattle.session_table.proofs.Common
-use Common.{among, ap, arith, Bool, by_option, Entry, false, free_sees, Held, held_in}
-use Common.{held_of, is_some, IsDistinct, IsKept, IsOrderly, IsSound, keeps, keys_of, keys_of-map_values, List}
-use Common.{live, lookup, lookup-map_values, name_of, option_map, ownership, pointer_in, quiet_free, seen_reached}
-use Common.{Session, session_in, Some, State, table_of, true, ◌≡◌}
+use Rattle.session_table.proofs.Common.{among, ap, arith, Bool, by_option, Entry, false, free_sees, Held, held_in}
+use Rattle.session_table.proofs.Common.{held_of, is_some, IsDistinct, IsKept, IsOrderly, IsSound, keeps, keys_of}
+use Rattle.session_table.proofs.Common.{keys_of-map_values, List, live, lookup, lookup-map_values, name_of}
+use Rattle.session_table.proofs.Common.{option_map, ownership, pointer_in, quiet_free, seen_reached, Session}
+use Rattle.session_table.proofs.Common.{session_in, Some, State, table_of, true, ◌≡◌}
 
 module _ {I K T : Type 0} (eq : I → I → Bool) (S : State T) (rows : List (I × Session K T)) where
   -- the session of an id is that of its row

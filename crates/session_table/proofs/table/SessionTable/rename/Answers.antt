@@ -1,6 +1,6 @@
 use Rattle.session_table.proofs.{ap, arith, changed, is_some, left_none, length, length-map, no_row, none-some}
-use Rattle.session_table.proofs.{other_sessions, own_session, refl, renamed_rows, rules, session_of, still_none}
-use Rattle.session_table.proofs.{sym, true≢false, ◌∙◌}
+use Rattle.session_table.proofs.{other_sessions, own_session, refl, renamed_rows, session_of, still_none, sym}
+use Rattle.session_table.proofs.{true≢false, ◌∙◌}
 use Rattle.session_table.proofs.table.SessionTable.rename.Goals as goal
 
 pub unreachable-requires : goal.unreachable-requires
@@ -26,26 +26,31 @@ invariant_of-self-2 g c =
     renamed_rows c.self.invariant gone (changed laws c.args.to (still_none gone c.args.to free)
     c.in-Ok-None.ensures.updates.0) free
 
-pub returns : goal.returns
-returns g c =
-    let eq = g.I.PartialEq.eq in
-    let laws = g.met.I.Eq.laws in
-    let rows = c.self.inside.rows.entries in
+pub returns-clause-moved : goal.returns-clause-moved
+returns-clause-moved g c =
     let found = sym (rw c.reserve.ensures.entries at c.in-Some.ensures.value) in
-    let free = no_row (eq c.args.to) rows (rw (← c.self.view_is) at (sym c.has-2.ensures ∙ c.if-has.false)) in
+    rw (← c.self.view_is, session_of (g.I.PartialEq.eq c.args.id.now) c.self.inside.rows.entries found)
+    (own_session (changed g.met.I.Eq.laws c.args.to refl c.in-Ok-None.ensures.updates.0))
+
+pub returns-clause-gone : goal.returns-clause-gone
+returns-clause-gone g c =
+    let laws = g.met.I.Eq.laws in
+    let found = sym (rw c.reserve.ensures.entries at c.in-Some.ensures.value) in
+    let free = no_row (g.I.PartialEq.eq c.args.to) c.self.inside.rows.entries
+    (rw (← c.self.view_is) at (sym c.has-2.ensures ∙ c.if-has.false)) in
     let gone = changed laws c.args.id.now found (rw c.reserve.ensures.entries at c.in-Some.ensures.updates.0) in
-    let moved = changed laws c.args.to (still_none gone c.args.to free) c.in-Ok-None.ensures.updates.0 in
+    left_none gone (changed laws c.args.to (still_none gone c.args.to free) c.in-Ok-None.ensures.updates.0) free
+
+pub returns-clause-others : goal.returns-clause-others
+returns-clause-others g c other ne apart =
+    let laws = g.met.I.Eq.laws in
+    let gone = changed laws c.args.id.now refl (rw c.reserve.ensures.entries at c.in-Some.ensures.updates.0) in
+    rw (← c.self.view_is) (other_sessions (changed laws c.args.to refl c.in-Ok-None.ensures.updates.0) other apart
+    ∙ other_sessions gone other ne)
+
+pub returns-clause-count : goal.returns-clause-count
+returns-clause-count g c =
     let room = ap length c.reserve.ensures.entries in
     let less = c.in-Some.ensures.len in
     let more = rw c.in-Ok-None.field-0-is at c.in-Ok-None.ensures.len in
-    rw (← c.self.view_is, session_of (eq c.args.id.now) rows found) (record {
-      moved = own_session moved;
-      gone = left_none gone moved free;
-      others = λ other ne apart. other_sessions moved other apart ∙ other_sessions gone other ne;
-      count = simp length-map (omega (arith, room, less, more));
-      state = search rules;
-      unknown = search rules;
-      in_use = search rules;
-      short = search rules;
-      refused = search rules;
-    })
+    rw (← c.self.view_is) (simp length-map (omega (arith, room, less, more)))
