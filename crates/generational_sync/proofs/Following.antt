@@ -1,41 +1,16 @@
 -- The state without values takes the recorded step.
-use Rattle.std.proofs.Common.{[], ◌≡◌, Bool, true, false, cond, not, Option, None, Some}
-use Rattle.std.proofs.Common.{refl, sym, ap, subst, ◌∙◌, inl, inr, IfSome}
-use Rattle.std.specs.Prelude.{nat_eq, option_map}
-use Rattle.std.proofs.lemmas.Bool.{and_parts, and_from, eqb-true}
-use Rattle.generational_errors.specs.declared.error.Location.{Location}
-use Rattle.generational_errors.specs.declared.error.StoreError.TheVariants.{OutOfMemory}
-use Rattle.generational_errors.specs.declared.error.StoreError.TheVariants.{NumbersExhausted}
-use Rattle.generational_errors.specs.declared.error.StoreError.TheVariants.{UnknownOwner}
-use Rattle.generational_core.specs.declared.boxes.GenerationalPointer.{GenerationalPointer}
-use Rattle.generational_core.specs.declared.steps.StepCall.{StepCall}
+use Rattle.generational_sync.proofs.Common
+use Common.{[], act, Action, action_of, add_cell, and_from, and_parts, Answer, ap, arith, Back, Bool}
+use Common.{box_of, CanRead, CanWrite, CloneOwner, cond, content_at, Done, End, eqb-true, false, Flag}
+use Common.{GenerationalPointer, gives_new, Guard, guard_at, Here, id_of, IfSome, inl, inr, is_hindered}
+use Common.{is_known, is_ready, IsSound, knows_reader, knows_writer, LeakOwner, limit_tickets, Location}
+use Common.{made_reply, Make, make, MakeShared, Meets, names_of_reply, nat_eq, NewNames, NewOwner, no_names}
+use Common.{None, not, Option, option_map, Outcome, OwnerName, Plain, plain, plain_answer, plain_call}
+use Common.{plain_step, Point, Read, recorded_as, recorded_reply, Ref, Refer, refl, Refused, ReleaseOwner}
+use Common.{ReleaseReader, ReleaseWriter, remove_reader, SetValue, Shared, Some, State, step_by, StepCall}
+use Common.{StepReply, subst, sym, Takes, true, UnknownOwner, Write, ◌∙◌, ◌≡◌}
 use Rattle.generational_core.specs.declared.steps.StepCall.TheVariants as call
-use Rattle.generational_core.specs.Boxes.{box_of, id_of}
-use Rattle.generational_core.specs.Names.{Name}
-use Rattle.generational_core.specs.Cells.{Cell}
-use Rattle.generational_core.specs.Cells.Content.{Here}
-use Rattle.generational_core.specs.Cells.Cell.{Value, Shared, Ref}
-use Rattle.generational_core.specs.State.{State, IsSound, content_at}
-use Rattle.generational_core.specs.Borrowing.{BorrowRefusal, Guard, refusal_to_read, reach}
-use Rattle.generational_core.specs.Borrowing.BorrowRefusal.{Dropped, BeingRead, BeingWritten}
-use Rattle.generational_core.specs.Machine.{Action, Answer, NewNames, OwnerName, Outcome, act, unless}
-use Rattle.generational_core.specs.Machine.{add_cell, cell_at, is_known, knows_reader, knows_writer}
-use Rattle.generational_core.specs.Machine.{make, refer, remove_reader}
-use Rattle.generational_core.specs.Machine.Action.{Make, MakeShared, Refer, NewOwner, CloneOwner}
-use Rattle.generational_core.specs.Machine.Action.{ReleaseOwner, LeakOwner, Read, Write}
-use Rattle.generational_core.specs.Machine.Action.{ReleaseReader, ReleaseWriter, SetValue, End}
-use Rattle.generational_core.specs.Machine.Action.{Point, CanRead, CanWrite}
-use Rattle.generational_core.specs.Machine.Answer.{Made, Owned, Reads, Writes, Done, Old, Flag}
-use Rattle.generational_core.specs.Machine.Answer.{Back, BorrowRefused, Refused}
-use Rattle.generational_core.specs.Steps.{Meets, Takes, limit_tickets}
-use Rattle.generational_core.specs.Steps.{no_names}
-use Rattle.generational_core.specs.StepCalls.{is_ready, recorded_as, is_hindered}
-use Rattle.generational_sessions.specs.History.{plain, plain_call, plain_answer}
-use Rattle.shared_records.specs.declared.step.StepReply.{StepReply}
 use Rattle.shared_records.specs.declared.step.StepReply.TheVariants as reply
-use Rattle.shared_history.specs.Replies.{made_reply, recorded_reply}
-use Rattle.shared_history.specs.History.{Plain, plain_step, step_by, action_of, names_of_reply}
-use Rattle.shared_history.specs.History.{gives_new, guard_at}
 use Rattle.generational_sync.proofs.Replying.{plain_reply, recorded_is}
 use Rattle.generational_sync.proofs.Fitting.{new_to}
 use Rattle.generational_sync.proofs.Finding.{reader_found, writer_found}
@@ -60,38 +35,13 @@ recorded_of P a out = recorded_reply (limit_tickets P out).1 a (limit_tickets P 
 -- an answer that is recorded tells of no borrow
 unhindered : (P : Plain) (a : Action (Unit {0})) (out : Outcome (Unit {0})) (r : StepReply)
     → recorded_of P a out ≡ Some r → is_hindered a out.0 ≡ false
-unhindered P a (BorrowRefused (BeingRead ls), Q) r h = absurd cc
-unhindered P a (BorrowRefused (BeingWritten l), Q) r h = absurd cc
-unhindered P a (BorrowRefused (Dropped l), Q) r h = refl
-unhindered P a (Made b, Q) r h = refl
-unhindered P a (Owned o, Q) r h = refl
-unhindered P a (Reads g, Q) r h = refl
-unhindered P a (Writes g v, Q) r h = refl
-unhindered P a (Done, Q) r h = refl
-unhindered P a (Old v, Q) r h = refl
-unhindered P a (Flag b, Q) r h = refl
-unhindered P a (Back v, Q) r h = absurd cc
-unhindered P a (Refused e, Q) r h = refl
+unhindered P a out r h = grind arith
 
 -- a call that makes no box is recorded without one
 unmade : (P Q : Plain) (a : Action (Unit {0})) (answer : Answer (Unit {0}))
     → ((b : GenerationalPointer) → made_reply a Q b ≡ None)
     → IfSome (recorded_reply Q a answer) (λ r. gives_new P a r ≡ true)
-unmade P Q a (Made b) none = subst (λ o. IfSome o (λ r. gives_new P a r ≡ true)) (sym (none b)) tt
-unmade P Q a (Owned o) none = refl
-unmade P Q a (Reads g) none = refl
-unmade P Q a (Writes g v) none = refl
-unmade P Q a Done none = refl
-unmade P Q a (Old v) none = refl
-unmade P Q a (Flag true) none = refl
-unmade P Q a (Flag false) none = tt
-unmade P Q a (Back v) none = tt
-unmade P Q a (BorrowRefused (Dropped l)) none = refl
-unmade P Q a (BorrowRefused (BeingRead ls)) none = tt
-unmade P Q a (BorrowRefused (BeingWritten l)) none = tt
-unmade P Q a (Refused OutOfMemory) none = tt
-unmade P Q a (Refused NumbersExhausted) none = refl
-unmade P Q a (Refused UnknownOwner) none = refl
+unmade P Q a answer none = grind arith
 
 -- ---- a step without values
 
@@ -141,6 +91,12 @@ module _ (tell : IsTold) (P : Plain) where
   abbrev Tells : Action (Unit {0}) → NewNames → Outcome (Unit {0}) → StepReply → Type 0
   Tells a new out r = (act P a (names_of_reply r) ≡ out) × (gives_new P a r ≡ true)
 
+  make_tells : (o : Option OwnerName) (l : Location) (new : NewNames)
+      → Takes P (Make o tt l) (limit_tickets P (act P (Make o tt l) new)).0 new → (r : StepReply)
+      → recorded_of P (Make o tt l) (act P (Make o tt l) new) ≡ Some r
+      → Tells (Make o tt l) new (act P (Make o tt l) new) r
+  make_tells o l new takes r h = grind (arith, new_to)
+
   some_is : (x y : StepReply) → Some x ≡ Some y → x ≡ y
   some_is x y e = cc
 
@@ -151,18 +107,6 @@ module _ (tell : IsTold) (P : Plain) where
       → Tells a new (Refused UnknownOwner, P) r
   unknown a new r same e = subst (Tells a new (Refused UnknownOwner, P))
       (some_is (reply.Store UnknownOwner) r e) (same no_names, refl)
-
-  make_tells : (o : Option OwnerName) (l : Location) (new : NewNames) (known : Bool)
-      → is_known P o ≡ known → let out : Outcome (Unit {0}) = cond known
-      (make P o new.first (Value (Here tt []) l) l) (Refused UnknownOwner, P) in
-      Takes P (Make o tt l) (limit_tickets P out).0 new → (r : StepReply)
-      → recorded_of P (Make o tt l) out ≡ Some r → Tells (Make o tt l) new out r
-  make_tells o l new false is takes r h =
-      unknown (Make o tt l) new r (λ f. rw is refl) h
-  make_tells o l new true is takes r h = subst (Tells (Make o tt l) new
-      (make P o new.first (Value (Here tt []) l) l))
-      (some_is (reply.Made (box_of P.number new.first l)) r h)
-      (rw is refl, new_to P new.first takes)
 
   shared_tells : (o : Option OwnerName) (l : Location) (new : NewNames) (known : Bool)
       → is_known P o ≡ known → let out : Outcome (Unit {0}) = cond known
@@ -185,37 +129,11 @@ module _ (tell : IsTold) (P : Plain) where
         and_from _ _ (new_to P new.first takes.0) (new_to shared new.second takes.1),
       )
 
-  -- a reference, to what is reached
-  refer_tells : (o : Option OwnerName) (b : GenerationalPointer) (new : NewNames) (known : Bool)
-      → is_known P o ≡ known → (t : Option BorrowRefusal) → refusal_to_read P b ≡ t
-      → (to : Option Name) → reach P b ≡ to → (c : Option (Cell (Unit {0}))) → cell_at P to ≡ c
-      → let out : Outcome (Unit {0}) = cond known (unless t P (refer P o b to c new.first))
-      (Refused UnknownOwner, P) in
-      Takes P (Refer o b) (limit_tickets P out).0 new → (r : StepReply)
-      → recorded_of P (Refer o b) out ≡ Some r → Tells (Refer o b) new out r
-  refer_tells o b new false is t told to reaches c at takes r h =
-      unknown (Refer o b) new r (λ f. rw is refl) h
-  refer_tells o b new true is (Some (Dropped l)) told to reaches c at takes r h =
-      subst (Tells (Refer o b) new (BorrowRefused (Dropped l), P))
-      (some_is (reply.Dropped l) r h) (rw (is, told) refl, refl)
-  refer_tells o b new true is (Some (BeingRead ls)) told to reaches c at takes r h = absurd cc
-  refer_tells o b new true is (Some (BeingWritten l)) told to reaches c at takes r h = absurd cc
-  refer_tells o b new true is None told (Some m) reaches (Some (Shared c l)) at takes r h =
-      subst (Tells (Refer o b) new (make P o new.first (Ref m l) l))
-      (some_is (reply.Made (box_of P.number new.first l)) r h)
-      (rw (is, told, reaches, at) refl, new_to P new.first takes)
-  refer_tells o b new true is None told None reaches c at takes r h =
-      subst (Tells (Refer o b) new (BorrowRefused (Dropped b.created_at), P))
-      (some_is (reply.Dropped b.created_at) r h) (rw (is, told, reaches) refl, refl)
-  refer_tells o b new true is None told (Some m) reaches None at takes r h =
-      subst (Tells (Refer o b) new (BorrowRefused (Dropped b.created_at), P))
-      (some_is (reply.Dropped b.created_at) r h) (rw (is, told, reaches, at) refl, refl)
-  refer_tells o b new true is None told (Some m) reaches (Some (Value c l)) at takes r h =
-      subst (Tells (Refer o b) new (BorrowRefused (Dropped b.created_at), P))
-      (some_is (reply.Dropped b.created_at) r h) (rw (is, told, reaches, at) refl, refl)
-  refer_tells o b new true is None told (Some m) reaches (Some (Ref k l)) at takes r h =
-      subst (Tells (Refer o b) new (BorrowRefused (Dropped b.created_at), P))
-      (some_is (reply.Dropped b.created_at) r h) (rw (is, told, reaches, at) refl, refl)
+  refer_tells : (o : Option OwnerName) (b : GenerationalPointer) (new : NewNames)
+      → Takes P (Refer o b) (limit_tickets P (act P (Refer o b) new)).0 new → (r : StepReply)
+      → recorded_of P (Refer o b) (act P (Refer o b) new) ≡ Some r
+      → Tells (Refer o b) new (act P (Refer o b) new) r
+  refer_tells o b new takes r h = grind (arith, new_to)
 
   -- ---- releases
 
@@ -223,14 +141,12 @@ module _ (tell : IsTold) (P : Plain) where
   known_by : (g : Guard) (b : Bool) (Q : Plain) (r : StepReply)
       → let out : Outcome (Unit {0}) = cond b (Flag true, Q) (Flag false, P) in
       recorded_of P (ReleaseReader g) out ≡ Some r → b ≡ true
-  known_by g true Q r h = refl
-  known_by g false Q r h = absurd cc
+  known_by g b Q r h = grind arith
 
   written_by : (g : Guard) (b : Bool) (Q : Plain) (r : StepReply)
       → let out : Outcome (Unit {0}) = cond b (Done, Q) (Back tt, P) in
       recorded_of P (ReleaseWriter g tt) out ≡ Some r → b ≡ true
-  written_by g true Q r h = refl
-  written_by g false Q r h = absurd cc
+  written_by g b Q r h = grind arith
 
   own_guard : (g : Guard) → nat_eq g.store P.number ≡ true → guard_at P g.ticket g.cell ≡ g
   own_guard g own = λ i. record {
@@ -264,10 +180,10 @@ module _ (tell : IsTold) (P : Plain) where
       → Takes P a (limit_tickets P (act P a new)).0 new
       → IfSome (recorded_as a) (λ c. Leads c a (act P a new))
   does (Make None tt l) new sound takes = named (call.Leak l) (Make None tt l) new refl refl
-      (make_tells None l new true refl takes)
+      (make_tells None l new takes)
   does (Make (Some o) tt l) new sound takes =
       named (call.Insert _ l) (Make (Some o) tt l) new refl refl
-      (make_tells (Some o) l new (is_known P (Some o)) refl takes)
+      (make_tells (Some o) l new takes)
   does (MakeShared None tt l) new sound takes =
       named (call.LeakRc l) (MakeShared None tt l) new refl refl
       (shared_tells None l new true refl takes)
@@ -276,10 +192,10 @@ module _ (tell : IsTold) (P : Plain) where
       (shared_tells (Some o) l new (is_known P (Some o)) refl takes)
   does (Refer None b) new sound takes =
       named (call.LeakReference b) (Refer None b) new refl refl
-      (refer_tells None b new true refl _ refl _ refl _ refl takes)
+      (refer_tells None b new takes)
   does (Refer (Some o) b) new sound takes =
       named (call.InsertReference _ b) (Refer (Some o) b) new refl refl
-      (refer_tells (Some o) b new (is_known P (Some o)) refl _ refl _ refl _ refl takes)
+      (refer_tells (Some o) b new takes)
   does NewOwner new sound takes = nameless call.Owner NewOwner new refl refl (λ f. refl) (λ Q b. refl)
   does (CloneOwner o) new sound takes =
       nameless (call.CloneOwner _) (CloneOwner o) new refl refl (λ f. refl) (λ Q b. refl)
@@ -316,13 +232,7 @@ module _ (tell : IsTold) (P : Plain) where
 
 module _ {T : Type 0} where
   plain_recorded : (a : Action T) → recorded_as (plain_call a) ≡ recorded_as a
-  plain_recorded (Make None v l) = refl
-  plain_recorded (Make (Some o) v l) = refl
-  plain_recorded (MakeShared None v l) = refl
-  plain_recorded (MakeShared (Some o) v l) = refl
-  plain_recorded (Refer None b) = refl
-  plain_recorded (Refer (Some o) b) = refl
-  plain_recorded _ = refl
+  plain_recorded a = grind arith
 
   pub plain_follows : IsTold → IsPlain T → (S R : State T) (a : Action T) (c : StepCall)
       (answer : Answer T) (r : StepReply) → IsSound (plain S) → recorded_as a ≡ Some c

@@ -1,54 +1,18 @@
 -- What lies under the lock stays as it is kept, and each call that is recorded is a step.
-use Rattle.std.proofs.Common.{◌≡◌, ℕ, ◌+◌, ◌≤◌, ◌<◌, Bool, true, false, cond, List, [], ◌∷◌}
-use Rattle.std.proofs.Common.{length, Option, None, Some, Ok, refl, sym, ap, subst, ◌∙◌}
-use Rattle.std.proofs.Common.{arith, inl, inr, IfSome}
-use Rattle.std.specs.Prelude.{is_some, nat_eq, option_map, option_to_list}
-use Rattle.std.proofs.lemmas.Bool.{and_parts, true≢false}
+use Rattle.generational_sync.proofs.Common
+use Common.{[], Action, and_parts, Answer, ap, ArePast, arith, Back, BaseRow, Bases, BaseState, Bool}
+use Common.{borrows, borrows_in, Cell, cond, content_at, Counts, Done, ends_borrow, false, fill, Flag}
+use Common.{fresh, given_by, Guard, HasEnded, Here, IfSome, inl, inr, is_ready, is_some, IsAnswered, IsKept}
+use Common.{IsSettled, IsSound, IsStep, IsUnseenStep, kind_in, knows_reader, knows_writer, LeadsTo, leaves}
+use Common.{length, lent_in, limit_tickets, List, Location, LogState, Made, Make, MakeShared, MayAnswer}
+use Common.{Meets, Name, name_cmp, nat_eq, new_base, None, Ok, Option, option_map, option_to_list, Outcome}
+use Common.{OutOfMemory, OwnerName, Plain, plain, plain_answer, plain_call, plain_meets, plain_of}
+use Common.{plain_step, raised_by, ReadBack, recorded_as, recorded_reply, Records, RecordsCall, refl}
+use Common.{Refused, ReleaseReader, ReleaseWriter, remove_reader, replay_from, Replays, rows_of, shared}
+use Common.{SharedState, Some, start, State, Step, step_kind, step_of, StepCall, StepReply, subst, sym}
+use Common.{tallied, told_by, true, true≢false, value_behind, WasAnswered, ℕ, ◌+◌, ◌<◌, ◌∙◌, ◌∷◌, ◌≡◌, ◌≤◌}
 use Rattle.std.specs.FinMap as map
-use Rattle.generational_errors.specs.declared.error.Location.{Location}
-use Rattle.generational_errors.specs.declared.error.StoreError.TheVariants.{OutOfMemory}
-use Rattle.generational_errors.specs.declared.error.StoreError.TheVariants.{NumbersExhausted}
-use Rattle.generational_errors.specs.declared.error.StoreError.TheVariants.{UnknownOwner}
-use Rattle.generational_core.specs.declared.boxes.GenerationalBoxId.{GenerationalBoxId}
-use Rattle.generational_core.specs.declared.boxes.GenerationalPointer.{GenerationalPointer}
-use Rattle.generational_core.specs.declared.steps.StepCall.{StepCall}
-use Rattle.generational_core.specs.Names.{Name, name_cmp}
-use Rattle.generational_core.specs.Cells.{Cell}
-use Rattle.generational_core.specs.Cells.Content.{Here}
-use Rattle.generational_core.specs.State.{State, IsSound, content_at}
-use Rattle.generational_core.specs.Conditions.{fresh}
-use Rattle.generational_core.specs.Borrowing.{Guard, fill}
-use Rattle.generational_core.specs.Borrowing.BorrowRefusal.{Dropped, BeingRead, BeingWritten}
-use Rattle.generational_core.specs.Machine.{Action, Answer, Outcome, OwnerName, knows_reader}
-use Rattle.generational_core.specs.Machine.{knows_writer, remove_reader}
-use Rattle.generational_core.specs.Machine.Action.{Make, MakeShared, Refer, ReleaseReader}
-use Rattle.generational_core.specs.Machine.Action.{ReleaseWriter}
-use Rattle.generational_core.specs.Machine.Answer.{Made, Owned, Reads, Writes, Done, Old, Flag}
-use Rattle.generational_core.specs.Machine.Answer.{Back, BorrowRefused, Refused}
-use Rattle.generational_core.specs.Steps.{Meets, limit_tickets}
-use Rattle.generational_core.specs.Answers.{value_behind}
-use Rattle.generational_core.specs.StepCalls.{is_ready, recorded_as, target_of}
-use Rattle.generational_sessions.specs.History.{plain}
-use Rattle.shared_records.specs.declared.step.Step.{Step}
-use Rattle.shared_records.specs.declared.step.StepReply.{StepReply}
 use Rattle.shared_records.specs.declared.step.StepReply.TheVariants as reply
-use Rattle.shared_records.specs.Kinds.{step_kind, step_of}
-use Rattle.generational_sync.specs.Answering.{GivesBox, MayAnswer}
-use Rattle.shared_history.specs.Counts.{Counts}
-use Rattle.shared_history.specs.Replies.{Records, kind_in, made_reply, raised_by, recorded_reply, tallied}
-use Rattle.shared_history.specs.History.{Plain, start, plain_step, replay_from}
-use Rattle.shared_history.specs.Standing.{borrows, borrows_in, ends_borrow, given_by, leaves, lent_by}
-use Rattle.shared_history.specs.Standing.{lent_in}
-use Rattle.shared_history.specs.Bases.{BaseState, new_base, plain_of}
-use Rattle.generational_sync.specs.Keeping.{HasEnded, IsAnswered, IsKept, IsSettled, WasAnswered, shared}
-use Rattle.generational_sync.specs.Placing.{LeadsTo}
-use Rattle.generational_sync.specs.Shared.{IsStep, IsUnseenStep, RecordsCall, Replays, SharedState}
-use Rattle.shared_history.specs.Logs.{Bases, LogState}
-use Rattle.generational_core.specs.Rows.{ReadBack, rows_of, told_by}
-use Rattle.generational_core.specs.declared.rows.BaseRow.{BaseRow}
-use Rattle.generational_sessions.proofs.carrying.Plain.{plain_meets}
-use Rattle.generational_sessions.specs.History.{plain_answer, plain_call}
-use Rattle.store_rows.specs.Past.{ArePast}
 use Rattle.generational_sync.proofs.Past.{own_past, past_still}
 use Rattle.generational_sync.proofs.Trimming.{told_number, told_start}
 use Rattle.generational_sync.proofs.Answering.{opened_own}
@@ -105,44 +69,20 @@ no_step steps after worker None is = is
 no_step steps after worker (Some c) is = is
 
 module _ {T : Type 0} where
-  tells : (answer : Answer T) (r : StepReply) → Some (step_kind r) ≡ kind_in answer
-      → lent_by r ≡ given_by answer → Tells answer (Some r)
-  tells answer r kind lent = record { kind = kind; lent = lent; left = λ e. absurd cc }
-
-  tells_none : (answer : Answer T) → None ≡ kind_in answer → 0 ≡ given_by answer
-      → leaves answer ≡ true → Tells answer None
-  tells_none answer kind lent left = record { kind = kind; lent = lent; left = λ e. left }
-
-  made_tells : (S R : State T) (a : Action T) (b : GenerationalPointer) → Meets S a (Made b) R
-      → GivesBox a b → Tells {T = T} (Made b) (made_reply a R b)
-  made_tells S R (Make o v l) b m gives = tells (Made b) (reply.Made b) refl refl
-  made_tells S R (Refer o c) b m gives = tells (Made b) (reply.Made b) refl refl
-  made_tells S R (MakeShared o v l) b m gives =
-      at (target_of R b) (shared_named S R o v l (Ok b) m)
-    where
-      at : (id : Option GenerationalBoxId) → is_some id ≡ true
-          → Tells {T = T} (Made b) (option_map (λ id. reply.MadeShared id b) id)
-      at (Some id) is = tells (Made b) (reply.MadeShared id b) refl refl
-      at None is = absurd (true≢false (sym is))
-  made_tells S R _ b m gives = absurd gives
-
   told : (number : ℕ) (S R : State T) (a : Action T) (answer : Answer T) → Meets S a answer R
       → MayAnswer number a answer → Tells answer (recorded_reply R a answer)
-  told number S R a (Made b) m may = made_tells S R a b m may.2
-  told number S R a (Owned o) m may = tells (Owned o) _ refl refl
-  told number S R a (Reads g) m may = tells (Reads g) _ refl refl
-  told number S R a (Writes g v) m may = tells (Writes g v) _ refl refl
-  told number S R a Done m may = tells Done _ refl refl
-  told number S R a (Old v) m may = tells (Old v) _ refl refl
-  told number S R a (Flag true) m may = tells (Flag true) _ refl refl
-  told number S R a (Flag false) m may = tells_none (Flag false) refl refl refl
-  told number S R a (Back v) m may = tells_none (Back v) refl refl refl
-  told number S R a (BorrowRefused (Dropped l)) m may = tells (BorrowRefused (Dropped l)) _ refl refl
-  told number S R a (BorrowRefused (BeingRead ls)) m may = absurd may
-  told number S R a (BorrowRefused (BeingWritten l)) m may = absurd may
-  told number S R a (Refused OutOfMemory) m may = tells_none (Refused OutOfMemory) refl refl refl
-  told number S R a (Refused NumbersExhausted) m may = tells (Refused NumbersExhausted) _ refl refl
-  told number S R a (Refused UnknownOwner) m may = tells (Refused UnknownOwner) _ refl refl
+  told number S R a answer m may = told_by_kind number R a answer (named number S R a answer m may) may
+    where
+      told_by_kind : (number : ℕ) (R : State T) (a : Action T) (answer : Answer T)
+          → (is_some (recorded_reply R a answer) ≡ is_some (kind_in answer))
+          → MayAnswer number a answer → Tells answer (recorded_reply R a answer)
+      told_by_kind number R a answer is may = grind arith
+
+      named : (number : ℕ) (S R : State T) (a : Action T) (answer : Answer T) → Meets S a answer R
+          → MayAnswer number a answer → is_some (recorded_reply R a answer) ≡ is_some (kind_in answer)
+      named number S R (MakeShared o v l) (Made b) m may =
+          let it = shared_named S R o v l (Ok b) m in grind arith
+      named number S R a answer m may = grind arith
 
   -- a borrow that was ended stood
   stood : (S R : State T) (a : Action T) (answer : Answer T) → ends_borrow a ≡ true
@@ -235,29 +175,15 @@ module _ {T : Type 0} where
   pub room_kept : {number : ℕ} {S : State T} {log room : LogState} → IsKept number S log
       → room.bases ≡ log.bases → room.steps ≡ log.steps → room.standing ≡ log.standing
       → IsKept number S room
-  room_kept {S = S} {log = log} {room = room} kept base steps stay = record {
-    own = ap (λ (b : Bases). b.base.number) base ∙ kept.own;
-    sound = subst (λ (b : Bases). IsSound (plain_of b.base)) (sym base) kept.sound;
-    leads = led_as (λ i. plain_of (sym base i).base) (sym steps) refl kept.leads;
-    ends = kept.ends;
-    rows = subst (λ (b : Bases). ArePast (plain S) b.base.rows) (sym base) kept.rows;
-    past = subst (λ (b : Bases). ArePast (plain S) b.past) (sym base) kept.past;
-    room = (let had = kept.room in omega arith);
-  }
+  room_kept {number = number} {S = S} {room = room} kept base steps stay =
+      subst (λ (p : Bases × List Step × ℕ).
+      IsKept number S (record { bases = p.0; steps = p.1; standing = p.2; room = room.room }))
+      (λ i. (sym base i, sym steps i, sym stay i)) (assumption kept)
 
   -- where the rows of the base before were taken
   pub taken_kept : {number : ℕ} {S : State T} {log after : LogState} → IsKept number S log
       → after ≡ record log { bases = record { base = log.bases.base; past = [] } } → IsKept number S after
-  taken_kept {number = number} {S = S} kept is =
-      subst (IsKept number S) (sym is) (record {
-        own = kept.own;
-        sound = kept.sound;
-        leads = kept.leads;
-        ends = kept.ends;
-        rows = kept.rows;
-        past = tt;
-        room = kept.room;
-      })
+  taken_kept {number = number} {S = S} kept is = subst (IsKept number S) (sym is) (assumption kept)
 
   -- a call that the store has answered, for whose step there is room
   abbrev pub answered : {number : ℕ} {R : State T} {log room : LogState} {c : StepCall}
@@ -343,13 +269,11 @@ module _ {T : Type 0} where
   -- makings that hand in a value are always ready
   pub make_ready : (S : State T) (o : Option OwnerName) (v : T) (l : Location) (c : StepCall)
       → recorded_as (Make o v l) ≡ Some c → is_ready S c ≡ true
-  make_ready S None v l c e = subst (λ x. IfSome x (λ d. is_ready S d ≡ true)) e refl
-  make_ready S (Some o) v l c e = subst (λ x. IfSome x (λ d. is_ready S d ≡ true)) e refl
+  make_ready S o v l c e = grind arith
 
   pub shared_ready : (S : State T) (o : Option OwnerName) (v : T) (l : Location) (c : StepCall)
       → recorded_as (MakeShared o v l) ≡ Some c → is_ready S c ≡ true
-  shared_ready S None v l c e = subst (λ x. IfSome x (λ d. is_ready S d ≡ true)) e refl
-  shared_ready S (Some o) v l c e = subst (λ x. IfSome x (λ d. is_ready S d ≡ true)) e refl
+  shared_ready S o v l c e = grind arith
 
   -- a call that is ready where the state and the call are known by other names
   pub ready_as : {s seen : SharedState T} {c d : StepCall} → s ≡ seen → c ≡ d

@@ -1,32 +1,12 @@
 -- What makings give.
-use Rattle.std.proofs.Common.{◌≡◌, Bool, true, false, cond, [], ◌∷◌, Option, None, Some, refl, sym}
-use Rattle.std.proofs.Common.{ap, subst, ◌∙◌, inl, inr, Result, Ok, Err}
-use Rattle.std.specs.Prelude.{is_none, is_some, IfOk}
-use Rattle.std.proofs.lemmas.Bool.{eq-eqb, true≢false}
-use Rattle.generational_errors.specs.declared.error.Location.{Location}
-use Rattle.generational_errors.specs.declared.error.Refusal.{Refusal}
-use Rattle.generational_errors.specs.declared.error.StoreError.TheVariants.{UnknownOwner}
-use Rattle.generational_core.specs.declared.boxes.GenerationalBoxId.{GenerationalBoxId}
-use Rattle.generational_core.specs.declared.boxes.GenerationalPointer.{GenerationalPointer}
+use Rattle.generational_sync.proofs.Common
+use Common.{[], add_cell, ap, arith, Bool, BorrowRefused, box_of, by_name, can_write, cond, Dropped, eq-eqb}
+use Common.{Err, false, GenerationalBoxId, GenerationalPointer, get-insert_here, Here, id_of, IfOk, inl}
+use Common.{inr, is_known, is_ready, is_some, limit_tickets, Location, Made, make, make_answer, MakeShared}
+use Common.{Meets, Name, NewNames, no_names, None, Ok, Option, Outcome, OwnerName, Ref, refl, Refusal}
+use Common.{refusal_to_write, Refused, Result, SetValue, Shared, Some, State, subst, sym, target_of, true}
+use Common.{UnknownOwner, ◌∙◌, ◌≡◌}
 use Rattle.generational_core.specs.declared.steps.StepCall.TheVariants as call
-use Rattle.generational_core.specs.Answers.{make_answer}
-use Rattle.generational_core.specs.Borrowing.{can_write, reach, refusal_at}
-use Rattle.generational_core.specs.Borrowing.{refusal_to_write, write_refusal}
-use Rattle.generational_core.specs.Borrowing.BorrowRefusal.{Dropped}
-use Rattle.generational_core.specs.Boxes.{box_of, id_of}
-use Rattle.generational_core.specs.Names.{Name}
-use Rattle.generational_core.specs.Cells.{Content, content_of}
-use Rattle.generational_core.specs.Cells.Content.{Here, Lent}
-use Rattle.generational_core.specs.Cells.Cell.{Shared, Ref}
-use Rattle.generational_core.specs.State.{State, content_at}
-use Rattle.generational_core.specs.Machine.{NewNames, Outcome, OwnerName, add_cell, cell_at}
-use Rattle.generational_core.specs.Machine.{is_known, make}
-use Rattle.generational_core.specs.Machine.{set_at}
-use Rattle.generational_core.specs.Machine.Action.{MakeShared, SetValue}
-use Rattle.generational_core.specs.Machine.Answer.{BorrowRefused, Made, Refused}
-use Rattle.generational_core.specs.Steps.{Meets, limit_tickets, no_names}
-use Rattle.generational_core.specs.StepCalls.{is_ready, may_set, target_of}
-use Rattle.generational_core.proofs.maps.Maps.{by_name, get-insert_here}
 
 module _ {T : Type 0} where
   -- the box of a new reference tells the cell that it names
@@ -75,24 +55,4 @@ module _ {T : Type 0} where
       → is_ready S (call.Set b) ≡ true → can_write S b ≡ false
       → Meets S (SetValue b v) (BorrowRefused (Dropped b.created_at)) S
   unfolding refusal_to_write
-  set_drops S b v ready written = inl (no_names, tt, at (reach S b) refl ready)
-    where
-      Drops : Option Name → Option (Content T) → Type 0
-      Drops to c = ◌≡◌ {A = Outcome T} (BorrowRefused (Dropped b.created_at), S)
-          (limit_tickets S (set_at S b v to c))
-
-      here : (m : Name) (c : Option (Content T)) → reach S b ≡ Some m → content_at S m ≡ c
-          → may_set (Some m) c ≡ true → Drops (Some m) c
-      here m None reaches is may = absurd (true≢false (sym may))
-      here m (Some (Lent w)) reaches is may = absurd (true≢false (sym may))
-      here m (Some (Here u (r ∷ rs))) reaches is may = absurd (true≢false (sym may))
-      here m (Some (Here u [])) reaches is may =
-          let free : is_none (refusal_to_write S b) ≡ true =
-          ap (λ to. is_none (refusal_at to b.created_at (λ n. write_refusal (content_at S n)))) reaches
-          ∙ ap (λ c. is_none (write_refusal c)) is in
-          absurd (true≢false (sym free ∙ written))
-
-      at : (to : Option Name) → reach S b ≡ to → may_set to (content_of (cell_at S to)) ≡ true
-          → Drops to (content_of (cell_at S to))
-      at None reaches may = refl
-      at (Some m) reaches may = here m (content_at S m) reaches refl may
+  set_drops S b v ready written = inl (no_names, tt, grind arith)

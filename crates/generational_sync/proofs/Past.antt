@@ -1,28 +1,13 @@
 -- Rows of an earlier state are such of each state that comes after, and a state's own rows are.
-use Rattle.std.proofs.Common.{◌≡◌, ℕ, List, [], ◌∷◌, Option, None, Some, refl, sym, ap, ◌∙◌}
-use Rattle.std.specs.Prelude.{is_some, option_map, map as list_map}
-use Rattle.std.proofs.lemmas.Option.{none-some}
+use Rattle.generational_sync.proofs.Common
+use Common.{[], Action, Answer, ap, ArePast, arith, bare_cell, BaseRow, Borrow, borrow_rows, both_past}
+use Common.{Cell, cell_rows, Content, GenerationalBoxId, get_bare_cell, id_of, is_some, IsPast, IsSound}
+use Common.{List, Location, location_of, Meets, meets_ended, meets_given, meets_location, Name, None}
+use Common.{none-some, Option, option_map, owners_past, Plain, plain, reader_row, Ref, refl, rows_of}
+use Common.{Shared, slot_rows, slots_of, Some, State, sym, Value, WasMadeAt, ℕ, ◌∙◌, ◌∷◌, ◌≡◌}
+use Rattle.std.specs.Prelude.{map as list_map}
 use Rattle.std.specs.FinMap as map
-use Rattle.generational_errors.specs.declared.error.Location.{Location}
-use Rattle.generational_core.specs.declared.borrow.Borrow.{Borrow}
-use Rattle.generational_core.specs.declared.boxes.GenerationalBoxId.{GenerationalBoxId}
-use Rattle.generational_core.specs.declared.rows.BaseRow.{BaseRow}
 use Rattle.generational_core.specs.declared.rows.BaseRow.TheVariants as row
-use Rattle.generational_core.specs.Boxes.{id_of}
-use Rattle.generational_core.specs.Cells.{Cell, Content, location_of}
-use Rattle.generational_core.specs.Cells.Cell.{Value, Shared, Ref}
-use Rattle.generational_core.specs.Cells.Content.{Here, Lent}
-use Rattle.generational_core.specs.Machine.{Action, Answer}
-use Rattle.generational_core.specs.Names.{Name}
-use Rattle.generational_core.specs.Plain.{Plain, bare_cell, plain}
-use Rattle.generational_core.specs.Rows.{borrow_rows, cell_rows, owner_rows, reader_row, rows_of, slot_rows}
-use Rattle.generational_core.specs.Slots.{slots_of}
-use Rattle.generational_core.specs.State.{IsSound, Ownership, State}
-use Rattle.generational_core.specs.Steps.{Meets}
-use Rattle.generational_core.proofs.machine.Rows.{get_bare_cell}
-use Rattle.generational_core.proofs.machine.Stepping.{meets_ended, meets_given, meets_location}
-use Rattle.store_rows.proofs.Past.{both_past, owners_past}
-use Rattle.store_rows.specs.Past.{ArePast, IsPast, WasMadeAt}
 
 -- ---- a step later
 
@@ -42,12 +27,7 @@ module _ (P Q : Plain) (a : Action (Unit {0})) (answer : Answer (Unit {0})) (sou
   row_still : (r : BaseRow) → IsPast P r → IsPast Q r
   row_still (row.Value id l) was = made_still _ l was
   row_still (row.Shared id l) was = made_still _ l was
-  row_still (row.Slot s g) was = tt
-  row_still (row.Ref id m l) was = tt
-  row_still (row.Reader id t l) was = tt
-  row_still (row.Writer id t l) was = tt
-  row_still (row.Owner k n) was = tt
-  row_still (row.Owned k id) was = tt
+  row_still r was = tt
 
   pub past_still : (rows : List BaseRow) → ArePast P rows → ArePast Q rows
   past_still [] all = tt
@@ -62,8 +42,7 @@ module _ (P : Plain) where
   readers_past id (b ∷ readers) = (tt, readers_past id readers)
 
   borrows_past : {T : Type 0} (id : GenerationalBoxId) (c : Content T) → ArePast P (borrow_rows id c)
-  borrows_past id (Here v readers) = readers_past id readers
-  borrows_past id (Lent w) = (tt, tt)
+  borrows_past id c = grind (arith, readers_past)
 
 module _ {T : Type 0} (S : State T) (sound : IsSound (plain S)) where
   made_here : (n : Name) (c : Cell T) (l : Location) → map.get S.cells n ≡ Some c

@@ -1,65 +1,100 @@
--- The machine is blind to locations: a call does the same where each location is turned.
-use Rattle.std.proofs.Common.{◌≡◌, ℕ, [], sym, ap, ◌∙◌, refl, subst, cond}
-use Rattle.std.proofs.Common.{true, false, Bool, Option, None, Some, List, ◌∷◌, ◌++◌, not, ◌||◌, arith}
-use Rattle.std.specs.Prelude.{◌&&◌, option_map, is_some, is_none, map as list_map, nat_eq, nat_lt}
-use Rattle.std.specs.Prelude.{max, unwrap_or}
-use Rattle.std.specs.Cmp.{both_ways}
+-- The machine is blind to locations: a call, and a recorded step, does the same where each location is turned.
+use Rattle.generational_sync.proofs.Common
+use Common.{[], act, Action, action_of, add_cell, add_to_list, among, Answer, ap, are_new, AreAlike, arith}
+use Common.{below_all, Bool, Borrow, BorrowRefusal, by_name, CanRead, CanWrite, Cell, cell_at, cells_after}
+use Common.{change, cond, Content, content_at, content_of, filter, first_hindrance, first_name}
+use Common.{GenerationalBoxId, GenerationalPointer, get-insert_name, get-keep, gives_new, has_reader}
+use Common.{has_writer, Here, hindrance_at, hindrance_to, is_free, is_hindered, is_known, is_lt, is_named}
+use Common.{is_new, is_ready, is_recorded, is_shared, KeepsTest, last_name, leads_to, length-map, Lent}
+use Common.{limit_tickets, List, list_any, list_map, Location, location_of, Make, make, MakeShared}
+use Common.{map-append, Name, name_cmp, name_exact, name_of, name_total, NameMap, names_of_reply, nat_eq}
+use Common.{NewNames, next_borrow, no_names, None, not, Option, option_map, Outcome, own_cell, owner_of}
+use Common.{OwnerName, place_action, place_answer, place_borrow, place_box, place_call, place_cell}
+use Common.{place_content, place_refusal, place_reply, Plain, plain_step, Point, point, reach, Read}
+use Common.{read_at, read_refusal, reader_cell, recorded_reply, Ref, Refer, refers_to, refill, refl}
+use Common.{refusal_to_read, refusal_to_write, Refused, ReleaseOwner, ReleaseReader, ReleaseWriter}
+use Common.{remove_reader, set_at, SetValue, Shared, slots, slots_of, Some, State, step_by, StepCall}
+use Common.{StepReply, subst, sweep, sym, take_away, tells_of_borrow, UnknownOwner, unwrap_or, Value, Write}
+use Common.{write_at, write_refusal, writer_cell, ℕ, ◌&&◌, ◌++◌, ◌+◌, ◌||◌, ◌∙◌, ◌∷◌, ◌≡◌}
 use Rattle.std.specs.FinMap as map
-use Rattle.std.specs.List.{filter, list_any}
-use Rattle.std.specs.Option.{option_or}
-use Rattle.std.proofs.lemmas.List.{map-append}
-use Rattle.generational_errors.specs.declared.error.Location.{Location}
-use Rattle.generational_errors.specs.declared.error.StoreError.TheVariants.{UnknownOwner}
-use Rattle.generational_core.specs.declared.borrow.Borrow.{Borrow}
-use Rattle.generational_core.specs.declared.boxes.GenerationalPointer.{GenerationalPointer}
-use Rattle.generational_core.specs.Borrowing.{BorrowRefusal, fill, leads_to}
-use Rattle.generational_core.specs.Borrowing.{read_refusal, refusal_at, write_refusal}
-use Rattle.generational_core.specs.Borrowing.BorrowRefusal.{Dropped}
-use Rattle.generational_core.specs.Boxes.{has_same_id, name_of}
-use Rattle.generational_core.specs.Names.{Name, NameMap, among, change_if}
-use Rattle.generational_core.specs.Cells.{Cell, Content, content_of, is_shared, location_of, refill}
-use Rattle.generational_core.specs.Cells.Content.{Here, Lent}
-use Rattle.generational_core.specs.Cells.Cell.{Value, Shared, Ref}
-use Rattle.generational_core.specs.Ending.{cells_after, close, first_hindrance, hindrance_at}
-use Rattle.generational_core.specs.Ending.{hindrance_of}
-use Rattle.generational_core.specs.State.{State, Ownership, content_at}
-use Rattle.generational_core.specs.Machine.{Action, Answer, Outcome, OwnerName, NewNames, unless, make}
-use Rattle.generational_core.specs.Machine.{add_cell, add_to_list, is_known, act, refer, cell_at}
-use Rattle.generational_core.specs.Machine.{own_cell, own_name, point, read_at, write_at, next_borrow}
-use Rattle.generational_core.specs.Machine.{set_at, has_reader, has_writer, remove_reader, ownership}
-use Rattle.generational_core.specs.Machine.{clone_owner, release_owner}
-use Rattle.generational_core.specs.Machine.Answer.{BorrowRefused, Refused, Done, Flag, Back}
-use Rattle.generational_core.proofs.maps.Maps.{get-insert_name, get-keep, named_gives, named_from}
-use Rattle.generational_core.proofs.maps.Maps.{by_name}
-unfoldable use Rattle.generational_core.specs.Borrowing.{reach, refusal_to_read, refusal_to_write}
-unfoldable use Rattle.generational_core.specs.Ending.{hindrance_to, sweep, take_away}
-unfoldable use Rattle.generational_core.specs.Names.{change, is_name}
-unfoldable use Rattle.generational_core.specs.State.{is_named}
-use Rattle.generational_sessions.proofs.carrying.CarriedCells.{cond_map, some_map, no_larger}
-use Rattle.generational_sync.specs.Placing.{place_borrow, place_refusal, place_content, place_cell}
-use Rattle.generational_sync.specs.Placing.{place_action, place_answer, AreTurned, IsTurned}
-use Rattle.shared_records.specs.Letters.{place_box}
+use Rattle.std.proofs.Common.{T as IsTrue}
+use Rattle.std.specs.FinSet as set
+use Rattle.generational_core.specs.declared.steps.StepCall.TheVariants as call
+use Rattle.shared_records.specs.declared.step.StepReply.TheVariants as reply
+
+-- ---- a map with a function of each of its values
+
+module _ {X Y : Type 0} (h : X → Y) where
+  abbrev listed : List (Name × X) → List (Name × Y)
+  listed es = list_map (λ (e : Name × X). (e.0, h e.1)) es
+
+  below_each : (x : Name) (es : List (Name × X))
+      → below_all name_cmp x (listed es) ≡ below_all name_cmp x es
+  below_each x [] = refl
+  below_each x (e ∷ es) = ap (λ b. is_lt (name_cmp x e.0) && b) (below_each x es)
+
+  sorted_each : (es : List (Name × X)) → map.is_sorted name_cmp (listed es) ≡ map.is_sorted name_cmp es
+  sorted_each [] = refl
+  sorted_each (e ∷ es) = λ i. below_each e.0 es i && sorted_each es i
+
+  find_each : (q : Name) (es : List (Name × X))
+      → map.find name_cmp q (listed es) ≡ option_map h (map.find name_cmp q es)
+  find_each q [] = refl
+  find_each q (e ∷ es) = grind (arith, find_each q es)
+
+  keys_listed : (es : List (Name × X))
+      → list_map (λ (e : Name × Y). e.0) (listed es) ≡ list_map (λ (e : Name × X). e.0) es
+  keys_listed [] = refl
+  keys_listed (e ∷ es) = ap (λ ks. e.0 ∷ ks) (keys_listed es)
+
+  unfoldable pub each : NameMap X → NameMap Y
+  each m = map.from_sorted (listed (map.entries m))
+
+  module _ (m : NameMap X) where
+    entries_each : map.entries (each m) ≡ listed (map.entries m)
+    unfolding each
+    entries_each = map.entries-from_sorted name_cmp _
+        (subst IsTrue (sym (sorted_each (map.entries m))) (map.entries_sorted m))
+
+    pub get_each : (q : Name) → map.get (each m) q ≡ option_map h (map.get m q)
+    get_each q = rw (map.get-entries (each m) q, entries_each, find_each, map.get-entries m q)
+
+    pub keys_each : map.keys (each m) ≡ map.keys m
+    keys_each = rw entries_each (keys_listed (map.entries m))
+
+    pub len_each : map.len (each m) ≡ map.len m
+    len_each = rw (map.len-entries (each m), entries_each, map.len-entries m) (length-map (map.entries m) _)
+
+    pub each_is : (C : NameMap Y) → ((q : Name) → map.get C q ≡ option_map h (map.get m q)) → C ≡ each m
+    each_is C at = map.same_map name_total name_exact C (each m) (λ q. at q ∙ sym (get_each q))
+
+  pub insert_each : (m : NameMap X) (n : Name) (x : X) → each (map.insert m n x) ≡ map.insert (each m) n (h x)
+  insert_each m n x = sym (each_is (map.insert m n x) _ (λ q. rw (get-insert_name, get_each, get-insert_name) (grind arith)))
+
+  pub keep_each : (m : NameMap X) (p : Name → Bool) → each (map.retain_keys m p) ≡ map.retain_keys (each m) p
+  keep_each m p = sym (each_is (map.retain_keys m p) _ (λ q. rw (get-keep by_name, get_each, get-keep by_name) (grind arith)))
+
+  pub change_each : (m : NameMap X) (n : Name) (f : Y → Y) (g : X → X) → ((x : X) → h (g x) ≡ f (h x))
+      → each (change m n g) ≡ change (each m) n f
+  unfolding change
+  change_each m n f g same = grind (arith, get_each, insert_each, same)
 
 module _ (p : Location → Location) where
-  abbrev refusal : BorrowRefusal → BorrowRefusal
-  refusal = place_refusal p
+  abbrev refusal : Option BorrowRefusal → Option BorrowRefusal
+  refusal = option_map (place_refusal p)
 
   locations : (readers : List Borrow) → list_map (λ (b : Borrow). b.location) (list_map (place_borrow p) readers)
       ≡ list_map p (list_map (λ (b : Borrow). b.location) readers)
   locations [] = refl
   locations (r ∷ readers) = ap (λ ls. p r.location ∷ ls) (locations readers)
 
-  pub reader_moved : (readers : List Borrow) (t : ℕ) → list_any (λ (r : Borrow). nat_eq r.ticket t) (list_map (place_borrow p) readers)
-      ≡ list_any (λ (r : Borrow). nat_eq r.ticket t) readers
-  reader_moved [] t = refl
-  reader_moved (r ∷ readers) t = ap (λ b. nat_eq r.ticket t || b) (reader_moved readers t)
-
-  others_moved : (readers : List Borrow) (t : ℕ)
-      → filter (λ (r : Borrow). not (nat_eq r.ticket t)) (list_map (place_borrow p) readers)
-      ≡ list_map (place_borrow p) (filter (λ (r : Borrow). not (nat_eq r.ticket t)) readers)
-  others_moved [] t = refl
-  others_moved (r ∷ readers) t = rw (others_moved readers t)
-      (cond_map (list_map (place_borrow p)) (not (nat_eq r.ticket t)) _ _)
+  readers_turned : (readers : List Borrow) (t : ℕ)
+      → (list_any (λ (r : Borrow). nat_eq r.ticket t) (list_map (place_borrow p) readers)
+      ≡ list_any (λ (r : Borrow). nat_eq r.ticket t) readers)
+      × (filter (λ (r : Borrow). not (nat_eq r.ticket t)) (list_map (place_borrow p) readers)
+      ≡ list_map (place_borrow p) (filter (λ (r : Borrow). not (nat_eq r.ticket t)) readers))
+  readers_turned [] t = (refl, refl)
+  readers_turned (r ∷ readers) t = grind (arith, readers_turned readers t)
 
 module _ {T : Type 0} (p : Location → Location) where
   abbrev cell : Cell T → Cell T
@@ -68,440 +103,271 @@ module _ {T : Type 0} (p : Location → Location) where
   abbrev content : Content T → Content T
   content = place_content p
 
-  -- ---- what is asked of a cell
+  -- ---- what is asked of a cell, and of a content
 
-  pub leads_moved : (x : Option (Cell T)) (n : Name) → leads_to (option_map cell x) n ≡ leads_to x n
-  leads_moved None n = refl
-  leads_moved (Some (Value c l)) n = refl
-  leads_moved (Some (Shared c l)) n = refl
-  leads_moved (Some (Ref m l)) n = refl
+  cell_turned : (x : Option (Cell T)) (n : Name) (l : Location) → (let moved = option_map cell x in
+      (leads_to moved n ≡ leads_to x n) × (content_of moved ≡ option_map content (content_of x))
+      × (is_shared moved ≡ is_shared x) × (refers_to n moved ≡ refers_to n x)
+      × (unwrap_or (location_of moved) (p l) ≡ p (unwrap_or (location_of x) l)))
+  cell_turned x n l = grind arith
 
-  pub content_moved : (x : Option (Cell T)) → content_of (option_map cell x) ≡ option_map content (content_of x)
-  content_moved None = refl
-  content_moved (Some (Value c l)) = refl
-  content_moved (Some (Shared c l)) = refl
-  content_moved (Some (Ref m l)) = refl
-
-  pub shared_moved : (x : Option (Cell T)) → is_shared (option_map cell x) ≡ is_shared x
-  shared_moved None = refl
-  shared_moved (Some (Value c l)) = refl
-  shared_moved (Some (Shared c l)) = refl
-  shared_moved (Some (Ref m l)) = refl
-
-  pub created_moved : (x : Option (Cell T)) (l : Location)
-      → unwrap_or (location_of (option_map cell x)) (p l) ≡ p (unwrap_or (location_of x) l)
-  created_moved None l = refl
-  created_moved (Some (Value c k)) l = refl
-  created_moved (Some (Shared c k)) l = refl
-  created_moved (Some (Ref m k)) l = refl
-
-  pub read_moved : (c : Option (Content T)) → read_refusal (option_map content c) ≡ option_map (refusal p) (read_refusal c)
-  read_moved None = refl
-  read_moved (Some (Here v readers)) = refl
-  read_moved (Some (Lent w)) = refl
-
-  pub write_moved : (c : Option (Content T)) → write_refusal (option_map content c) ≡ option_map (refusal p) (write_refusal c)
-  write_moved None = refl
-  write_moved (Some (Here v [])) = refl
-  write_moved (Some (Here v (r ∷ readers))) =
-      ap (λ ls. Some (BorrowRefusal.BeingRead (p r.location ∷ ls))) (locations p readers)
-  write_moved (Some (Lent w)) = refl
-
-  was_ref : (x : Option (Cell T)) (m : Name) (l : Location) → option_map cell x ≡ Some (Ref m l)
-      → (k : Location) × (x ≡ Some (Ref m k))
-  was_ref None m l h = cc
-  was_ref (Some (Value c k)) m l h = cc
-  was_ref (Some (Shared c k)) m l h = cc
-  was_ref (Some (Ref n k)) m l h = (k, cc)
+  refusals_turned : (c : Option (Content T))
+      → (read_refusal (option_map content c) ≡ refusal p (read_refusal c))
+      × (write_refusal (option_map content c) ≡ refusal p (write_refusal c))
+  refusals_turned c = grind (arith, locations p)
 
   -- ---- what is done to cells
 
-  module _ {C B : NameMap (Cell T)} (t : AreTurned p C B) where
-    pub live_at : (n : Name) → is_some (map.get C n) ≡ is_some (map.get B n)
-    live_at n = ap is_some (t.at n) ∙ some_map cell (map.get B n)
+  module _ (cells : NameMap (Cell T)) where
+    named_turned : (m : Name) → is_named (each cell cells) m ≡ is_named cells m
+    unfolding is_named
+    named_turned m =
+        let same : (n : Name) → refers_to m (map.get (each cell cells) n) ≡ refers_to m (map.get cells n) =
+        λ n. grind (arith, get_each, cell_turned) in
+        λ i. list_any (λ n. same n i) (keys_each cell cells i)
 
-    pub same_size : map.len C ≡ map.len B
-    same_size =
-        let less = no_larger (λ q k. q ≡ k) (λ q r k a b. a ∙ sym b) C B (λ q live. (q, refl, sym (live_at q) ∙ live)) in
-        let more = no_larger (λ q k. q ≡ k) (λ q r k a b. a ∙ sym b) B C (λ q live. (q, refl, live_at q ∙ live)) in
-        omega arith
-
-    shared_at : (n : Name) → is_shared (map.get C n) ≡ is_shared (map.get B n)
-    shared_at n = ap is_shared (t.at n) ∙ shared_moved (map.get B n)
-
-    named_moved : (m : Name) → is_named C m ≡ is_named B m
-    named_moved m = both_ways (is_named C m) (is_named B m)
-        (λ h. let it = named_gives C m h in
-        let was = was_ref (map.get B it.0) m it.1 (sym (t.at it.0) ∙ it.2) in
-        named_from B m (it.0, was.0, was.1))
-        (λ h. let it = named_gives B m h in
-        named_from C m (it.0, p it.1, t.at it.0 ∙ ap (option_map cell) it.2))
-
-    keep_turned : (f g : Name → Bool) → ((n : Name) → f n ≡ g n)
-        → AreTurned p (map.retain_keys C f) (map.retain_keys B g)
-    keep_turned f g same = record {
-      at = λ n. rw (get-keep by_name C f n, get-keep by_name B g n, same n, t.at n)
-          (cond_map (option_map cell) (g n) (map.get B n) None);
-    }
-
-    sweep_turned : AreTurned p (sweep C) (sweep B)
+    sweep_turned : each cell (sweep cells) ≡ sweep (each cell cells)
     unfolding sweep
-    sweep_turned = keep_turned _ _ (λ n i. not (shared_at n i) || named_moved n i)
+    sweep_turned =
+        let same : (n : Name) → (not (is_shared (map.get cells n)) || is_named cells n)
+        ≡ (not (is_shared (map.get (each cell cells) n)) || is_named (each cell cells) n) =
+        λ n. grind (arith, get_each, cell_turned, named_turned) in
+        keep_each cell cells _ ∙ ap (map.retain_keys (each cell cells)) (λ i n. same n i)
 
-    without_turned : (names : List Name) → AreTurned p (take_away C names) (take_away B names)
+    without_turned : (names : List Name) → each cell (take_away cells names) ≡ take_away (each cell cells) names
     unfolding take_away
-    without_turned names = keep_turned _ _ (λ n i. shared_at n i || not (among names n))
+    without_turned names =
+        let same : (n : Name) → (is_shared (map.get cells n) || not (among names n))
+        ≡ (is_shared (map.get (each cell cells) n) || not (among names n)) =
+        λ n. grind (arith, get_each, cell_turned) in
+        keep_each cell cells _ ∙ ap (map.retain_keys (each cell cells)) (λ i n. same n i)
 
-    pub insert_turned : (n : Name) (x : Cell T) → AreTurned p (map.insert C n (cell x)) (map.insert B n x)
-    insert_turned n x = record {
-      at = λ q. rw (get-insert_name C n (cell x) q, get-insert_name B n x q, t.at q)
-          (cond_map (option_map cell) (is_name q n) (Some x) (map.get B q));
-    }
+    fill_turned : (n : Name) (x : Content T) → each cell (change cells n (refill x))
+        ≡ change (each cell cells) n (refill (content x))
+    fill_turned n x = change_each cell cells n _ _ (λ y. grind arith)
 
-    refill_turned : (n : Name) (x : Content T)
-        → AreTurned p (change C n (refill (content x))) (change B n (refill x))
-    unfolding change
-    refill_turned n x = rw (t.at n) (at (map.get B n))
-      where
-        at : (y : Option (Cell T)) → AreTurned p (change_if C n (refill (content x)) (option_map cell y))
-            (change_if B n (refill x) y)
-        at None = t
-        at (Some (Value c l)) = insert_turned n (Value x l)
-        at (Some (Shared c l)) = insert_turned n (Shared x l)
-        at (Some (Ref m l)) = insert_turned n (Ref m l)
+  after_turned : (cells : NameMap (Cell T)) (names : List Name)
+      → each cell (cells_after cells names) ≡ cells_after (each cell cells) names
+  after_turned cells names = grind (arith, sweep_turned (take_away cells names), without_turned)
 
-  pub left_turned : {C B : NameMap (Cell T)} (t : AreTurned p C B) (names : List Name)
-      → AreTurned p (cells_after C names) (cells_after B names)
-  left_turned t names = sweep_turned (without_turned t names)
+  hindrance_at_turned : (cells left : NameMap (Cell T)) (n : Name)
+      → hindrance_at (each cell cells) (each cell left) n ≡ refusal p (hindrance_at cells left n)
+  hindrance_at_turned cells left n = grind (arith, get_each, cell_turned, locations p)
 
-  module _ {C B D E : NameMap (Cell T)} (t : AreTurned p C B) (u : AreTurned p D E) where
-    pub hindrance_at_moved : (n : Name) → hindrance_at C D n ≡ option_map (refusal p) (hindrance_at B E n)
-    hindrance_at_moved n =
-        rw (live_at u n, t.at n, content_moved (map.get B n), write_moved (content_of (map.get B n)))
-        (cond_map (option_map (refusal p)) (not (is_some (map.get E n))) _ None)
-
-    hindrance_moved : (x : Option (Cell T)) (n : Name)
-        → hindrance_of C D (option_map cell x) n ≡ option_map (refusal p) (hindrance_of B E x n)
-    hindrance_moved None n = refl
-    hindrance_moved (Some (Value c l)) n = hindrance_at_moved n
-    hindrance_moved (Some (Shared c l)) n = refl
-    hindrance_moved (Some (Ref m l)) n = hindrance_at_moved m
-
-    pub first_moved : (names : List Name) → first_hindrance C D names ≡ option_map (refusal p) (first_hindrance B E names)
-    first_moved [] = refl
-    first_moved (n ∷ names) =
-        rw (t.at n, hindrance_moved (map.get B n) n, first_moved names) (either (hindrance_of B E (map.get B n) n) _)
-      where
-        either : (x y : Option BorrowRefusal)
-            → option_or (option_map (refusal p) x) (option_map (refusal p) y) ≡ option_map (refusal p) (option_or x y)
-        either None y = refl
-        either (Some r) y = refl
+  first_turned : (cells left : NameMap (Cell T)) (names : List Name)
+      → first_hindrance (each cell cells) (each cell left) names ≡ refusal p (first_hindrance cells left names)
+  first_turned cells left [] = refl
+  first_turned cells left (n ∷ names) =
+      grind (arith, first_turned cells left names, get_each, hindrance_at_turned)
 
   -- ---- what is done to states
 
-  module _ (A : State T) (C : NameMap (Cell T)) (t : AreTurned p C A.cells) where
-    make_elsewhere : (o : Option OwnerName) (n : Name) (x : Cell T) (l : Location)
-        → IsTurned p (make (record A { cells = C }) o n (cell x) (p l)) (make A o n x l)
-    make_elsewhere None n x l = let more = insert_turned t n x in record {
-      answer = refl;
-      cells = map.insert C n (cell x);
-      is = λ i. record (add_cell A n x) { cells = map.insert C n (cell x); peak = max A.peak (same_size more i) };
-      turned = more;
-    }
-    make_elsewhere (Some o) n x l = let more = insert_turned t n x in record {
-      answer = refl;
-      cells = map.insert C n (cell x);
-      is = λ i. record (add_to_list (add_cell A n x) (Some o) n) {
-        cells = map.insert C n (cell x);
-        peak = max A.peak (same_size more i);
-      };
-      turned = more;
-    }
+  abbrev pub turned : State T → State T
+  turned S = record S { cells = each cell S.cells }
 
-  module _ (A : State T) (C : NameMap (Cell T)) (t : AreTurned p C A.cells) where
-    abbrev S : State T
-    S = record A { cells = C }
+  abbrev pub turned_out : Outcome T → Outcome T
+  turned_out out = (place_answer p out.0, turned out.1)
 
-    abbrev Alike : Outcome T → Outcome T → Type 0
-    Alike out was = IsTurned p out was
-
-    stays : (a : Answer T) → Alike (place_answer p a, S) (a, A)
-    stays a = record { answer = refl; cells = C; is = refl; turned = t }
-
-    if_alike : (b : Bool) {x y v w : Outcome T} → Alike x v → Alike y w → Alike (cond b x y) (cond b v w)
-    if_alike true h k = h
-    if_alike false h k = k
-
-    unless_alike : (r : Option BorrowRefusal) {x v : Outcome T} → Alike x v
-        → Alike (unless (option_map (refusal p) r) S x) (unless r A v)
-    unless_alike None h = h
-    unless_alike (Some r) h = stays (BorrowRefused r)
-
-    pub reach_moved : (b : GenerationalPointer) → reach S (place_box p b) ≡ reach A b
+  module _ (S : State T) where
+    reach_turned : (b : GenerationalPointer) → reach (turned S) (place_box p b) ≡ reach S b
     unfolding reach
-    reach_moved b = rw (t.at (name_of b), leads_moved (map.get A.cells (name_of b)) (name_of b))
+    reach_turned b = grind (arith, get_each, cell_turned)
 
-    filled : (a b : Answer T) (n : Name) (y x : Content T) → y ≡ content x → a ≡ place_answer p b
-        → Alike (a, fill S n y) (b, fill A n x)
-    filled a b n y x is same = record {
-      answer = same;
-      cells = change C n (refill y);
-      is = refl;
-      turned = subst (λ z. AreTurned p (change C n (refill z)) (change A.cells n (refill x))) (sym is)
-          (refill_turned t n x);
-    }
-
-    closes : (names : List Name) → Alike (unless (hindrance_to S names) S (Done, close S names))
-        (unless (hindrance_to A names) A (Done, close A names))
-    unfolding hindrance_to
-    closes names = rw (first_moved t (left_turned t names) names)
-        (unless_alike (first_hindrance A.cells (cells_after A.cells names) names) (record {
-          answer = refl;
-          cells = cells_after C names;
-          is = refl;
-          turned = left_turned t names;
-        }))
-
-    releases : (o : OwnerName) (h : Option Ownership) → Alike (release_owner S o h) (release_owner A o h)
-    unfolding hindrance_to
-    releases o None = stays (Refused UnknownOwner)
-    releases o (Some h) = if_alike (nat_lt 1 h.count)
-        (record { answer = refl; cells = C; is = refl; turned = t })
-        (rw (first_moved t (left_turned t h.names) h.names)
-        (unless_alike (first_hindrance A.cells (cells_after A.cells h.names) h.names) (record {
-          answer = refl;
-          cells = cells_after C h.names;
-          is = refl;
-          turned = left_turned t h.names;
-        })))
-
-    clones : (o : OwnerName) (h : Option Ownership) → Alike (clone_owner S o h) (clone_owner A o h)
-    clones o None = stays (Refused UnknownOwner)
-    clones o (Some h) = record { answer = refl; cells = C; is = refl; turned = t }
-
-    -- a read, and a write, of what was reached
-    read_there : (l : Location) (n : Name) (c : Option (Content T))
-        → Alike (unless (read_refusal (option_map content c)) S (read_at S (p l) (Some n) (option_map content c)))
-        (unless (read_refusal c) A (read_at A l (Some n) c))
-    read_there l n None = stays Done
-    read_there l n (Some (Here v readers)) = record {
-      answer = refl;
-      cells = change C n (refill (Here v (list_map (place_borrow p) readers ++ next_borrow S (p l) ∷ [])));
-      is = refl;
-      turned = subst (λ z. AreTurned p (change C n (refill (Here v z)))
-          (change A.cells n (refill (Here v (readers ++ next_borrow A l ∷ [])))))
-          (map-append (place_borrow p) readers (next_borrow A l ∷ []))
-          (refill_turned t n (Here v (readers ++ next_borrow A l ∷ [])));
-    }
-    read_there l n (Some (Lent w)) = stays (BorrowRefused (BorrowRefusal.BeingWritten w.location))
-
-    read_reached : (b : GenerationalPointer) (l : Location) (o : Option Name)
-        → Alike (unless (refusal_at o (p b.created_at) (λ n. read_refusal (content_at S n))) S
-        (read_at S (p l) o (content_of (cell_at S o))))
-        (unless (refusal_at o b.created_at (λ n. read_refusal (content_at A n))) A
-        (read_at A l o (content_of (cell_at A o))))
-    read_reached b l None = stays (BorrowRefused (Dropped b.created_at))
-    read_reached b l (Some n) = rw (t.at n, content_moved (map.get A.cells n))
-        (read_there l n (content_of (map.get A.cells n)))
-
-    write_there : (l : Location) (n : Name) (c : Option (Content T))
-        → Alike (unless (write_refusal (option_map content c)) S (write_at S (p l) (Some n) (option_map content c)))
-        (unless (write_refusal c) A (write_at A l (Some n) c))
-    write_there l n None = stays Done
-    write_there l n (Some (Here v [])) = record {
-      answer = refl;
-      cells = change C n (refill (Lent (next_borrow S (p l))));
-      is = refl;
-      turned = refill_turned t n (Lent (next_borrow A l));
-    }
-    write_there l n (Some (Here v (r ∷ readers))) =
-        subst (λ ls. Alike (BorrowRefused (BorrowRefusal.BeingRead (p r.location ∷ ls)), S)
-        (BorrowRefused (BorrowRefusal.BeingRead (r.location ∷ list_map (λ (b : Borrow). b.location) readers)), A))
-        (sym (locations p readers))
-        (stays (BorrowRefused (BorrowRefusal.BeingRead (r.location ∷ list_map (λ (b : Borrow). b.location) readers))))
-    write_there l n (Some (Lent w)) = stays (BorrowRefused (BorrowRefusal.BeingWritten w.location))
-
-    write_reached : (b : GenerationalPointer) (l : Location) (o : Option Name)
-        → Alike (unless (refusal_at o (p b.created_at) (λ n. write_refusal (content_at S n))) S
-        (write_at S (p l) o (content_of (cell_at S o))))
-        (unless (refusal_at o b.created_at (λ n. write_refusal (content_at A n))) A
-        (write_at A l o (content_of (cell_at A o))))
-    write_reached b l None = stays (BorrowRefused (Dropped b.created_at))
-    write_reached b l (Some n) = rw (t.at n, content_moved (map.get A.cells n))
-        (write_there l n (content_of (map.get A.cells n)))
-
-    set_there : (b : GenerationalPointer) (v : T) (n : Name) (c : Option (Content T))
-        → Alike (set_at S (place_box p b) v (Some n) (option_map content c)) (set_at A b v (Some n) c)
-    set_there b v n None = stays (Back v)
-    set_there b v n (Some (Here old [])) =
-        filled (Answer.Old old) (Answer.Old old) n (Here v []) (Here v []) refl refl
-    set_there b v n (Some (Here old (r ∷ readers))) = stays (Back v)
-    set_there b v n (Some (Lent w)) = stays (Back v)
-
-    set_reached : (b : GenerationalPointer) (v : T) (o : Option Name)
-        → Alike (set_at S (place_box p b) v o (content_of (cell_at S o))) (set_at A b v o (content_of (cell_at A o)))
-    set_reached b v None = stays (BorrowRefused (Dropped b.created_at))
-    set_reached b v (Some n) = rw (t.at n, content_moved (map.get A.cells n))
-        (set_there b v n (content_of (map.get A.cells n)))
-
-    refer_there : (o : Option OwnerName) (b : GenerationalPointer) (f n : Name) (x : Option (Cell T))
-        → Alike (unless (read_refusal (content_of (option_map cell x))) S
-        (refer S o (place_box p b) (Some n) (option_map cell x) f))
-        (unless (read_refusal (content_of x)) A (refer A o b (Some n) x f))
-    refer_there o b f n None = stays (BorrowRefused (Dropped b.created_at))
-    refer_there o b f n (Some (Value (Here v readers) l)) = stays (BorrowRefused (Dropped b.created_at))
-    refer_there o b f n (Some (Value (Lent w) l)) = stays (BorrowRefused (BorrowRefusal.BeingWritten w.location))
-    refer_there o b f n (Some (Shared (Here v readers) l)) = make_elsewhere A C t o f (Ref n l) l
-    refer_there o b f n (Some (Shared (Lent w) l)) = stays (BorrowRefused (BorrowRefusal.BeingWritten w.location))
-    refer_there o b f n (Some (Ref m l)) = stays (BorrowRefused (Dropped b.created_at))
-
-    refer_reached : (o : Option OwnerName) (b : GenerationalPointer) (f : Name) (r : Option Name)
-        → Alike (unless (refusal_at r (p b.created_at) (λ n. read_refusal (content_at S n))) S
-        (refer S o (place_box p b) r (cell_at S r) f))
-        (unless (refusal_at r b.created_at (λ n. read_refusal (content_at A n))) A
-        (refer A o b r (cell_at A r) f))
-    refer_reached o b f None = stays (BorrowRefused (Dropped b.created_at))
-    refer_reached o b f (Some n) = rw (t.at n) (refer_there o b f n (map.get A.cells n))
-
-    reader_there : (n : Name) (k : ℕ) (c : Option (Content T))
-        → Alike (cond (has_reader (option_map content c) k)
-        (Flag true, remove_reader S n k (option_map content c)) (Flag false, S))
-        (cond (has_reader c k) (Flag true, remove_reader A n k c) (Flag false, A))
-    reader_there n k None = stays (Flag false)
-    reader_there n k (Some (Lent w)) = stays (Flag false)
-    reader_there n k (Some (Here v readers)) = rw (reader_moved p readers k)
-        (if_alike (list_any (λ (r : Borrow). nat_eq r.ticket k) readers)
-        (filled (Flag true) (Flag true) n
-        (Here v (filter (λ (r : Borrow). not (nat_eq r.ticket k)) (list_map (place_borrow p) readers)))
-        (Here v (filter (λ (r : Borrow). not (nat_eq r.ticket k)) readers))
-        (ap (Here v) (others_moved p readers k)) refl) (stays (Flag false)))
-
-    writer_there : (v : T) (n : Name) (k : ℕ) (c : Option (Content T))
-        → Alike (cond (has_writer (option_map content c) k) (Done, fill S n (Here v [])) (Back v, S))
-        (cond (has_writer c k) (Done, fill A n (Here v [])) (Back v, A))
-    writer_there v n k None = stays (Back v)
-    writer_there v n k (Some (Here w readers)) = stays (Back v)
-    writer_there v n k (Some (Lent w)) = if_alike (nat_eq w.ticket k)
-        (filled Done Done n (Here v []) (Here v []) refl refl) (stays (Back v))
-
-    other : (a b : GenerationalPointer) (y : Option (Cell T))
-        → Alike (BorrowRefused (Dropped (unwrap_or (location_of (option_map cell y)) (p b.created_at))), S)
-        (BorrowRefused (Dropped (unwrap_or (location_of y) b.created_at)), A)
-    other a b y = rw (created_moved y b.created_at)
-        (stays (BorrowRefused (Dropped (unwrap_or (location_of y) b.created_at))))
-
-    point_there : (a b : GenerationalPointer) (x : Option (Cell T)) (o : Option Name) (y : Option (Cell T))
-        → Alike (point S (place_box p a) (place_box p b) (option_map cell x) o (option_map cell y))
-        (point A a b x o y)
-    point_there a b None o y = stays (BorrowRefused (Dropped a.created_at))
-    point_there a b (Some (Ref old l)) (Some new) (Some (Shared c k)) =
-        let swept = sweep_turned (insert_turned t (name_of a) (Ref new l)) in
-        if_alike (is_name old new) (stays Done)
-        (rw (hindrance_at_moved t swept old)
-        (unless_alike (hindrance_at A.cells (sweep (map.insert A.cells (name_of a) (Ref new l))) old)
-        (record {
-          answer = refl;
-          cells = sweep (map.insert C (name_of a) (Ref new (p l)));
-          is = refl;
-          turned = swept;
-        })))
-    point_there a b (Some (Ref old l)) None y = other a b y
-    point_there a b (Some (Ref old l)) (Some new) None = other a b None
-    point_there a b (Some (Ref old l)) (Some new) (Some (Value c k)) = other a b (Some (Value c k))
-    point_there a b (Some (Ref old l)) (Some new) (Some (Ref m k)) = other a b (Some (Ref m k))
-    point_there a b (Some (Value c l)) o y = other a b y
-    point_there a b (Some (Shared c l)) o y = other a b y
-
-    pub none_moved : (r : Option BorrowRefusal) → is_none (option_map (refusal p) r) ≡ is_none r
-    none_moved None = refl
-    none_moved (Some r) = refl
-
-    pub can_read_moved : (b : GenerationalPointer) (o : Option Name)
-        → is_none (refusal_at o (p b.created_at) (λ n. read_refusal (content_at S n)))
-        ≡ is_none (refusal_at o b.created_at (λ n. read_refusal (content_at A n)))
-    can_read_moved b None = refl
-    can_read_moved b (Some n) = rw (t.at n, content_moved (map.get A.cells n), read_moved (content_of (map.get A.cells n)))
-        (none_moved (read_refusal (content_of (map.get A.cells n))))
-
-    pub can_write_moved : (b : GenerationalPointer) (o : Option Name)
-        → is_none (refusal_at o (p b.created_at) (λ n. write_refusal (content_at S n)))
-        ≡ is_none (refusal_at o b.created_at (λ n. write_refusal (content_at A n)))
-    can_write_moved b None = refl
-    can_write_moved b (Some n) = rw (t.at n, content_moved (map.get A.cells n), write_moved (content_of (map.get A.cells n)))
-        (none_moved (write_refusal (content_of (map.get A.cells n))))
-
-    flagged : (x y : Bool) → x ≡ y → Alike (Flag x, S) (Flag y, A)
-    flagged x y same = record { answer = ap Flag same; cells = C; is = refl; turned = t }
-
-    reader_guarded : (own : Bool) (n : Name) (k : ℕ) (c : Option (Content T))
-        → Alike (cond (own && has_reader (option_map content c) k)
-        (Flag true, remove_reader S n k (option_map content c)) (Flag false, S))
-        (cond (own && has_reader c k) (Flag true, remove_reader A n k c) (Flag false, A))
-    reader_guarded true n k c = reader_there n k c
-    reader_guarded false n k c = stays (Flag false)
-
-    writer_guarded : (own : Bool) (v : T) (n : Name) (k : ℕ) (c : Option (Content T))
-        → Alike (cond (own && has_writer (option_map content c) k) (Done, fill S n (Here v [])) (Back v, S))
-        (cond (own && has_writer c k) (Done, fill A n (Here v [])) (Back v, A))
-    writer_guarded true v n k c = writer_there v n k c
-    writer_guarded false v n k c = stays (Back v)
-
-    shares : (o : Option OwnerName) (new : NewNames) (v : T) (l : Location)
-        → Alike (make (add_cell S new.first (Shared (Here v []) (p l))) o new.second (Ref new.first (p l)) (p l))
-        (make (add_cell A new.first (Shared (Here v []) l)) o new.second (Ref new.first l) l)
-    shares o new v l =
-        let x : Cell T = Shared (Here v []) l in
-        let more = insert_turned t new.first x in
-        let B : State T = add_cell A new.first x in
-        let D : NameMap (Cell T) = map.insert C new.first (cell x) in
-        let q : add_cell S new.first (cell x) ≡ record B { cells = D } =
-        λ i. record B { cells = D; peak = max A.peak (same_size more i) } in
-        subst (λ s. IsTurned p (make s o new.second (Ref new.first (p l)) (p l))
-        (make B o new.second (Ref new.first l) l)) (sym q)
-        (make_elsewhere B D more o new.second (Ref new.first l) l)
-
-    pub own_moved : (a : GenerationalPointer)
-        → own_cell S a.id ≡ option_map cell (own_cell A a.id)
-    own_moved a = rw (t.at (name_of a)) (cond_map (option_map cell) (nat_eq a.id.store A.number) (map.get A.cells (name_of a)) None)
-
-    point_reached : (a b : GenerationalPointer) (o : Option Name)
-        → Alike (unless (refusal_at o (p b.created_at) (λ n. read_refusal (content_at S n))) S
-        (point S (place_box p a) (place_box p b) (own_cell S a.id) o (cell_at S o)))
-        (unless (refusal_at o b.created_at (λ n. read_refusal (content_at A n))) A
-        (point A a b (own_cell A a.id) o (cell_at A o)))
-    point_reached a b None = stays (BorrowRefused (Dropped b.created_at))
-    point_reached a b (Some n) =
-        rw (own_moved a, t.at n, content_moved (map.get A.cells n), read_moved (content_of (map.get A.cells n)))
-        (unless_alike (read_refusal (content_of (map.get A.cells n)))
-        (point_there a b (own_cell A a.id) (Some n) (map.get A.cells n)))
-
-  -- a call of a state with other locations is answered alike, and leaves a state alike
-  module _ (A : State T) (C : NameMap (Cell T)) (t : AreTurned p C A.cells) where
-    pub act_turned : (call : Action T) (new : NewNames)
-        → IsTurned p (act (record A { cells = C }) (place_action p call) new) (act A call new)
+    refused_turned : (b : GenerationalPointer)
+        → (refusal_to_read (turned S) (place_box p b) ≡ refusal p (refusal_to_read S b))
+        × (refusal_to_write (turned S) (place_box p b) ≡ refusal p (refusal_to_write S b))
     unfolding refusal_to_read refusal_to_write
-    act_turned (Action.Make None v l) new = make_elsewhere A C t None new.first (Value (Here v []) l) l
-    act_turned (Action.Make (Some o) v l) new = if_alike A C t (is_known A (Some o))
-        (make_elsewhere A C t (Some o) new.first (Value (Here v []) l) l) (stays A C t (Refused UnknownOwner))
-    act_turned (Action.MakeShared None v l) new = shares A C t None new v l
-    act_turned (Action.MakeShared (Some o) v l) new = if_alike A C t (is_known A (Some o))
-        (shares A C t (Some o) new v l) (stays A C t (Refused UnknownOwner))
-    act_turned (Action.Refer None b) new = rw (reach_moved A C t b) (refer_reached A C t None b new.first (reach A b))
-    act_turned (Action.Refer (Some o) b) new = if_alike A C t (is_known A (Some o))
-        (rw (reach_moved A C t b) (refer_reached A C t (Some o) b new.first (reach A b))) (stays A C t (Refused UnknownOwner))
-    act_turned Action.NewOwner new = record { answer = refl; cells = C; is = refl; turned = t }
-    act_turned (Action.CloneOwner o) new = clones A C t o (ownership A o)
-    act_turned (Action.ReleaseOwner o) new = releases A C t o (ownership A o)
-    act_turned (Action.LeakOwner o) new = stays A C t Done
-    act_turned (Action.Read b l) new = rw (reach_moved A C t b) (read_reached A C t b l (reach A b))
-    act_turned (Action.Write b l) new = rw (reach_moved A C t b) (write_reached A C t b l (reach A b))
-    act_turned (Action.ReleaseReader x) new = rw (t.at x.cell, content_moved (map.get A.cells x.cell))
-        (reader_guarded A C t (nat_eq x.store A.number) x.cell x.ticket (content_of (map.get A.cells x.cell)))
-    act_turned (Action.ReleaseWriter x v) new = rw (t.at x.cell, content_moved (map.get A.cells x.cell))
-        (writer_guarded A C t (nat_eq x.store A.number) v x.cell x.ticket (content_of (map.get A.cells x.cell)))
-    act_turned (Action.SetValue b v) new = rw (reach_moved A C t b) (set_reached A C t b v (reach A b))
-    act_turned (Action.End b) new = closes A C t (own_name A b)
-    act_turned (Action.Point a b) new = if_alike A C t (has_same_id a b) (stays A C t Done)
-        (rw (reach_moved A C t b) (point_reached A C t a b (reach A b)))
-    act_turned (Action.CanRead b) new = flagged A C t _ _ (rw (reach_moved A C t b) (can_read_moved A C t b (reach A b)))
-    act_turned (Action.CanWrite b) new = flagged A C t _ _ (rw (reach_moved A C t b) (can_write_moved A C t b (reach A b)))
+    refused_turned b = grind (arith, reach_turned, get_each, cell_turned, locations p)
+
+    hindered_turned : (names : List Name) → hindrance_to (turned S) names ≡ refusal p (hindrance_to S names)
+    unfolding hindrance_to
+    hindered_turned names = rw (← after_turned S.cells names) (first_turned S.cells _ names)
+
+    add_turned : (n : Name) (x : Cell T) → turned (add_cell S n x) ≡ add_cell (turned S) n (cell x)
+    add_turned n x = rw (← insert_each cell S.cells n x, len_each)
+
+    list_turned : (o : Option OwnerName) (n : Name) → turned (add_to_list S o n) ≡ add_to_list (turned S) o n
+    list_turned o n = grind arith
+
+    -- ---- each call
+
+    make_turned : (o : Option OwnerName) (n : Name) (x : Cell T) (l : Location)
+        → make (turned S) o n (cell x) (p l) ≡ turned_out (make S o n x l)
+    make_turned o n x l = grind (arith, add_turned n x, list_turned)
+
+    refer_turned : (o : Option OwnerName) (b : GenerationalPointer) (new : NewNames)
+        → act (turned S) (place_action p (Refer o b)) new ≡ turned_out (act S (Refer o b) new)
+    refer_turned o b new = grind (arith, reach_turned, refused_turned, get_each, insert_each, len_each)
+
+    -- what stands at what was reached
+    at_turned : (m : Option Name)
+        → content_of (cell_at (turned S) m) ≡ option_map content (content_of (cell_at S m))
+    at_turned m = grind (arith, get_each, cell_turned)
+
+    own_turned : (id : GenerationalBoxId) (m : Option Name)
+        → (own_cell (turned S) id ≡ option_map cell (own_cell S id))
+        × (cell_at (turned S) m ≡ option_map cell (cell_at S m))
+    own_turned id m = grind (arith, get_each)
+
+    read_at_turned : (l : Location) (m : Option Name) (c : Option (Content T))
+        → read_at (turned S) (p l) m (option_map content c) ≡ turned_out (read_at S l m c)
+    read_at_turned l (Some n) (Some (Here v readers)) = let more = next_borrow S l ∷ [] in
+        rw (fill_turned S.cells n (Here v (readers ++ more)), map-append (place_borrow p) readers more)
+    read_at_turned l m c = refl
+
+    write_at_turned : (l : Location) (m : Option Name) (c : Option (Content T))
+        → write_at (turned S) (p l) m (option_map content c) ≡ turned_out (write_at S l m c)
+    write_at_turned l (Some n) (Some (Here v readers)) = rw (fill_turned S.cells n (Lent (next_borrow S l)))
+    write_at_turned l m c = refl
+
+    set_at_turned : (b : GenerationalPointer) (v : T) (m : Option Name) (c : Option (Content T))
+        → set_at (turned S) (place_box p b) v m (option_map content c) ≡ turned_out (set_at S b v m c)
+    set_at_turned b v (Some n) (Some (Here old [])) = rw (fill_turned S.cells n (Here v []))
+    set_at_turned b v m c = refl
+
+    removed_turned : (n : Name) (t : ℕ) (c : Option (Content T))
+        → remove_reader (turned S) n t (option_map content c) ≡ turned (remove_reader S n t c)
+    removed_turned n t (Some (Here v readers)) =
+        rw (fill_turned S.cells n (Here v (filter (λ r. not (nat_eq r.ticket t)) readers)), (readers_turned p readers t).1)
+    removed_turned n t c = refl
+
+    known_turned : (t : ℕ) (c : Option (Content T)) → (has_reader (option_map content c) t ≡ has_reader c t)
+        × (has_writer (option_map content c) t ≡ has_writer c t)
+    known_turned t c = grind (arith, readers_turned p)
+
+    point_turned : (a b : GenerationalPointer) (x : Option (Cell T)) (m : Option Name) (y : Option (Cell T))
+        → point (turned S) (place_box p a) (place_box p b) (option_map cell x) m (option_map cell y)
+        ≡ turned_out (point S a b x m y)
+    point_turned a b (Some (Ref old l)) (Some new) (Some (Shared c k)) =
+        rw (← insert_each cell S.cells (name_of a) (Ref new l), ← sweep_turned, hindrance_at_turned) (grind arith)
+    point_turned a b x m y = grind arith
+
+  -- a call of a turned state is answered alike, and leaves a state that is turned alike
+  pub act_turned : (S : State T) (call : Action T) (new : NewNames)
+      → act (turned S) (place_action p call) new ≡ turned_out (act S call new)
+  act_turned S (Make o v l) new =
+      rw (make_turned S o new.first (Value (Here v []) l) l) (grind arith)
+  act_turned S (MakeShared o v l) new = let x : Cell T = Shared (Here v []) l in
+      ap (λ Q. cond (is_known S o) (make Q o new.second (Ref new.first (p l)) (p l)) (Refused UnknownOwner, turned S))
+      (sym (add_turned S new.first x))
+      ∙ rw (make_turned (add_cell S new.first x) o new.second (Ref new.first l) l) (grind arith)
+  act_turned S (Refer o b) new = refer_turned S o b new
+  act_turned S (Read b l) new =
+      rw (reach_turned, (refused_turned S b).0, at_turned, read_at_turned) (grind arith)
+  act_turned S (Write b l) new =
+      rw (reach_turned, (refused_turned S b).1, at_turned, write_at_turned) (grind arith)
+  act_turned S (ReleaseReader g) new = grind (arith, at_turned S (Some g.cell), known_turned, removed_turned)
+  act_turned S (ReleaseWriter g v) new = grind (arith, at_turned S (Some g.cell), known_turned, fill_turned S.cells g.cell (Here v []))
+  act_turned S (SetValue b v) new = rw (reach_turned, at_turned) (set_at_turned S b v _ _)
+  act_turned S (Point a b) new = grind (arith, reach_turned, (refused_turned S b).0, own_turned, point_turned)
+  act_turned S (CanRead b) new = grind (arith, (refused_turned S b).0)
+  act_turned S (CanWrite b) new = grind (arith, (refused_turned S b).1)
+  act_turned S call new = grind (arith, hindered_turned, after_turned)
+
+-- ---- a recorded call, and a step, of a state without values
+
+mapped_twice : {A B C : Type 0} (f : A → B) (g : B → C) (o : Option A)
+    → option_map g (option_map f o) ≡ option_map (λ x. g (f x)) o
+mapped_twice f g o = grind arith
+
+module _ (p : Location → Location) where
+  told : (r : Option BorrowRefusal) → tells_of_borrow (refusal p r) ≡ tells_of_borrow r
+  told r = grind arith
+
+  names_kept : (r : StepReply) → names_of_reply (place_reply p r) ≡ names_of_reply r
+  names_kept r = grind arith
+
+  hindered_kept : (a : Action (Unit {0})) (x : Answer (Unit {0}))
+      → is_hindered (place_action p a) (place_answer p x) ≡ is_hindered a x
+  hindered_kept a x = grind arith
+
+  module _ (P : Plain) where
+    given_turned : (a : Action (Unit {0})) (answer : Answer (Unit {0}))
+        → recorded_reply (turned p P) (place_action p a) (place_answer p answer)
+        ≡ option_map (place_reply p) (recorded_reply P a answer)
+    given_turned a answer = grind (arith, get_each)
+
+    limited_turned : (out : Outcome (Unit {0}))
+        → limit_tickets (turned p P) (turned_out p out) ≡ turned_out p (limit_tickets P out)
+    limited_turned out = grind arith
+
+    ready_kept : (c : StepCall) → is_ready (turned p P) (place_call p c) ≡ is_ready P c
+    ready_kept (call.PointTo a b) = rw (act_turned p P (Point a b) no_names) (ap not (hindered_kept (Point a b) _))
+    ready_kept (call.ReleaseOwner o) =
+        rw (act_turned p P (ReleaseOwner (owner_of o)) no_names) (ap not (hindered_kept (ReleaseOwner (owner_of o)) _))
+    ready_kept (call.Set b) = rw (reach_turned p P b, at_turned p P (reach P b)) (grind arith)
+    ready_kept c = grind (arith, refused_turned p P, hindered_turned p P, told)
+
+    free_kept : (s : ℕ) → is_free (turned p P) s ≡ is_free P s
+    free_kept s = grind (arith, get_each)
+
+    new_kept : (n : Name) → is_new (turned p P) n ≡ is_new P n
+    new_kept n = λ i. not (set.contains P.given n)
+        && ((nat_eq (map.len (map.retain_keys (slots_of P) (λ s. free_kept s i))) 0
+        && (nat_eq n.slot (slots P) && nat_eq n.generation P.start))
+        || (map.contains_key (slots_of P) n.slot
+        && (free_kept n.slot i && nat_eq n.generation ((last_name P n.slot).generation + 1))))
+
+    cells_kept : (k : ℕ) → (reader_cell (turned p P) k ≡ reader_cell P k) × (writer_cell (turned p P) k ≡ writer_cell P k)
+    cells_kept k =
+        let same : (n : Name) → (has_reader (content_at (turned p P) n) k ≡ has_reader (content_at P n) k)
+        × (has_writer (content_at (turned p P) n) k ≡ has_writer (content_at P n) k) =
+        λ n. rw (at_turned p P (Some n)) (known_turned p P k (content_at P n)) in (
+          λ i. first_name (λ n. (same n).0 i) (keys_each (cell p) P.cells i),
+          λ i. first_name (λ n. (same n).1 i) (keys_each (cell p) P.cells i),
+        )
+
+    action_turned : (c : StepCall)
+        → action_of (turned p P) (place_call p c) ≡ option_map (place_action p) (action_of P c)
+    action_turned (call.ReleaseRead k) = rw (cells_kept k).0 (sym (mapped_twice _ _ (reader_cell P k)))
+    action_turned (call.ReleaseWrite k) = rw (cells_kept k).1 (sym (mapped_twice _ _ (writer_cell P k)))
+    action_turned c = refl
+
+  module _ (P : Plain) where
+    are_new_kept : (a : Action (Unit {0})) (f : NewNames)
+        → are_new (turned p P) (place_action p a) f ≡ are_new P a f
+    are_new_kept (MakeShared o v l) f = let x : Cell (Unit {0}) = Shared (Here tt []) l in
+        λ i. new_kept P f.first i && (ap (λ Q. is_new Q f.second) (sym (add_turned p P f.first x))
+        ∙ new_kept (add_cell P f.first x) f.second) i
+    are_new_kept a f = grind (arith, new_kept)
+
+    gives_kept : (a : Action (Unit {0})) (r : StepReply)
+        → gives_new (turned p P) (place_action p a) (place_reply p r) ≡ gives_new P a r
+    gives_kept a r = grind (arith, are_new_kept)
+
+    -- a recorded step of it leads to a state that is turned alike, if it leads anywhere
+    module _ (keeps : KeepsTest p) where
+      recorded_kept : (o : Option StepReply) (r : StepReply)
+          → is_recorded (option_map (place_reply p) o) (place_reply p r) ≡ is_recorded o r
+      recorded_kept o r = grind (arith, keeps)
+
+      step_by_turned : (c : StepCall) (r : StepReply) (o : Option (Action (Unit {0})))
+          → step_by (turned p P) (place_call p c) (place_reply p r) (option_map (place_action p) o)
+          ≡ option_map (turned p) (step_by P c r o)
+      step_by_turned c r None = refl
+      step_by_turned c r (Some a) = let out = limit_tickets P (act P a (names_of_reply r)) in
+          rw (
+            names_kept r,
+            act_turned p P a (names_of_reply r),
+            limited_turned P (act P a (names_of_reply r)),
+            ready_kept P c,
+            gives_kept a r,
+            given_turned out.1 a out.0,
+            recorded_kept (recorded_reply out.1 a out.0) r,
+          ) (grind arith)
+
+      pub step_turned : (c : StepCall) (r : StepReply)
+          → plain_step (turned p P) (place_call p c) (place_reply p r) ≡ option_map (turned p) (plain_step P c r)
+      unfolding plain_step
+      step_turned c r = rw (action_turned P c) (step_by_turned c r (action_of P c))
+
+  -- the states that specs call alike
+  pub alike_is : {S A : Plain} → AreAlike p S A → S ≡ turned p A
+  alike_is {A = A} h = h.is ∙ ap (λ C. record A { cells = C }) (each_is (cell p) A.cells h.cells h.turned.at)
+
+  pub is_alike : {S A : Plain} → S ≡ turned p A → AreAlike p S A
+  is_alike {A = A} is = record {
+    cells = each (cell p) A.cells;
+    is = is;
+    turned = record { at = get_each (cell p) A.cells };
+  }

@@ -1,71 +1,18 @@
 -- What holds of each history that replays: its states are sound, and of the one store.
-use Rattle.std.proofs.Common.{◌≡◌, ℕ, Bool, true, false, cond, List, [], ◌∷◌, ◌++◌, Option, None}
-use Rattle.std.proofs.Common.{Some, refl, sym, ap, subst, ◌∙◌, inl, IfSome}
-use Rattle.std.specs.Prelude.{option_map}
-use Rattle.std.proofs.lemmas.Bool.{and_parts, true≢false}
-use Rattle.generational_core.specs.declared.steps.StepCall.{StepCall}
-use Rattle.generational_core.specs.State.{IsSound}
-use Rattle.generational_core.specs.Machine.{Action, Answer, NewNames, Outcome, act}
-use Rattle.generational_core.specs.Machine.Action.{Make, MakeShared, Refer}
-use Rattle.generational_core.specs.declared.boxes.GenerationalBoxId.{GenerationalBoxId}
-use Rattle.generational_core.specs.declared.boxes.GenerationalPointer.{GenerationalPointer}
-use Rattle.generational_core.specs.Machine.Answer.{Made}
-use Rattle.generational_core.specs.Steps.{AreNew, Takes, Meets, limit_tickets}
-use Rattle.generational_core.specs.StepCalls.{is_ready, target_of}
-use Rattle.shared_history.specs.Replies.{is_recorded, made_reply, recorded_reply}
-use Rattle.shared_records.specs.declared.step.Step.{Step}
-use Rattle.shared_records.specs.declared.step.StepReply.{StepReply}
+use Rattle.generational_sync.proofs.Common
+use Common.{[], act, Action, action_of, and_parts, Answer, ap, arith, Bool, cond, false, gives_new, inl}
+use Common.{is_lawful, is_ready, is_recorded, IsSound, IsTaken, LeadsOver, limit_tickets, List, Meets}
+use Common.{names_of_reply, None, Option, Outcome, Plain, plain_step, recorded_reply, refl, replay_from}
+use Common.{replay_on, Some, Step, step_by, StepCall, StepReply, subst, sym, Takes, true, ℕ, ◌++◌, ◌∙◌, ◌∷◌}
+use Common.{◌≡◌}
 use Rattle.shared_records.specs.declared.step.StepReply.TheVariants as reply
-use Rattle.shared_history.specs.History.{Plain, plain_step, step_by, names_of_reply, action_of}
-use Rattle.shared_history.specs.History.{gives_new, is_lawful, replay_on}
-use Rattle.shared_history.specs.History.{replay_from, IsTaken, LeadsOver}
 use Rattle.generational_sync.proofs.Fitting.{are_from, gives_from}
-
-takes_any : (P : Plain) (a : Action (Unit {0})) (answer : Answer (Unit {0})) (f : NewNames)
-    → AreNew P a f → Takes P a answer f
-takes_any P a (Made b) f new = new
-takes_any P a _ f new = tt
-
--- whether a reply gives a box
-abbrev gives_box : StepReply → Bool
-gives_box (reply.Made b) = true
-gives_box (reply.MadeShared id b) = true
-gives_box _ = false
-
--- a box that was made is recorded as one
-made_gives : (a : Action (Unit {0})) (Q : Plain) (b : GenerationalPointer)
-    → IfSome (made_reply a Q b) (λ r. gives_box r ≡ true)
-made_gives (Make o v l) Q b = refl
-made_gives (MakeShared o v l) Q b = at (target_of Q b)
-  where
-    at : (t : Option GenerationalBoxId)
-        → IfSome (option_map (λ id. reply.MadeShared id b) t) (λ r. gives_box r ≡ true)
-    at None = tt
-    at (Some id) = refl
-made_gives (Refer o c) Q b = refl
-made_gives _ Q b = tt
-
--- so a reply that gives none is another answer's
-recorded_box : (o : Option StepReply) (r : StepReply) → IfSome o (λ s. gives_box s ≡ true)
-    → gives_box r ≡ false → is_recorded o r ≡ true → ⊥
-recorded_box None r box none h = true≢false (sym h)
-recorded_box (Some (reply.Made b)) (reply.Made c) box none h = true≢false none
-recorded_box (Some (reply.Made b)) (reply.MadeShared i c) box none h = true≢false none
-recorded_box (Some (reply.Made b)) _ box none h = true≢false (sym h)
-recorded_box (Some (reply.MadeShared i b)) (reply.Made c) box none h = true≢false none
-recorded_box (Some (reply.MadeShared i b)) (reply.MadeShared j c) box none h = true≢false none
-recorded_box (Some (reply.MadeShared i b)) _ box none h = true≢false (sym h)
-recorded_box (Some s) r box none h = absurd (true≢false (sym box))
 
 -- the names of a recorded reply are those that the call takes
 takes_named : (P Q : Plain) (a : Action (Unit {0})) (answer : Answer (Unit {0})) (r : StepReply)
     → gives_new P a r ≡ true → is_recorded (recorded_reply Q a answer) r ≡ true
     → Takes P a answer (names_of_reply r)
-takes_named P Q a answer (reply.Made b) new h = takes_any P a answer _ (are_from P a _ new)
-takes_named P Q a answer (reply.MadeShared i b) new h =
-    takes_any P a answer _ (are_from P a _ new)
-takes_named P Q a (Made b) r new h = absurd (recorded_box _ r (made_gives a Q b) refl h)
-takes_named P Q a _ r new h = tt
+takes_named P Q a answer r new h = grind (arith, are_from)
 
 -- a step that is lawful is taken
 taken_by : (P Q : Plain) (c : StepCall) (r : StepReply) (a : Action (Unit {0}))

@@ -1,57 +1,32 @@
 -- How many borrows stand after a call.
-use Rattle.std.proofs.Common.{◌≡◌, ℕ, ◌+◌, ◌≤◌, Bool, true, false, cond, not, List, [], ◌∷◌}
-use Rattle.std.proofs.Common.{◌++◌, length, Option, None, Some, refl, sym, ap, ◌∙◌, arith}
-use Rattle.std.proofs.Common.{length-append}
-use Rattle.std.specs.Prelude.{nat_eq, suc, ◌||◌}
-use Rattle.std.specs.List.{list_any, filter}
-use Rattle.std.proofs.lemmas.Bool.{true≢false}
-use Rattle.std.proofs.lemmas.List.{length-map}
+use Rattle.generational_sync.proofs.Common
+use Common.{[], among, ap, arith, Borrow, borrows, borrows_in, Cell, close, Content, content_at, content_of}
+use Common.{fill, Filling, filter, has_reader, Here, is_named, is_shared, Leave, length, length-append}
+use Common.{length-map, Lent, List, list_any, Name, NameMap, nat_eq, new_content, next_borrow, None, not}
+use Common.{old_content, Option, Reader, Ref, refill, refl, remove_reader, Shared, Some, State, sweep, sym}
+use Common.{take_away, tickets_of, true, true≢false, Value, without, Writer, ℕ, ◌++◌, ◌+◌, ◌||◌, ◌∷◌, ◌≡◌}
+use Common.{◌≤◌}
 use Rattle.std.specs.FinMap as map
-use Rattle.generational_errors.specs.declared.error.Location.{Location}
-use Rattle.generational_core.specs.declared.borrow.Borrow.{Borrow}
-use Rattle.generational_core.specs.Names.{Name, NameMap, among}
-use Rattle.generational_core.specs.Cells.{Content, Cell, content_of, refill, is_shared}
-use Rattle.generational_core.specs.Cells.Content.{Here, Lent}
-use Rattle.generational_core.specs.Cells.Cell.{Value, Shared, Ref}
-use Rattle.generational_core.specs.State.{State, tickets_of, is_named, content_at}
-use Rattle.generational_core.specs.Borrowing.{fill}
-use Rattle.generational_core.specs.Ending.{sweep, take_away, close}
-use Rattle.generational_core.specs.Machine.{Answer, Outcome, read_at, cell_at, has_reader}
-use Rattle.generational_core.specs.Machine.{remove_reader}
-use Rattle.generational_core.specs.Machine.Answer.{Reads, Done}
-use Rattle.shared_history.specs.Standing.{borrows, borrows_in}
 use Rattle.generational_sync.proofs.Weighing.{borrows_retained, borrows_changed}
 
 -- a list without a ticket that is in it is shorter
 fewer : (t : ℕ) (rs : List Borrow)
     → length (filter (λ (r : Borrow). not (nat_eq r.ticket t)) rs) ≤ length rs
 fewer t [] = omega arith
-fewer t (r ∷ rs) =
-    let rest = fewer t rs in
-    let left = filter (λ (r : Borrow). not (nat_eq r.ticket t)) rs in
-    elim (nat_eq r.ticket t) as (λ b. length (cond (not b) (r ∷ left) left) ≤ suc (length rs)) [
-      | true ↦ omega arith
-      | false ↦ omega arith
-    ]
+fewer t (r ∷ rs) = grind (arith, fewer t rs)
 
 shorter : (t : ℕ) (rs : List Borrow) → list_any (λ (r : Borrow). nat_eq r.ticket t) rs ≡ true
     → length (filter (λ (r : Borrow). not (nat_eq r.ticket t)) rs) + 1 ≤ length rs
 shorter t [] h = absurd (true≢false (sym h))
-shorter t (r ∷ rs) h = split (shorter t rs) (nat_eq r.ticket t) refl
-  where
-    left : List Borrow
-    left = filter (λ (r : Borrow). not (nat_eq r.ticket t)) rs
-
-    split : (list_any (λ (r : Borrow). nat_eq r.ticket t) rs ≡ true
-        → length left + 1 ≤ length rs) → (b : Bool) → nat_eq r.ticket t ≡ b
-        → length (cond (not b) (r ∷ left) left) + 1 ≤ suc (length rs)
-    split rest true e = let all = fewer t rs in omega arith
-    split rest false e =
-        let other = ap (λ b. b || list_any (λ (r : Borrow). nat_eq r.ticket t) rs) e in
-        let all = rest (sym other ∙ h) in
-        omega arith
+shorter t (r ∷ rs) h = grind (arith, shorter t rs, fewer t rs)
 
 module _ {T : Type 0} where
+  -- how many borrows come with a filling
+  abbrev pub comes_with : Filling T → ℕ
+  comes_with (Reader v readers l) = 1
+  comes_with (Writer v l) = 1
+  comes_with _ = 0
+
   abbrev pub size : Content T → ℕ
   size c = length (tickets_of (Some c))
 
@@ -76,25 +51,16 @@ module _ {T : Type 0} where
           omega arith
       at (Some (Ref k l)) is h = absurd cc
 
-  -- how many borrows an answer gives
-  abbrev pub lends : Answer T → ℕ
-  lends (Reads g) = 1
-  lends _ = 0
-
-  abbrev pub Grows : State T → Outcome T → Type 0
-  Grows S out = borrows out.1 ≤ borrows S + lends out.0
-
-  pub read_grows : (S : State T) (l : Location) (o : Option Name) (c : Option (Content T))
-      → content_of (cell_at S o) ≡ c → Grows S (read_at S l o c)
-  read_grows S l None c is = omega arith
-  read_grows S l (Some m) None is = omega arith
-  read_grows S l (Some m) (Some (Lent w)) is = omega arith
-  read_grows S l (Some m) (Some (Here v rs)) is =
-      let r : Borrow = record { ticket = S.next; location = l } in
-      let weighs = filled_borrows S m (Here v (rs ++ r ∷ [])) (Here v rs) is in
-      let more = length-append rs (r ∷ []) in
-      let one = size_here v rs in let two = size_here v (rs ++ r ∷ []) in
-      omega arith
+  -- how a content's size changes that is filled anew
+  pub refilled : (S : State T) (k : Filling T)
+      → size (new_content S k) ≤ size (old_content k) + comes_with k
+  refilled S (Reader v rs l) =
+      let more = length-append rs (next_borrow S l ∷ []) in
+      let one = size_here v rs in let two = size_here v (rs ++ next_borrow S l ∷ []) in omega arith
+  refilled S (Leave v rs g) =
+      let one = size_here v rs in let two = size_here v (without g.ticket rs) in
+      let less = fewer g.ticket rs in omega arith
+  refilled S k = omega arith
 
   pub swept_fewer : (cells : NameMap (Cell T))
       → borrows_in (map.entries (sweep cells)) ≤ borrows_in (map.entries cells)
@@ -108,8 +74,8 @@ module _ {T : Type 0} where
   without_fewer cells names =
       borrows_retained cells (λ n. is_shared (map.get cells n) || not (among names n))
 
-  pub end_grows : (S : State T) (names : List Name) → Grows S (Done, close S names)
-  end_grows S names =
+  pub end_fewer : (S : State T) (names : List Name) → borrows (close S names) ≤ borrows S
+  end_fewer S names =
       let first = without_fewer S.cells names in
       let second = swept_fewer (take_away S.cells names) in
       omega arith

@@ -1,29 +1,14 @@
 -- Bases: what their rows leave as it was, and what they count of the steps that were trimmed.
-use Rattle.std.proofs.Common.{◌≡◌, ℕ, ◌+◌, ◌^◌, ◌<◌, List, [], ◌∷◌, length, refl, ap, subst, ◌∙◌, arith}
-use Rattle.generational_core.specs.declared.rows.BaseRow.{BaseRow}
+use Rattle.generational_sync.proofs.Common
+use Common.{[], all_kinds, all_trimmed, ap, arith, BaseRow, BaseState, counts_of, IsCheckpoint, length}
+use Common.{List, LogState, Plain, plain, plain_of, read_row, read_rows, refl, rows_of, shared, SharedState}
+use Common.{State, Step, subst, TrimmedSteps, Trims, ℕ, ◌+◌, ◌<◌, ◌^◌, ◌∙◌, ◌∷◌, ◌≡◌}
 use Rattle.generational_core.specs.declared.rows.BaseRow.TheVariants as row
-use Rattle.generational_core.specs.Plain.{Plain, plain}
-use Rattle.generational_core.specs.Rows.{read_row, read_rows, rows_of}
-use Rattle.generational_core.specs.State.{State}
-use Rattle.shared_history.specs.Bases.{BaseState, Trims, all_trimmed, counts_of, plain_of}
-use Rattle.generational_sync.specs.Keeping.{shared}
-use Rattle.generational_sync.specs.Shared.{IsCheckpoint, SharedState}
-use Rattle.shared_history.specs.Logs.{LogState}
-use Rattle.shared_history.specs.declared.base.TrimmedSteps.{TrimmedSteps}
-use Rattle.shared_history.proofs.Appending.{all_kinds}
 use Rattle.shared_records.specs.declared.step.Kind.TheVariants.{Made, Lent, Changed, Refused}
-use Rattle.shared_records.specs.declared.step.Step.{Step}
 
 row_keeps : (P : Plain) (r : BaseRow)
     → ((read_row P r).number ≡ P.number) × ((read_row P r).start ≡ P.start)
-row_keeps P (row.Slot s g) = (refl, refl)
-row_keeps P (row.Value id l) = (refl, refl)
-row_keeps P (row.Shared id l) = (refl, refl)
-row_keeps P (row.Ref id m l) = (refl, refl)
-row_keeps P (row.Reader id t l) = (refl, refl)
-row_keeps P (row.Writer id t l) = (refl, refl)
-row_keeps P (row.Owner k c) = (refl, refl)
-row_keeps P (row.Owned k id) = (refl, refl)
+row_keeps P r = grind arith
 
 -- rows tell nothing of the number, nor of the first generation
 rows_keep : (rows : List BaseRow) (P : Plain)
@@ -62,14 +47,7 @@ module _ (base : BaseState) (steps : List Step) (t : TrimmedSteps)
         refused = t.refused;
         rows = rows;
       } → Trims base steps new
-  trims_of new is Made =
-      ap (λ (b : BaseState). b.made) is ∙ ap (λ (t : TrimmedSteps). t.made) counts
-  trims_of new is Lent =
-      ap (λ (b : BaseState). b.lent) is ∙ ap (λ (t : TrimmedSteps). t.lent) counts
-  trims_of new is Changed =
-      ap (λ (b : BaseState). b.changed) is ∙ ap (λ (t : TrimmedSteps). t.changed) counts
-  trims_of new is Refused =
-      ap (λ (b : BaseState). b.refused) is ∙ ap (λ (t : TrimmedSteps). t.refused) counts
+  trims_of new is kind = grind arith
 
 -- a checkpoint, as contracts see the states before and after it
 pub checkpoint_seen : {T : Type 0} {S : State T} {old : SharedState T} (log after : LogState)

@@ -1,25 +1,16 @@
 -- The borrows of finite maps of cells, added up.
-use Rattle.std.proofs.Common.{◌≡◌, ℕ, ◌+◌, ◌≤◌, Bool, true, false, cond, List, [], ◌∷◌, Option}
-use Rattle.std.proofs.Common.{None, Some, refl, sym, ap, ◌∙◌, arith}
+use Rattle.generational_sync.proofs.Common
+use Common.{[], and_from, and_parts, ap, arith, Bool, borrows_in, borrows_of, Cell, change, change_if, cond}
+use Common.{Equal, false, Greater, is_eq, is_lt, Less, List, Name, name_cmp, name_exact, name_total}
+use Common.{NameMap, None, Option, Ordering, refl, Some, sym, true, ℕ, ◌+◌, ◌∙◌, ◌∷◌, ◌≡◌, ◌≤◌}
 use Rattle.std.specs.Prelude.{T as IsTrue}
-use Rattle.std.specs.declared.cmp.Ordering.{Ordering}
-use Rattle.std.specs.declared.cmp.Ordering.TheVariants.{Less, Equal, Greater}
-use Rattle.std.specs.Ordering.{is_eq, is_lt}
-use Rattle.std.proofs.lemmas.Bool.{and_parts, and_from}
 use Rattle.std.specs.FinMap as map
-use Rattle.generational_core.specs.Names.{Name, NameMap, name_cmp, change, change_if}
-use Rattle.generational_core.specs.Cells.{Cell}
-use Rattle.shared_history.specs.Standing.{borrows_of, borrows_in}
-use Rattle.generational_sync.proofs.Naming.{name_total, name_exact}
 
 less : (r : Ordering) → is_lt r ≡ true → r ≡ Less
-less Less h = refl
-less Equal h = absurd cc
-less Greater h = absurd cc
+less r h = grind arith
 
 is_true : (b : Bool) → IsTrue b → b ≡ true
-is_true true h = refl
-is_true false h = absurd h
+is_true b h = grind arith
 
 module _ {T : Type 0} where
   -- the borrows at a cell that may be there

@@ -1,5 +1,5 @@
-use Rattle.std.proofs.Common.{◌∙◌}
-use Rattle.shared_history.specs.Bases.{plain_of}
+use Rattle.generational_sync.proofs.Common
+use Common.{plain_of, ◌∙◌}
 use Rattle.generational_sync.proofs.Replaying.{replay_kept}
 use Rattle.generational_sync.proofs.Trimming.{told_number}
 use Rattle.generational_sync.proofs.laws.histories_lead_to_sound_states.Goals as goal

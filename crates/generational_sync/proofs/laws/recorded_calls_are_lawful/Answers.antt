@@ -1,4 +1,5 @@
-use Rattle.std.proofs.Common.{sym}
+use Rattle.generational_sync.proofs.Common
+use Common.{sym}
 use Rattle.generational_sync.proofs.Following.{plain_follows}
 use Rattle.generational_sync.proofs.laws.recorded_calls_are_lawful.Goals as goal
 

@@ -1,4 +1,5 @@
-use Rattle.std.proofs.Common.{Some}
+use Rattle.generational_sync.proofs.Common
+use Common.{Some}
 use Rattle.generational_sync.proofs.Keeping.{settled}
 use Rattle.generational_sync.proofs.state.settle.Goals as goal
 

@@ -1,6 +1,5 @@
-use Rattle.std.proofs.Common.{◌≡◌, Some, ap, subst, sym, ◌∙◌}
-use Rattle.std.proofs.Common.{IfSome}
-use Rattle.generational_sync.specs.Keeping.{HasEnded, IsSettled}
+use Rattle.generational_sync.proofs.Common
+use Common.{ap, HasEnded, IfSome, IsSettled, Some, subst, sym, ◌∙◌, ◌≡◌}
 use Rattle.generational_sync.proofs.Keeping.{has_stood, settled_end, settled_not}
 use Rattle.generational_sync.proofs.state.settle_end.Goals as goal
 

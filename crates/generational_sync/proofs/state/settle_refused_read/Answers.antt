@@ -1,8 +1,7 @@
-use Rattle.std.proofs.Common.{Some, ap, sym, subst, ◌∙◌}
+use Rattle.generational_sync.proofs.Common
+use Common.{ap, IsSettled, Read, Some, subst, sym, ◌∙◌}
 use Rattle.generational_core.specs.declared.steps.StepCall.TheVariants as call
-use Rattle.generational_core.specs.Machine.Action.{Read}
 use Rattle.shared_records.specs.declared.step.StepReply.TheVariants as reply
-use Rattle.generational_sync.specs.Keeping.{IsSettled}
 use Rattle.generational_sync.proofs.Granting.{dropped_ready}
 use Rattle.generational_sync.proofs.state.settle_refused_read.Goals as goal
 

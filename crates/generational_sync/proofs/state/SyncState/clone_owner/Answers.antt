@@ -1,5 +1,5 @@
-use Rattle.std.proofs.Common.{Some, ap, refl, sym}
-use Rattle.generational_core.specs.Machine.Action.{CloneOwner}
+use Rattle.generational_sync.proofs.Common
+use Common.{ap, CloneOwner, refl, Some, sym}
 use Rattle.generational_core.specs.declared.steps.StepCall.TheVariants as call
 use Rattle.generational_sync.proofs.Keeping.{recorded}
 use Rattle.generational_sync.proofs.state.SyncState.clone_owner.Goals as goal

@@ -1,7 +1,5 @@
-use Rattle.std.proofs.Common.{ap, refl}
-use Rattle.generational_core.specs.Answers.{end_refused}
-use Rattle.generational_core.specs.Machine.Action.{End}
-use Rattle.generational_core.specs.Machine.Answer.{Done}
+use Rattle.generational_sync.proofs.Common
+use Common.{ap, Done, End, end_refused, refl}
 use Rattle.generational_core.specs.declared.steps.StepCall.TheVariants as call
 use Rattle.generational_sync.proofs.Granting.{end_leaves, granted_ready, left_kept, left_ready}
 use Rattle.generational_sync.proofs.Keeping.{recorded}

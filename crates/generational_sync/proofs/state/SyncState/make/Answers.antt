@@ -1,8 +1,5 @@
-use Rattle.std.proofs.Common.{Some, ap, refl, sym, ◌∙◌}
-use Rattle.std.specs.Prelude.{option_copied}
-use Rattle.generational_core.specs.Machine.Action.{Make}
-use Rattle.generational_core.specs.Machine.Answer.{Made}
-use Rattle.shared_records.specs.Kinds.{made_by}
+use Rattle.generational_sync.proofs.Common
+use Common.{ap, Made, made_by, Make, option_copied, refl, Some, sym, ◌∙◌}
 use Rattle.generational_sync.proofs.Granting.{on_true}
 use Rattle.generational_sync.proofs.Keeping.{make_ready, recorded}
 use Rattle.generational_sync.proofs.state.SyncState.make.Goals as goal

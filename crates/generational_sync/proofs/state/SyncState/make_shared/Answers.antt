@@ -1,8 +1,5 @@
-use Rattle.std.proofs.Common.{Ok, Some, ap, refl, sym, ◌∙◌}
-use Rattle.std.specs.Prelude.{option_copied, option_map}
-use Rattle.generational_core.specs.Machine.Action.{MakeShared}
-use Rattle.generational_core.specs.Machine.Answer.{Made}
-use Rattle.shared_records.specs.Kinds.{shared_by}
+use Rattle.generational_sync.proofs.Common
+use Common.{ap, Made, MakeShared, Ok, option_copied, option_map, refl, shared_by, Some, sym, ◌∙◌}
 use Rattle.shared_records.specs.declared.step.StepReply.TheVariants as reply
 use Rattle.generational_sync.proofs.Keeping.{recorded, shared_ready}
 use Rattle.generational_sync.proofs.Making.{shared_named}

@@ -1,5 +1,5 @@
-use Rattle.std.proofs.Common.{ap}
-use Rattle.shared_history.specs.Logs.{LogState}
+use Rattle.generational_sync.proofs.Common
+use Common.{ap, LogState}
 use Rattle.generational_sync.proofs.Keeping.{fresh_kept}
 use Rattle.generational_sync.proofs.state.SyncState.new.Goals as goal
 

@@ -1,5 +1,5 @@
-use Rattle.std.proofs.Common.{Some, ap, refl}
-use Rattle.generational_core.specs.Machine.Action.{NewOwner}
+use Rattle.generational_sync.proofs.Common
+use Common.{ap, NewOwner, refl, Some}
 use Rattle.shared_records.specs.declared.step.StepReply.TheVariants as reply
 use Rattle.generational_sync.proofs.Keeping.{recorded}
 use Rattle.generational_sync.proofs.state.SyncState.owner.Goals as goal

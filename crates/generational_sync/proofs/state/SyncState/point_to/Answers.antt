@@ -1,5 +1,5 @@
-use Rattle.std.proofs.Common.{refl}
-use Rattle.generational_core.specs.Machine.Action.{Point}
+use Rattle.generational_sync.proofs.Common
+use Common.{Point, refl}
 use Rattle.generational_core.specs.declared.steps.StepCall.TheVariants as call
 use Rattle.generational_sync.proofs.Keeping.{ready_as, recorded}
 use Rattle.generational_sync.proofs.state.SyncState.point_to.Goals as goal

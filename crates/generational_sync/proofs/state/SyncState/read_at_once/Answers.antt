@@ -1,7 +1,5 @@
-use Rattle.std.proofs.Common.{Some, ap, arith, refl, rules}
-use Rattle.generational_core.specs.Answers.{read_refused}
-use Rattle.generational_core.specs.Machine.Action.{Read}
-use Rattle.generational_core.specs.Machine.Answer.{Reads}
+use Rattle.generational_sync.proofs.Common
+use Common.{ap, arith, Read, read_refused, Reads, refl, rules, Some}
 use Rattle.generational_core.specs.declared.steps.StepCall.TheVariants as call
 use Rattle.shared_records.specs.declared.step.StepReply.TheVariants as reply
 use Rattle.generational_sync.proofs.Granting.{granted_ready, hindered, left_kept, left_ready, read_leaves, read_told, refused}

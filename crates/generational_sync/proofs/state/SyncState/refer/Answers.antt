@@ -1,8 +1,5 @@
-use Rattle.std.proofs.Common.{Some, ap, refl, sym, ◌∙◌}
-use Rattle.std.specs.Prelude.{option_copied}
-use Rattle.generational_core.specs.Machine.Action.{Refer}
-use Rattle.generational_core.specs.Machine.Answer.{Made}
-use Rattle.shared_records.specs.Kinds.{referred_by}
+use Rattle.generational_sync.proofs.Common
+use Common.{ap, Made, option_copied, Refer, referred_by, refl, Some, sym, ◌∙◌}
 use Rattle.generational_sync.proofs.Keeping.{ready_as, recorded}
 use Rattle.generational_sync.proofs.state.SyncState.refer.Goals as goal
 

@@ -1,5 +1,5 @@
-use Rattle.std.proofs.Common.{Some, ap, refl, sym}
-use Rattle.generational_core.specs.Machine.Action.{ReleaseReader}
+use Rattle.generational_sync.proofs.Common
+use Common.{ap, refl, ReleaseReader, Some, sym}
 use Rattle.generational_core.specs.declared.steps.StepCall.TheVariants as call
 use Rattle.generational_sync.proofs.Keeping.{end_recorded}
 use Rattle.generational_sync.proofs.state.SyncState.release_read.Goals as goal

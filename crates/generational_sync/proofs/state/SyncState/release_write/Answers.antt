@@ -1,5 +1,5 @@
-use Rattle.std.proofs.Common.{Some, ap, refl, sym}
-use Rattle.generational_core.specs.Machine.Action.{ReleaseWriter}
+use Rattle.generational_sync.proofs.Common
+use Common.{ap, refl, ReleaseWriter, Some, sym}
 use Rattle.generational_core.specs.declared.steps.StepCall.TheVariants as call
 use Rattle.generational_sync.proofs.Keeping.{end_recorded}
 use Rattle.generational_sync.proofs.state.SyncState.release_write.Goals as goal

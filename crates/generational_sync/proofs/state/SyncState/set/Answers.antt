@@ -1,5 +1,5 @@
-use Rattle.std.proofs.Common.{ap, refl}
-use Rattle.generational_core.specs.Machine.Action.{SetValue}
+use Rattle.generational_sync.proofs.Common
+use Common.{ap, refl, SetValue}
 use Rattle.generational_core.specs.declared.steps.StepCall.TheVariants as call
 use Rattle.generational_sync.proofs.Keeping.{ready_as, recorded}
 use Rattle.generational_sync.proofs.state.SyncState.set.Goals as goal

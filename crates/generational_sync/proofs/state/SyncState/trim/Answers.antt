@@ -1,11 +1,7 @@
 -- The base after a checkpoint tells the state, and counts the steps that were trimmed.
-use Rattle.std.proofs.Common.{rules, ap, arith, subst, sym, ◌∙◌}
-use Rattle.generational_core.specs.Plain.{plain}
-use Rattle.generational_core.specs.Rows.{ReadBack}
-use Rattle.shared_history.specs.Bases.{BaseState, all_trimmed, counts_of}
-use Rattle.shared_history.specs.Logs.{Bases, LogState}
-use Rattle.store_rows.specs.Past.{ArePast}
-use Rattle.generational_sync.specs.Keeping.{shared}
+use Rattle.generational_sync.proofs.Common
+use Common.{all_trimmed, ap, ArePast, arith, Bases, BaseState, counts_of, LogState, plain, ReadBack, rules}
+use Common.{shared, subst, sym, ◌∙◌}
 use Rattle.generational_sync.proofs.Keeping.{rebased, taken_kept}
 use Rattle.generational_sync.proofs.Trimming.{checkpoint_seen, trimmed_within, trims_of}
 use Rattle.generational_sync.proofs.state.SyncState.trim.Goals as goal

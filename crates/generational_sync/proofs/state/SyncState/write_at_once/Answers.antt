@@ -1,7 +1,5 @@
-use Rattle.std.proofs.Common.{Some, ap, refl}
-use Rattle.generational_core.specs.Answers.{end_refused}
-use Rattle.generational_core.specs.Machine.Action.{Write}
-use Rattle.generational_core.specs.Machine.Answer.{Writes}
+use Rattle.generational_sync.proofs.Common
+use Common.{ap, end_refused, refl, Some, Write, Writes}
 use Rattle.generational_core.specs.declared.steps.StepCall.TheVariants as call
 use Rattle.shared_records.specs.declared.step.StepReply.TheVariants as reply
 use Rattle.generational_sync.proofs.Granting.{end_leaves, granted_ready, left_kept, left_ready}

@@ -1,8 +1,5 @@
-use Rattle.std.proofs.Common.{subst, sym, ◌∙◌}
-use Rattle.generational_core.specs.Borrowing.BorrowRefusal.{Dropped}
-use Rattle.generational_core.specs.Machine.Action.{SetValue}
-use Rattle.generational_core.specs.Machine.Answer.{BorrowRefused}
-use Rattle.generational_core.specs.Steps.{Meets}
+use Rattle.generational_sync.proofs.Common
+use Common.{BorrowRefused, Dropped, Meets, SetValue, subst, sym, ◌∙◌}
 use Rattle.generational_sync.proofs.Making.{set_drops}
 use Rattle.generational_sync.proofs.state.borrowing.set_value.Goals as goal
 

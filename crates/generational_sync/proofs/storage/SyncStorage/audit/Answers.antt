@@ -1,4 +1,5 @@
-use Rattle.std.specs.Vec.{vec_items}
+use Rattle.generational_sync.proofs.Common
+use Common.{vec_items}
 use Rattle.generational_sync.proofs.Leading.{audited}
 use Rattle.generational_sync.proofs.storage.SyncStorage.audit.Goals as goal
 

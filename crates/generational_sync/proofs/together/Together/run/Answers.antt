@@ -1,4 +1,5 @@
-use Rattle.std.proofs.Common.{refl}
+use Rattle.generational_sync.proofs.Common
+use Common.{refl}
 use Rattle.generational_sync.proofs.together.Together.run.Goals as goal
 
 pub returns : goal.returns
