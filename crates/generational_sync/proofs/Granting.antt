@@ -11,7 +11,7 @@ use Rattle.generational_errors.specs.declared.error.Refused.{Refused as IsRefuse
 use Rattle.generational_errors.specs.declared.error.Refused.TheVariants as refusal
 use Rattle.shared_records.specs.declared.step.StepReply.TheVariants as reply
 use Rattle.generational_sync.proofs.Counting.{meets_fine}
-use Rattle.generational_sync.proofs.Keeping.{room_kept, room_shared}
+use Rattle.generational_sync.proofs.Keeping.{HasRoom, room_kept, room_shared}
 
 -- what the law says: a call is ready exactly where the machine's answer tells of no borrow
 abbrev AreTold : Type 0 → Type 0
@@ -85,13 +85,10 @@ module _ {T : Type 0} where
   left_as S R a answer met left = (meets_fine S R a answer met).1 left
 
   pub left_kept : {number : ℕ} {log room after : LogState} (S R : State T) (a : Action T)
-      (answer : Answer T) → IsKept number S log → room.bases ≡ log.bases → room.steps ≡ log.steps
-      → room.standing ≡ log.standing → Meets S a answer R → leaves answer ≡ true → after ≡ room
-      → IsKept number R after
-  left_kept {number = number} {room = room} S R a answer kept base steps stay met left is =
-      subst (λ l. IsKept number R l) (sym is)
-      (subst (λ s. IsKept number s room) (sym (left_as S R a answer met left))
-      (room_kept kept base steps stay))
+      (answer : Answer T) → IsKept number S log → HasRoom log room → Meets S a answer R
+      → leaves answer ≡ true → after ≡ room → IsKept number R after
+  left_kept {number = number} {room = room} S R a answer kept made met left is =
+      rw (is, left_as S R a answer met left) (room_kept kept made)
 
   -- a call that was refused, where the state after it is known by another name
   pub refused : {c : StepCall} {r : Option StepReply} (S R : State T) (a : Action T) (answer : Answer T)

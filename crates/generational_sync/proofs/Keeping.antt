@@ -62,11 +62,11 @@ record Tells {T : Type 0} (answer : Answer T) (r : Option StepReply) : Type 0 wh
   lent : lent_in r ≡ given_by answer
   left : r ≡ None → leaves answer ≡ true
 
--- nothing is appended where no reply is recorded
-no_step : (steps after : List Step) (worker : ℕ) (c : Option StepCall) → after ≡ steps
-    → RecordsCall steps worker c None after
-no_step steps after worker None is = is
-no_step steps after worker (Some c) is = is
+-- a log that has made room, and is else as it was
+pub record HasRoom (log room : LogState) : Type 0 where
+  pub bases : room.bases ≡ log.bases
+  pub steps : room.steps ≡ log.steps
+  pub standing : room.standing ≡ log.standing
 
 module _ {T : Type 0} where
   told : (number : ℕ) (S R : State T) (a : Action T) (answer : Answer T) → Meets S a answer R
@@ -171,14 +171,12 @@ module _ {T : Type 0} where
         room = omega arith;
       }
 
-  -- where a log has made room, and is else as it was
   pub room_kept : {number : ℕ} {S : State T} {log room : LogState} → IsKept number S log
-      → room.bases ≡ log.bases → room.steps ≡ log.steps → room.standing ≡ log.standing
-      → IsKept number S room
-  room_kept {number = number} {S = S} {room = room} kept base steps stay =
+      → HasRoom log room → IsKept number S room
+  room_kept {number = number} {S = S} {room = room} kept made =
       subst (λ (p : Bases × List Step × ℕ).
       IsKept number S (record { bases = p.0; steps = p.1; standing = p.2; room = room.room }))
-      (λ i. (sym base i, sym steps i, sym stay i)) (assumption kept)
+      (λ i. (sym made.bases i, sym made.steps i, sym made.standing i)) (assumption kept)
 
   -- where the rows of the base before were taken
   pub taken_kept : {number : ℕ} {S : State T} {log after : LogState} → IsKept number S log
@@ -187,16 +185,15 @@ module _ {T : Type 0} where
 
   -- a call that the store has answered, for whose step there is room
   abbrev pub answered : {number : ℕ} {R : State T} {log room : LogState} {c : StepCall}
-      {r : Option StepReply} (S : State T) (a : Action T) (answer : Answer T) → IsKept number S log
-      → room.bases ≡ log.bases → room.steps ≡ log.steps → room.standing ≡ log.standing
+      {r : Option StepReply} (S : State T) (a : Action T) (answer : Answer T) → IsKept number S log → HasRoom log room
       → recorded_as a ≡ Some c → is_ready S c ≡ true → Meets S a answer R → r ≡ recorded_reply R a answer
       → WasAnswered number room c r R
-  answered S a answer kept base steps stay asked ready met replied = record {
+  answered S a answer kept made asked ready met replied = record {
     before = S;
     action = a;
     answer = answer;
     answered = record {
-      kept = room_kept kept base steps stay;
+      kept = room_kept kept made;
       asked = asked;
       ready = ready;
       met = met;
@@ -208,20 +205,6 @@ module _ {T : Type 0} where
       → room.bases ≡ log.bases → room.steps ≡ log.steps → shared S log ≡ old → shared S room ≡ old
   room_shared S log room base steps view =
       (λ i. record { state = S; base = (base i).base; history = steps i }) ∙ view
-
-  -- a call for which the log found no room
-  pub lacked : {number : ℕ} (S : State T) (log room : LogState) {old : SharedState T}
-      {counts : Counts} {a : Action T} → room.bases ≡ log.bases → room.steps ≡ log.steps
-      → shared S log ≡ old → IsStep number old counts a (Refused OutOfMemory) (shared S room) counts
-  lacked {number = number} S log room {counts = counts} {a = a} base steps view =
-      subst (λ old. IsStep number old counts a (Refused OutOfMemory) (shared S room) counts) view
-      (record {
-        state = inr (refl, refl);
-        history = no_step log.steps room.steps counts.worker (recorded_as a) steps;
-        base = ap (λ (b : Bases). b.base) base;
-        tally = refl;
-        reply = tt;
-      })
 
   -- a step, where the state before it, the call and the answer are known by other names
   pub seen : {number : ℕ} {old before new : SharedState T} {counts raised : Counts}
@@ -235,17 +218,14 @@ module _ {T : Type 0} where
   -- what the record of a reply comes to, where the log had made room for it and was else as it was
   pub recorded : {number : ℕ} {S R : State T} {log room after : LogState} {old : SharedState T}
       {c : StepCall} {r : Option StepReply} {counts raised : Counts} {a b : Action T}
-      {answer told : Answer T} → IsKept number S log → room.bases ≡ log.bases → room.steps ≡ log.steps
-      → room.standing ≡ log.standing → shared S log ≡ old → a ≡ b → recorded_as a ≡ Some c
+      {answer told : Answer T} → IsKept number S log → HasRoom log room → shared S log ≡ old → a ≡ b → recorded_as a ≡ Some c
       → is_ready S c ≡ true → Meets S a answer R → r ≡ recorded_reply R a answer → answer ≡ told
       → IsSettled number room counts c r R after raised
       → IsKept number R after × IsStep number old counts b told (shared R after) raised
-  recorded {S = S} {log = log} {room = room} {a = a} {answer = answer} kept base steps stay view asks
+  recorded {S = S} {log = log} {room = room} {a = a} {answer = answer} kept made view asks
       asked ready met replied same settled =
-      let it = answered S a answer kept base steps stay asked ready met replied in (
-        settled.kept it,
-        seen (room_shared S log room base steps view) asks (settled.step it) same,
-      )
+      let it = answered S a answer kept made asked ready met replied in
+      (settled.kept it, seen (room_shared S log room made.bases made.steps view) asks (settled.step it) same)
 
   -- and the record of a borrow's end, for which there was room
   pub end_recorded : {number : ℕ} {S R : State T} {log after : LogState} {old : SharedState T}
@@ -256,7 +236,7 @@ module _ {T : Type 0} where
       → IsKept number R after × IsStep number old counts a answer (shared R after) raised
   end_recorded {S = S} {log = log} {a = a} {answer = answer} kept view ends asked ready met replied
       settles =
-      let it = answered {room = log} S a answer kept refl refl refl asked ready met replied in
+      let it = answered {room = log} S a answer kept (assumption) asked ready met replied in
       let settled = settles (record { some = it; ends = ends }) in
       (settled.kept it, seen view refl (settled.step it) refl)
 

@@ -111,11 +111,6 @@ module _ {T : Type 0} (p : Location → Location) where
       × (unwrap_or (location_of moved) (p l) ≡ p (unwrap_or (location_of x) l)))
   cell_turned x n l = grind arith
 
-  refusals_turned : (c : Option (Content T))
-      → (read_refusal (option_map content c) ≡ refusal p (read_refusal c))
-      × (write_refusal (option_map content c) ≡ refusal p (write_refusal c))
-  refusals_turned c = grind (arith, locations p)
-
   -- ---- what is done to cells
 
   module _ (cells : NameMap (Cell T)) where

@@ -25,9 +25,9 @@ returns-in-Some g c = λ ended.
     (c.settle_end.ensures.tally stood) it.some it.ends (c.settle_end.ensures.standing stood))
 
 pub returns-in-None : goal.returns-in-None
-returns-in-None g c = λ ended.
-    settled_not c.recorded_calls_are_lawful.ensures.step
+returns-in-None g c =
+    λ ended. settled_not c.recorded_calls_are_lawful.ensures.step
     c.histories_lead_to_sound_states.ensures.sound c.histories_lead_to_sound_states.ensures.number
     c.steps_keep_the_store.ensures.number c.free_calls_are_answered_so.ensures g.row.NUMBER
-    c.args.store.now.state c.args.log.now (g.E.Entry.as_call c.args.entry) c.args.reply
-    c.args.tally.now c.in-None.is
+    c.args.store.now.state c.args.log.now (g.E.Entry.as_call c.args.entry) c.args.reply c.args.tally.now
+    c.in-None.is

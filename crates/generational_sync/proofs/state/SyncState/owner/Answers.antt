@@ -6,32 +6,21 @@ use Rattle.generational_sync.proofs.state.SyncState.owner.Goals as goal
 
 pub invariant_of-self-in-Ok : goal.invariant_of-self-in-Ok
 invariant_of-self-in-Ok g c =
-    (recorded c.self.invariant c.reserve.ensures.bases c.reserve.ensures.steps
-    c.reserve.ensures.standing c.self.view_is refl refl
-    refl c.in-Ok.ensures
+    (recorded c.self.invariant (assumption c.reserve.ensures) c.self.view_is refl refl refl c.in-Ok.ensures
     (ap (λ o. Some (reply.Owner o)) c.id.ensures) refl c.settle.ensures).0
 
 pub invariant_of-self-in-Err : goal.invariant_of-self-in-Err
 invariant_of-self-in-Err g c =
-    (recorded c.self.invariant c.reserve.ensures.bases c.reserve.ensures.steps
-    c.reserve.ensures.standing c.self.view_is refl refl
-    refl c.in-Err.ensures
+    (recorded c.self.invariant (assumption c.reserve.ensures) c.self.view_is refl refl refl c.in-Err.ensures
     (c.store_reply-reply.ensures.reply c.owner.new.self.state NewOwner) refl c.settle_any.ensures).0
 
 pub returns-in-Ok : goal.returns-in-Ok
 returns-in-Ok g c =
-    record {
-      step = (recorded c.self.invariant c.reserve.ensures.bases c.reserve.ensures.steps
-          c.reserve.ensures.standing c.self.view_is refl refl
-          refl c.in-Ok.ensures
-          (ap (λ o. Some (reply.Owner o)) c.id.ensures) refl c.settle.ensures).1;
-    }
+    assumption ((recorded c.self.invariant (assumption c.reserve.ensures) c.self.view_is refl refl refl
+    c.in-Ok.ensures (ap (λ o. Some (reply.Owner o)) c.id.ensures) refl c.settle.ensures).1)
 
 pub returns-in-Err : goal.returns-in-Err
 returns-in-Err g c =
-    record {
-      step = (recorded c.self.invariant c.reserve.ensures.bases c.reserve.ensures.steps
-          c.reserve.ensures.standing c.self.view_is refl refl
-          refl c.in-Err.ensures
-          (c.store_reply-reply.ensures.reply c.owner.new.self.state NewOwner) refl c.settle_any.ensures).1;
-    }
+    assumption ((recorded c.self.invariant (assumption c.reserve.ensures) c.self.view_is refl refl refl
+    c.in-Err.ensures (c.store_reply-reply.ensures.reply c.owner.new.self.state NewOwner) refl
+    c.settle_any.ensures).1)

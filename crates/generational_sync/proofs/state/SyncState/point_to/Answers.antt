@@ -6,38 +6,30 @@ use Rattle.generational_sync.proofs.state.SyncState.point_to.Goals as goal
 
 pub invariant_of-self-in-Ok : goal.invariant_of-self-in-Ok
 invariant_of-self-in-Ok g c =
-    (recorded c.self.invariant c.reserve.ensures.bases c.reserve.ensures.steps
-    c.reserve.ensures.standing c.self.view_is (λ i. Point (c.pointer-pointer.ensures i) (c.pointer-target.ensures i)) refl
-    (ready_as c.self.view_is (λ i. call.PointTo (c.pointer-pointer.ensures i)
-    (c.pointer-target.ensures i)) c.requires) c.in-Ok.ensures
+    (recorded c.self.invariant (assumption c.reserve.ensures) c.self.view_is (λ i. Point
+    (c.pointer-pointer.ensures i) (c.pointer-target.ensures i)) refl (ready_as c.self.view_is (λ i.
+    call.PointTo (c.pointer-pointer.ensures i) (c.pointer-target.ensures i)) c.requires) c.in-Ok.ensures
     refl refl c.settle.ensures).0
 
 pub invariant_of-self-in-Err : goal.invariant_of-self-in-Err
 invariant_of-self-in-Err g c =
-    (recorded c.self.invariant c.reserve.ensures.bases c.reserve.ensures.steps
-    c.reserve.ensures.standing c.self.view_is (λ i. Point (c.pointer-pointer.ensures i) (c.pointer-target.ensures i)) refl
-    (ready_as c.self.view_is (λ i. call.PointTo (c.pointer-pointer.ensures i)
-    (c.pointer-target.ensures i)) c.requires) c.in-Err.ensures
-    (c.end_refusal-reply.ensures.reply c.change_reference.new.self.state
-    (Point c.pointer-pointer.result c.pointer-target.result)) refl c.settle_any.ensures).0
+    (recorded c.self.invariant (assumption c.reserve.ensures) c.self.view_is (λ i. Point
+    (c.pointer-pointer.ensures i) (c.pointer-target.ensures i)) refl (ready_as c.self.view_is (λ i.
+    call.PointTo (c.pointer-pointer.ensures i) (c.pointer-target.ensures i)) c.requires) c.in-Err.ensures
+    (c.end_refusal-reply.ensures.reply c.change_reference.new.self.state (Point c.pointer-pointer.result
+    c.pointer-target.result)) refl c.settle_any.ensures).0
 
 pub returns-in-Ok : goal.returns-in-Ok
 returns-in-Ok g c =
-    record {
-      step = (recorded c.self.invariant c.reserve.ensures.bases c.reserve.ensures.steps
-          c.reserve.ensures.standing c.self.view_is (λ i. Point (c.pointer-pointer.ensures i) (c.pointer-target.ensures i)) refl
-          (ready_as c.self.view_is (λ i. call.PointTo (c.pointer-pointer.ensures i)
-          (c.pointer-target.ensures i)) c.requires) c.in-Ok.ensures
-          refl refl c.settle.ensures).1;
-    }
+    assumption ((recorded c.self.invariant (assumption c.reserve.ensures) c.self.view_is (λ i. Point
+    (c.pointer-pointer.ensures i) (c.pointer-target.ensures i)) refl (ready_as c.self.view_is (λ i.
+    call.PointTo (c.pointer-pointer.ensures i) (c.pointer-target.ensures i)) c.requires) c.in-Ok.ensures
+    refl refl c.settle.ensures).1)
 
 pub returns-in-Err : goal.returns-in-Err
 returns-in-Err g c =
-    record {
-      step = (recorded c.self.invariant c.reserve.ensures.bases c.reserve.ensures.steps
-          c.reserve.ensures.standing c.self.view_is (λ i. Point (c.pointer-pointer.ensures i) (c.pointer-target.ensures i)) refl
-          (ready_as c.self.view_is (λ i. call.PointTo (c.pointer-pointer.ensures i)
-          (c.pointer-target.ensures i)) c.requires) c.in-Err.ensures
-          (c.end_refusal-reply.ensures.reply c.change_reference.new.self.state
-          (Point c.pointer-pointer.result c.pointer-target.result)) refl c.settle_any.ensures).1;
-    }
+    assumption ((recorded c.self.invariant (assumption c.reserve.ensures) c.self.view_is (λ i. Point
+    (c.pointer-pointer.ensures i) (c.pointer-target.ensures i)) refl (ready_as c.self.view_is (λ i.
+    call.PointTo (c.pointer-pointer.ensures i) (c.pointer-target.ensures i)) c.requires) c.in-Err.ensures
+    (c.end_refusal-reply.ensures.reply c.change_reference.new.self.state (Point c.pointer-pointer.result
+    c.pointer-target.result)) refl c.settle_any.ensures).1)

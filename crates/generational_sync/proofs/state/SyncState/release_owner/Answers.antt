@@ -6,28 +6,26 @@ use Rattle.generational_sync.proofs.state.SyncState.release_owner.Goals as goal
 
 pub invariant_of-self-in-Ok : goal.invariant_of-self-in-Ok
 invariant_of-self-in-Ok g c =
-    (recorded c.self.invariant c.reserve.ensures.bases c.reserve.ensures.steps
-    c.reserve.ensures.standing c.self.view_is refl (ap (λ o. Some (call.ReleaseOwner o)) (sym c.id-id.ensures))
-    (ready_as c.self.view_is (ap call.ReleaseOwner c.id-id.ensures) c.requires) c.in-Ok.ensures.step
-    refl refl c.settle.ensures).0
+    (recorded c.self.invariant (assumption c.reserve.ensures) c.self.view_is refl (ap (λ o. Some
+    (call.ReleaseOwner o)) (sym c.id-id.ensures)) (ready_as c.self.view_is (ap call.ReleaseOwner
+    c.id-id.ensures) c.requires) c.in-Ok.ensures.step refl refl c.settle.ensures).0
 
 pub invariant_of-self-in-Err : goal.invariant_of-self-in-Err
 invariant_of-self-in-Err g c =
-    (recorded c.self.invariant c.reserve.ensures.bases c.reserve.ensures.steps
-    c.reserve.ensures.standing c.self.view_is refl (ap (λ o. Some (call.ReleaseOwner o)) (sym c.id-id.ensures))
-    (ready_as c.self.view_is (ap call.ReleaseOwner c.id-id.ensures) c.requires) c.in-Err.ensures.step
-    (c.end_refusal-reply.ensures.reply c.release_owner.new.self.state (ReleaseOwner c.args.owner)) refl c.settle_any.ensures).0
+    (recorded c.self.invariant (assumption c.reserve.ensures) c.self.view_is refl (ap (λ o. Some
+    (call.ReleaseOwner o)) (sym c.id-id.ensures)) (ready_as c.self.view_is (ap call.ReleaseOwner
+    c.id-id.ensures) c.requires) c.in-Err.ensures.step (c.end_refusal-reply.ensures.reply
+    c.release_owner.new.self.state (ReleaseOwner c.args.owner)) refl c.settle_any.ensures).0
 
 pub returns-in-Ok-clause-step : goal.returns-in-Ok-clause-step
 returns-in-Ok-clause-step g c =
-    (recorded c.self.invariant c.reserve.ensures.bases c.reserve.ensures.steps
-    c.reserve.ensures.standing c.self.view_is refl (ap (λ o. Some (call.ReleaseOwner o)) (sym c.id-id.ensures))
-    (ready_as c.self.view_is (ap call.ReleaseOwner c.id-id.ensures) c.requires) c.in-Ok.ensures.step
-    refl refl c.settle.ensures).1
+    (recorded c.self.invariant (assumption c.reserve.ensures) c.self.view_is refl (ap (λ o. Some
+    (call.ReleaseOwner o)) (sym c.id-id.ensures)) (ready_as c.self.view_is (ap call.ReleaseOwner
+    c.id-id.ensures) c.requires) c.in-Ok.ensures.step refl refl c.settle.ensures).1
 
 pub returns-in-Err-clause-step : goal.returns-in-Err-clause-step
 returns-in-Err-clause-step g c =
-    (recorded c.self.invariant c.reserve.ensures.bases c.reserve.ensures.steps
-    c.reserve.ensures.standing c.self.view_is refl (ap (λ o. Some (call.ReleaseOwner o)) (sym c.id-id.ensures))
-    (ready_as c.self.view_is (ap call.ReleaseOwner c.id-id.ensures) c.requires) c.in-Err.ensures.step
-    (c.end_refusal-reply.ensures.reply c.release_owner.new.self.state (ReleaseOwner c.args.owner)) refl c.settle_any.ensures).1
+    (recorded c.self.invariant (assumption c.reserve.ensures) c.self.view_is refl (ap (λ o. Some
+    (call.ReleaseOwner o)) (sym c.id-id.ensures)) (ready_as c.self.view_is (ap call.ReleaseOwner
+    c.id-id.ensures) c.requires) c.in-Err.ensures.step (c.end_refusal-reply.ensures.reply
+    c.release_owner.new.self.state (ReleaseOwner c.args.owner)) refl c.settle_any.ensures).1

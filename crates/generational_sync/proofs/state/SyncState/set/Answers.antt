@@ -6,24 +6,22 @@ use Rattle.generational_sync.proofs.state.SyncState.set.Goals as goal
 
 pub invariant_of-self-in-Ok : goal.invariant_of-self-in-Ok
 invariant_of-self-in-Ok g c =
-    (recorded c.self.invariant c.reserve.ensures.bases c.reserve.ensures.steps
-    c.reserve.ensures.standing c.self.view_is (ap (λ b. SetValue b c.args.value) c.pointer-pointer.ensures) refl
-    (ready_as c.self.view_is (ap call.Set c.pointer-pointer.ensures) c.requires) c.in-Ok.ensures.step.1
-    refl refl c.settle.ensures).0
+    (recorded c.self.invariant (assumption c.reserve.ensures) c.self.view_is (ap (λ b. SetValue b
+    c.args.value) c.pointer-pointer.ensures) refl (ready_as c.self.view_is (ap call.Set
+    c.pointer-pointer.ensures) c.requires) c.in-Ok.ensures.step.1 refl refl c.settle.ensures).0
 
 pub invariant_of-self-in-Err : goal.invariant_of-self-in-Err
 invariant_of-self-in-Err g c =
-    (recorded c.self.invariant c.reserve.ensures.bases c.reserve.ensures.steps
-    c.reserve.ensures.standing c.self.view_is (ap (λ b. SetValue b c.args.value) c.pointer-pointer.ensures) refl
-    (ready_as c.self.view_is (ap call.Set c.pointer-pointer.ensures) c.requires) c.in-Err.ensures.step.1
-    (c.end_refusal-reply.ensures.reply c.set_value.new.store.state
-    (SetValue c.pointer-pointer.result c.args.value)) refl c.settle_any.ensures).0
+    (recorded c.self.invariant (assumption c.reserve.ensures) c.self.view_is (ap (λ b. SetValue b
+    c.args.value) c.pointer-pointer.ensures) refl (ready_as c.self.view_is (ap call.Set
+    c.pointer-pointer.ensures) c.requires) c.in-Err.ensures.step.1 (c.end_refusal-reply.ensures.reply
+    c.set_value.new.store.state (SetValue c.pointer-pointer.result c.args.value)) refl
+    c.settle_any.ensures).0
 
 pub returns-in-Ok-clause-step : goal.returns-in-Ok-clause-step
 returns-in-Ok-clause-step g c = (
   c.in-Ok.ensures.step.0,
-  (recorded c.self.invariant c.reserve.ensures.bases c.reserve.ensures.steps
-      c.reserve.ensures.standing c.self.view_is (ap (λ b. SetValue b c.args.value) c.pointer-pointer.ensures) refl
+  (recorded c.self.invariant (assumption c.reserve.ensures) c.self.view_is (ap (λ b. SetValue b c.args.value) c.pointer-pointer.ensures) refl
       (ready_as c.self.view_is (ap call.Set c.pointer-pointer.ensures) c.requires) c.in-Ok.ensures.step.1
       refl refl c.settle.ensures).1,
 )
@@ -31,8 +29,7 @@ returns-in-Ok-clause-step g c = (
 pub returns-in-Err-clause-step : goal.returns-in-Err-clause-step
 returns-in-Err-clause-step g c = (
   c.in-Err.ensures.step.0,
-  (recorded c.self.invariant c.reserve.ensures.bases c.reserve.ensures.steps
-      c.reserve.ensures.standing c.self.view_is (ap (λ b. SetValue b c.args.value) c.pointer-pointer.ensures) refl
+  (recorded c.self.invariant (assumption c.reserve.ensures) c.self.view_is (ap (λ b. SetValue b c.args.value) c.pointer-pointer.ensures) refl
       (ready_as c.self.view_is (ap call.Set c.pointer-pointer.ensures) c.requires) c.in-Err.ensures.step.1
       (c.end_refusal-reply.ensures.reply c.set_value.new.store.state
       (SetValue c.pointer-pointer.result c.args.value)) refl c.settle_any.ensures).1,

@@ -26,6 +26,7 @@ rebase-requires g c =
     )
 
 -- the base tells the state, and the history goes on from it
+
 pub invariant_of-self-2 : goal.invariant_of-self-2
 invariant_of-self-2 g c =
     let bases = c.in_ok-outdated.ensures.bases in
