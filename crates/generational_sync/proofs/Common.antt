@@ -11,12 +11,11 @@ pub use core.{last_ticket, leads_to, length-map, Lent, limit_tickets, List, list
 pub use core.{location_of, Made, Make, make, MakeShared, Meets, Name, name_cmp, name_exact, name_of}
 pub use core.{name_total, NameMap, nat_eq, NewNames, NewOwner, next_borrow, no_names, None, not}
 pub use core.{NumbersExhausted, Ok, Option, option_map, Outcome, own_name, OwnerName, Ownership, ownership}
-pub use core.{Point, point, Read, read_at, read_refusal, Reads, Ref, Refer, refers_to, refill, refl}
-pub use core.{Refusal, Refused, release_owner, ReleaseOwner, ReleaseReader, ReleaseWriter, remove_reader}
-pub use core.{Result, set_at, SetValue, Shared, Some, State, StepCall, StoreError, subst, sym, Takes}
-pub use core.{takes_ticket, tickets_of, true, true≢false, UnknownOwner, unless, unwrap_or, Value, value_at}
-pub use core.{Write, write_at, write_refusal, Writes, ℕ, ◌&&◌, ◌++◌, ◌+◌, ◌<◌, ◌||◌, ◌∙◌, ◌∷◌, ◌≡◌, ◌≤◌}
-pub use core.{◌⊎◌}
+pub use core.{Point, point, Read, read_at, Reads, Ref, Refer, refers_to, refill, refl, Refusal, Refused}
+pub use core.{release_owner, ReleaseOwner, ReleaseReader, ReleaseWriter, remove_reader, Result, set_at}
+pub use core.{SetValue, Shared, Some, State, StepCall, StoreError, subst, sym, Takes, takes_ticket}
+pub use core.{tickets_of, true, true≢false, UnknownOwner, unless, unwrap_or, Value, value_at, Write}
+pub use core.{write_at, write_refusal, Writes, ℕ, ◌&&◌, ◌++◌, ◌+◌, ◌<◌, ◌||◌, ◌∙◌, ◌∷◌, ◌≡◌, ◌≤◌, ◌⊎◌}
 pub use Rattle.generational_core.proofs.machine.Changes.{act_leads, after, Change, Filling, IsLawful}
 pub use Rattle.generational_core.proofs.machine.Changes.{new_content, old_content, without}
 pub use Rattle.generational_core.proofs.machine.Changes.Change.{Birth, Close, Fill, Pair, Stay, Turn}
@@ -60,8 +59,8 @@ pub use Rattle.shared_history.specs.History.{guard_at, is_lawful, is_new, IsTake
 pub use Rattle.shared_history.specs.History.{names_of_reply, Plain, reader_cell, replay_from, replay_on}
 pub use Rattle.shared_history.specs.History.{start, step_by, writer_cell}
 pub use Rattle.shared_history.specs.Logs.{Bases, LogState}
-pub use Rattle.shared_history.specs.Replies.{is_recorded, kind_in, made_reply, raised_by, recorded_reply}
-pub use Rattle.shared_history.specs.Replies.{Records, same_box, same_error, same_reply, tallied}
+pub use Rattle.shared_history.specs.Replies.{is_recorded, kind_in, raised_by, recorded_reply, Records}
+pub use Rattle.shared_history.specs.Replies.{same_box, same_error, same_reply, tallied}
 pub use Rattle.shared_history.specs.Standing.{borrows, borrows_in, borrows_of, ends_borrow, given_by}
 pub use Rattle.shared_history.specs.Standing.{leaves, lent_in}
 pub use Rattle.shared_history.specs.declared.base.TrimmedSteps.{TrimmedSteps}

@@ -4,7 +4,7 @@ use Common.{[], act, act_leads, Action, after, and_parts, Answer, ap, arith, Bir
 use Common.{Change, Close, Content, content_at, Fill, fill, given_by, Guard, has_writer, Here, IsLawful}
 use Common.{knows_writer, leaves, length, Lent, Make, Meets, meets_each, Name, nat_eq, new_content}
 use Common.{NewNames, None, old_content, Option, Pair, Ref, refl, Shared, Some, State, Stay, sym, true}
-use Common.{true≢false, Turn, ℕ, ◌+◌, ◌-◌, ◌≡◌, ◌≤◌}
+use Common.{true≢false, Turn, ℕ, ◌+◌, ◌≡◌, ◌≤◌}
 use Rattle.std.specs.FinMap as map
 use Rattle.generational_sync.proofs.Weighing.{borrows_inserted}
 use Rattle.generational_sync.proofs.Standings.{comes_with, end_fewer, filled_borrows, refilled, swept_fewer}

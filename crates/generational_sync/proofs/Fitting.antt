@@ -2,9 +2,6 @@
 use Rattle.generational_sync.proofs.Common
 use Common.{Action, and_parts, are_new, AreNew, arith, Fits, fits, gives_new, GivesNew, is_new, IsNew, Make}
 use Common.{MakeShared, Name, NewNames, Plain, Refer, StepReply, true, ◌≡◌}
-use Rattle.std.specs.FinMap as map
-use Rattle.std.specs.FinSet as set
-use Rattle.shared_records.specs.declared.step.StepReply.TheVariants as reply
 
 -- what passes the test fits, and what fits passes it
 pub fits_from : (P : Plain) (n : Name) → fits P n ≡ true → Fits P n

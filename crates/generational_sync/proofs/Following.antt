@@ -1,14 +1,13 @@
 -- The state without values takes the recorded step.
 use Rattle.generational_sync.proofs.Common
-use Common.{[], act, Action, action_of, add_cell, and_from, and_parts, Answer, ap, arith, Back, Bool}
-use Common.{box_of, CanRead, CanWrite, CloneOwner, cond, content_at, Done, End, eqb-true, false, Flag}
+use Common.{[], act, Action, action_of, add_cell, and_from, and_parts, Answer, ap, are_new, arith, Back}
+use Common.{Bool, box_of, CanRead, CanWrite, cond, content_at, Done, eqb-true, false, Flag}
 use Common.{GenerationalPointer, gives_new, Guard, guard_at, Here, id_of, IfSome, inl, inr, is_hindered}
 use Common.{is_known, is_ready, IsSound, knows_reader, knows_writer, LeakOwner, limit_tickets, Location}
-use Common.{made_reply, Make, make, MakeShared, Meets, names_of_reply, nat_eq, NewNames, NewOwner, no_names}
-use Common.{None, not, Option, option_map, Outcome, OwnerName, Plain, plain, plain_answer, plain_call}
-use Common.{plain_step, Point, Read, recorded_as, recorded_reply, Ref, Refer, refl, Refused, ReleaseOwner}
-use Common.{ReleaseReader, ReleaseWriter, remove_reader, SetValue, Shared, Some, State, step_by, StepCall}
-use Common.{StepReply, subst, sym, Takes, true, UnknownOwner, Write, ◌∙◌, ◌≡◌}
+use Common.{Make, make, MakeShared, Meets, names_of_reply, nat_eq, NewNames, no_names, None, not, Option}
+use Common.{option_map, Outcome, OwnerName, Plain, plain, plain_answer, plain_call, plain_step, recorded_as}
+use Common.{recorded_reply, Ref, Refer, refl, Refused, ReleaseReader, ReleaseWriter, remove_reader, Shared}
+use Common.{Some, State, step_by, StepCall, StepReply, subst, sym, Takes, true, UnknownOwner, ◌∙◌, ◌≡◌}
 use Rattle.generational_core.specs.declared.steps.StepCall.TheVariants as call
 use Rattle.shared_records.specs.declared.step.StepReply.TheVariants as reply
 use Rattle.generational_sync.proofs.Replying.{plain_reply, recorded_is}
@@ -37,12 +36,6 @@ unhindered : (P : Plain) (a : Action (Unit {0})) (out : Outcome (Unit {0})) (r :
     → recorded_of P a out ≡ Some r → is_hindered a out.0 ≡ false
 unhindered P a out r h = grind arith
 
--- a call that makes no box is recorded without one
-unmade : (P Q : Plain) (a : Action (Unit {0})) (answer : Answer (Unit {0}))
-    → ((b : GenerationalPointer) → made_reply a Q b ≡ None)
-    → IfSome (recorded_reply Q a answer) (λ r. gives_new P a r ≡ true)
-unmade P Q a answer none = grind arith
-
 -- ---- a step without values
 
 module _ (tell : IsTold) (P : Plain) where
@@ -64,28 +57,6 @@ module _ (tell : IsTold) (P : Plain) where
   Leads c a out = (r : StepReply) → recorded_of P a out ≡ Some r
       → plain_step P c r ≡ Some (limit_tickets P out).1
 
-  -- a call whose reply tells the names that it takes
-  named : (c : StepCall) (a : Action (Unit {0})) (new : NewNames) → recorded_as a ≡ Some c
-      → action_of P c ≡ Some a
-      → ((r : StepReply) → recorded_of P a (act P a new) ≡ Some r
-      → (act P a (names_of_reply r) ≡ act P a new) × (gives_new P a r ≡ true))
-      → Leads c a (act P a new)
-  named c a new as_call action tells r h =
-      let it = tells r h in
-      lawful c r a as_call action it.1 (ap (recorded_of P a) it.0 ∙ h)
-      ∙ ap (λ out. Some (limit_tickets P out).1) it.0
-
-  -- a call that takes none
-  nameless : (c : StepCall) (a : Action (Unit {0})) (new : NewNames) → recorded_as a ≡ Some c
-      → action_of P c ≡ Some a → ((f : NewNames) → act P a f ≡ act P a new)
-      → ((Q : Plain) (b : GenerationalPointer) → made_reply a Q b ≡ None)
-      → Leads c a (act P a new)
-  nameless c a new as_call action same none = named c a new as_call action (λ r h. (
-    same (names_of_reply r),
-    (let out : Outcome (Unit {0}) = limit_tickets P (act P a new) in
-        subst (λ o. IfSome o (λ x. gives_new P a x ≡ true)) h (unmade P out.1 a out.0 (none out.1))),
-  ))
-
   -- ---- makings
 
   abbrev Tells : Action (Unit {0}) → NewNames → Outcome (Unit {0}) → StepReply → Type 0
@@ -96,6 +67,12 @@ module _ (tell : IsTold) (P : Plain) where
       → recorded_of P (Make o tt l) (act P (Make o tt l) new) ≡ Some r
       → Tells (Make o tt l) new (act P (Make o tt l) new) r
   make_tells o l new takes r h = grind (arith, new_to)
+
+  refer_tells : (o : Option OwnerName) (b : GenerationalPointer) (new : NewNames)
+      → Takes P (Refer o b) (limit_tickets P (act P (Refer o b) new)).0 new → (r : StepReply)
+      → recorded_of P (Refer o b) (act P (Refer o b) new) ≡ Some r
+      → Tells (Refer o b) new (act P (Refer o b) new) r
+  refer_tells o b new takes r h = grind (arith, new_to)
 
   some_is : (x y : StepReply) → Some x ≡ Some y → x ≡ y
   some_is x y e = cc
@@ -129,11 +106,26 @@ module _ (tell : IsTold) (P : Plain) where
         and_from _ _ (new_to P new.first takes.0) (new_to shared new.second takes.1),
       )
 
-  refer_tells : (o : Option OwnerName) (b : GenerationalPointer) (new : NewNames)
-      → Takes P (Refer o b) (limit_tickets P (act P (Refer o b) new)).0 new → (r : StepReply)
-      → recorded_of P (Refer o b) (act P (Refer o b) new) ≡ Some r
-      → Tells (Refer o b) new (act P (Refer o b) new) r
-  refer_tells o b new takes r h = grind (arith, new_to)
+  gives_any : (a : Action (Unit {0})) (r : StepReply) → ((f : NewNames) → are_new P a f ≡ true)
+      → gives_new P a r ≡ true
+  gives_any a r new = grind arith
+
+  -- the names that a recorded reply tells are those that the call takes, if it takes any
+  tells : (a : Action (Unit {0})) (new : NewNames) → Takes P a (limit_tickets P (act P a new)).0 new
+      → (r : StepReply) → recorded_of P a (act P a new) ≡ Some r → Tells a new (act P a new) r
+  tells (Make o v l) new takes r h = make_tells o l new takes r h
+  tells (MakeShared o v l) new takes r h = shared_tells o l new (is_known P o) refl takes r h
+  tells (Refer o b) new takes r h = refer_tells o b new takes r h
+  tells a new takes r h = (refl, gives_any a r (λ f. refl))
+
+  -- so it is a step under the names that it takes
+  named : (c : StepCall) (a : Action (Unit {0})) (new : NewNames) → recorded_as a ≡ Some c
+      → action_of P c ≡ Some a → Takes P a (limit_tickets P (act P a new)).0 new
+      → Leads c a (act P a new)
+  named c a new as_call action takes r h =
+      let it = tells a new takes r h in
+      lawful c r a as_call action it.1 (ap (recorded_of P a) it.0 ∙ h)
+      ∙ ap (λ out. Some (limit_tickets P out).1) it.0
 
   -- ---- releases
 
@@ -156,66 +148,40 @@ module _ (tell : IsTold) (P : Plain) where
   }
 
   reader_leads : (g : Guard) (new : NewNames) → IsSound P
+      → Takes P (ReleaseReader g) (limit_tickets P (act P (ReleaseReader g) new)).0 new
       → Leads (call.ReleaseRead g.ticket) (ReleaseReader g) (act P (ReleaseReader g) new)
-  reader_leads g new sound r h =
+  reader_leads g new sound takes r h =
       let parts = and_parts (nat_eq g.store P.number) _
       (known_by g (knows_reader P g) (remove_reader P g.cell g.ticket (content_at P g.cell)) r h) in
-      nameless (call.ReleaseRead g.ticket) (ReleaseReader g) new refl
+      named (call.ReleaseRead g.ticket) (ReleaseReader g) new refl
       (ap (option_map (λ n. ReleaseReader (guard_at P g.ticket n)))
       (reader_found P g.cell g.ticket sound parts.1)
-      ∙ ap (λ x. Some (ReleaseReader x)) (own_guard g parts.0)) (λ f. refl) (λ Q b. refl) r h
+      ∙ ap (λ x. Some (ReleaseReader x)) (own_guard g parts.0)) takes r h
 
   writer_leads : (g : Guard) (new : NewNames) → IsSound P
+      → Takes P (ReleaseWriter g tt) (limit_tickets P (act P (ReleaseWriter g tt) new)).0 new
       → Leads (call.ReleaseWrite g.ticket) (ReleaseWriter g tt) (act P (ReleaseWriter g tt) new)
-  writer_leads g new sound r h =
+  writer_leads g new sound takes r h =
       let parts = and_parts (nat_eq g.store P.number) _
       (written_by g (knows_writer P g) _ r h) in
-      nameless (call.ReleaseWrite g.ticket) (ReleaseWriter g tt) new refl
+      named (call.ReleaseWrite g.ticket) (ReleaseWriter g tt) new refl
       (ap (option_map (λ n. ReleaseWriter (guard_at P g.ticket n) tt))
       (writer_found P g.cell g.ticket sound parts.1)
-      ∙ ap (λ x. Some (ReleaseWriter x tt)) (own_guard g parts.0)) (λ f. refl) (λ Q b. refl) r h
+      ∙ ap (λ x. Some (ReleaseWriter x tt)) (own_guard g parts.0)) takes r h
 
   -- a step of a recorded call, under the names that it takes
   does : (a : Action (Unit {0})) (new : NewNames) → IsSound P
       → Takes P a (limit_tickets P (act P a new)).0 new
       → IfSome (recorded_as a) (λ c. Leads c a (act P a new))
-  does (Make None tt l) new sound takes = named (call.Leak l) (Make None tt l) new refl refl
-      (make_tells None l new takes)
-  does (Make (Some o) tt l) new sound takes =
-      named (call.Insert _ l) (Make (Some o) tt l) new refl refl
-      (make_tells (Some o) l new takes)
-  does (MakeShared None tt l) new sound takes =
-      named (call.LeakRc l) (MakeShared None tt l) new refl refl
-      (shared_tells None l new true refl takes)
-  does (MakeShared (Some o) tt l) new sound takes =
-      named (call.InsertRc _ l) (MakeShared (Some o) tt l) new refl refl
-      (shared_tells (Some o) l new (is_known P (Some o)) refl takes)
-  does (Refer None b) new sound takes =
-      named (call.LeakReference b) (Refer None b) new refl refl
-      (refer_tells None b new takes)
-  does (Refer (Some o) b) new sound takes =
-      named (call.InsertReference _ b) (Refer (Some o) b) new refl refl
-      (refer_tells (Some o) b new takes)
-  does NewOwner new sound takes = nameless call.Owner NewOwner new refl refl (λ f. refl) (λ Q b. refl)
-  does (CloneOwner o) new sound takes =
-      nameless (call.CloneOwner _) (CloneOwner o) new refl refl (λ f. refl) (λ Q b. refl)
-  does (ReleaseOwner o) new sound takes =
-      nameless (call.ReleaseOwner _) (ReleaseOwner o) new refl refl (λ f. refl) (λ Q b. refl)
   does (LeakOwner o) new sound takes = tt
-  does (Read b l) new sound takes =
-      nameless (call.Read b l) (Read b l) new refl refl (λ f. refl) (λ Q b. refl)
-  does (Write b l) new sound takes =
-      nameless (call.Write b l) (Write b l) new refl refl (λ f. refl) (λ Q b. refl)
-  does (ReleaseReader g) new sound takes = reader_leads g new sound
-  does (ReleaseWriter g tt) new sound takes = writer_leads g new sound
-  does (SetValue b tt) new sound takes =
-      nameless (call.Set b) (SetValue b tt) new refl refl (λ f. refl) (λ Q b. refl)
-  does (End b) new sound takes =
-      nameless (call.ManuallyDrop b) (End b) new refl refl (λ f. refl) (λ Q b. refl)
-  does (Point a b) new sound takes =
-      nameless (call.PointTo a b) (Point a b) new refl refl (λ f. refl) (λ Q b. refl)
   does (CanRead b) new sound takes = tt
   does (CanWrite b) new sound takes = tt
+  does (ReleaseReader g) new sound takes = reader_leads g new sound takes
+  does (ReleaseWriter g tt) new sound takes = writer_leads g new sound takes
+  does (Make None tt l) new sound takes = named _ (Make None tt l) new refl refl takes
+  does (MakeShared None tt l) new sound takes = named _ (MakeShared None tt l) new refl refl takes
+  does (Refer None b) new sound takes = named _ (Refer None b) new refl refl takes
+  does a new sound takes = named _ a new refl refl takes
 
   follows : (a : Action (Unit {0})) (c : StepCall) (answer : Answer (Unit {0})) (Q : Plain)
       (r : StepReply) → IsSound P → recorded_as a ≡ Some c → Meets P a answer Q

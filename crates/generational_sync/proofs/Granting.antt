@@ -8,7 +8,6 @@ use Common.{Outcome, Read, read_refused, recorded_as, recorded_reply, refl, refu
 use Common.{shared, SharedState, Some, State, StepCall, StepReply, subst, sym, true, true≢false, WasRefused}
 use Common.{ℕ, ◌∙◌, ◌≡◌}
 use Rattle.generational_errors.specs.declared.error.Refused.{Refused as IsRefused}
-use Rattle.generational_errors.specs.declared.error.Refused.TheVariants as refusal
 use Rattle.shared_records.specs.declared.step.StepReply.TheVariants as reply
 use Rattle.generational_sync.proofs.Counting.{meets_fine}
 use Rattle.generational_sync.proofs.Keeping.{HasRoom, room_kept, room_shared}

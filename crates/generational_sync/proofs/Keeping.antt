@@ -1,18 +1,16 @@
 -- What lies under the lock stays as it is kept, and each call that is recorded is a step.
 use Rattle.generational_sync.proofs.Common
-use Common.{[], Action, and_parts, Answer, ap, ArePast, arith, Back, BaseRow, Bases, BaseState, Bool}
-use Common.{borrows, borrows_in, Cell, cond, content_at, Counts, Done, ends_borrow, false, fill, Flag}
-use Common.{fresh, given_by, Guard, HasEnded, Here, IfSome, inl, inr, is_ready, is_some, IsAnswered, IsKept}
-use Common.{IsSettled, IsSound, IsStep, IsUnseenStep, kind_in, knows_reader, knows_writer, LeadsTo, leaves}
-use Common.{length, lent_in, limit_tickets, List, Location, LogState, Made, Make, MakeShared, MayAnswer}
-use Common.{Meets, Name, name_cmp, nat_eq, new_base, None, Ok, Option, option_map, option_to_list, Outcome}
-use Common.{OutOfMemory, OwnerName, Plain, plain, plain_answer, plain_call, plain_meets, plain_of}
+use Common.{[], Action, and_parts, Answer, ap, ArePast, arith, BaseRow, Bases, BaseState, borrows}
+use Common.{borrows_in, Cell, content_at, Counts, ends_borrow, fresh, given_by, Guard, HasEnded, IfSome}
+use Common.{inl, is_ready, is_some, IsAnswered, IsKept, IsSettled, IsSound, IsStep, IsUnseenStep, kind_in}
+use Common.{knows_reader, LeadsTo, leaves, length, lent_in, List, Location, LogState, Made, Make}
+use Common.{MakeShared, MayAnswer, Meets, Name, name_cmp, nat_eq, new_base, None, Ok, Option, option_map}
+use Common.{option_to_list, OwnerName, Plain, plain, plain_answer, plain_call, plain_meets, plain_of}
 use Common.{plain_step, raised_by, ReadBack, recorded_as, recorded_reply, Records, RecordsCall, refl}
-use Common.{Refused, ReleaseReader, ReleaseWriter, remove_reader, replay_from, Replays, rows_of, shared}
-use Common.{SharedState, Some, start, State, Step, step_kind, step_of, StepCall, StepReply, subst, sym}
-use Common.{tallied, told_by, true, true≢false, value_behind, WasAnswered, ℕ, ◌+◌, ◌<◌, ◌∙◌, ◌∷◌, ◌≡◌, ◌≤◌}
+use Common.{ReleaseReader, ReleaseWriter, replay_from, Replays, rows_of, shared, SharedState, Some, start}
+use Common.{State, Step, step_kind, step_of, StepCall, StepReply, subst, sym, tallied, told_by, true}
+use Common.{true≢false, value_behind, WasAnswered, ℕ, ◌+◌, ◌<◌, ◌∙◌, ◌∷◌, ◌≡◌, ◌≤◌}
 use Rattle.std.specs.FinMap as map
-use Rattle.shared_records.specs.declared.step.StepReply.TheVariants as reply
 use Rattle.generational_sync.proofs.Past.{own_past, past_still}
 use Rattle.generational_sync.proofs.Trimming.{told_number, told_start}
 use Rattle.generational_sync.proofs.Answering.{opened_own}
@@ -87,32 +85,12 @@ module _ {T : Type 0} where
   -- a borrow that was ended stood
   stood : (S R : State T) (a : Action T) (answer : Answer T) → ends_borrow a ≡ true
       → Meets S a answer R → is_some (recorded_reply R a answer) ≡ true → borrows R + 1 ≤ borrows S
-  stood S R (ReleaseReader g) answer ends (inl m) is = at (knows_reader S g) refl m.2
-    where
-      at : (b : Bool) → knows_reader S g ≡ b → (answer, R) ≡ limit_tickets S (cond b
-          (Flag true, remove_reader S g.cell g.ticket (content_at S g.cell)) (Flag false, S))
-          → borrows R + 1 ≤ borrows S
-      at true known e =
-          let after = ap (λ (o : Outcome T). borrows o.1) e in
-          let less = without_stand S g.cell g.ticket (content_at S g.cell) refl
-          (and_parts (nat_eq g.store S.number) _ known).1 in
-          omega arith
-      at false known e = absurd (true≢false (sym is
-          ∙ ap (λ (o : Outcome T). is_some (recorded_reply o.1 (ReleaseReader g) o.0)) e))
-  stood S R (ReleaseWriter g v) answer ends (inl m) is = at (knows_writer S g) refl m.2
-    where
-      at : (b : Bool) → knows_writer S g ≡ b → (answer, R)
-          ≡ limit_tickets S (cond b (Done, fill S g.cell (Here v [])) (Back v, S))
-          → borrows R + 1 ≤ borrows S
-      at true known e =
-          let after = ap (λ (o : Outcome T). borrows o.1) e in
-          let less = written_stand S g v known in
-          omega arith
-      at false known e = absurd (true≢false (sym is
-          ∙ ap (λ (o : Outcome T). is_some (recorded_reply o.1 (ReleaseWriter g v) o.0)) e))
-  stood S R a answer ends (inr m) is =
-      absurd (true≢false (sym is ∙ ap (λ x. is_some (recorded_reply R a x)) m.1))
-  stood S R _ answer ends (inl m) is = absurd (true≢false (sym ends))
+  stood S R (ReleaseReader g) answer ends m is =
+      let less = λ (known : knows_reader S g ≡ true). without_stand S g.cell g.ticket (content_at S g.cell) refl
+      (and_parts (nat_eq g.store S.number) _ known).1 in
+      grind arith
+  stood S R (ReleaseWriter g v) answer ends m is = let less = written_stand S g v in grind arith
+  stood S R _ answer ends m is = absurd (true≢false (sym ends))
 
   -- the state is of the store whose history's start it is, with the same first generation
   pub kept_number : LeadTo Numbered → (number : ℕ) (S : State T) (log : LogState)

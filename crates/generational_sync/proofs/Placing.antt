@@ -1,6 +1,6 @@
 -- The machine is blind to locations: a call, and a recorded step, does the same where each location is turned.
 use Rattle.generational_sync.proofs.Common
-use Common.{[], act, Action, action_of, add_cell, add_to_list, among, Answer, ap, are_new, AreAlike, arith}
+use Common.{[], act, Action, action_of, add_cell, add_to_list, Answer, ap, are_new, AreAlike, arith}
 use Common.{below_all, Bool, Borrow, BorrowRefusal, by_name, CanRead, CanWrite, Cell, cell_at, cells_after}
 use Common.{change, cond, Content, content_at, content_of, filter, first_hindrance, first_name}
 use Common.{GenerationalBoxId, GenerationalPointer, get-insert_name, get-keep, gives_new, has_reader}
@@ -11,16 +11,15 @@ use Common.{map-append, Name, name_cmp, name_exact, name_of, name_total, NameMap
 use Common.{NewNames, next_borrow, no_names, None, not, Option, option_map, Outcome, own_cell, owner_of}
 use Common.{OwnerName, place_action, place_answer, place_borrow, place_box, place_call, place_cell}
 use Common.{place_content, place_refusal, place_reply, Plain, plain_step, Point, point, reach, Read}
-use Common.{read_at, read_refusal, reader_cell, recorded_reply, Ref, Refer, refers_to, refill, refl}
-use Common.{refusal_to_read, refusal_to_write, Refused, ReleaseOwner, ReleaseReader, ReleaseWriter}
-use Common.{remove_reader, set_at, SetValue, Shared, slots, slots_of, Some, State, step_by, StepCall}
-use Common.{StepReply, subst, sweep, sym, take_away, tells_of_borrow, UnknownOwner, unwrap_or, Value, Write}
-use Common.{write_at, write_refusal, writer_cell, ℕ, ◌&&◌, ◌++◌, ◌+◌, ◌||◌, ◌∙◌, ◌∷◌, ◌≡◌}
+use Common.{read_at, reader_cell, recorded_reply, Ref, Refer, refers_to, refill, refl, refusal_to_read}
+use Common.{refusal_to_write, Refused, ReleaseOwner, ReleaseReader, ReleaseWriter, remove_reader, set_at}
+use Common.{SetValue, Shared, slots, slots_of, Some, State, step_by, StepCall, StepReply, subst, sweep, sym}
+use Common.{take_away, tells_of_borrow, UnknownOwner, unwrap_or, Value, Write, write_at, writer_cell, ℕ}
+use Common.{◌&&◌, ◌++◌, ◌+◌, ◌||◌, ◌∙◌, ◌∷◌, ◌≡◌}
 use Rattle.std.specs.FinMap as map
 use Rattle.std.proofs.Common.{T as IsTrue}
 use Rattle.std.specs.FinSet as set
 use Rattle.generational_core.specs.declared.steps.StepCall.TheVariants as call
-use Rattle.shared_records.specs.declared.step.StepReply.TheVariants as reply
 
 -- ---- a map with a function of each of its values
 
@@ -121,21 +120,17 @@ module _ {T : Type 0} (p : Location → Location) where
         λ n. grind (arith, get_each, cell_turned) in
         λ i. list_any (λ n. same n i) (keys_each cell cells i)
 
+    keep_turned : (f g : Name → Bool) → ((n : Name) → f n ≡ g n)
+        → each cell (map.retain_keys cells f) ≡ map.retain_keys (each cell cells) g
+    keep_turned f g same = keep_each cell cells f ∙ ap (map.retain_keys (each cell cells)) (λ i n. same n i)
+
     sweep_turned : each cell (sweep cells) ≡ sweep (each cell cells)
     unfolding sweep
-    sweep_turned =
-        let same : (n : Name) → (not (is_shared (map.get cells n)) || is_named cells n)
-        ≡ (not (is_shared (map.get (each cell cells) n)) || is_named (each cell cells) n) =
-        λ n. grind (arith, get_each, cell_turned, named_turned) in
-        keep_each cell cells _ ∙ ap (map.retain_keys (each cell cells)) (λ i n. same n i)
+    sweep_turned = keep_turned _ _ (λ n. grind (arith, get_each, cell_turned, named_turned))
 
     without_turned : (names : List Name) → each cell (take_away cells names) ≡ take_away (each cell cells) names
     unfolding take_away
-    without_turned names =
-        let same : (n : Name) → (is_shared (map.get cells n) || not (among names n))
-        ≡ (is_shared (map.get (each cell cells) n) || not (among names n)) =
-        λ n. grind (arith, get_each, cell_turned) in
-        keep_each cell cells _ ∙ ap (map.retain_keys (each cell cells)) (λ i n. same n i)
+    without_turned names = keep_turned _ _ (λ n. grind (arith, get_each, cell_turned))
 
     fill_turned : (n : Name) (x : Content T) → each cell (change cells n (refill x))
         ≡ change (each cell cells) n (refill (content x))

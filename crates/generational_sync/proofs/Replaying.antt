@@ -5,7 +5,6 @@ use Common.{is_lawful, is_ready, is_recorded, IsSound, IsTaken, LeadsOver, limit
 use Common.{names_of_reply, None, Option, Outcome, Plain, plain_step, recorded_reply, refl, replay_from}
 use Common.{replay_on, Some, Step, step_by, StepCall, StepReply, subst, sym, Takes, true, ℕ, ◌++◌, ◌∙◌, ◌∷◌}
 use Common.{◌≡◌}
-use Rattle.shared_records.specs.declared.step.StepReply.TheVariants as reply
 use Rattle.generational_sync.proofs.Fitting.{are_from, gives_from}
 
 -- the names of a recorded reply are those that the call takes

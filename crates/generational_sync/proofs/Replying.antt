@@ -4,8 +4,6 @@ use Common.{[], Action, and_from, Answer, ap, arith, bare, Cell, eq-eqb, Generat
 use Common.{has_same_id, is_recorded, List, Location, nat_eq, Option, option_map, plain, plain_answer}
 use Common.{plain_call, pointwise, recorded_reply, refl, rename_cell, same_box, same_error, same_location}
 use Common.{same_reply, Some, State, StepReply, StoreError, target_in, target_of, true, ℕ, ◌∙◌, ◌∷◌, ◌≡◌}
-use Rattle.std.specs.FinMap as map
-use Rattle.shared_records.specs.declared.step.StepReply.TheVariants as reply
 
 same_number : (n : ℕ) → nat_eq n n ≡ true
 same_number n = eq-eqb n n refl

@@ -7,7 +7,7 @@ use Common.{old_content, Option, Reader, Ref, refill, refl, remove_reader, Share
 use Common.{take_away, tickets_of, true, true≢false, Value, without, Writer, ℕ, ◌++◌, ◌+◌, ◌||◌, ◌∷◌, ◌≡◌}
 use Common.{◌≤◌}
 use Rattle.std.specs.FinMap as map
-use Rattle.generational_sync.proofs.Weighing.{borrows_retained, borrows_changed}
+use Rattle.generational_sync.proofs.Weighing.{borrows_changed, borrows_retained}
 
 -- a list without a ticket that is in it is shorter
 fewer : (t : ℕ) (rs : List Borrow)

@@ -3,8 +3,6 @@ use Rattle.generational_sync.proofs.Common
 use Common.{[], all_kinds, all_trimmed, ap, arith, BaseRow, BaseState, counts_of, IsCheckpoint, length}
 use Common.{List, LogState, Plain, plain, plain_of, read_row, read_rows, refl, rows_of, shared, SharedState}
 use Common.{State, Step, subst, TrimmedSteps, Trims, ℕ, ◌+◌, ◌<◌, ◌^◌, ◌∙◌, ◌∷◌, ◌≡◌}
-use Rattle.generational_core.specs.declared.rows.BaseRow.TheVariants as row
-use Rattle.shared_records.specs.declared.step.Kind.TheVariants.{Made, Lent, Changed, Refused}
 
 row_keeps : (P : Plain) (r : BaseRow)
     → ((read_row P r).number ≡ P.number) × ((read_row P r).start ≡ P.start)

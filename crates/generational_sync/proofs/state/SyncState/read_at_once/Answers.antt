@@ -2,7 +2,8 @@ use Rattle.generational_sync.proofs.Common
 use Common.{ap, arith, Read, read_refused, Reads, refl, rules, Some}
 use Rattle.generational_core.specs.declared.steps.StepCall.TheVariants as call
 use Rattle.shared_records.specs.declared.step.StepReply.TheVariants as reply
-use Rattle.generational_sync.proofs.Granting.{granted_ready, hindered, left_kept, left_ready, read_leaves, read_told, refused}
+use Rattle.generational_sync.proofs.Granting.{granted_ready, hindered, left_kept, left_ready, read_leaves}
+use Rattle.generational_sync.proofs.Granting.{read_told, refused}
 use Rattle.generational_sync.proofs.Keeping.{recorded}
 use Rattle.generational_sync.proofs.state.SyncState.read_at_once.Goals as goal
 
