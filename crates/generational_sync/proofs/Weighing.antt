@@ -57,13 +57,7 @@ module _ {T : Type 0} where
   kept_weighs : (p : Name → Bool) (es : List (Name × Cell T))
       → borrows_in (map.Entries.where_key name_cmp p es) ≤ borrows_in es
   kept_weighs p [] = omega arith
-  kept_weighs p (e ∷ es) =
-      let rest = kept_weighs p es in
-      let kept = map.Entries.where_key name_cmp p es in
-      elim (p e.0) as (λ b. borrows_in (cond b (e ∷ kept) kept) ≤ borrows_of e.1 + borrows_in es) [
-        | true ↦ omega arith
-        | false ↦ omega arith
-      ]
+  kept_weighs p (e ∷ es) = grind (arith, kept_weighs p es)
 
   sorted_kept : (m : NameMap (Cell T)) (p : Name → Bool)
       → IsTrue (map.is_sorted name_cmp (map.Entries.where_key name_cmp p (map.entries m)))
