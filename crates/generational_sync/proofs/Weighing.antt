@@ -1,7 +1,7 @@
 -- The borrows of finite maps of cells, added up.
 use Rattle.generational_sync.proofs.Common
 use Common.{[], and_from, and_parts, ap, arith, Bool, borrows_in, borrows_of, Cell, change, change_if, cond}
-use Common.{Equal, false, Greater, is_eq, is_lt, Less, List, Name, name_cmp, name_exact, name_total}
+use Common.{Equal, Greater, is_eq, is_lt, Less, List, Name, name_cmp, name_exact, name_total}
 use Common.{NameMap, None, Option, Ordering, refl, Some, sym, true, ℕ, ◌+◌, ◌∙◌, ◌∷◌, ◌≡◌, ◌≤◌}
 use Rattle.std.specs.Prelude.{T as IsTrue}
 use Rattle.std.specs.FinMap as map
