@@ -1,6 +1,6 @@
 -- States, calls and answers in which each location is turned by a function, and histories that lead to
 -- a state by the letters of its locations.
-use Rattle.std.specs.Prelude.{◌≡◌, List, Option, None, Some, option_map, map as list_map}
+use Rattle.std.specs.Prelude.{◌≡◌, List, Some, option_map, map as list_map}
 use Rattle.std.specs.FinMap as map
 use Rattle.generational_errors.specs.declared.error.Location.{Location}
 use Rattle.generational_errors.specs.Texts.{same_location}
@@ -11,7 +11,7 @@ use Rattle.generational_core.specs.Cells.Content.{Here, Lent}
 use Rattle.generational_core.specs.Cells.Cell.{Value, Shared, Ref}
 use Rattle.generational_core.specs.Borrowing.{BorrowRefusal}
 use Rattle.generational_core.specs.Borrowing.BorrowRefusal.{Dropped, BeingWritten, BeingRead}
-use Rattle.generational_core.specs.Machine.{Action, Answer, Outcome}
+use Rattle.generational_core.specs.Machine.{Action, Answer}
 use Rattle.generational_core.specs.Machine.Action.{Make, MakeShared, Refer}
 use Rattle.generational_core.specs.Machine.Action.{Read, Write}
 use Rattle.generational_core.specs.Machine.Action.{SetValue, End}
@@ -62,23 +62,11 @@ module _ (p : Location → Location) where
     pub record AreTurned (C B : NameMap (Cell T)) : Type 0 where
       pub at : (n : Name) → map.get C n ≡ option_map place_cell (map.get B n)
 
-    -- an outcome is another with its locations turned
-    pub record IsTurned (out was : Outcome T) : Type 0 where
-      pub answer : out.0 ≡ place_answer was.0
-      pub cells : NameMap (Cell T)
-      pub is : out.1 ≡ record was.1 { cells = cells }
-      pub turned : AreTurned cells was.1.cells
-
   -- a state without values is another with its locations turned
   pub record AreAlike (S A : Plain) : Type 0 where
     pub cells : NameMap (Cell (Unit {0}))
     pub is : S ≡ record A { cells = cells }
     pub turned : AreTurned cells A.cells
-
-  abbrev pub AreBoth : Option Plain → Option Plain → Type 0
-  AreBoth None None = Unit {0}
-  AreBoth (Some S) (Some A) = AreAlike S A
-  AreBoth _ _ = ⊥
 
   -- the test of two locations doesn't see the turn
   abbrev pub KeepsTest : Type 0
