@@ -4,11 +4,8 @@ pub mod calls
 unfoldable pub use Common.*
 unfoldable pub use calls.Calls.*
 unfoldable pub use calls.EndCalls.*
-unfoldable pub use calls.Frees.*
-unfoldable pub use calls.Looks.*
 unfoldable pub use calls.Makings.*
 unfoldable pub use calls.OwnerCalls.*
 unfoldable pub use calls.Points.*
-unfoldable pub use calls.Readiness.*
 unfoldable pub use calls.Rows.*
 unfoldable pub use records.Counts.*

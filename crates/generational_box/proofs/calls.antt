@@ -1,9 +1,6 @@
 pub mod Calls
 pub mod EndCalls
-pub mod Frees
-pub mod Looks
 pub mod Makings
 pub mod OwnerCalls
 pub mod Points
-pub mod Readiness
 pub mod Rows

@@ -1,8 +1,7 @@
 -- The rows of a store, of which the slots' come first, are read back.
-use Rattle.generational_box.proofs.Common.{all_owners_read, all_slot_rows, ap, bare_cells, BaseRow}
-use Rattle.generational_box.proofs.Common.{fresh, List, owner_rows, Plain, plain, read_append}
-use Rattle.generational_box.proofs.Common.{read_rows, ReadBack, ReadSlots, refl, rows_of, State}
-use Rattle.generational_box.proofs.Common.{subst, sym, told_by, ◌∙◌, ◌≡◌}
+use Rattle.generational_box.proofs.Common.{all_owners_read, all_slot_rows, ap, bare_cells, BaseRow, fresh}
+use Rattle.generational_box.proofs.Common.{List, owner_rows, plain, Plain, read_append, read_rows, ReadBack}
+use Rattle.generational_box.proofs.Common.{ReadSlots, refl, rows_of, State, subst, sym, told_by, ◌∙◌, ◌≡◌}
 use Rattle.std.specs.FinMap as map
 
 module _ {T : Type 0} (S : State T) where

@@ -1,11 +1,10 @@
 -- How many owner values the records stand for, below which key they stand, and what is put on their
 -- lists.
 use Rattle.generational_box.proofs.Common
-use Common.{add_to_list_in, among, AreCounted, arith, by_number, change, change_if, cond, cond_both}
-use Common.{count_under, eq_by_cmp, eq_by_cmp_equiv, false, is_name, IsCounted, IsDistinct}
-use Common.{IsDistinct-push, IsEquivalence, key_same, Name, name_total, names_under, nat_cmp}
-use Common.{nat_cmp_total, None, one_less, one_listed, one_more, Option, OwnerName, Owners}
-use Common.{Ownership, record_of, refl, Some, ℕ, [], ◌+◌, ◌<◌, ◌≡◌}
+use Common.{add_to_list_in, among, AreCounted, arith, by_number, change, change_if, cond, count_under}
+use Common.{eq_by_cmp, eq_by_cmp_equiv, false, is_name, IsCounted, IsDistinct, IsDistinct-push, IsEquivalence}
+use Common.{key_same, Name, name_total, names_under, nat_cmp, nat_cmp_total, None, one_less, one_listed}
+use Common.{one_more, Option, OwnerName, Owners, Ownership, record_of, refl, Some, [], ℕ, ◌+◌, ◌<◌, ◌≡◌}
 use Rattle.std.specs.FinMap as map
 
 -- names are compared for equality
@@ -24,8 +23,8 @@ module _ {next : ℕ} {owners : Owners} (counted : AreCounted next owners) where
       → ((q : ℕ) → map.get after q ≡ cond (eq_by_cmp nat_cmp q k) v (map.get owners q))
       → IsCounted next k v → AreCounted next after
   counted_update after k v updates one = record {
-    each = λ q. rw (updates q) (cond_both (eq_by_cmp nat_cmp q k) _ _ (IsCounted next q)
-        (λ same. rw (key_same by_number q k same) one) (λ other. counted.each q));
+    each = λ q.
+        let is = updates q in let same = key_same by_number q k in let c = counted.each q in grind arith;
   }
 
   pub counted_insert : (k : ℕ) (h : Ownership) → IsCounted next k (Some h)
@@ -44,8 +43,7 @@ module _ {next : ℕ} {owners : Owners} (counted : AreCounted next owners) where
     where
       at : (o : Option Ownership) → map.get owners k ≡ o → AreCounted next (change_if owners k f o)
       at None is = counted
-      at (Some h) is =
-          counted_insert k (f h) (keeps h is (rw is at (counted.each k)))
+      at (Some h) is = counted_insert k (f h) (keeps h is (rw is at (counted.each k)))
 
   pub counted_down : (k : ℕ) → 1 < count_under owners k → AreCounted next (change owners k one_less)
   counted_down k several = counted_changed k one_less (λ h is c.

@@ -1,31 +1,29 @@
-use Rattle.generational_box.proofs.{arith, guard_at, id_of, meets_kept, name_of_cell, refl}
-use Rattle.generational_box.proofs.{state_is, unborrowed, Write, write_begins, write_exhausted}
+use Rattle.generational_box.proofs.{arith, inl, kept, name_of_cell, nat_tests, no_names, reaches}
+use Rattle.generational_box.proofs.{refusal_to_write, Write, Writes}
 use Rattle.generational_box.proofs.unsync.Store.begin_write.Goals as goal
 
 pub returns-then-ticket : goal.returns-then-ticket
+unfolding refusal_to_write
 returns-then-ticket g c =
-    write_exhausted c.args.pointer c.args.location c.self.inside.slots.state (state_is c.self.view_is)
-    c.args.self.now.sound c.requires.to c.requires.free (omega arith)
+    let there = reaches _ c.args.self.now.sound c.args.pointer _ c.requires.to in
+    inl (no_names, tt, grind (arith, nat_tests))
 
 pub begin_write-value-requires : goal.begin_write-value-requires
 begin_write-value-requires g c =
-    unborrowed c.args.pointer c.args.location c.self.inside.slots.state (state_is c.self.view_is)
-    c.args.self.now.sound c.requires.to c.requires.free
+    let there = reaches _ c.args.self.now.sound c.args.pointer _ c.requires.to in
+    grind (arith, nat_tests)
 
 pub returns : goal.returns
-returns g c =
-    write_begins c.args.pointer c.args.location c.self.inside.slots.state (state_is c.self.view_is)
-    c.args.self.now.sound c.requires.to c.requires.free _ _ _ _ (omega arith)
-    c.begin_write-value.ensures.value c.begin_write-value.ensures.after
-    c.id_in.ensures c.writer_at.ensures.guard c.writer_at.ensures.value
+unfolding refusal_to_write
+returns g c = inl (no_names, tt, grind (arith, nat_tests))
 
 pub invariant_of-self-inside : goal.invariant_of-self-inside
+unfolding refusal_to_write
 invariant_of-self-inside g c =
-    meets_kept _ _ (Write c.args.pointer c.args.location) _ c.args.self.now.sound c.args.self.now.bounded
-    (write_begins c.args.pointer c.args.location c.self.inside.slots.state (state_is c.self.view_is)
-    c.args.self.now.sound c.requires.to c.requires.free _ _ (record {
-      guard = guard_at (id_of c.self.inside.number (name_of_cell c.args.name)) c.self.inside.next;
-      value = c.begin_write-value.result;
-    }) _
-    (omega arith) c.begin_write-value.ensures.value c.begin_write-value.ensures.after
-    refl refl refl)
+    kept c.args.self.now (Write c.args.pointer c.args.location)
+    (Writes (record {
+      store = c.self.inside.number;
+      cell = name_of_cell c.args.name;
+      ticket =
+          c.self.inside.next;
+    }) c.begin_write-value.result) (inl (no_names, tt, grind (arith, nat_tests)))

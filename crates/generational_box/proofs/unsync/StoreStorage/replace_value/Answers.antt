@@ -1,20 +1,18 @@
-use Rattle.generational_box.proofs.{free_there, meets_kept, SetValue, state_is, value_set}
+use Rattle.generational_box.proofs.{arith, free_there, inl, kept, nat_tests, no_names, Old, reach}
+use Rattle.generational_box.proofs.{refusal_to_write, SetValue}
 use Rattle.generational_box.proofs.unsync.StoreStorage.replace_value.Goals as goal
 
 pub replace-requires : goal.replace-requires
 replace-requires g c =
-    free_there c.self.inside.slots.state (state_is c.self.view_is) c.args.pointer _
-    c.cell_name.ensures c.requires c.args.self.now.sound
+    rw c.cell_name.ensures (free_there _ c.self.inside.sound c.args.pointer
+    (rw (← c.self.view_is) at c.requires))
 
 pub returns : goal.returns
-returns g c =
-    value_set c.self.inside.slots.state (state_is c.self.view_is) c.args.pointer _
-    c.cell_name.ensures c.requires c.args.self.now.sound _ _ _ c.replace.ensures.value
-    c.replace.ensures.after
+unfolding reach refusal_to_write
+returns g c = inl (no_names, tt, grind (arith, nat_tests))
 
 pub invariant_of-self-inside : goal.invariant_of-self-inside
+unfolding reach refusal_to_write
 invariant_of-self-inside g c =
-    meets_kept _ _ (SetValue c.args.pointer c.args.value) _ c.args.self.now.sound c.args.self.now.bounded
-    (value_set c.self.inside.slots.state (state_is c.self.view_is) c.args.pointer _
-    c.cell_name.ensures c.requires c.args.self.now.sound _ _ _ c.replace.ensures.value
-    c.replace.ensures.after)
+    kept c.args.self.now (SetValue c.args.pointer c.args.value) (Old c.replace.result)
+    (inl (no_names, tt, grind (arith, nat_tests)))
