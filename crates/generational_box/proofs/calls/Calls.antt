@@ -2,7 +2,7 @@
 use Rattle.generational_box.proofs.Common
 use Common.{act, Action, ap, AreBelow, arith, Bool, Borrow, BorrowMutError, BorrowRefusal, by_name, can_write}
 use Common.{cell_at, change, change_content, cond, Content, content_at, content_of, content_reached}
-use Common.{end_refused, Err, false, Flag, FoundBorrowed, free, GenerationalBoxId, GenerationalPointer}
+use Common.{end_refused, Err, false, Flag, FoundBorrowed, GenerationalBoxId, GenerationalPointer}
 use Common.{has_no_borrow, has_reader, Here, inl, insert_there, is_some, IsBounded, IsBounded-prop, IsSound}
 use Common.{IsSound-prop, Lent, less_read, limit_tickets, List, list_any, Location, may_lack, Meets}
 use Common.{meets_kept, Name, name_in, name_of, nat_eq, nat_eq_equiv, nat_tests, no_names, None, none_left}
@@ -108,7 +108,7 @@ module _ {T : Type 0} where
       at None there known is = grind (arith, nat_tests)
       at (Some (Here v rs)) there true is = grind (arith, nat_tests)
       at (Some (Here v rs)) there false is =
-          let same = filled_own X n _ _ there (ap (Here v) (none_left t rs (sym is))) in grind
-          (arith, nat_tests)
+          let same = filled_own X n _ _ there (ap (Here v) (none_left t rs (sym is))) in
+          grind (arith, nat_tests)
       at (Some (Lent w)) there known is =
           let same = filled_own X n _ _ there refl in grind (arith, nat_tests)

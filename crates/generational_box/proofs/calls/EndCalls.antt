@@ -1,7 +1,7 @@
 -- The ends of names, and which calls no borrow hinders, as steps of the machine.
 use Rattle.generational_box.proofs.Common
 use Common.{arith, BorrowMutError, Cell, cells_after, close, Done, End, end_answer, Err, first_hindrance}
-use Common.{free, GenerationalPointer, HasEnded, hindrance_to, IfNone, IfSome, inl, inr, is_none, IsBounded}
+use Common.{GenerationalPointer, HasEnded, hindrance_to, IfNone, IfSome, inl, inr, is_none, IsBounded}
 use Common.{IsSound, List, may_lack, Meets, meets_kept, Name, NameMap, nat_tests, no_names, None, not, Ok}
 use Common.{Option, Owners, refl, Result, Some, State, tells_of_borrow, with_records, [], ℕ, ◌∷◌, ◌≡◌}
 use Rattle.generational_box.proofs.calls.Calls.{own_of}

@@ -1,13 +1,13 @@
 -- The makings of cells, as steps of the machine.
 use Rattle.generational_box.proofs.Common
 use Common.{add_cell, add_to_list_in, AllByRecursion, among, AreCounted, arith, box_of, by_name, Cell}
-use Common.{cell_of, Content, content_at, false, free, fresh, GenerationalPointer, get-insert_apart}
-use Common.{get-insert_here, HasTargets, Here, inl, inr, is_shared, IsBoxed, IsMade, IsNew, IsRefusal}
-use Common.{IsSound, kept_data, List, Location, location_of, Made, Make, MakeShared, may_lack, Meets, Name}
-use Common.{name_apart, name_cases, NameMap, names_under, nat_tests, no_names, None, Option, OutOfMemory}
-use Common.{OwnerName, Owners, permits, reach, reached, read_refusal, Refer, refl, refusal_to_read, Shared}
-use Common.{SlotData, SlotsState, Some, State, StoreError, true, UnknownOwner, Value, with_records, [], ℕ}
-use Common.{◌<◌, ◌∷◌, ◌≡◌}
+use Common.{cell_of, Content, content_at, false, free, GenerationalPointer, get-insert_apart, get-insert_here}
+use Common.{HasTargets, Here, inl, inr, is_shared, IsBoxed, IsMade, IsNew, IsRefusal, IsSound, kept_data}
+use Common.{List, Location, location_of, Made, Make, MakeShared, may_lack, Meets, Name, name_apart}
+use Common.{name_cases, NameMap, names_under, nat_tests, no_names, None, Option, OutOfMemory, OwnerName}
+use Common.{Owners, permits, reach, reached, read_refusal, Refer, refl, refusal_to_read, Shared, SlotData}
+use Common.{SlotsState, Some, State, StoreError, true, UnknownOwner, Value, with_records, [], ℕ, ◌<◌, ◌∷◌}
+use Common.{◌≡◌}
 use Rattle.generational_box.proofs.calls.Calls.{own_of}
 use Rattle.generational_box.proofs.records.Counts.{counted_listed}
 use Rattle.generational_core.specs.Machine.Answer.{Refused}

@@ -1,10 +1,10 @@
 -- The change of what a reference names, as a step of the machine.
 use Rattle.generational_box.proofs.Common
 use Common.{act, Action, arith, Bool, BorrowMutError, BorrowRefusal, BorrowRefused, box_of, Cell, cond}
-use Common.{content_at, Done, end_answer, false, free, GenerationalPointer, has_same_id, hindrance_at}
-use Common.{is_name, IsTurned, may_lack, Meets, Name, name_of, NameMap, nat_tests, no_names, None, Option}
-use Common.{Owners, Point, point, reach, reached, read_refusal, Ref, refusal_to_read, Result, Shared, Some}
-use Common.{State, sweep, unless, with_records, ℕ, ◌≡◌}
+use Common.{content_at, Done, end_answer, false, GenerationalPointer, has_same_id, hindrance_at, is_name}
+use Common.{IsTurned, may_lack, Meets, Name, name_of, NameMap, nat_tests, no_names, None, Option, Owners}
+use Common.{Point, point, reach, reached, read_refusal, Ref, refusal_to_read, Result, Shared, Some, State}
+use Common.{sweep, unless, with_records, ℕ, ◌≡◌}
 use Rattle.generational_box.proofs.calls.Calls.{own_of}
 use Rattle.generational_errors.specs.declared.error.Refused.{Refused}
 use Rattle.std.specs.FinMap as map

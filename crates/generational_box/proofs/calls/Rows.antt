@@ -1,7 +1,7 @@
 -- The rows of a store, of which the slots' come first, are read back.
 use Rattle.generational_box.proofs.Common.{all_owners_read, all_slot_rows, ap, bare_cells, BaseRow, fresh}
 use Rattle.generational_box.proofs.Common.{List, owner_rows, plain, Plain, read_append, read_rows, ReadBack}
-use Rattle.generational_box.proofs.Common.{ReadSlots, refl, rows_of, State, subst, sym, told_by, ◌∙◌, ◌≡◌}
+use Rattle.generational_box.proofs.Common.{ReadSlots, refl, rows_of, State, sym, ◌∙◌, ◌≡◌}
 use Rattle.std.specs.FinMap as map
 
 module _ {T : Type 0} (S : State T) where
@@ -18,9 +18,7 @@ module _ {T : Type 0} (S : State T) where
       S.owners refl
       ∙ ap (λ n. record (plain S) { start = n }) (sym first)
 
--- so are they of the state that contracts see, as they were made
-pub made_read_back : {T : Type 0} (S : State T) {R : State T} (rows : List BaseRow) → S ≡ R
-    → rows ≡ rows_of S → ReadSlots S.number S → ReadBack R rows
-made_read_back S rows view made slots =
-    subst (λ X. ReadBack X rows) view
-    (λ first. ap (told_by S.number S.next S.peak) made ∙ rows_read_back S slots first)
+-- as they were made
+pub made_read_back : {T : Type 0} (S : State T) (rows : List BaseRow) → rows ≡ rows_of S
+    → ReadSlots S.number S → ReadBack S rows
+made_read_back S rows made slots = rw made (rows_read_back S slots)

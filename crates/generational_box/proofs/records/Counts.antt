@@ -1,10 +1,10 @@
 -- How many owner values the records stand for, below which key they stand, and what is put on their
 -- lists.
 use Rattle.generational_box.proofs.Common
-use Common.{add_to_list_in, among, AreCounted, arith, by_number, change, change_if, cond, count_under}
-use Common.{eq_by_cmp, eq_by_cmp_equiv, false, is_name, IsCounted, IsDistinct, IsDistinct-push, IsEquivalence}
-use Common.{key_same, Name, name_total, names_under, nat_cmp, nat_cmp_total, None, one_less, one_listed}
-use Common.{one_more, Option, OwnerName, Owners, Ownership, record_of, refl, Some, [], ℕ, ◌+◌, ◌<◌, ◌≡◌}
+use Common.{add_to_list_in, among, AreCounted, arith, by_number, change, change_if, count_under}
+use Common.{eq_by_cmp_equiv, false, is_name, IsCounted, IsDistinct, IsDistinct-push, IsEquivalence, key_same}
+use Common.{Name, name_total, names_under, nat_cmp, nat_cmp_total, None, one_less, one_listed, one_more}
+use Common.{Option, OwnerName, Owners, Ownership, record_of, refl, Some, [], ℕ, ◌+◌, ◌<◌, ◌≡◌}
 use Rattle.std.specs.FinMap as map
 
 -- names are compared for equality
@@ -19,20 +19,18 @@ module _ {next : ℕ} {owners : Owners} (counted : AreCounted next owners) where
   pub counted_more : AreCounted (next + 1) owners
   counted_more = record { each = λ k. let c = counted.each k in grind arith }
 
-  counted_update : (after : Owners) (k : ℕ) (v : Option Ownership)
-      → ((q : ℕ) → map.get after q ≡ cond (eq_by_cmp nat_cmp q k) v (map.get owners q))
-      → IsCounted next k v → AreCounted next after
-  counted_update after k v updates one = record {
-    each = λ q.
-        let is = updates q in let same = key_same by_number q k in let c = counted.each q in grind arith;
-  }
-
   pub counted_insert : (k : ℕ) (h : Ownership) → IsCounted next k (Some h)
       → AreCounted next (map.insert owners k h)
-  counted_insert k h one = counted_update _ k (Some h) (map.get-insert nat_cmp_total owners k h) one
+  counted_insert k h one = record {
+    each = λ q.
+        let is = map.get-insert nat_cmp_total owners k h q in
+        let same = key_same by_number q k in let c = counted.each q in grind arith;
+  }
 
   pub counted_remove : (k : ℕ) → AreCounted next (map.remove owners k)
-  counted_remove k = counted_update _ k None (map.get-remove nat_cmp_total owners k) tt
+  counted_remove k = record {
+    each = λ q. let is = map.get-remove nat_cmp_total owners k q in let c = counted.each q in grind arith;
+  }
 
   counted_changed : (k : ℕ) (f : Ownership → Ownership)
       → ((h : Ownership) → map.get owners k ≡ Some h → IsCounted next k (Some h)
@@ -46,8 +44,7 @@ module _ {next : ℕ} {owners : Owners} (counted : AreCounted next owners) where
       at (Some h) is = counted_insert k (f h) (keeps h is (rw is at (counted.each k)))
 
   pub counted_down : (k : ℕ) → 1 < count_under owners k → AreCounted next (change owners k one_less)
-  counted_down k several = counted_changed k one_less (λ h is c.
-      let more = rw is at several in (omega (arith, more), omega (arith, c.1), c.2, c.3))
+  counted_down k several = counted_changed k one_less (λ h is c. grind arith)
 
   -- the records after the listing of a new name are as counted
   pub counted_listed : (o : Option OwnerName) (n : Name)
@@ -61,14 +58,11 @@ module _ {next : ℕ} {owners : Owners} (counted : AreCounted next owners) where
   pub counted_new : (h : Ownership) → h.count ≡ 1 → h.names ≡ []
       → AreCounted (next + 1) (map.insert owners next h)
   unfolding IsDistinct
-  counted_new h one none =
-      counted_insert (counted_more counted) next h
-      (omega (arith, one), omega (arith, one), omega arith, rw none tt)
+  counted_new h one none = counted_insert (counted_more counted) next h (grind arith)
 
   pub counted_up : (k : ℕ) → AreCounted (next + 1) (change owners k one_more)
   counted_up k = counted_changed (counted_more counted) k one_more (λ h is c.
-      let old = rw is at (counted.each k) in
-      (omega arith, omega (arith, old.1), omega (arith, old.2), old.3))
+      let old = rw is at (counted.each k) in grind arith)
 
 -- what is found of an owner is what stands under its key
 pub record_held : (number : ℕ) (owners : Owners) (o : OwnerName) (h : Ownership)
