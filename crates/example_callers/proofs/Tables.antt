@@ -1,7 +1,5 @@
 -- What a caller sees of a table, part by part.
-use Rattle.std.proofs.Common.{◌≡◌, ℕ, List, Option}
-use Rattle.std.specs.Prelude.{◌-◌}
-use Rattle.generational_core.specs.Steps.{last_ticket}
+use Rattle.example_callers.proofs.Common.{last_ticket, List, Option, ℕ, ◌-◌, ◌≡◌}
 use Rattle.example_callers.specs.Table.{TableState}
 
 pub same_table : {T : Type 0} {rows shown : List (Option T)} (next next' : ℕ) → rows ≡ shown

@@ -1,8 +1,5 @@
-use Rattle.std.proofs.Common.{◌≡◌, ◌+◌, ◌∙◌, ap, rules, sym, IfSome, IfNone, None, Option, Some}
-use Rattle.std.proofs.lemmas.Option.{IfSome_then}
-use Rattle.generational_core.proofs.machine.Calling.{sets}
-use Rattle.generational_core.proofs.machine.Leaving.{leaves}
-use Rattle.generational_sessions.proofs.callers.Lefts.{left_still}
+use Rattle.example_callers.proofs.{ap, either, IfSome_then, leaves, left_still, rules, sets, Some, sym, ◌+◌}
+use Rattle.example_callers.proofs.{◌∙◌, ◌≡◌}
 use Rattle.example_callers.proofs.conditions.count_up.Goals as goal
 
 pub returns-clause-before : goal.returns-clause-before
@@ -18,12 +15,6 @@ returns-clause-counted g c =
     let called = done.called in
     let more : done.new ≡ n + 1 = search rules in
     (sets _ _ _ done.set).2 b to ∙ ap Some more)
-
--- what follows where there is a value, and where there is none
-either : {A N Q : Type 0} {P : A → Type 0} (r : Option A) → IfSome r P → IfNone r N
-    → ((a : A) → P a → Q) → (N → Q) → Q
-either None some none given missing = missing none
-either (Some a) some none given missing = given a some
 
 pub returns-clause-others : goal.returns-clause-others
 returns-clause-others g c b apart =

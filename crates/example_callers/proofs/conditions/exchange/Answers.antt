@@ -1,13 +1,9 @@
-use Rattle.std.proofs.Common.{Ok, Err, sym, arith}
-use Rattle.std.proofs.lemmas.Bool.{true≢false}
-use Rattle.std.proofs.lemmas.Grind.{common_steps}
-use Rattle.generational_core.proofs.machine.Calling.{lends_free}
-use Rattle.generational_sessions.proofs.callers.Lefts.{written_by}
+use Rattle.example_callers.proofs.{arith, common_steps, lends_free, Ok, release_lost, written_by}
 use Rattle.example_callers.proofs.conditions.exchange.Goals as goal
 
 pub unreachable-requires : goal.unreachable-requires
-unreachable-requires g c = true≢false (sym (written_by _ _ c.in_ok-guard.guard _ _ {U = Unit {0}}
-    (Err c.in-Err.field-0) c.in_ok-guard.ensures.step c.in-Err.ensures c.replace-old.ensures.after).0)
+unreachable-requires g c =
+    release_lost _ _ c.in_ok-guard.guard _ _ _ c.in_ok-guard.ensures.step c.in-Err.ensures c.replace-old.ensures.after
 
 pub returns-clause-old : goal.returns-clause-old
 returns-clause-old g c =

@@ -1,7 +1,4 @@
-use Rattle.std.proofs.Common.{sym}
-use Rattle.generational_core.proofs.machine.Calling.{seen_reached, sets}
-use Rattle.generational_core.proofs.machine.Leaving.{leaves}
-use Rattle.generational_sessions.proofs.callers.PlainStores.{reach_apart, stays_plain}
+use Rattle.example_callers.proofs.{leaves, reach_apart, seen_reached, sets, stays_plain, sym}
 use Rattle.example_callers.proofs.conditions.set_plain.Goals as goal
 
 pub returns-then-can_write-clause-plain : goal.returns-then-can_write-clause-plain

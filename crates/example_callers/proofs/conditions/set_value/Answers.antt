@@ -1,6 +1,4 @@
-use Rattle.std.proofs.Common.{sym}
-use Rattle.generational_core.proofs.machine.Calling.{sets}
-use Rattle.generational_core.proofs.machine.Leaving.{leaves}
+use Rattle.example_callers.proofs.{leaves, sets, sym}
 use Rattle.example_callers.proofs.conditions.set_value.Goals as goal
 
 pub returns-clause-set : goal.returns-clause-set

@@ -1,6 +1,4 @@
-use Rattle.std.proofs.Common.{Err, sym}
-use Rattle.std.proofs.lemmas.Bool.{true≢false}
-use Rattle.generational_core.proofs.machine.Unborrowed.{quiet_ends, quiet_stays}
+use Rattle.example_callers.proofs.{Err, quiet_ends, quiet_stays, sym, true≢false}
 use Rattle.example_callers.proofs.leaving.end_unborrowed.Goals as goal
 
 pub unreachable-requires : goal.unreachable-requires

@@ -1,7 +1,4 @@
-use Rattle.generational_core.proofs.machine.Boxing.{ended, reached_boxed}
-use Rattle.generational_core.proofs.machine.Leaving.{leaves}
-use Rattle.generational_core.proofs.machine.Refusing.{refused_end}
-use Rattle.generational_sessions.proofs.callers.Results.{on_ok_so}
+use Rattle.example_callers.proofs.{ended, leaves, on_ok_so, reached_boxed, refused_end}
 use Rattle.example_callers.proofs.leaving.end_value.Goals as goal
 
 pub returns-clause-ended : goal.returns-clause-ended

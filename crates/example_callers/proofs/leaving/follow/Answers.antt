@@ -1,5 +1,4 @@
-use Rattle.generational_core.proofs.machine.Boxing.{points_seen}
-use Rattle.generational_core.proofs.machine.Refusing.{refused_end}
+use Rattle.example_callers.proofs.{points_seen, refused_end}
 use Rattle.example_callers.proofs.leaving.follow.Goals as goal
 
 pub returns-clause-seen : goal.returns-clause-seen

@@ -1,22 +1,12 @@
 -- A value that is moved out of the store.
-use Rattle.std.proofs.Common.{◌≡◌, ◌∙◌, IfNone, IfSome, None, Ok, Option, refl, Some, sym}
-use Rattle.generational_core.proofs.machine.Boxing.{ended, reached_boxed}
-use Rattle.generational_core.proofs.machine.Calling.{seen_reached}
-use Rattle.generational_core.proofs.machine.Leaving.{leaves}
-use Rattle.generational_sessions.proofs.callers.Lefts.{left_still}
-use Rattle.generational_sessions.proofs.callers.Taking.{taken_seen}
+use Rattle.example_callers.proofs.{either, ended, IfSome, leaves, left_still, None, Ok, Option, reached_boxed}
+use Rattle.example_callers.proofs.{refl, seen_reached, Some, sym, taken_seen, ◌∙◌, ◌≡◌}
 use Rattle.example_callers.proofs.leaving.move_out.Goals as goal
 
 -- what follows of the value that was given, if one was
 each : {A : Type 0} {P : A → Type 0} (r : Option A) → ((a : A) → r ≡ Some a → P a) → IfSome r P
 each None all = tt
 each (Some a) all = all a refl
-
--- what follows where there is a value, and where there is none
-either : {A N Q : Type 0} {P : A → Type 0} (r : Option A) → IfSome r P → IfNone r N
-    → ((a : A) → P a → Q) → (N → Q) → Q
-either None some none given missing = missing none
-either (Some a) some none given missing = given a some
 
 pub returns-clause-seen : goal.returns-clause-seen
 returns-clause-seen g c =

@@ -1,7 +1,4 @@
-use Rattle.std.proofs.Common.{Ok, Err, sym}
-use Rattle.std.proofs.lemmas.Bool.{true≢false}
-use Rattle.generational_core.proofs.machine.Guarding.{writes_back}
-use Rattle.generational_core.proofs.machine.Refusing.{refused_write}
+use Rattle.example_callers.proofs.{Err, Ok, refused_write, sym, true≢false, writes_back}
 use Rattle.example_callers.proofs.leaving.put_value.Goals as goal
 
 pub unreachable-requires : goal.unreachable-requires

@@ -1,8 +1,5 @@
-use Rattle.std.proofs.Common.{Ok, arith, ◌∙◌}
-use Rattle.std.proofs.lemmas.Grind.{common_steps}
-use Rattle.generational_core.proofs.machine.Guarding.{opens_value, reader_sees}
-use Rattle.generational_core.proofs.machine.Leaving.{same_value}
-use Rattle.generational_core.proofs.machine.Stepping.{reads_known}
+use Rattle.example_callers.proofs.{arith, common_steps, Ok, opens_value, reader_sees, reads_known, same_value}
+use Rattle.example_callers.proofs.{◌∙◌}
 use Rattle.example_callers.proofs.leaving.read_across_end.Goals as goal
 
 pub unreachable-requires : goal.unreachable-requires

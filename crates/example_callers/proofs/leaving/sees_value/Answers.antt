@@ -1,5 +1,4 @@
-use Rattle.std.proofs.Common.{◌∙◌}
-use Rattle.generational_core.proofs.machine.Unborrowed.{test_sees}
+use Rattle.example_callers.proofs.{test_sees, ◌∙◌}
 use Rattle.example_callers.proofs.leaving.sees_value.Goals as goal
 
 pub returns : goal.returns

@@ -1,5 +1,4 @@
-use Rattle.generational_core.proofs.machine.Calling.{made_shared}
-use Rattle.generational_core.proofs.machine.Owning.{keeps_known}
+use Rattle.example_callers.proofs.{keeps_known, made_shared}
 use Rattle.example_callers.proofs.leaving.share_by.Goals as goal
 
 pub returns-clause-seen : goal.returns-clause-seen

@@ -1,31 +1,12 @@
-use Rattle.std.proofs.Common.{◌≡◌, true, false, List, [], ◌∷◌, ◌||◌, Ok, Err, Some, refl, sym, ap}
-use Rattle.std.proofs.Common.{subst, ⊎_elim, arith, ◌∙◌}
-use Rattle.std.specs.Prelude.{Result}
+use Rattle.example_callers.proofs.{ap, AreFree, arith, box_answer, can_write, ended_owned, Err, false}
+use Rattle.example_callers.proofs.{frees_owned, GenerationalBox, GenerationalPointer, leaves, left_still}
+use Rattle.example_callers.proofs.{left_twice, List, listed_last, lists, Location, made_free, Make, Meets}
+use Rattle.example_callers.proofs.{Name, name_apart, name_of, name_same, Ok, or_cases, OwnerName, ownership}
+use Rattle.example_callers.proofs.{Ownership, pointer_of, refl, Refusal, refused_make, release_leaves, Result}
+use Rattle.example_callers.proofs.{Some, State, subst, sym, true, true≢false, [], ⊎_elim, ◌||◌, ◌∷◌, ◌≡◌}
+use Rattle.example_callers.proofs.Common.{owned}
+use Rattle.generational_core.specs.Borrowing.{reach, refusal_to_write}
 use Rattle.std.specs.FinMap as map
-use Rattle.std.proofs.lemmas.Bool.{true≢false, or_cases}
-use Rattle.std.proofs.lemmas.Option.{same_Some}
-use Rattle.generational_core.specs.Answers.{pointer_of, box_answer}
-use Rattle.generational_core.specs.Borrowing.{reach, leads_to, can_write, write_refusal}
-use Rattle.generational_core.specs.Boxes.{name_of}
-use Rattle.generational_core.specs.Leaving.{AreFree}
-use Rattle.generational_core.specs.Machine.{OwnerName, ownership}
-use Rattle.generational_core.specs.Machine.Action.{Make}
-use Rattle.generational_core.specs.Names.{Name}
-use Rattle.generational_core.specs.State.{State, Ownership, content_at}
-use Rattle.generational_core.specs.Steps.{Meets}
-use Rattle.generational_core.specs.declared.boxes.GenerationalBox.{GenerationalBox}
-use Rattle.generational_core.specs.declared.boxes.GenerationalPointer.{GenerationalPointer}
-use Rattle.generational_errors.specs.declared.error.Location.{Location}
-use Rattle.generational_errors.specs.declared.error.Refusal.{Refusal}
-use Rattle.generational_core.proofs.maps.Maps.{name_apart, name_same}
-use Rattle.generational_core.proofs.machine.Boxing.{ended_owned}
-use Rattle.generational_core.proofs.machine.Calling.{owned, lists, made_free, listed_last}
-use Rattle.generational_core.proofs.machine.Leaving.{leaves, release_leaves}
-use Rattle.generational_core.proofs.machine.Refusing.{refused_make}
-use Rattle.generational_core.proofs.machine.Resting.{rests, rests_free}
-use Rattle.generational_core.proofs.machine.Seeing.{reaches}
-use Rattle.generational_core.proofs.machine.Unborrowed.{frees_owned}
-use Rattle.generational_sessions.proofs.callers.Lefts.{left_still, left_twice}
 use Rattle.example_callers.proofs.owned.end_owned.Goals as goal
 
 -- a record of one owner value, with these boxes
@@ -36,14 +17,8 @@ module _ {T : Type 0} where
   -- boxes of one name may be written alike, where they reach something
   same_free : (S : State T) (a b : GenerationalPointer) (m : Name)
       → can_write S a ≡ true → name_of a ≡ name_of b → reach S b ≡ Some m → can_write S b ≡ true
-  same_free S a b m free same to =
-      let at = rests S a free in
-      let one = sym (reaches S a at.0 at.1.reaches).leads
-      ∙ (ap (λ n. leads_to (map.get S.cells n) n) same ∙ (reaches S b m to).leads) in
-      rests_free S b m (record {
-        reaches = to;
-        free = ap (λ n. write_refusal (content_at S n)) (sym (same_Some _ _ one)) ∙ at.1.free;
-      })
+  unfolding reach refusal_to_write
+  same_free S a b m free same to = grind arith
 
   -- after a making by a new owner, refused or not, nothing that the owner lists is borrowed
   record Lists (S : State T) (o : OwnerName) : Type 0 where

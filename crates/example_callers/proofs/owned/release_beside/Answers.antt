@@ -1,4 +1,4 @@
-use Rattle.generational_sessions.proofs.callers.ListedOnce.{release_beside, stays_listed}
+use Rattle.example_callers.proofs.{release_beside, stays_listed}
 use Rattle.example_callers.proofs.owned.release_beside.Goals as goal
 
 pub returns-clause-once : goal.returns-clause-once

@@ -1,5 +1,4 @@
-use Rattle.std.proofs.Common.{ap, slice_get}
-use Rattle.generational_sessions.specs.Session.{box_held}
+use Rattle.example_callers.proofs.{ap, box_held, ended, slice_get}
 use Rattle.example_callers.proofs.sessions.ask_for_ended.Goals as goal
 
 pub returns-in-Ok-clause-ended : goal.returns-in-Ok-clause-ended

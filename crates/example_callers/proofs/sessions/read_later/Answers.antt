@@ -1,7 +1,4 @@
-use Rattle.std.proofs.Common.{ap}
-use Rattle.generational_core.specs.Boxes.{name_of}
-use Rattle.generational_sessions.specs.Session.{box_held}
-use Rattle.generational_sessions.proofs.callers.Results.{some_so, none_so}
+use Rattle.example_callers.proofs.{ap, box_held, ended, name_of, none_so, some_so}
 use Rattle.example_callers.proofs.sessions.read_later.Goals as goal
 
 pub returns-clause-steps : goal.returns-clause-steps

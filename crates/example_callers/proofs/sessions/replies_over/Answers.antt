@@ -1,7 +1,4 @@
-use Rattle.std.proofs.Common.{subst}
-use Rattle.generational_sessions.specs.Places.{as_replies}
-use Rattle.generational_sessions.specs.Session.{Run}
-use Rattle.generational_sessions.proofs.callers.Results.{some_so}
+use Rattle.example_callers.proofs.{as_replies, Run, some_so, subst}
 use Rattle.example_callers.proofs.sessions.replies_over.Goals as goal
 
 pub returns-clause-run : goal.returns-clause-run

@@ -1,7 +1,4 @@
-use Rattle.std.proofs.Common.{None, refl, rules}
-use Rattle.generational_sessions.proofs.callers.Lacking.{made_next, make_lacks}
-use Rattle.example_callers.proofs.Tables.{same_table}
-use Rattle.generational_sessions.proofs.callers.Rows.{made_last}
+use Rattle.example_callers.proofs.{made_last, made_next, make_lacks, None, refl, rules, same_table}
 use Rattle.example_callers.proofs.table.Table.insert.Goals as goal
 
 pub invariant_of-self-2 : goal.invariant_of-self-2

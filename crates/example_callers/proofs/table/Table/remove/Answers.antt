@@ -1,12 +1,6 @@
-use Rattle.std.proofs.Common.{Err, refl, sym, ap, ◌∙◌}
-use Rattle.std.proofs.lemmas.Bool.{true≢false}
-use Rattle.std.specs.Prelude.{is_some}
-use Rattle.generational_core.proofs.machine.Calling.{ends_free}
-use Rattle.generational_core.proofs.machine.Resting.{free_sees}
-use Rattle.generational_sessions.proofs.callers.Lacking.{ended_next}
-use Rattle.example_callers.proofs.Tables.{same_table}
-use Rattle.generational_sessions.proofs.callers.Rows.{each_at, empty_again, ended_row, shown_at}
-use Rattle.generational_sessions.specs.BoxRows.{IsFree, shown_in}
+use Rattle.example_callers.proofs.{ap, each_at, empty_again, ended_next, ended_row, ends_free, Err, free_sees}
+use Rattle.example_callers.proofs.{is_some, IsFree, refl, same_table, shown_at, shown_in, sym, true≢false}
+use Rattle.example_callers.proofs.{◌∙◌}
 use Rattle.example_callers.proofs.table.Table.remove.Goals as goal
 
 pub returns-in_default-clause-removed : goal.returns-in_default-clause-removed

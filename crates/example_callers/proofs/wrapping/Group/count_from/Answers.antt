@@ -1,5 +1,4 @@
-use Rattle.std.proofs.Common.{Ok}
-use Rattle.generational_core.proofs.machine.Calling.{made}
+use Rattle.example_callers.proofs.{made, Ok}
 use Rattle.example_callers.proofs.wrapping.Group.count_from.Goals as goal
 
 pub returns-clause-seen : goal.returns-clause-seen
