@@ -37,15 +37,16 @@ pub use specs.Machine.Answer.{BorrowRefused, Done, Flag, Made, Old, Owned, Reads
 pub use specs.State.{content_at, HasTargets, IsBoxed, IsSound, one_less, one_listed, one_more, Owners}
 pub use specs.State.{Ownership, State}
 pub use specs.{Answers.back_answer, Answers.end_answer, Answers.end_refused, Borrowing.BorrowRefusal}
-pub use specs.{Borrowing.can_write, Borrowing.read_refusal, Boxes.box_of, Boxes.has_same_id, Boxes.name_in}
-pub use specs.{Boxes.name_of, Cells.Cell.Ref, Cells.Cell.Shared, Cells.Cell.Value, Cells.Content.Here}
-pub use specs.{Cells.Content.Lent, Conditions.count_under, Conditions.fresh, Conditions.IsBounded}
-pub use specs.{Conditions.names_under, Ending.cells_after, Ending.close, Ending.first_hindrance}
-pub use specs.{Ending.hindrance_at, Names.among, Names.change_if, Names.Name, Names.NameMap, Plain.bare_cells}
-pub use specs.{Plain.Plain, Plain.plain, Rows.owner_rows, Rows.read_rows, Rows.ReadBack, Rows.rows_of}
-pub use specs.{Slots.free, Sound.IsBounded-prop, Sound.IsSound-prop, Sound.SoundState, StepCalls.owner_of}
-pub use specs.{StepCalls.tells_of_borrow, Steps.IsNew, Steps.limit_tickets, Steps.Meets, Steps.no_names}
-pub use specs.{declared.borrow.Borrow.Borrow, declared.boxes.GenerationalBoxId.GenerationalBoxId}
+pub use specs.{Borrowing.can_write, Borrowing.Guard, Borrowing.read_refusal, Boxes.box_of, Boxes.has_same_id}
+pub use specs.{Boxes.name_in, Boxes.name_of, Cells.Cell.Ref, Cells.Cell.Shared, Cells.Cell.Value}
+pub use specs.{Cells.Content.Here, Cells.Content.Lent, Conditions.count_under, Conditions.fresh}
+pub use specs.{Conditions.IsBounded, Conditions.names_under, Ending.cells_after, Ending.close}
+pub use specs.{Ending.first_hindrance, Ending.hindrance_at, Names.among, Names.change_if, Names.Name}
+pub use specs.{Names.NameMap, Plain.bare_cells, Plain.Plain, Plain.plain, Rows.owner_rows, Rows.read_rows}
+pub use specs.{Rows.ReadBack, Rows.rows_of, Slots.free, Sound.IsBounded-prop, Sound.IsSound-prop}
+pub use specs.{Sound.SoundState, StepCalls.owner_of, StepCalls.tells_of_borrow, Steps.IsNew}
+pub use specs.{Steps.limit_tickets, Steps.Meets, Steps.no_names, declared.borrow.Borrow.Borrow}
+pub use specs.{declared.boxes.GenerationalBoxId.GenerationalBoxId}
 pub use specs.{declared.boxes.GenerationalPointer.GenerationalPointer, declared.rows.BaseRow.BaseRow}
 unfoldable pub use specs.Borrowing.{reach, refusal_to_read, refusal_to_write}
 unfoldable pub use specs.{Ending.hindrance_to, Ending.sweep, Names.change, Names.is_name, Seeing.value_in}

@@ -2,7 +2,7 @@
 use Rattle.generational_box.proofs.Common
 use Common.{act, Action, ap, AreBelow, arith, Bool, Borrow, BorrowMutError, BorrowRefusal, by_name, can_write}
 use Common.{cell_at, change, change_content, cond, Content, content_at, content_of, content_reached}
-use Common.{end_refused, Err, false, Flag, FoundBorrowed, GenerationalBoxId, GenerationalPointer}
+use Common.{end_refused, Err, false, Flag, FoundBorrowed, GenerationalBoxId, GenerationalPointer, Guard}
 use Common.{has_no_borrow, has_reader, Here, inl, insert_there, is_some, IsBounded, IsBounded-prop, IsSound}
 use Common.{IsSound-prop, Lent, less_read, limit_tickets, List, list_any, Location, may_lack, Meets}
 use Common.{meets_kept, Name, name_in, name_of, nat_eq, nat_eq_equiv, nat_tests, no_names, None, none_left}
@@ -16,6 +16,10 @@ use Rattle.std.proofs.Common.{map as list_map}
 -- the name in an id of the store with this number
 abbrev pub own_of : ℕ → GenerationalBoxId → Option Name
 own_of number id = cond (nat_eq id.store number) (Some (name_in id)) None
+
+-- the guard of a ticket at a cell of the store with this number
+abbrev pub guard_at : ℕ → Name → ℕ → Guard
+guard_at number n t = record { store = number; cell = n; ticket = t }
 
 -- the states of equal values of a store
 pub state_is : {T : Type 0} {s r : SoundState T} → s ≡ r → s.state ≡ r.state
@@ -96,15 +100,14 @@ module _ {T : Type 0} where
   pub released : (X : State T) {S : State T} {number next : ℕ} {owners : Owners}
       → with_records X number owners next ≡ S → (id : GenerationalBoxId) (t : ℕ) {n : Name}
       → Some n ≡ own_of S.number id → (known : Bool) → known ≡ has_reader (content_at X n) t
-      → Meets S (ReleaseReader (record { store = id.store; cell = name_in id; ticket = t })) (Flag known)
+      → Meets S (ReleaseReader (guard_at id.store (name_in id) t)) (Flag known)
       (with_records (change_content X n (less_read t)) number owners next)
   released X {S} {number} {next} {owners} view id t {n} own known is =
       inl (no_names, tt, at (content_at X n) refl known is)
     where
       at : (o : Option (Content T)) → content_at X n ≡ o → (known : Bool) → known ≡ has_reader o t
           → (Flag known, with_records (change_content X n (less_read t)) number owners next)
-          ≡ limit_tickets S (act S
-          (ReleaseReader (record { store = id.store; cell = name_in id; ticket = t })) no_names)
+          ≡ limit_tickets S (act S (ReleaseReader (guard_at id.store (name_in id) t)) no_names)
       at None there known is = grind (arith, nat_tests)
       at (Some (Here v rs)) there true is = grind (arith, nat_tests)
       at (Some (Here v rs)) there false is =

@@ -1,6 +1,6 @@
 -- The rows of a store, of which the slots' come first, are read back.
 use Rattle.generational_box.proofs.Common.{all_owners_read, all_slot_rows, ap, bare_cells, BaseRow, fresh}
-use Rattle.generational_box.proofs.Common.{List, owner_rows, plain, Plain, read_append, read_rows, ReadBack}
+use Rattle.generational_box.proofs.Common.{List, owner_rows, Plain, plain, read_append, read_rows, ReadBack}
 use Rattle.generational_box.proofs.Common.{ReadSlots, refl, rows_of, State, sym, ◌∙◌, ◌≡◌}
 use Rattle.std.specs.FinMap as map
 

@@ -1,5 +1,5 @@
-use Rattle.generational_box.proofs.{arith, inl, inr, kept, may_lack, name_of_cell, nat_tests, no_names}
-use Rattle.generational_box.proofs.{reaches, Read, readers_below, Reads, refusal_to_read}
+use Rattle.generational_box.proofs.{arith, guard_at, inl, inr, kept, may_lack, name_of_cell, nat_tests}
+use Rattle.generational_box.proofs.{no_names, reaches, Read, readers_below, Reads, refusal_to_read}
 use Rattle.generational_box.proofs.unsync.Store.begin_read.Goals as goal
 
 pub begin_read-requires-clause-there : goal.begin_read-requires-clause-there
@@ -26,9 +26,5 @@ unfolding refusal_to_read
 invariant_of-self-inside g c =
     let there = reaches _ c.args.self.now.sound c.args.pointer _ c.requires.to in
     kept c.args.self.now (Read c.args.pointer c.args.location)
-    (Reads (record {
-      store = c.self.inside.number;
-      cell = name_of_cell c.args.name;
-      ticket =
-          c.self.inside.next;
-    })) (inl (no_names, tt, grind (arith, nat_tests)))
+    (Reads (guard_at c.self.inside.number (name_of_cell c.args.name) c.self.inside.next))
+    (inl (no_names, tt, grind (arith, nat_tests)))

@@ -29,9 +29,9 @@ point-requires-clause-there g c = led _ c.self.inside.sound _ _ c.in-Ok.ensures.
 
 pub returns : goal.returns
 returns g c =
-    (pointed c.self.inside.slots.state (state_is c.self.view_is) c.args.pointer c.args.other c.if-eq.ensures
+    pointed c.self.inside.slots.state (state_is c.self.view_is) c.args.pointer c.args.other c.if-eq.ensures
     c.in-Some.ensures c.in-Ok.ensures.ok.0 c.in-Ok.ensures.ok.1 c.in-Some-own.ensures _ _
-    (c.point.ensures c.args.other))
+    (c.point.ensures c.args.other)
 
 pub invariant_of-self-inside : goal.invariant_of-self-inside
 invariant_of-self-inside g c =

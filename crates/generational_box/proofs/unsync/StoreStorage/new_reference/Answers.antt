@@ -57,7 +57,6 @@ pub invariant_of-self-inside-2 : goal.invariant_of-self-inside-2
 invariant_of-self-inside-2 g c =
     let o = option_copied c.args.owner in
     kept c.args.self.now (Refer o c.args.inner) _ (reference_made c.self.inside.slots
-    (state_is c.self.view_is) o
-    c.args.inner c.in-Some.ensures c.in-Ok.ensures.ok c.created_at-created_at.ensures
-    (ap data_in c.reference_to-content.ensures) c.in-Ok-make.ensures.ok c.in-Ok-reserve.ensures.known
-    c.reserve.ensures.same (c.list.ensures o c.in-Ok-reserve.ensures.ok))
+    (state_is c.self.view_is) o c.args.inner c.in-Some.ensures c.in-Ok.ensures.ok
+    c.created_at-created_at.ensures (ap data_in c.reference_to-content.ensures) c.in-Ok-make.ensures.ok
+    c.in-Ok-reserve.ensures.known c.reserve.ensures.same (c.list.ensures o c.in-Ok-reserve.ensures.ok))
