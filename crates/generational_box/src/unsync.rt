@@ -1,4 +1,5 @@
 //! The sequential store.
+// These words on the machine are opened at each goal that has no answer.
 #![tactic(auto, unfolding(generational_core::specs::Borrowing::reach, generational_core::specs::Borrowing::refusal_to_read, generational_core::specs::Borrowing::refusal_to_write, generational_core::specs::Ending::hindrance_to, generational_core::specs::Seeing::value_in, generational_core::specs::Seeing::value_to_take))]
 
 ghost use Rattle.std.specs.Prelude.{◌≡◌, ◌<◌, IfSome, [], true};
