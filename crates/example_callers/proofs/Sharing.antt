@@ -1,7 +1,7 @@
 -- A shared value with two references, and what more callers share.
 use Rattle.example_callers.proofs.Common
 use Common.{Back, can_write, Err, GenerationalBox, GenerationalPointer, IfNone, IfSome, IsGiven, IsSound}
-use Common.{IsUnchanged, keeps_free, leaves, left_given, left_twice, Location, made, Made, made_shared}
+use Common.{IsUnchanged, keeps_free, leaves, left_given, left_twice, Location, Made, made, made_shared}
 use Common.{made_shared_free, MakeShared, Meets, meets_given, name_of, None, Ok, Option, pointer_of, reach}
 use Common.{Refer, referred, referred_apart, referred_free, referred_next, referred_together, ReleaseWriter}
 use Common.{shared_apart, shares, Some, State, sym, true, true≢false, value_in, Write, WriteGuard, Writes}

@@ -3,7 +3,8 @@ use Rattle.example_callers.proofs.conditions.exchange.Goals as goal
 
 pub unreachable-requires : goal.unreachable-requires
 unreachable-requires g c =
-    release_lost _ _ c.in_ok-guard.guard _ _ _ c.in_ok-guard.ensures.step c.in-Err.ensures c.replace-old.ensures.after
+    release_lost _ _ c.in_ok-guard.guard _ _ _ c.in_ok-guard.ensures.step c.in-Err.ensures
+    c.replace-old.ensures.after
 
 pub returns-clause-old : goal.returns-clause-old
 returns-clause-old g c =

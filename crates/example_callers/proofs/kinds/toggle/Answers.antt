@@ -3,7 +3,8 @@ use Rattle.example_callers.specs.declared.kinds.Entry.TheVariants as entry
 use Rattle.example_callers.proofs.kinds.toggle.Goals as goal
 
 pub unreachable-requires : goal.unreachable-requires
-unreachable-requires g c = release_lost _ _ c.in_ok-guard.guard _ c.opposite-next.result _ c.in_ok-guard.ensures
+unreachable-requires g c =
+    release_lost _ _ c.in_ok-guard.guard _ c.opposite-next.result _ c.in_ok-guard.ensures
     c.in-Err.ensures (grind (arith, common_steps))
 
 pub returns : goal.returns

@@ -6,16 +6,18 @@ use Rattle.example_callers.proofs.values.there_and_back.Goals as goal
 pub returns-in-Err-clause-short : goal.returns-in-Err-clause-short
 returns-in-Err-clause-short g c = let short = make_short _ _ _ c.in-Err.ensures.step in grind arith
 
-pub returns-in_err-guard-clause-others : goal.returns-in_err-guard-clause-others
-returns-in_err-guard-clause-others g c b given =
-    left_twice (left_given _ _ (g.met.S.AnyStorage.sound _) c.in-Ok.ensures.step b tt given)
-    (left_still b (refused_read _ (Err c.in_err-guard.field-0.0) c.in_err-guard.ensures))
-
-pub returns-in_err-guard-clause-short : goal.returns-in_err-guard-clause-short
-returns-in_err-guard-clause-short g c =
-    let free = made_free None _ _ (Ok c.in-Ok.made) c.in-Ok.ensures.step in
-    let short = read_short _ _ (g.met.S.AnyStorage.sound _) free _ c.in_err-guard.ensures in
-    let next = made_next _ _ _ c.in-Ok.ensures.step in grind arith
+pub returns-in_err-guard : goal.returns-in_err-guard
+returns-in_err-guard g c =
+    let sound = g.met.S.AnyStorage.sound in
+    let step = c.in-Ok.ensures.step in
+    let free = made_free None _ _ (Ok c.in-Ok.made) step in
+    let short = read_short _ _ (sound _) free _ c.in_err-guard.ensures in
+    let next = made_next _ _ _ step in record {
+      same = search rules;
+      others = λ b given. left_twice (left_given _ _ (sound _) step b tt given)
+          (left_still b (refused_read _ (Err c.in_err-guard.field-0.0) c.in_err-guard.ensures));
+      short = grind arith;
+    }
 
 pub unreachable-requires : goal.unreachable-requires
 unreachable-requires g c =

@@ -9,10 +9,5 @@ unreachable-requires g c = release_lost _ _ c.in_ok-guard.guard _ c.args.value _
 pub returns : goal.returns
 returns g c =
     let set = (written_by _ _ c.in_ok-guard.guard _ c.args.value (Ok c.in-Ok.field-0) c.in_ok-guard.ensures
-    c.in-Ok.ensures (grind (arith, common_steps))).1 in record {
-      written = set_seen set;
-      others = set_beside set;
-      set = set;
-      refused = search rules;
-      unchanged = search rules;
-    }
+    c.in-Ok.ensures (grind (arith, common_steps))).1 in
+    search (rules, set_seen, set_beside)

@@ -19,16 +19,14 @@ unreachable-requires g c =
     (sym c.box_in.ensures ∙ c.in-Some.is) in
     true≢false (sym (ends_free _ {U = Unit {0}} (Err c.in-Err.field-0) c.in-Err.ensures free))
 
-pub returns-clause-had : goal.returns-clause-had
-returns-clause-had g c =
+pub returns : goal.returns
+returns g c =
+    let sound = g.met.S.AnyStorage.sound in
     let there = sym c.box_in.ensures ∙ c.in-Some.is in
     let free = each_at (IsFree _) _ c.args.row c.in-Some.target c.self.invariant.free there in
-    let saw = free_sees _ _ (g.met.S.AnyStorage.sound _) free in
-    rw (← c.self.view_is)
-    (sym (ap is_some (shown_at _ _ c.args.row ∙ (ap (shown_in _) there ∙ saw.1))))
-
-pub returns-clause-removed : goal.returns-clause-removed
-returns-clause-removed g c =
-    rw (← c.self.view_is) (same_table _ _
-    (ended_row (g.met.S.AnyStorage.sound _) _ c.self.invariant c.args.row c.in-Some.target
-    (sym c.box_in.ensures ∙ c.in-Some.is) c.in-Ok.ensures).1 (ended_next _ _ c.in-Ok.ensures))
+    let saw = free_sees _ _ (sound _) free in
+    let row = ended_row (sound _) _ c.self.invariant c.args.row c.in-Some.target there c.in-Ok.ensures in
+    rw (← c.self.view_is) (record {
+      had = sym (ap is_some (shown_at _ _ c.args.row ∙ (ap (shown_in _) there ∙ saw.1)));
+      removed = same_table _ _ row.1 (ended_next _ _ c.in-Ok.ensures);
+    })
