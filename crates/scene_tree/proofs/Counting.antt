@@ -1,12 +1,11 @@
 -- How many nodes of a list live at a slot.
+use Rattle.scene_tree.proofs.Common
+use Common.{AllByRecursion, alone, and_parts, ap, arith, cases_Bool, cases_eq, cond, count_at, eqb-true, eqb_tells}
+use Common.{false, Family, family_at, get_or, get_pushed, inl, inr, insert, is_same, IsCleared, IsDistinct, IsSame}
+use Common.{length, List, map, nat_eq, Node, none-some, placed, refl, same_Some, slice_get, slot_in, Some, Spot, subst}
+use Common.{suc, sum_by-append, sum_by-cons, sum_by-take-drop, sum_by-take-le, sym, take, take_more, times, true}
+use Common.{without, zero, ℕ, [], ⊎_elim, ◌++◌, ◌+◌, ◌<◌, ◌∙◌, ◌∷◌, ◌≡◌, ◌≢◌, ◌≤◌, ◌⊎◌}
 use Rattle.scene_tree.specs.declared.spot.Spot.TheVariants as spot
-use Rattle.scene_tree.proofs.Common.{AllByRecursion, alone, and_parts, ap, arith, cases_Bool, cases_eq, cond, count_at}
-use Rattle.scene_tree.proofs.Common.{drop, eqb-true, eqb_tells, false, Family, family_at, get_or, get_pushed, inl, inr}
-use Rattle.scene_tree.proofs.Common.{insert, is_same, IsCleared, IsDistinct, IsSame, length, List, map, nat_eq, Node}
-use Rattle.scene_tree.proofs.Common.{none-some, place_of, placed, refl, same_Some, slice_get, slot_in, Some, Spot}
-use Rattle.scene_tree.proofs.Common.{subst, suc, sum_by-append, sum_by-cons, sum_by-take-drop, sum_by-take-le, sym}
-use Rattle.scene_tree.proofs.Common.{take, take_more, times, true, without, zero, [], ℕ, ⊎_elim, ◌++◌, ◌+◌, ◌<◌, ◌∙◌}
-use Rattle.scene_tree.proofs.Common.{◌∷◌, ◌≡◌, ◌≢◌, ◌≤◌, ◌⊎◌}
 
 module _ {T : Type 0} where
   -- with a node more before the others
@@ -19,8 +18,7 @@ module _ {T : Type 0} where
   count_apart s c xs ne = grind arith
 
   pub count_more : (s : ℕ) (c : Node T) (xs : List (Node T)) → count_at s xs ≤ count_at s (c ∷ xs)
-  count_more s c xs = let more = sum_by-cons (λ n. cond (nat_eq (slot_in n) s) 1 0) c xs in
-      omega (arith, more)
+  count_more s c xs = search (arith, sum_by-cons)
 
   -- with others at the end
   pub count_both : (s : ℕ) (xs ys : List (Node T))
@@ -29,20 +27,15 @@ module _ {T : Type 0} where
 
   count_inserted : (s : ℕ) (xs : List (Node T)) (i : ℕ) (c : Node T)
       → count_at s (insert xs i c) ≡ count_at s (c ∷ xs)
-  count_inserted s xs i c =
-      let one = sum_by-cons (λ n. cond (nat_eq (slot_in n) s) 1 0) c in
-      let parts = sum_by-take-drop (λ n. cond (nat_eq (slot_in n) s) 1 0) xs i in
-      omega (arith, count_both s (take i xs) (c ∷ drop i xs), parts, one (drop i xs), one xs)
+  count_inserted s xs i c = search (arith, sum_by-cons, sum_by-take-drop, count_both)
 
   -- with a node more at a spot, it is counted as with one more before the others
   pub count_placed : (s : ℕ) (at : Spot T) (xs : List (Node T)) (c : Node T)
       → count_at s (placed at c xs) ≡ count_at s (c ∷ xs)
-  count_placed s (spot.FirstOf up) xs c = refl
-  count_placed s (spot.LastOf up) xs c =
-      let one = sum_by-cons (λ n. cond (nat_eq (slot_in n) s) 1 0) c in
-      grind (arith, count_both s xs (c ∷ []), one [], one xs)
-  count_placed s (spot.Before by) xs c = count_inserted s xs (place_of by xs) c
-  count_placed s (spot.After by) xs c = count_inserted s xs (place_of by xs + 1) c
+  count_placed s (spot.FirstOf up) xs c = search arith
+  count_placed s (spot.LastOf up) xs c = search (arith, sum_by-cons, count_both)
+  count_placed s (spot.Before by) xs c = search (arith, count_inserted)
+  count_placed s (spot.After by) xs c = search (arith, count_inserted)
 
   -- what stands in such a list is the node, or stood there before
   inserted_from : (xs : List (Node T)) (i k : ℕ) (c x : Node T) → slice_get (insert xs i c) k ≡ Some x
@@ -58,10 +51,7 @@ module _ {T : Type 0} where
   pub placed_from : (at : Spot T) (xs : List (Node T)) (k : ℕ) (c x : Node T)
       → slice_get (placed at c xs) k ≡ Some x
       → ((j : ℕ) × (slice_get xs j ≡ Some x)) ⊎ (c ≡ x)
-  placed_from (spot.FirstOf up) xs k c x at = inserted_from xs 0 k c x at
-  placed_from (spot.LastOf up) xs k c x at = grind (arith, get_pushed xs k c x at)
-  placed_from (spot.Before by) xs k c x at = inserted_from xs (place_of by xs) k c x at
-  placed_from (spot.After by) xs k c x at = inserted_from xs (place_of by xs + 1) k c x at
+  placed_from to xs k c x at = grind (arith, inserted_from, get_pushed)
 
   pub count_take : (s : ℕ) (xs : List (Node T)) (n : ℕ) → count_at s (take n xs) ≤ count_at s xs
   count_take s xs n = sum_by-take-le (λ m. cond (nat_eq (slot_in m) s) 1 0) xs n
@@ -90,7 +80,8 @@ module _ {T : Type 0} where
       → IsDistinct nat_eq (map slot_in xs)
   unfolding IsDistinct
   distinct [] once = tt
-  distinct (x ∷ xs) once = (apart xs none, distinct xs (λ s. let le = once s in let more = count_more s x xs in omega (arith, le, more)))
+  distinct (x ∷ xs) once =
+      (apart xs none, distinct xs (λ s. let le = once s in let more = count_more s x xs in omega (arith, le, more)))
     where
       none : count_at (slot_in x) xs ≡ 0
       none = grind (arith, count_here (slot_in x) x xs refl)
@@ -141,24 +132,20 @@ module _ {T : Type 0} where
   -- and not at all where none is of it
   pub times_none : (n : Node T) (xs : List (Node T))
       → ((k : ℕ) (x : Node T) → slice_get xs k ≡ Some x → is_same x n ≡ false) → times n xs ≡ 0
-  times_none n [] none = refl
-  times_none n (x ∷ xs) none =
-      times_apart n x xs (none 0 x refl) ∙ times_none n xs (λ k. none (suc k))
+  times_none n [] none = grind arith
+  times_none n (x ∷ xs) none = grind (arith, times_none n xs (λ k. none (suc k)), times_apart n x xs (none 0 x refl))
 
   pub count_without : (s : ℕ) (n : Node T) → s ≢ slot_in n → (xs : List (Node T))
       → count_at s (without n xs) ≡ count_at s xs
-  count_without s n ne [] = refl
+  count_without s n ne [] = grind arith
   count_without s n ne (x ∷ xs) =
-      let rest = count_without s n ne xs in
-      let here = count_here s x xs in
-      grind (arith, count_here s x (without n xs), count_apart, same_slot x n, cases_eq (slot_in x) s)
+      grind (arith, count_without s n ne xs, count_here s x xs, count_here s x (without n xs), count_apart, same_slot x n)
 
   -- a list without a node that doesn't stand there is the list
   pub same_without : (n : Node T) (xs : List (Node T)) → count_at (slot_in n) xs ≡ 0
       → without n xs ≡ xs
-  same_without n [] none = refl
-  same_without n (x ∷ xs) none =
-      grind (arith, same_without n xs, count_here (slot_in n) x xs, count_more (slot_in n) x xs, same_slot x n)
+  same_without n [] none = grind arith
+  same_without n (x ∷ xs) none = grind (arith, same_without n xs, count_here (slot_in n) x xs, same_slot x n)
 
   pub none_without : (s : ℕ) (n : Node T) → s ≡ slot_in n → (xs : List (Node T))
       → ((k : ℕ) (x : Node T) → slice_get xs k ≡ Some x → slot_in x ≡ slot_in n → is_same x n ≡ true)

@@ -1,15 +1,109 @@
--- Forests after a change.
-use Rattle.scene_tree.proofs.Common.{above, alone, ap, arith, cases_eq, cases_lt, children_at, count_at, Family}
-use Rattle.scene_tree.proofs.Common.{family_at, inl, inr, is_same, IsAttached, IsCleared, IsDetached, IsForest}
-use Rattle.scene_tree.proofs.Common.{IsRooted, IsUnder, List, Node, None, none-some, Option, parent_at, slice_get}
-use Rattle.scene_tree.proofs.Common.{slot_in, slot_of, Some, Spot, suc, sym, true, zero, ℕ, ⊎_elim, ◌<◌, ◌∙◌, ◌∷◌, ◌≡◌}
-use Rattle.scene_tree.proofs.Common.{◌≢◌, ◌⊎◌}
+-- Forests: the ways from parent to parent, and what a change leaves of them.
+use Rattle.scene_tree.proofs.Common
+use Common.{above, AllByRecursion, alone, ap, arith, cases_eq, cases_lt, children_at, count_at, eq-eqb, eqb-true}
+use Common.{eqb_tells, false, Family, family_at, inl, inr, is_same, IsAttached, IsCleared, IsDetached, IsDistinct}
+use Common.{IsForest, IsRooted, IsUnder, length, length-le_from_distinct_below, List, list_any, nat_eq, Node, None}
+use Common.{none-some, Option, or_cases, or_left, or_right, parent_at, refl, same_Some, slice_get, slot_in, slot_of}
+use Common.{Some, Spot, subst, suc, sym, true, zero, ℕ, [], ⊎_elim, ◌+◌, ◌<◌, ◌∙◌, ◌∷◌, ◌≡◌, ◌≢◌, ◌≤◌, ◌⊎◌}
 use Rattle.scene_tree.proofs.Counting.{count_apart, count_here, count_placed, count_without, counts, none_without}
-use Rattle.scene_tree.proofs.Paths.{step_under}
+
+module _ {T : Type 0} (fs : List (Family T)) where
+  -- there is one way to a root
+  pub rooted_once : (d e s : ℕ) → IsRooted fs d s → IsRooted fs e s → d ≡ e
+  rooted_once zero zero s a b = refl
+  rooted_once zero (suc e) s a b = absurd (none-some b.0 (sym a ∙ b.1))
+  rooted_once (suc d) zero s a b = absurd (none-some a.0 (sym b ∙ a.1))
+  rooted_once (suc d) (suc e) s a b = ap suc (rooted_once d e a.0 a.2
+      (subst (IsRooted fs e) (same_Some b.0 a.0 (sym b.1 ∙ a.1)) b.2))
+
+  -- a slot is as far from a root as what it is under, and so many steps more
+  pub rooted_under : (top d e s : ℕ) → IsUnder fs top e s → IsRooted fs d top
+      → (n : ℕ) × (n ≡ e + d) × IsRooted fs n s
+  rooted_under top d zero s is r = (d, omega arith, subst (IsRooted fs d) (sym is) r)
+  rooted_under top d (suc e) s under r =
+      let far = rooted_under top d e under.0 under.2 r in
+      let more = far.1 in (suc far.0, omega (arith, more), (under.0, under.1, far.2))
+
+  -- so nothing is under a slot that stands above it
+  pub no_cycle : (d s up e : ℕ) → IsRooted fs d s → above fs s ≡ Some up → IsUnder fs s e up → ⊥
+  no_cycle d s up e r is under = grind (arith, rooted_under s d e up under r, rooted_once)
+
+  -- one step more below
+  pub step_under : (top e s up : ℕ) → above fs s ≡ Some up → IsUnder fs top e up
+      → IsUnder fs top (suc e) s
+  step_under top e s up is under = (up, is, under)
+
+  -- the same at slots that are read elsewhere
+  pub under_at : {top s from to : ℕ} (e : ℕ) → top ≡ from → s ≡ to → IsUnder fs top e s
+      → IsUnder fs from e to
+  under_at {s = s} {from = from} e is at under = grind arith
+
+  -- one step up
+  pub rooted_up : (steps s up : ℕ) → above fs s ≡ Some up → IsRooted fs steps s
+      → (less : ℕ) × (less + 1 ≡ steps) × IsRooted fs less up
+  rooted_up steps s up is r = grind arith
+
+  pub under_up : (top steps s up : ℕ) → above fs s ≡ Some up → s ≢ top → IsUnder fs top steps s
+      → (less : ℕ) × IsUnder fs top less up
+  under_up top steps s up is other under = grind arith
+
+  -- a root is under itself alone
+  pub root_under : (top steps s : ℕ) → above fs s ≡ None → IsUnder fs top steps s → s ≡ top
+  root_under top steps s root under = grind arith
+
+  -- ---- no way is longer than there are slots
+
+  slots_on : (d s : ℕ) → IsRooted fs d s → List ℕ
+  slots_on zero s r = s ∷ []
+  slots_on (suc d) s r = s ∷ slots_on d r.0 r.2
+
+  length_on : (d s : ℕ) (r : IsRooted fs d s) → length (slots_on d s r) ≡ suc d
+  unfolding slots_on
+  length_on zero s r = refl
+  length_on (suc d) s r = ap suc (length_on d r.0 r.2)
+
+  module _ (n : ℕ) (within : (s up : ℕ) → above fs s ≡ Some up → up < n) where
+    -- what stands on a way is within the slots, and no further from a root
+    on : (d s : ℕ) (r : IsRooted fs d s) → s < n → (q : ℕ)
+        → list_any (nat_eq q) (slots_on d s r) ≡ true
+        → (q < n) × ((e : ℕ) × (e ≤ d) × IsRooted fs e q)
+    unfolding slots_on
+    on zero s r lt q any = grind arith
+    on (suc d) s r lt q any = ⊎_elim
+        (λ yes. let is = eqb-true q s yes in (
+          subst (λ i. i < n) (sym is) lt,
+          (suc d, omega arith, subst (IsRooted fs (suc d)) (sym is) r),
+        ))
+        (λ rest. let far = on d r.0 r.2 (within s r.0 r.1) q rest in
+        let le = far.1.1 in (far.0, (far.1.0, omega (arith, le), far.1.2))) (or_cases _ _ any)
+
+    distinct_on : (d s : ℕ) (r : IsRooted fs d s) → IsDistinct nat_eq (slots_on d s r)
+    unfolding slots_on IsDistinct
+    distinct_on zero s r = (tt, tt)
+    distinct_on (suc d) s r = (each (slots_on d r.0 r.2) other, distinct_on d r.0 r.2)
+      where
+        other : (q : ℕ) → list_any (nat_eq q) (slots_on d r.0 r.2) ≡ true → q ≢ s
+        other q any is =
+            let far = on d r.0 r.2 (within s r.0 r.1) q any in
+            let le = far.1.1 in
+            let same = rooted_once far.1.0 (suc d) s (subst (IsRooted fs far.1.0) is far.1.2) r in
+            omega (arith, le, same)
+
+        each : (qs : List ℕ) → ((q : ℕ) → list_any (nat_eq q) qs ≡ true → q ≢ s)
+            → AllByRecursion (λ q. nat_eq s q ≡ false) qs
+        each [] apart = tt
+        each (q ∷ qs) apart = (
+          ⊎_elim (λ yes. absurd (apart q (or_left _ _ (eq-eqb q q refl)) (sym yes.1)))
+              (λ no. no.0) (eqb_tells s q),
+          each qs (λ p any. apart p (or_right _ _ any)),
+        )
+
+    pub depth_within : (d s : ℕ) → IsRooted fs d s → s < n → d < n
+    depth_within d s r lt =
+        grind (arith, length-le_from_distinct_below, distinct_on d s r, on, length_on d s r)
 
 pub slot_cases : (o : Option ℕ) (up : ℕ) → (o ≡ Some up) ⊎ (o ≢ Some up)
-slot_cases None up = inr (λ is. none-some up is)
-slot_cases (Some s) up = grind arith
+slot_cases o up = grind arith
 
 module _ {T : Type 0} (fs : List (Family T)) where
   -- a slot below another has a parent there
@@ -54,11 +148,8 @@ module _ {T : Type 0} (fs gs : List (Family T)) where
     -- ways that don't meet the child are what they were
     far : (d s : ℕ) → ((e : ℕ) → IsUnder fs (slot_in child) e s → ⊥) → IsRooted fs d s → IsRooted gs d s
     far zero s off r = same_above s (λ is. off 0 is) ∙ r
-    far (suc d) s off r = (
-      r.0,
-      same_above s (λ is. off 0 is) ∙ r.1,
-      far d r.0 (λ e under. off (suc e) (step_under fs (slot_in child) e s r.0 r.1 under)) r.2,
-    )
+    far (suc d) s off r =
+        grind (arith, far d r.0 (λ e under. off (suc e) (step_under fs (slot_in child) e s r.0 r.1 under)) r.2, same_above)
 
     at_child : (s : ℕ) → s ≡ slot_in child → (e : ℕ) × IsRooted gs e s
     at_child s is =

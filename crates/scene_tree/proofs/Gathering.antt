@@ -3,11 +3,10 @@ use Rattle.scene_tree.proofs.Common.{above, alone, ap, arith, cases_eq, cases_lt
 use Rattle.scene_tree.proofs.Common.{families, Family, family_at, family_in, flat_map, flat_map_more, get_or}
 use Rattle.scene_tree.proofs.Common.{get_or-eq_default, IsForest, IsInLevels, IsRooted, IsUnder, length, length-append}
 use Rattle.scene_tree.proofs.Common.{length-le_from_distinct_below, length-map, Link, List, list_any, map, nat_eq, Node}
-use Rattle.scene_tree.proofs.Common.{None, or_cases, refl, same_Some, slot_in, Some, subst, suc, sym, take}
-use Rattle.scene_tree.proofs.Common.{take-append-le, take_all, take_more, true, true≢false, zero, [], ℕ, ⊎_elim, ◌++◌}
-use Rattle.scene_tree.proofs.Common.{◌+◌, ◌<◌, ◌∙◌, ◌∷◌, ◌≡◌, ◌≤◌}
-use Rattle.scene_tree.proofs.Paths.{depth_within, no_cycle}
+use Rattle.scene_tree.proofs.Common.{None, or_cases, slot_in, Some, suc, sym, take, take-append-le, take_all, take_more}
+use Rattle.scene_tree.proofs.Common.{true, true≢false, zero, ℕ, [], ⊎_elim, ◌++◌, ◌+◌, ◌<◌, ◌∙◌, ◌∷◌, ◌≡◌, ◌≤◌}
 use Rattle.scene_tree.proofs.Counting.{count_apart, count_both, count_here, count_more, count_take, distinct}
+use Rattle.scene_tree.proofs.Forests.{depth_within, no_cycle}
 
 -- nodes at different slots are no more than there are slots
 pub short : {T : Type 0} (list : List (Node T)) (n : ℕ) → ((s : ℕ) → count_at s list ≤ 1)
@@ -52,37 +51,24 @@ module _ {T : Type 0} (fs : List (Family T)) where
     -- how many children of the nodes of a list live at a slot
     pub children_none : (s : ℕ) → above fs s ≡ None → (list : List (Node T))
         → count_at s (all_children list) ≡ 0
-    children_none s root [] = refl
+    children_none s root [] = grind arith
     children_none s root (n ∷ list) =
-        let both = count_both s (children_at fs (slot_in n)) (all_children list) in
-        grind (arith, children_none s root list)
+        grind (arith, children_none s root list, count_both s (children_at fs (slot_in n)) (all_children list))
 
     pub children_some : (s up : ℕ) → above fs s ≡ Some up → (list : List (Node T))
         → count_at s (all_children list) ≡ count_at up list
-    children_some s up is [] = refl
+    children_some s up is [] = grind arith
     children_some s up is (n ∷ list) =
         let both = count_both s (children_at fs (slot_in n)) (all_children list) in
-        let rest = children_some s up is list in
-        ⊎_elim
-        (λ here. let one = f.once s (slot_in n) (is ∙ ap Some (sym here)) in
-        let more = count_here up n list here in omega (arith, both, rest, one, more))
-        (λ apart. let none = f.only s (slot_in n) (λ other. apart (same_Some (slot_in n) up (sym other ∙ is))) in
-        let same = count_apart up n list apart in omega (arith, both, rest, none, same))
-        (cases_eq (slot_in n) up)
+        grind (arith, children_some s up is list, count_here up n list, count_apart up n list, cases_eq (slot_in n) up)
 
     module _ (top : Node T) where
       pub part_more : (list more : List (Node T)) (next : ℕ) (n d : Node T) → IsPart top list next
           → next < length list → n ≡ get_or list next d
           → more ≡ list ++ children_at fs (slot_in n) → IsPart top more (next + 1)
-      part_more list more next n d p lt is after = record {
-        within = grind (arith, length-append list (children_at fs (slot_in n)));
-        level = after ∙ (ap (λ xs. xs ++ children_at fs (slot_in n)) p.level
-            ∙ (flat_map_more (λ m. children_at fs (slot_in m)) (top ∷ []) (take next list) n
-            ∙ ap (λ xs. top ∷ all_children xs) (sym taken)));
-      }
-        where
-          taken : take (next + 1) more ≡ take next list ++ n ∷ []
-          taken = grind (arith, take-append-le, take_more)
+      part_more list more next n d p lt is after =
+          let flat = flat_map_more (λ m. children_at fs (slot_in m)) (top ∷ []) (take next list) n in
+          grind (arith, length-append, take-append-le, take_more)
 
       module _ (list : List (Node T)) (next : ℕ) (p : IsPart top list next) where
         whole : (s : ℕ) → count_at s list ≡ count_at s (top ∷ all_children (take next list))
@@ -120,8 +106,7 @@ module _ {T : Type 0} (fs : List (Family T)) where
         listed_below s = let r = f.rooted s in (listed r.0 s r.1).1
 
         pub below_within : slot_in top < length fs → (s : ℕ) → IsUnderTop top s → s < length fs
-        below_within lt s (zero, is) = subst (λ i. i < length fs) (sym is) lt
-        below_within lt s (suc e, under) = slot_within s under.0 under.1
+        below_within lt s under = grind (arith, slot_within)
 
         -- so they are no more than there are slots
         pub list_short : slot_in top < length fs → length list ≤ length fs
@@ -132,15 +117,11 @@ module _ {T : Type 0} (fs : List (Family T)) where
           → IsUnder fs (slot_in top) e s → 0 < count_at s list
       all_listed list level zero s is = grind (arith, count_here s top (all_children list) (sym is))
       all_listed list level (suc e) s under =
-          let some = children_some s under.0 under.1 list in
-          grind (arith, count_more s top (all_children list), all_listed list level e under.0 under.2)
+          grind (arith, all_listed list level e under.0 under.2, children_some, count_more s top (all_children list))
 
       -- and then the list is whole
       pub part_whole : (list : List (Node T)) → IsInLevels fs top list → IsPart top list (length list)
-      part_whole list level = record {
-        within = omega arith;
-        level = level ∙ ap (λ xs. top ∷ all_children xs) (sym (take_all (length list) list (omega arith)));
-      }
+      part_whole list level = grind (arith, take_all)
 
 -- a root is fewer steps above a slot than there are links
 pub rooted_within : {T : Type 0} (links : List (Link T)) → IsForest (families links) → (s : ℕ) → s < length links

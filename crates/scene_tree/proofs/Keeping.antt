@@ -1,22 +1,27 @@
 -- A tree's store and families after each of its calls.
-use Rattle.scene_tree.proofs.Common.{above, alone, ap, arith, Bool, cases_Bool, cases_eq, cases_lt, children_at}
-use Rattle.scene_tree.proofs.Common.{children_of, cond, count_at, families, Family, family_at, family_in, family_of}
-use Rattle.scene_tree.proofs.Common.{filter, fresh, fresh_simple, GenerationalPointer, is_same, is_some, IsAmong}
-use Rattle.scene_tree.proofs.Common.{IsAttached, IsCleared, IsDetached, IsKept, IsLiveIn, IsOpened, IsOther, IsSimple}
-use Rattle.scene_tree.proofs.Common.{IsSound, IsSpotIn, IsUnder, length, length-map, Link, List, Location, Made, made}
-use Rattle.scene_tree.proofs.Common.{made_new, made_simple, Make, Meets, nat_cmp, no_slots, Node, NodeIsUnchanged, None}
-use Rattle.scene_tree.proofs.Common.{none-some, Ok, Option, others_left, parent_at, parent_for, parent_of, placed}
-use Rattle.scene_tree.proofs.Common.{pointer_in, refl, same_value, slice_get, slot_in, slot_of, slots, Some, Spot}
-use Rattle.scene_tree.proofs.Common.{State, suc, sym, TreeState, true, value_in, value_of, zero, [], ℕ, ⊎_elim, ◌<◌}
-use Rattle.scene_tree.proofs.Common.{◌∙◌, ◌∷◌, ◌≡◌, ◌≢◌, ◌≤◌}
+use Rattle.scene_tree.proofs.{Counting.counted, Counting.placed_from, Counting.same_id, Linked.among, Noting.noted_left}
+use Rattle.scene_tree.proofs.Common
+use Common.{above, alone, ap, AreNoted, arith, Bool, cases_Bool, cases_lt, children_at, children_of, cond, count_at}
+use Common.{families, Family, family_at, family_in, family_of, filter, fresh, fresh_simple, GenerationalPointer}
+use Common.{is_same, is_some, IsAmong, IsAttached, IsCleared, IsDetached, IsKept, IsLinked, IsLiveIn, IsOpened, IsOther}
+use Common.{IsSimple, IsSound, IsSpotIn, IsUnder, length, length-map, Link, List, Location, Made, made, made_new}
+use Common.{made_simple, Make, Meets, nat_cmp, no_slots, Node, NodeIsUnchanged, None, none-some, Ok, Old, Option}
+use Common.{others_left, parent_at, parent_for, parent_of, placed, pointer_in, reach_apart, refl, same_value}
+use Common.{seen_reached, seen_store, set_seen, sets, SetValue, simple_still, slice_get, slot_in, slot_of, slots, Some}
+use Common.{Spot, State, subst, suc, sym, TreeState, true, value_in, value_of, zero, ℕ, [], ⊎_elim, ◌<◌, ◌∙◌, ◌∷◌, ◌≡◌}
+use Common.{◌≢◌, ◌≤◌}
+use Rattle.scene_tree.proofs.Forests.{above_parent, attached, cleared, detached, parent_is, same_forest, under_alone}
+use Rattle.scene_tree.proofs.Stores.{live_within, made_beside, made_slots, one_live, same_slots}
 use Rattle.scene_tree.proofs.Trees.{has_parent, left_with, live_children, live_family, live_parent}
-use Rattle.scene_tree.specs.declared.spot.Spot.TheVariants as spot
 use Rattle.std.specs.FinMap as map
-use Rattle.scene_tree.proofs.Counting.{counted, placed_from, same_id}
-use Rattle.scene_tree.proofs.Forests.{above_parent, attached, cleared, detached, parent_is, same_forest, slot_cases}
-use Rattle.scene_tree.proofs.Forests.{under_alone}
-use Rattle.scene_tree.proofs.Linked.{among}
-use Rattle.scene_tree.proofs.Stores.{live_within, made_beside, made_slots, one_live}
+
+-- what is never some is none, and a list without a first item is empty
+no_some : {X : Type 0} (o : Option X) → ((x : X) → o ≢ Some x) → o ≡ None
+no_some o never = grind arith
+
+no_item : {X : Type 0} (xs : List X) → ((x : X) (rest : List X) → xs ≢ x ∷ rest) → xs ≡ []
+no_item [] never = refl
+no_item (x ∷ xs) never = absurd (never x xs refl)
 
 -- what a filter leaves stood there before
 filtered_from : {X : Type 0} (test : X → Bool) (xs : List X) (k : ℕ) (x : X)
@@ -48,27 +53,18 @@ module _ {T : Type 0} where
   module _ {S : State T} {fs : List (Family T)} (k : IsKept S fs) where
     -- a slot without a live node is alone
     pub lone : (slot : ℕ) → ((n : Node T) → IsLiveIn S n → slot_in n ≢ slot) → family_at fs slot ≡ alone
-    lone slot none = λ i. record { parent = root i; children = childless i }
+    lone slot none = λ i. record { parent = no_some _ root i; children = no_item _ childless i }
       where
-        root : parent_at fs slot ≡ None
-        root = at (parent_at fs slot) refl
-          where
-            at : (o : Option (Node T)) → parent_at fs slot ≡ o → parent_at fs slot ≡ None
-            at None is = is
-            at (Some up) is =
-                let one = k.forest.once slot (slot_in up) (ap slot_of is) in
-                let there = counted slot (children_at fs (slot_in up)) (omega (arith, one)) in
-                absurd (none there.1 (k.children (slot_in up) there.0 there.1 there.2) there.3)
+        root : (up : Node T) → parent_at fs slot ≢ Some up
+        root up is =
+            let one = k.forest.once slot (slot_in up) (ap slot_of is) in
+            let there = counted slot (children_at fs (slot_in up)) (omega (arith, one)) in
+            none there.1 (k.children (slot_in up) there.0 there.1 there.2) there.3
 
-        childless : children_at fs slot ≡ []
-        childless = at (children_at fs slot) refl
-          where
-            at : (cs : List (Node T)) → children_at fs slot ≡ cs → children_at fs slot ≡ []
-            at [] is = is
-            at (c ∷ cs) is =
-                let up = above_parent fs (slot_in c) slot
-                (parent_is fs k.forest slot 0 c (ap (λ xs. slice_get xs 0) is)) in
-                absurd (none up.0 (k.parents (slot_in c) up.0 up.1) up.2)
+        childless : (c : Node T) (cs : List (Node T)) → children_at fs slot ≢ c ∷ cs
+        childless c cs is =
+            let over = parent_is fs k.forest slot 0 c (ap (λ xs. slice_get xs 0) is) in
+            let up = above_parent fs (slot_in c) slot over in none up.0 (k.parents (slot_in c) up.0 up.1) up.2
 
     -- the same families over a store in which all live nodes are live
     pub kept_same : {R : State T} (gs : List (Family T)) → IsSimple R → length gs ≡ slots R
@@ -108,13 +104,7 @@ module _ {T : Type 0} where
         → IsLiveIn S child → above fs (slot_in child) ≡ None
         → ((e : ℕ) → IsUnder fs (slot_in child) e (slot_in parent) → ⊥)
         → IsAttached fs parent spot child gs → IsKept S gs
-    kept_attached gs parent child spot live lives root apart new = record {
-      simple = k.simple;
-      whole = new.long ∙ k.whole;
-      forest = attached fs gs k.forest parent child spot root apart new;
-      parents = λ s up is. search arith;
-      children = λ s i c is. grind (arith, placed_from, cases_eq s (slot_in parent));
-    }
+    kept_attached gs parent child spot live lives root apart new = grind (arith, attached, placed_from)
 
     -- a node that was taken out of its parent's children
     pub alike : IsSound S → (child : Node T) → IsLiveIn S child → (s i : ℕ) (x : Node T)
@@ -134,20 +124,11 @@ module _ {T : Type 0} where
     pub spot_in : IsSound S → (at : Spot T) (up : Node T)
         → parent_for (record { state = S; families = fs }) at ≡ Some up
         → IsSpotIn (children_at fs (slot_in up)) at
-    spot_in sound (spot.FirstOf to) up is = tt
-    spot_in sound (spot.LastOf to) up is = tt
-    spot_in sound (spot.Before by) up is = sibling_in sound by up is
-    spot_in sound (spot.After by) up is = sibling_in sound by up is
+    spot_in sound to up is = grind (arith, sibling_in)
 
     pub kept_detached : IsSound S → (gs : List (Family T)) (child : Node T) → IsLiveIn S child
         → IsDetached fs child gs → IsKept S gs
-    kept_detached sound gs child live new = record {
-      simple = k.simple;
-      whole = new.long ∙ k.whole;
-      forest = detached fs gs k.forest child (alike sound child live) new;
-      parents = λ s up is. search arith;
-      children = λ s i c is. grind (arith, filtered_from, slot_cases (above fs (slot_in child)) s);
-    }
+    kept_detached sound gs child live new = grind (arith, detached, alike, filtered_from)
 
     -- nodes that were left alone, with all that are below them and none above, and whose values ended
     module _ (R : State T) (gs : List (Family T)) (list : List (Node T)) (c : IsCleared fs gs list)
@@ -163,7 +144,8 @@ module _ {T : Type 0} where
         whole = whole;
         forest = cleared fs gs k.forest list c down upward;
         parents = λ s up is. grind (arith, live up, k.parents s up, c.cleared s, c.others s, down s (slot_in up), out);
-        children = λ s i x is. grind (arith, live x, k.children s i x, c.cleared s, c.others s, parent_is fs k.forest s i x, out);
+        children =
+            λ s i x is. grind (arith, live x, k.children s i x, c.cleared s, c.others s, parent_is fs k.forest s i x, out);
       }
 
   -- both: a new child
@@ -179,8 +161,7 @@ module _ {T : Type 0} where
 
     -- a live node is left
     left : (n : Node T) → IsLiveIn S n → value_in R (pointer_in n) ≡ value_in S (pointer_in n)
-    left n lives = same_value S R (Make None v l) (Made (pointer_in child)) sound m (pointer_in n) tt
-        (λ is. apart n lives (sym (ap (λ n. n.slot) is)))
+    left n lives = grind (arith, same_value S R (Make None v l) (Made (pointer_in child)) sound m, apart)
 
     shown : IsLiveIn R child
     shown = ap is_some (made None v l (Ok child.raw) m)
@@ -199,10 +180,7 @@ module _ {T : Type 0} where
     new = record { state = R; families = hs }
 
     pub added_child : family_of new child ≡ record { parent = Some parent; children = [] }
-    added_child = live_family new child shown ∙ λ i. record {
-      parent = a.here i;
-      children = (a.others (slot_in child) (λ is. apart parent live (sym is)) ∙ ap (λ x. x.children) lone_child) i;
-    }
+    added_child = grind (arith, live_family, shown, apart, lone_child)
 
     pub added_parent : (value_of new parent ≡ value_of old parent) × (family_of new parent ≡ record {
       parent = parent_of old parent;
@@ -240,3 +218,31 @@ module _ {T : Type 0} where
 
       pub next_root : above (families links) b.id.slot ≡ None
       next_root = ap (λ f. slot_of f.parent) (lone k b.id.slot (made_beside sound k.simple v l b m))
+
+-- links that stayed are kept as they were
+pub kept_links : {T : Type 0} {S : State T} {here new : List (Link T)} → here ≡ new
+    → IsKept S (families here) × IsLinked here × AreNoted S here
+    → IsKept S (families new) × IsLinked new × AreNoted S new
+kept_links {S = S} same = subst (λ links. IsKept S (families links) × IsLinked links × AreNoted S links) same
+
+module _ {T : Type 0} {S R : State T} (sound : IsSound S) (node : Node T) (v old : T)
+    (m : Meets S (SetValue (pointer_in node) v) (Old old) R) where
+  pub set_still : {links : List (Link T)} → IsKept S (families links) × IsLinked links × AreNoted S links
+      → IsKept R (families links) × IsLinked links × AreNoted R links
+  set_still was = (
+    kept_still was.0 (simple_still sound was.0.simple _ _ m tt tt) (same_slots _ _ refl m) seen,
+    was.1,
+    noted_left was.2 (λ s. refl) (λ n now. sym (seen n) ∙ now),
+  )
+    where
+      seen : (n : Node T) → is_some (value_in R (pointer_in n)) ≡ is_some (value_in S (pointer_in n))
+      seen n = set_seen sound was.0.simple.unborrowed _ _ _ m (pointer_in n)
+
+  pub set_others : IsSimple S → (fs : List (Family T)) (n : Node T) → IsOther node n
+      → NodeIsUnchanged (record { state = S; families = fs }) n (record { state = R; families = fs })
+  set_others simple fs n other =
+      let before = (sets (pointer_in node) v old m).0 in
+      let to = seen_reached S (pointer_in node) old before in
+      left_with _ _ n (others_left _ _ m (pointer_in node) (pointer_in n) (seen_store _ _ sound (ap is_some before))
+      (λ ne. same_value _ _ _ _ sound m _
+      (λ same. ne (reach_apart _ simple.plain _ _ to.0 to.1 (sym same))) tt) other) (λ live. refl)

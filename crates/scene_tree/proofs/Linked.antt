@@ -1,22 +1,20 @@
 -- Links whose children are linked: what they hold, and after a child comes or goes.
-use Rattle.scene_tree.proofs.Chains.{after_kept, after_length, before_kept, before_length, chain_is, chain_none}
-use Rattle.scene_tree.proofs.Chains.{chain_short, changed_apart, changed_here, changed_kept, changed_length, last_both}
-use Rattle.scene_tree.proofs.Chains.{link_there, noted_joined, pushed_kept, tied_within}
-use Rattle.scene_tree.proofs.Common.{above, after_put, alone, ap, append-nil, append_assoc, arith, before_put}
-use Rattle.scene_tree.proofs.Common.{cases_Bool, cases_eq, chain, changed, children_at, cond, count_at, families}
-use Rattle.scene_tree.proofs.Common.{Family, family_at, family_in, first_of, head_or, inl, inr, insert, is_same}
-use Rattle.scene_tree.proofs.Common.{IsAmong, IsAttached, IsChain, IsDetached, IsForest, IsGap, IsHeld, IsLinked}
-use Rattle.scene_tree.proofs.Common.{IsOpened, IsRest, last_of, last_or, length, length-append, length-map, Link, List}
-use Rattle.scene_tree.proofs.Common.{Node, node_in, None, none-some, not, noted, Option, parent_at, place_of}
-use Rattle.scene_tree.proofs.Common.{pushed_old, refl, same_Some, slice_get, slice_get-map, slice_get_read}
-use Rattle.scene_tree.proofs.Common.{slice_get_within, slice_index_or, slot_in, slot_of, Some, Spot, subst, suc, sym}
-use Rattle.scene_tree.proofs.Common.{tie_of, true, true≢false, unwrap_or-slice_get, without, [], ℕ, ⊎_elim, ◌++◌, ◌+◌}
-use Rattle.scene_tree.proofs.Common.{◌<◌, ◌∙◌, ◌∷◌, ◌≡◌, ◌≢◌, ◌≤◌, ◌⊎◌}
-use Rattle.scene_tree.specs.declared.spot.Spot.TheVariants as spot
+use Rattle.scene_tree.proofs.Chains.{after_kept, after_length, back_of, before_kept, before_length, chain_is}
+use Rattle.scene_tree.proofs.Chains.{chain_short, changed_apart, changed_here, changed_kept, changed_length, held_kept}
+use Rattle.scene_tree.proofs.Chains.{joined, joined_held, last_both, link_there, linked_in, linked_out, noted_joined}
+use Rattle.scene_tree.proofs.Chains.{pushed_kept, tied_within}
+use Rattle.scene_tree.proofs.Common
+use Common.{above, after_put, alone, ap, append-nil, append_assoc, arith, before_put, cases_Bool, cases_eq, chain}
+use Common.{changed, children_at, cond, count_at, families, Family, family_at, family_in, first_of, head_or, inl, inr}
+use Common.{insert, is_same, IsAmong, IsAttached, IsChain, IsDetached, IsForest, IsGap, IsHeld, IsLinked, IsOpened}
+use Common.{IsRest, last_of, last_or, length, length-append, length-map, Link, List, Node, node_in, None, none-some}
+use Common.{not, noted, Option, parent_at, pushed_old, refl, same_Some, slice_get, slice_get-map, slice_get_read}
+use Common.{slice_get_within, slice_index_or, slot_in, slot_of, Some, Spot, subst, suc, sym, tie_of, true}
+use Common.{unwrap_or-slice_get, without, ℕ, [], ⊎_elim, ◌++◌, ◌+◌, ◌<◌, ◌∙◌, ◌∷◌, ◌≡◌, ◌≢◌, ◌≤◌, ◌⊎◌}
 use Rattle.scene_tree.proofs.Counting.{count_apart, count_both, count_here, count_more, same_slot, same_without}
 use Rattle.scene_tree.proofs.Forests.{slot_cases}
 use Rattle.scene_tree.proofs.Gathering.{above_within, same_length, short, slot_within}
-use Rattle.scene_tree.proofs.Linking.{back_of, held_kept, joined, joined_held, linked_in, linked_out}
+use Rattle.scene_tree.specs.declared.spot.Spot.TheVariants as spot
 
 module _ {T : Type 0} where
   -- ---- what links say
@@ -32,14 +30,11 @@ module _ {T : Type 0} where
 
   pub children_from : (links : List (Link T)) (s : ℕ)
       → children_at (families links) s ≡ chain links (length links) (first_of (slice_get links s))
-  children_from links s =
-      let read = unwrap_or-slice_get (families links) s alone in
-      grind (arith, slice_get-map (family_in links) links s, chain_none links (length links))
+  children_from links s = grind (arith, unwrap_or-slice_get (families links) s alone, slice_get-map)
 
   pub children_held : (links : List (Link T)) (s : ℕ) (xs : List (Node T)) → IsHeld links s xs
       → length xs ≤ length links → children_at (families links) s ≡ xs
-  children_held links s xs held le = children_from links s
-      ∙ (ap (chain links (length links)) held.first ∙ chain_is links None xs (length links) held.chain le)
+  children_held links s xs held le = grind (arith, children_from, chain_is)
 
   pub children_short : (links : List (Link T)) (s : ℕ)
       → length (children_at (families links) s) ≤ length links
@@ -91,8 +86,7 @@ module _ {T : Type 0} where
   pub top_within : (links : List (Link T)) → IsForest (families links) → (s : ℕ) (parent : Node T)
       → parent_at (families links) s ≡ Some parent → slot_in parent < length links
   top_within links f s parent has =
-      let less = above_within (families links) f s (slot_in parent) (ap slot_of has) in
-      let long = length-map links (family_in links) in omega (arith, less, long)
+      grind (arith, above_within (families links) f s (slot_in parent) (ap slot_of has), length-map)
 
   -- ---- lists in two parts
 
@@ -123,23 +117,13 @@ module _ {T : Type 0} where
       → IsAmong cs n
   among n [] lt alike = absurd (omega (arith, lt))
   among n (c ∷ cs) lt alike = ⊎_elim
-      (λ same. record {
-        front = [];
-        here = c;
-        back = cs;
-        whole = refl;
-        slot = same_slot c n same;
-        place = ap (λ b. cond (not b) (1 + place_of n cs) 0) same;
-      })
+      (λ is. record { front = []; here = c; back = cs; whole = refl; slot = same_slot c n is; place = grind arith })
       (λ other.
-      let rest = among n cs
-      (subst (λ k. 0 < k) (count_apart (slot_in n) c cs
-      (λ is. true≢false (sym (alike 0 c refl is) ∙ other))) lt)
-      (λ k. alike (suc k)) in record {
+      let rest = among n cs (grind (arith, alike 0 c refl, count_apart (slot_in n) c cs)) (λ k. alike (suc k)) in record {
         front = c ∷ rest.front;
         here = rest.here;
         back = rest.back;
-        whole = ap (λ xs. c ∷ xs) rest.whole;
+        whole = grind arith;
         slot = rest.slot;
         place = grind arith;
       })
@@ -169,14 +153,7 @@ module _ {T : Type 0} where
 
     pub gap_last : (at : Node T) (l : Link T) → slice_get links up ≡ Some l
         → IsGap cs (spot.LastOf at) (l.last, None)
-    gap_last at l there = record {
-      front = cs;
-      back = [];
-      whole = sym (append-nil cs);
-      put = λ n. refl;
-      before = sym (ap last_of there) ∙ (linked up).last;
-      after = refl;
-    }
+    gap_last at l there = grind (arith, append-nil)
 
     -- a child lies between the ends of the two parts that it parts
     pub between : (xs : List (Node T)) (c : Node T) (ys : List (Node T)) → cs ≡ xs ++ c ∷ ys
@@ -237,12 +214,7 @@ module _ {T : Type 0} where
   pub rest_read : (links : List (Link T)) (next : Option ℕ) (s : ℕ) (l : Link T) → IsRest links next
       → next ≡ Some s → l ≡ slice_index_or links s l
       → (chain links (length links) next ≡ l.node ∷ chain links (length links) l.after) × IsRest links l.after
-  rest_read links next s l rest is read =
-      let at = walk_next links rest.before (chain links (length links) next) s
-      (chain_short links (length links) next) rest.lies (sym rest.first ∙ is) in
-      let there = slice_get_read links _ s l refl (slice_get_within links s at.0 at.1) read in
-      subst (λ m. (chain links (length links) next ≡ m.node ∷ chain links (length links) m.after)
-      × IsRest links m.after) (same_Some at.0 l (sym at.1 ∙ there)) (at.2, at.3)
+  rest_read links next s l rest is read = grind (arith, walk_next, chain_short, slice_get_read, slice_get_within)
 
   -- ---- a slot more
 
@@ -260,10 +232,7 @@ module _ {T : Type 0} where
     grown before after (x ∷ xs) is = grind (arith, tied_within, pushed_old, grown (Some (slot_in x)) after xs is.1)
 
     longer_held : (s : ℕ) → IsHeld longer s (children_at (families links) s)
-    longer_held s =
-        let begins = pushed_kept first_of l first links s in
-        let lies = grown None None (children_at (families links) s) (linked s).chain in
-        grind (arith, linked s, pushed_kept last_of l last links s)
+    longer_held s = grind (arith, pushed_kept first_of l first links s, pushed_kept last_of l last links s, grown)
 
     pub opened_linked : IsLinked longer
     opened_linked = linked_like links longer more longer_held
@@ -297,9 +266,8 @@ module _ {T : Type 0} where
     bared_here = record { first = ap first_of bare_there.1; last = ap last_of bare_there.1; chain = tt }
 
     bared_apart : (s : ℕ) → s ≢ slot → IsHeld bared s (children_at (families links) s)
-    bared_apart s ne = held_kept links bared s (children_at (families links) s)
-        (λ i some. changed_kept tie_of links slot bare (λ l. refl) i)
-        (ap first_of (changed_apart links slot bare s ne)) (ap last_of (changed_apart links slot bare s ne)) (linked s)
+    bared_apart s ne =
+        grind (arith, held_kept, changed_kept tie_of links slot bare (λ l. refl), changed_apart links slot bare s ne)
 
     pub bared_linked : IsLinked bared
     bared_linked = linked_but links bared slot [] bared_length bared_here (omega arith) bared_apart
@@ -383,12 +351,7 @@ module _ {T : Type 0} where
         (cases_eq s (slot_in child))
 
     listed_within : (s : ℕ) → 0 < count_at s (is.front ++ child ∷ is.back) → s < length links
-    listed_within s lt = ⊎_elim (λ same. subst (λ i. i < length links) (sym same) lc)
-        (λ ne. let same = counted_more s ne in
-        let long = length-map links (family_in links) in
-        let less = slot_within fs s up (child_above fs f up s (omega (arith, same, lt))) in
-        omega (arith, less, long))
-        (cases_eq s (slot_in child))
+    listed_within s lt = grind (arith, counted_more s, length-map, slot_within fs s up)
 
     new_here : IsHeld new up (is.front ++ child ∷ is.back)
     new_here = linked_in there up up_there.0 is.front is.back child up_there.1 once tied
@@ -402,8 +365,7 @@ module _ {T : Type 0} where
         (there_held s)
 
     here_short : length (is.front ++ child ∷ is.back) ≤ length new
-    here_short =
-        let le = short (is.front ++ child ∷ is.back) (length links) once listed_within in omega (arith, le, new_length)
+    here_short = search (arith, short, once, listed_within, new_length)
 
     enough : length links ≤ length new
     enough = omega (arith, new_length)
@@ -482,8 +444,7 @@ module _ {T : Type 0} where
 
     few_listed : (s : ℕ) → count_at s part.front + count_at s part.back ≤ 1
     few_listed s =
-        let both = count_both s part.front (part.here ∷ part.back) in
-        grind (arith, count_more s part.here part.back, once_listed s)
+        grind (arith, count_both s part.front (part.here ∷ part.back), count_more s part.here part.back, once_listed s)
 
     beside_none : (s i : ℕ) → s ≢ top → 0 < count_at i (children_at old s)
         → (count_at i part.front ≡ 0) × (count_at i part.back ≡ 0)
@@ -502,10 +463,7 @@ module _ {T : Type 0} where
         (λ i lt. beside_none s i ne lt) (freed_held s)
 
     rest_short : length (part.front ++ part.back) ≤ length cut
-    rest_short =
-        let le = children_short links top in
-        let whole = ap length part.whole ∙ length-append part.front (part.here ∷ part.back) in
-        grind (arith, length-append part.front part.back, cut_length)
+    rest_short = grind (arith, children_short links top, length-append, length-append part.front part.back, cut_length)
 
     same_many : length links ≤ length cut
     same_many = omega (arith, cut_length)

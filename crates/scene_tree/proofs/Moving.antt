@@ -1,16 +1,17 @@
--- A tree in which a node was moved, or was made a root.
-use Rattle.scene_tree.proofs.Common.{ap, arith, CanMove, cases_eq, children_at, children_of, Err, Family, IfOk, is_live}
-use Rattle.scene_tree.proofs.Common.{IsAmong, IsAttached, IsBelow, IsDetached, IsKept, IsLiveIn, IsOther, IsSound}
-use Rattle.scene_tree.proofs.Common.{IsSpotIn, IsUnder, List, named, Node, None, Ok, OnOk, parent_at, parent_for}
-use Rattle.scene_tree.proofs.Common.{parent_of, placed, refl, Result, same_Some, slot_in, slot_of, Some, Spot, State}
-use Rattle.scene_tree.proofs.Common.{subst, suc, sym, TreeState, true, without, zero, ℕ, ◌∙◌, ◌≡◌, ◌≢◌}
+-- A tree in which a node was moved, was made a root, or was removed with all below it.
+use Rattle.scene_tree.proofs.{Counting.same_without, Linked.among, Stores.one_live}
+use Rattle.scene_tree.proofs.Common
+use Common.{above, ap, arith, CanMove, cases_eq, cases_lt, children_at, children_of, count_at, Family, family_of}
+use Common.{HasLost, IfOk, is_live, is_some, IsAmong, IsAttached, IsBelow, IsCut, IsDetached, IsKept, IsLiveIn, IsOther}
+use Common.{IsSound, IsSpotIn, IsUnder, length, List, named, Node, NodeIsUnchanged, None, OnOk, parent_at, parent_for}
+use Common.{parent_of, placed, refl, Result, same_Some, slot_in, slot_of, Some, Spot, State, subst, suc, sym, times}
+use Common.{TreeState, true, value_of, without, zero, ℕ, ⊎_elim, ◌<◌, ◌∙◌, ◌≡◌, ◌≢◌}
+use Rattle.scene_tree.proofs.Forests.{above_parent, no_cycle, slot_cases, under_up}
+use Rattle.scene_tree.proofs.Gathering.{all_listed, listed_below, part_whole}
+use Rattle.scene_tree.proofs.Keeping.{alike, kept_attached, kept_cleared, kept_detached}
+use Rattle.scene_tree.proofs.Trees.{has_parent, left_with, list_live, live_children, live_family, live_parent}
+use Rattle.scene_tree.proofs.Trees.{part_with, times_live, under_below}
 use Rattle.scene_tree.specs.declared.spot.Spot.TheVariants as spot
-use Rattle.scene_tree.proofs.Counting.{same_without}
-use Rattle.scene_tree.proofs.Forests.{above_parent, slot_cases}
-use Rattle.scene_tree.proofs.Keeping.{alike, kept_attached, kept_detached}
-use Rattle.scene_tree.proofs.Linked.{among}
-use Rattle.scene_tree.proofs.Stores.{one_live}
-use Rattle.scene_tree.proofs.Trees.{has_parent, live_children, live_family, live_parent, part_with, under_below}
 
 module _ {T : Type 0} {S : State T} {fs gs : List (Family T)} (sound : IsSound S)
     (k : IsKept S fs) (node : Node T) (live : IsLiveIn S node) (d : IsDetached fs node gs) where
@@ -58,10 +59,7 @@ module _ {T : Type 0} {S : State T} {fs gs : List (Family T)} (sound : IsSound S
 
   pub spot_left : (at : Spot T) (up : Node T) → parent_for tree at ≡ Some up
       → (IsBelow tree node (named at) → ⊥) → IsSpotIn (children_at gs (slot_in up)) at
-  spot_left (spot.FirstOf to) up is apart = tt
-  spot_left (spot.LastOf to) up is apart = tt
-  spot_left (spot.Before by) up is apart = sibling_left by up is apart
-  spot_left (spot.After by) up is apart = sibling_left by up is apart
+  spot_left to up is apart = grind (arith, sibling_left)
 
   module _ {hs : List (Family T)} (parent : Node T) (at : Spot T) (may : CanMove tree node parent)
       (a : IsAttached gs parent at node hs) where
@@ -90,21 +88,15 @@ module _ {T : Type 0} {S : State T} {fs gs : List (Family T)} (sound : IsSound S
 
     pub moved_lost : (up : Node T) → parent_of tree node ≡ Some up → IsOther parent up
         → children_of moved up ≡ without node (children_of tree up)
-    moved_lost up is other =
-        let lives = k.parents (slot_in node) up (has_parent sound k node up is).1 in
-        part_with (λ f. f.children) freed moved up refl (λ _. a.others (slot_in up) (not_parent up other lives))
-        ∙ freed_lost up is
+    moved_lost up is other = grind (arith, has_parent, part_with, not_parent, freed_lost)
 
     pub moved_others : (n : Node T) → IsOther parent n
         → ((up : Node T) → parent_of tree node ≡ Some up → IsOther up n) → children_of moved n ≡ children_of tree n
-    moved_others n other beside = part_with (λ f. f.children) freed moved n refl
-        (λ lives. a.others (slot_in n) (not_parent n other lives)) ∙ freed_others n beside
+    moved_others n other beside = grind (arith, not_parent n other, freed_others n beside)
 
     -- each other node has the parent that it had
     pub moved_parents : (n : Node T) → IsOther node n → parent_of moved n ≡ parent_of tree n
-    moved_parents n other = part_with (λ f. f.parent) freed moved n refl
-        (λ lives. a.parents (slot_in n) (λ is. other (one_live S node n sound k.simple live lives (sym is))))
-        ∙ freed_parents n other
+    moved_parents n other = grind (arith, part_with, one_live, freed_parents)
 
 -- what may be put beside a sibling may become a child of its parent
 pub move_within : {T : Type 0} (t : TreeState T) (node : Node T) (at : Spot T) (up : Node T)
@@ -125,9 +117,67 @@ move_within t node (spot.After sibling) up may live is = record {
 -- what follows of a value from two facts on it
 pub ok_both : {X E : Type 0} {P Q R : X → Type 0} (r : Result X E) → ((x : X) → P x → Q x → R x)
     → IfOk r P → IfOk r Q → IfOk r R
-ok_both (Ok x) f p q = f x p q
-ok_both (Err e) f p q = tt
+ok_both r f p q = grind arith
 
 pub ok_always : {X E P : Type 0} (r : Result X E) → P → OnOk r P
-ok_always (Ok x) p = p
-ok_always (Err e) p = tt
+ok_always r p = grind arith
+
+module _ {T : Type 0} {S R : State T} {fs hs : List (Family T)} (sound : IsSound S) (k : IsKept S fs)
+    (node : Node T) (live : IsLiveIn S node) (list : List (Node T)) (cut : IsCut fs node list hs)
+    (lost : HasLost S list R) where
+  -- what is listed is below the node, and what is below it is listed
+  under : (s : ℕ) → 0 < count_at s list → (e : ℕ) × IsUnder fs (slot_in node) e s
+  under = listed_below fs k.forest node list (length list) (part_whole fs k.forest node list cut.level)
+
+  listed : (e s : ℕ) → IsUnder fs (slot_in node) e s → 0 < count_at s list
+  listed = all_listed fs k.forest node list cut.level
+
+  before : (s up : ℕ) → above cut.left s ≡ Some up → (s ≢ slot_in node) × (above fs s ≡ Some up)
+  before s up is = grind arith
+
+  upward : (s up : ℕ) → above cut.left s ≡ Some up → 0 < count_at s list → 0 < count_at up list
+  upward s up is lt = grind (arith, under s lt, before s up is, under_up fs (slot_in node), listed)
+
+  -- a live node is listed as often as its slot
+  same_times : (n : Node T) → IsLiveIn S n → times n list ≡ count_at (slot_in n) list
+  same_times n lives = times_live sound k n lives list (list_live sound k node live list cut.level)
+
+  pub kept_cut : IsKept R hs
+  kept_cut =
+      let left = kept_detached k sound cut.left node live cut.detached in
+      kept_cleared left R hs list cut.cleared
+      (λ s up is lt. let u = under up lt in listed (suc u.0) s (up, (before s up is).1, u.1)) upward
+      (λ n none lives. ap is_some (lost.others n (same_times n lives ∙ none)) ∙ lives) lost.simple
+      (cut.long ∙ (left.whole ∙ sym lost.same))
+
+  not_node : (s : ℕ) → count_at s list ≡ 0 → s ≢ slot_in node
+  not_node s none is = let lt = listed 0 s is in omega (arith, lt, none)
+
+  -- the parent, which isn't listed, loses the one child
+  parent_free : (up : ℕ) → above fs (slot_in node) ≡ Some up → count_at up list ≡ 0
+  parent_free up is = ⊎_elim
+      (λ lt. let r = k.forest.rooted (slot_in node) in let u = under up lt in
+      absurd (no_cycle fs r.0 (slot_in node) up u.0 r.1 is u.1))
+      (λ le. omega (arith, le)) (cases_lt 0 (count_at up list))
+
+  abbrev old : TreeState T
+  old = record { state = S; families = fs }
+
+  abbrev new : TreeState T
+  new = record { state = R; families = hs }
+
+  pub cut_parent : (up : Node T) → parent_of old node ≡ Some up → (value_of new up ≡ value_of old up)
+      × (family_of new up ≡ record { parent = parent_of old up; children = without node (children_of old up) })
+  cut_parent up is = grind (arith, parent_free (slot_in up), same_times up, not_node (slot_in up))
+
+  -- each other node is as it was
+  pub cut_others : (n : Node T) → times n list ≡ 0
+      → ((up : Node T) → parent_of old node ≡ Some up → IsOther up n) → NodeIsUnchanged old n new
+  cut_others n out other = left_with old new n (lost.others n out) (λ lives.
+      let none = sym (same_times n lives) ∙ out in
+      cut.cleared.others (slot_in n) none ∙ λ i. record {
+        parent = cut.detached.parents (slot_in n) (not_node (slot_in n) none) i;
+        children = cut.detached.others (slot_in n) (λ is. let p = above_parent fs (slot_in node) (slot_in n) is in
+            other p.0 (live_parent sound k node live ∙ p.1)
+            (one_live S p.0 n sound k.simple (k.parents (slot_in node) p.0 p.1) lives p.2)) i;
+      })

@@ -1,14 +1,12 @@
 -- Which node is noted at each slot, after each write to the links.
-use Rattle.scene_tree.proofs.Linked.{family_like, linked_like, upper}
-use Rattle.scene_tree.proofs.Gathering.{same_length}
-use Rattle.scene_tree.proofs.Chains.{changed_apart, changed_here, changed_kept, changed_length, link_there}
+use Rattle.scene_tree.proofs.{Gathering.same_length, Stores.one_live}
+use Rattle.scene_tree.proofs.Chains.{changed_apart, changed_here, changed_kept, changed_length, held_kept, link_there}
 use Rattle.scene_tree.proofs.Common.{above, ap, AreNoted, arith, changed, children_at, count_at, families, family_in}
 use Rattle.scene_tree.proofs.Common.{first_of, HasLost, is_some, IsForest, IsHeld, IsLinked, IsLiveIn, IsOpened, IsSame}
 use Rattle.scene_tree.proofs.Common.{IsSimple, IsSound, last_of, length, length-map, Link, List, Location, Made, Make}
 use Rattle.scene_tree.proofs.Common.{Meets, Node, None, none-some, noted, pointer_in, refl, same_value, slot_in, Some}
-use Rattle.scene_tree.proofs.Common.{State, suc, sym, tie_of, zero, [], ℕ, ◌++◌, ◌<◌, ◌∙◌, ◌∷◌, ◌≡◌, ◌≢◌}
-use Rattle.scene_tree.proofs.Linking.{held_kept}
-use Rattle.scene_tree.proofs.Stores.{one_live}
+use Rattle.scene_tree.proofs.Common.{State, sym, tie_of, ℕ, [], ◌++◌, ◌<◌, ◌∙◌, ◌∷◌, ◌≡◌, ◌≢◌}
+use Rattle.scene_tree.proofs.Linked.{family_like, linked_like, upper}
 
 module _ {T : Type 0} where
   -- ---- one write
@@ -28,10 +26,8 @@ module _ {T : Type 0} where
 
   pub noted_before : (links : List (Link T)) (l : Link T) (s : ℕ) → s ≢ length links
       → noted (links ++ l ∷ []) s ≡ noted links s
-  noted_before [] l zero ne = absurd (ne refl)
-  noted_before [] l (suc s) ne = refl
-  noted_before (x ∷ links) l zero ne = refl
-  noted_before (x ∷ links) l (suc s) ne = noted_before links l s (λ is. ne (ap suc is))
+  noted_before [] l s ne = grind arith
+  noted_before (x ∷ links) l s ne = grind (arith, noted_before links)
 
   -- ---- a node that is noted at a slot that no list has
 

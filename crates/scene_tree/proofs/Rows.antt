@@ -1,19 +1,13 @@
 -- Rows of an outline: what follows each, and that they are those of the tree.
-use Rattle.scene_tree.proofs.Gathering.{above_within, slot_within}
-use Rattle.scene_tree.proofs.Forests.{parent_is}
-use Rattle.scene_tree.proofs.Common.{above, after_tied, ap, arith, behind, cases_eq, chain, children_at, count_at}
-use Rattle.scene_tree.proofs.Common.{families, Family, family_in, first_of, head_or, IsChain, IsForest, IsHeld, IsKept}
-use Rattle.scene_tree.proofs.Common.{IsLinked, IsLiveIn, IsPlaced, IsSound, IsUnder, length, length-append, length-map}
-use Rattle.scene_tree.proofs.Common.{Link, List, Node, None, none-some, Option, outline_of, refl, rows, rows_at}
-use Rattle.scene_tree.proofs.Common.{same_Some, slice_get, slice_get-get_or, slice_get_within, slice_index_or, slot_in}
-use Rattle.scene_tree.proofs.Common.{Some, State, subst, suc, sym, tie_of, TreeState, waiting, zero, [], ℕ, ⊎_elim}
-use Rattle.scene_tree.proofs.Common.{◌++◌, ◌+◌, ◌-◌, ◌<◌, ◌∙◌, ◌∷◌, ◌≡◌, ◌≢◌, ◌≤◌}
-use Rattle.scene_tree.proofs.Chains.{chain_is}
-use Rattle.scene_tree.proofs.Counting.{count_apart}
-use Rattle.scene_tree.proofs.Linked.{between, children_short}
-use Rattle.scene_tree.proofs.Linking.{back_of}
-use Rattle.scene_tree.proofs.Paths.{depth_within, rooted_under}
-use Rattle.scene_tree.proofs.Trees.{get_both, live_children}
+use Rattle.scene_tree.proofs.{Chains.back_of, Chains.chain_is, Counting.count_apart, Forests.depth_within}
+use Rattle.scene_tree.proofs.{Forests.parent_is, Forests.rooted_under, Gathering.above_within, Gathering.slot_within}
+use Rattle.scene_tree.proofs.{Linked.between, Linked.children_short, Trees.get_both, Trees.live_children}
+use Rattle.scene_tree.proofs.Common
+use Common.{above, after_tied, ap, arith, behind, cases_eq, chain, children_at, count_at, families, Family, family_in}
+use Common.{first_of, head_or, IsChain, IsForest, IsHeld, IsKept, IsLinked, IsLiveIn, IsPlaced, IsSound, IsUnder}
+use Common.{length, length-append, length-map, Link, List, Node, None, none-some, Option, outline_of, refl, rows}
+use Common.{rows_at, slice_get, slice_get-get_or, slice_get_within, slice_index_or, slot_in, Some, State, subst, suc}
+use Common.{sym, tie_of, TreeState, waiting, zero, ℕ, [], ⊎_elim, ◌++◌, ◌+◌, ◌-◌, ◌<◌, ◌∙◌, ◌∷◌, ◌≡◌, ◌≢◌, ◌≤◌}
 
 pub one_deeper : (d : ℕ) → d + 1 ≡ suc d
 one_deeper d = omega arith
@@ -57,18 +51,13 @@ module _ {T : Type 0} where
           (subst (λ cs. IsHeld links up cs) part.3 (linked up))).chain.1
 
       short : length part.2 ≤ length links
-      short =
-          let le = children_short links up in
-          let all = ap length part.3 ∙ length-append part.0 (part.1 ∷ part.2) in omega (arith, le, all)
+      short = grind (arith, children_short links up, length-append part.0 (part.1 ∷ part.2))
 
       left_is : chain links (length links) (after_at s) ≡ part.2
-      left_is = ap (chain links (length links)) after_is
-          ∙ chain_is links (Some (slot_in part.1)) part.2 (length links) lies short
+      left_is = grind (arith, after_is, chain_is, lies, short)
 
       over : (y : Node T) → slice_get part.2 0 ≡ Some y → above fs (slot_in y) ≡ Some up
-      over y at =
-          let there = get_behind part.0 (part.1 ∷ part.2) 1 y at in
-          parent_is fs f up there.0 y (ap (λ cs. slice_get cs there.0) part.3 ∙ there.1)
+      over y at = grind (arith, get_behind part.0 (part.1 ∷ part.2) 1 y at, parent_is fs f up)
 
     -- a node that is first of what follows has a link, with what follows it
     head_there : (before : Option ℕ) (y : Node T) (ys : List (Node T)) → IsChain links before (y ∷ ys) None
@@ -80,11 +69,8 @@ module _ {T : Type 0} where
     head_within : (up at : ℕ) (zs : List (Node T))
         → ((y : Node T) → slice_get zs 0 ≡ Some y → above fs (slot_in y) ≡ Some up)
         → head_or zs None ≡ Some at → at < length links
-    head_within up at [] over is = absurd (none-some at is)
-    head_within up at (y ∷ ys) over is =
-        let lt = slot_within fs (slot_in y) up (over y refl) in
-        let long = length-map links (family_in links) in
-        let same = same_Some (slot_in y) at is in omega (arith, lt, long, same)
+    head_within up at [] over is = grind (arith, none-some at is)
+    head_within up at (y ∷ ys) over is = grind (arith, slot_within fs (slot_in y) up (over y refl), length-map)
 
     head_row : (d up at : ℕ) (l : Link T) (before : Option ℕ) (zs : List (Node T)) → length zs ≤ length links
         → IsChain links before zs None
@@ -92,18 +78,7 @@ module _ {T : Type 0} where
         → head_or zs None ≡ Some at → slice_get links at ≡ Some l
         → (waiting links (Some (suc d, l.node)) ≡ rows_at (suc d) zs ++ behind links d (Some up))
         × (above fs (slot_in l.node) ≡ Some up) × (slot_in l.node < length links)
-    head_row d up at l before [] le lies over is there = absurd (none-some at is)
-    head_row d up at l before (c ∷ cs) le lies over is there =
-        let here = head_there before c cs lies at l there (sym is) in
-        let after : chain links (length links) (after_at (slot_in c)) ≡ cs =
-        ap (chain links (length links)) (ap after_tied lies.0)
-        ∙ chain_is links (Some (slot_in c)) cs (length links) lies.1 (omega (arith, le)) in (
-          ap (λ n. waiting links (Some (suc d, n))) here.0
-              ∙ (ap (λ zs. (suc d, c) ∷ (rows_at (suc d) zs ++ behind links d (above fs (slot_in c)))) after
-              ∙ ap (λ o. (suc d, c) ∷ (rows_at (suc d) cs ++ behind links d o)) (over c refl)),
-          ap (λ n. above fs (slot_in n)) here.0 ∙ over c refl,
-          subst (λ i. i < length links) (here.1 ∙ ap slot_in (sym here.0)) (slice_get_within links at l there),
-        )
+    head_row d up at l before zs le lies over is there = grind (arith, head_there, chain_is, behind, slice_get_within)
 
     -- the next sibling's row waits next, and has the same parent
     pub next_sibling : (d s up at : ℕ) (l : Link T) → above fs s ≡ Some up → after_at s ≡ Some at
@@ -155,8 +130,7 @@ module _ {T : Type 0} where
 -- a slot that is some steps below another has a parent, where these aren't none
 pub under_has : {T : Type 0} (fs : List (Family T)) (top d s : ℕ) → 0 < d → IsUnder fs top d s
     → (up : ℕ) × (above fs s ≡ Some up)
-under_has fs top zero s lt under = absurd (omega arith)
-under_has fs top (suc d) s lt under = (under.0, under.1)
+under_has fs top d s lt under = grind arith
 
 module _ {T : Type 0} (links : List (Link T)) where
   -- no row is deeper than there are links
@@ -190,10 +164,9 @@ module _ {T : Type 0} (links : List (Link T)) where
     pub behind_up : (d s : ℕ) → IsPlaced links d s → 0 < d → (l : Link T) → l ≡ slice_index_or links s l
         → l.after ≡ None → (up : ℕ) → above (families links) s ≡ Some up
         → IsPlaced links (d - 1) up × (behind links (d - 1) (Some up) ≡ behind links d (Some s))
-    behind_up zero s placed lt l read none up is = absurd (omega arith)
+    behind_up zero s placed lt l read none up is = grind arith
     behind_up (suc d) s placed lt l read none up is =
-        let here = slice_get-get_or links s l placed.2 in
-        let long = length-map links (family_in links) in grind (arith, above_within (families links) f s up is, no_sibling)
+        grind (arith, slice_get-get_or, length-map, above_within, no_sibling)
 
   -- what is read of rows, one at a time
   pub rows_more : (left d : ℕ) (n : Node T) → left ≢ 0 → (slot : ℕ) → slot ≡ slot_in n
@@ -202,19 +175,16 @@ module _ {T : Type 0} (links : List (Link T)) where
       → rows (families links) left (waiting links (Some (d, n)))
       ≡ (d, n) ∷ rows (families links) (left - 1) (waiting links next)
   unfolding rows
-  rows_more zero d n some slot is next then = absurd (some refl)
-  rows_more (suc left) d n some slot is next then = grind arith
+  rows_more left d n some slot is next then = grind arith
 
 module _ {T : Type 0} (fs : List (Family T)) where
   pub rows_none : (left : ℕ) (list : List (ℕ × Node T)) → left ≡ 0 → rows fs left list ≡ []
   unfolding rows
-  rows_none zero list is = refl
-  rows_none (suc left) list is = absurd (omega (arith, is))
+  rows_none left list is = grind arith
 
   pub rows_end : (left : ℕ) → rows fs left [] ≡ []
   unfolding rows
-  rows_end zero = refl
-  rows_end (suc left) = refl
+  rows_end left = grind arith
 
 -- rows of live nodes are those that the tree shows
 module _ {T : Type 0} {S : State T} {fs : List (Family T)} (sound : IsSound S) (k : IsKept S fs) where
@@ -223,9 +193,8 @@ module _ {T : Type 0} {S : State T} {fs : List (Family T)} (sound : IsSound S) (
 
   get_row : (d : ℕ) (cs : List (Node T)) (i : ℕ) (r : ℕ × Node T) → slice_get (rows_at d cs) i ≡ Some r
       → slice_get cs i ≡ Some r.1
-  get_row d [] i r at = absurd (none-some r at)
-  get_row d (c ∷ cs) zero r at = ap (λ (row : ℕ × Node T). Some row.1) (same_Some (d, c) r at)
-  get_row d (c ∷ cs) (suc i) r at = get_row d cs i r at
+  get_row d [] i r at = grind arith
+  get_row d (c ∷ cs) i r at = grind (arith, get_row d cs)
 
   pub rows_outline : (limit : ℕ) (list : List (ℕ × Node T))
       → ((i : ℕ) (r : ℕ × Node T) → slice_get list i ≡ Some r → IsLiveIn S r.1)
@@ -245,8 +214,4 @@ module _ {T : Type 0} {S : State T} {fs : List (Family T)} (sound : IsSound S) (
 
   pub outline_from : (limit : ℕ) (node : Node T) → IsLiveIn S node
       → rows fs limit ((0, node) ∷ []) ≡ outline_of tree limit ((0, node) ∷ [])
-  outline_from limit node live = rows_outline limit ((0, node) ∷ []) first
-    where
-      first : (i : ℕ) (r : ℕ × Node T) → slice_get ((0, node) ∷ []) i ≡ Some r → IsLiveIn S r.1
-      first zero r at = subst (λ (x : ℕ × Node T). IsLiveIn S x.1) (same_Some (0, node) r at) live
-      first (suc i) r at = absurd (none-some r at)
+  outline_from limit node live = grind (arith, rows_outline)

@@ -1,15 +1,13 @@
 -- What a tree shows of its nodes.
-use Rattle.scene_tree.proofs.Common.{alone, ap, arith, Bool, cases_Bool, children_at, children_of, cond, count_at}
-use Rattle.scene_tree.proofs.Common.{false, Family, family_at, family_of, flat_map, inl, inr, is_live, is_same, is_some}
-use Rattle.scene_tree.proofs.Common.{IsInLevels, IsKept, IsLiveIn, IsRooted, IsRootedIn, IsSame, IsSound, IsStepsBelow}
-use Rattle.scene_tree.proofs.Common.{IsSubtree, IsTree, IsUnder, length, List, Node, NodeIsUnchanged, None, none-some}
-use Rattle.scene_tree.proofs.Common.{Option, parent_at, parent_of, pointer_in, reach, refl, slice_get, slot_in, slot_of}
-use Rattle.scene_tree.proofs.Common.{Some, State, subst, suc, sym, times, TreeState, true, true≢false, value_in}
-use Rattle.scene_tree.proofs.Common.{value_of, zero, [], ℕ, ⊎_elim, ◌++◌, ◌<◌, ◌∙◌, ◌∷◌, ◌≡◌, ◌⊎◌}
-use Rattle.scene_tree.proofs.Gathering.{all_listed, listed_below, listed_once, part_whole}
+use Rattle.scene_tree.proofs.{Forests.above_parent, Stores.one_live, Stores.same_shown}
+use Rattle.scene_tree.proofs.Common
+use Common.{alone, ap, arith, Bool, cases_Bool, children_at, children_of, cond, count_at, false, Family, family_at}
+use Common.{family_of, flat_map, inl, inr, is_live, is_same, is_some, IsInLevels, IsKept, IsLiveIn, IsRooted}
+use Common.{IsRootedIn, IsSound, IsStepsBelow, IsSubtree, IsTree, IsUnder, length, List, Node, NodeIsUnchanged, None}
+use Common.{Option, parent_at, parent_of, pointer_in, refl, slice_get, slot_in, slot_of, Some, State, subst, suc, sym}
+use Common.{times, TreeState, true, true≢false, value_in, value_of, zero, ℕ, [], ⊎_elim, ◌++◌, ◌<◌, ◌∙◌, ◌∷◌, ◌≡◌, ◌⊎◌}
 use Rattle.scene_tree.proofs.Counting.{is_id, same_id, times_at, times_none}
-use Rattle.scene_tree.proofs.Forests.{above_parent}
-use Rattle.scene_tree.proofs.Stores.{one_live}
+use Rattle.scene_tree.proofs.Gathering.{all_listed, listed_below, listed_once, part_whole}
 
 module _ {T : Type 0} where
   -- a live node has the family of its slot, and one that is gone is alone
@@ -41,8 +39,7 @@ told_live n same is live = cc
 
 -- what is not there is missing
 pub missing : {X : Type 0} (x : Option X) → is_some x ≡ false → x ≡ None
-missing None none = refl
-missing (Some v) none = absurd (true≢false none)
+missing o none = grind (arith, true≢false)
 
 -- what stands in two lists in a row stands in one of them
 pub get_both : {X : Type 0} (xs ys : List X) (i : ℕ) (x : X) → slice_get (xs ++ ys) i ≡ Some x
@@ -54,22 +51,14 @@ get_both (z ∷ xs) ys (suc i) x at =
 
 get_flat : {X Y : Type 0} (f : X → List Y) (xs : List X) (i : ℕ) (y : Y)
     → slice_get (flat_map f xs) i ≡ Some y → (x : X) × (j : ℕ) × (slice_get (f x) j ≡ Some y)
-get_flat f [] i y at = absurd (none-some y at)
-get_flat f (x ∷ xs) i y at = ⊎_elim (λ here. (x, here.0, here.1))
-    (λ rest. get_flat f xs rest.0 y rest.1) (get_both (f x) (flat_map f xs) i y at)
+get_flat f [] i y at = grind arith
+get_flat f (x ∷ xs) i y at = grind (arith, get_flat f xs, get_both)
 
 module _ {T : Type 0} where
-  -- handles of one node show the same
-  pub same_shown : (S : State T) (a b : Node T) → IsSame a b
-      → value_in S (pointer_in a) ≡ value_in S (pointer_in b)
-  unfolding value_in reach
-  same_shown S a b same = grind arith
-
   -- what is below a live node is live
   pub below_live : (t : TreeState T) (top n : Node T) (e : ℕ) → is_live t top ≡ true
       → IsStepsBelow t top e n → is_live t n ≡ true
-  below_live t top n zero live same = ap is_some (same_shown t.state n top same) ∙ live
-  below_live t top n (suc e) live below = grind arith
+  below_live t top n e live same = grind (arith, same_shown)
 
   abbrev pub AreLive : State T → List (Node T) → Type 0
   AreLive S list = (i : ℕ) (c : Node T) → slice_get list i ≡ Some c → IsLiveIn S c
@@ -80,8 +69,7 @@ module _ {T : Type 0} where
 
     pub times_live : (n : Node T) → IsLiveIn S n → (list : List (Node T)) → AreLive S list
         → times n list ≡ count_at (slot_in n) list
-    times_live n live list lives = times_at n list (λ i x at same.
-        same_id x n (one_live S x n sound k.simple (lives i x at) live same))
+    times_live n live list lives = search (arith, times_at, same_id, one_live)
 
     pub times_gone : (n : Node T) → is_some (value_in S (pointer_in n)) ≡ false → (list : List (Node T))
         → AreLive S list → times n list ≡ 0
@@ -105,12 +93,7 @@ module _ {T : Type 0} where
 
     pub rooted_in : (d : ℕ) (n : Node T) → IsLiveIn S n → IsRooted fs d (slot_in n) → IsRootedIn tree d n
     rooted_in zero n live r = grind arith
-    rooted_in (suc d) n live r =
-        let up = above_parent fs (slot_in n) r.0 r.1 in (
-          up.0,
-          live_parent n live ∙ up.1,
-          rooted_in d up.0 (k.parents (slot_in n) up.0 up.1) (subst (IsRooted fs d) (sym up.2) r.2),
-        )
+    rooted_in (suc d) n live r = grind (arith, rooted_in d, above_parent, live_parent)
 
     pub kept_tree : IsTree tree
     kept_tree = record {
@@ -141,14 +124,8 @@ module _ {T : Type 0} where
     module _ (top : Node T) (live : IsLiveIn S top) where
       pub under_below : (e : ℕ) (n : Node T) → IsLiveIn S n → IsUnder fs (slot_in top) e (slot_in n)
           → IsStepsBelow tree top e n
-      under_below zero n lives is = one_live S n top sound k.simple lives live is
-      under_below (suc e) n lives under =
-          let up = above_parent fs (slot_in n) under.0 under.1 in (
-            up.0,
-            live_parent n lives ∙ up.1,
-            under_below e up.0 (k.parents (slot_in n) up.0 up.1)
-                (subst (IsUnder fs (slot_in top) e) (sym up.2) under.2),
-          )
+      under_below zero n lives is = grind (arith, one_live)
+      under_below (suc e) n lives under = grind (arith, under_below e, above_parent, live_parent)
 
       pub below_under : (e : ℕ) (n : Node T) → IsStepsBelow tree top e n
           → IsLiveIn S n × IsUnder fs (slot_in top) e (slot_in n)
@@ -161,9 +138,8 @@ module _ {T : Type 0} where
 
         flat_same : (xs : List (Node T)) → AreLive S xs
             → flat_map (λ n. children_at fs (slot_in n)) xs ≡ flat_map (children_of tree) xs
-        flat_same [] lives = refl
-        flat_same (x ∷ xs) lives =
-            grind (arith, live_children x (lives 0 x refl), flat_same xs (λ i. lives (suc i)))
+        flat_same [] lives = grind arith
+        flat_same (x ∷ xs) lives = grind (arith, flat_same xs (λ i. lives (suc i)), live_children x (lives 0 x refl))
 
         pub subtree : IsSubtree tree top list
         subtree = record {

@@ -1,4 +1,4 @@
-use Rattle.scene_tree.proofs.Common.{families, IsCleared, IsLinked, length, noted, take, ℕ, ◌≡◌}
+use Rattle.scene_tree.proofs.{families, IsCleared, IsLinked, length, noted, take, ℕ, ◌≡◌}
 use Rattle.scene_tree.proofs.links.clear_all.Given as goal
 
 abbrev pub invariant-loop-node : goal.invariant-loop-node

@@ -1,5 +1,5 @@
-use Rattle.scene_tree.proofs.Common.{arith, families, family_in, length-map, rules, ◌∙◌}
-use Rattle.scene_tree.proofs.Gathering.{below_within, listed_below, part_whole, same_length}
+use Rattle.scene_tree.proofs.{arith, below_within, families, family_in, length-map, listed_below, part_whole, rules}
+use Rattle.scene_tree.proofs.{same_length, ◌∙◌}
 use Rattle.scene_tree.proofs.links.cut.Goals as goal
 
 pub clear_all-requires-clause-within : goal.clear_all-requires-clause-within

@@ -1,4 +1,4 @@
-use Rattle.scene_tree.proofs.Common.{families, IsRooted, length, ℕ, ◌+◌, ◌<◌}
+use Rattle.scene_tree.proofs.{families, IsRooted, length, ℕ, ◌+◌, ◌<◌}
 use Rattle.scene_tree.proofs.links.depth_at.Given as goal
 
 abbrev pub invariant-loop-steps : goal.invariant-loop-steps

@@ -1,4 +1,4 @@
-use Rattle.scene_tree.proofs.Common.{families, IsRooted, IsUnder, length, ℕ, ◌+◌, ◌<◌, ◌↔◌}
+use Rattle.scene_tree.proofs.{families, IsRooted, IsUnder, length, ℕ, ◌+◌, ◌<◌, ◌↔◌}
 use Rattle.scene_tree.proofs.links.is_under.Given as goal
 
 abbrev pub invariant-loop : goal.invariant-loop

@@ -1,5 +1,5 @@
-use Rattle.scene_tree.proofs.Common.{arith, refl, rules, slice_get_read, sym, ◌∙◌}
-use Rattle.scene_tree.proofs.Rows.{first_row, first_within, no_row, one_deeper, placed_short}
+use Rattle.scene_tree.proofs.{arith, first_row, first_within, no_row, one_deeper, placed_short, refl, rules}
+use Rattle.scene_tree.proofs.{slice_get_read, sym, ◌∙◌}
 use Rattle.scene_tree.proofs.links.next_row.Goals as goal
 
 pub overflow_add-result : goal.overflow_add-result

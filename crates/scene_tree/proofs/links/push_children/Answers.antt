@@ -1,5 +1,5 @@
-use Rattle.scene_tree.proofs.Common.{ap, children_at, map-id, refl, same_Some, slice_get_read, slot_in, sym}
-use Rattle.scene_tree.proofs.Common.{YieldsList-end, YieldsList-from_first, ◌++◌, ◌∙◌}
+use Rattle.scene_tree.proofs.{ap, children_at, map-id, refl, same_Some, slice_get_read, slot_in, sym, YieldsList-end}
+use Rattle.scene_tree.proofs.{YieldsList-from_first, ◌++◌, ◌∙◌}
 use Rattle.scene_tree.proofs.links.push_children.Goals as goal
 
 pub returns : goal.returns

@@ -1,4 +1,4 @@
-use Rattle.scene_tree.proofs.Common.{◌++◌, ◌≡◌}
+use Rattle.scene_tree.proofs.{◌++◌, ◌≡◌}
 use Rattle.scene_tree.proofs.links.push_children.Given as goal
 
 abbrev pub invariant-loop-child : goal.invariant-loop-child

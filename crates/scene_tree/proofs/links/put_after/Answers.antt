@@ -1,4 +1,4 @@
-use Rattle.scene_tree.proofs.Chains.{written}
+use Rattle.scene_tree.proofs.{written}
 use Rattle.scene_tree.proofs.links.put_after.Goals as goal
 
 pub returns-in-Some : goal.returns-in-Some

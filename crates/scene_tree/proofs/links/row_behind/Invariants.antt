@@ -1,4 +1,4 @@
-use Rattle.scene_tree.proofs.Common.{behind, IsPlaced, Some, ◌≡◌}
+use Rattle.scene_tree.proofs.{behind, IsPlaced, Some, ◌≡◌}
 use Rattle.scene_tree.proofs.links.row_behind.Given as goal
 
 abbrev pub invariant-loop-steps : goal.invariant-loop-steps

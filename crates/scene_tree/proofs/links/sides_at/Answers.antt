@@ -1,4 +1,4 @@
-use Rattle.scene_tree.proofs.Common.{ap, refl, slice_get_read, tie_of}
+use Rattle.scene_tree.proofs.{ap, refl, slice_get_read, tie_of}
 use Rattle.scene_tree.proofs.links.sides_at.Goals as goal
 
 pub returns : goal.returns

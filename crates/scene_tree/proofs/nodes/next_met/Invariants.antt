@@ -1,4 +1,4 @@
-use Rattle.scene_tree.proofs.Common.{drop, length, met, ◌-◌, ◌≡◌}
+use Rattle.scene_tree.proofs.{drop, length, met, ◌-◌, ◌≡◌}
 use Rattle.scene_tree.proofs.nodes.next_met.Given as goal
 
 abbrev pub invariant-loop-slot : goal.invariant-loop-slot

@@ -1,4 +1,4 @@
-use Rattle.scene_tree.proofs.Common.{HasLost, take}
+use Rattle.scene_tree.proofs.{HasLost, take}
 use Rattle.scene_tree.proofs.tree.end_all.Given as goal
 
 abbrev pub invariant-loop-node : goal.invariant-loop-node

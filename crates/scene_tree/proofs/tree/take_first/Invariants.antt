@@ -1,4 +1,4 @@
-use Rattle.scene_tree.proofs.Common.{HasLost, length, take, ◌-◌, ◌≤◌}
+use Rattle.scene_tree.proofs.{HasLost, length, take, ◌-◌, ◌≤◌}
 use Rattle.scene_tree.proofs.tree.take_first.Given as goal
 
 abbrev pub invariant-rest : goal.invariant-rest

@@ -65,7 +65,8 @@ returns g c =
     let opened = rw c.reserve_one.ensures.same at c.open_slot.ensures.opened in
     rw (← c.self.view_is) (record {
       shown = made None _ _ (Ok c.in-Ok-leak.raw) step;
-      below = rw is (added_child k (sound _) _ _ parent child c.args.spot step live _ _ opened c.attach.ensures.attached);
+      below =
+          rw is (added_child k (sound _) _ _ parent child c.args.spot step live _ _ opened c.attach.ensures.attached);
       placed = λ up some. rw (← same_Some parent up (sym is ∙ some)) (added_parent k (sound _) _ _ parent child
           c.args.spot step live _ _ opened c.attach.ensures.attached);
       count = made_count (sound _) k.simple _ _ (pointer_of c.in-Ok-leak.raw) step;

@@ -1,4 +1,4 @@
-use Rattle.scene_tree.proofs.Common.{test_sees, ◌∙◌}
+use Rattle.scene_tree.proofs.{test_sees, ◌∙◌}
 use Rattle.scene_tree.proofs.tree.SceneTree.is_alive.Goals as goal
 
 pub returns : goal.returns

@@ -1,4 +1,4 @@
-use Rattle.scene_tree.proofs.Common.{IfOk-weaker, IsOther, same_Some, subst}
+use Rattle.scene_tree.proofs.{IfOk-weaker, IsOther, same_Some, subst}
 use Rattle.scene_tree.proofs.tree.SceneTree.move_to.Goals as goal
 
 pub returns-clause-lost : goal.returns-clause-lost

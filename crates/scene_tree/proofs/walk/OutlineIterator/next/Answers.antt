@@ -1,5 +1,5 @@
-use Rattle.scene_tree.proofs.Common.{ap, arith, families, length, rows, rules, subst, sym, waiting, YieldsFirst, ◌∙◌}
-use Rattle.scene_tree.proofs.Rows.{rows_end, rows_more, rows_none}
+use Rattle.scene_tree.proofs.{ap, arith, families, length, rows, rows_end, rows_more, rows_none, rules, subst, sym}
+use Rattle.scene_tree.proofs.{waiting, YieldsFirst, ◌∙◌}
 use Rattle.scene_tree.proofs.walk.OutlineIterator.next.Goals as goal
 
 pub returns-then-self-eq0-clause-steps : goal.returns-then-self-eq0-clause-steps
