@@ -3,10 +3,7 @@ use Rattle.scene_tree.proofs.{sym, ◌∙◌, ◌≡◌}
 use Rattle.scene_tree.proofs.links.depth_at.Goals as goal
 
 pub loop-steps-init : goal.loop-steps-init
-loop-steps-init g c = record {
-  rooted = rooted_within _ c.requires.forest c.args.slot c.requires.within;
-  deeper = λ d down. subst (λ n. IsRooted (families c.args.links.now.items) n c.args.slot) (omega arith) down;
-}
+loop-steps-init g c = grind (arith, rooted_within)
 
 pub loop-steps-preserved : goal.loop-steps-preserved
 loop-steps-preserved g c =

@@ -12,12 +12,7 @@ push_children-requires-clause-within g c n at =
     omega (arith, below, len)
 
 pub loop-next-smaller : goal.loop-next-smaller
-loop-next-smaller g c =
-    let links = c.args.links.now.items in
-    let len = length-map links (family_in links) in
-    let short = list_short (families links) c.requires.forest c.args.top _ _ c.loop-next.invariant
-    (omega (arith, len, c.requires.within)) in
-    omega (arith, short, len, c.loop-next-test.true, c.len.ensures)
+loop-next-smaller g c = grind (arith, length-map, list_short)
 
 pub loop-next-preserved : goal.loop-next-preserved
 loop-next-preserved g c =

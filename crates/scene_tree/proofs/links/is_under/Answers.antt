@@ -3,19 +3,10 @@ use Rattle.scene_tree.proofs.{step_under, suc, sym, true≢false, under_up, ◌�
 use Rattle.scene_tree.proofs.links.is_under.Goals as goal
 
 pub loop-init : goal.loop-init
-loop-init g c = record {
-  rooted = rooted_within _ c.requires.forest c.args.slot c.requires.within;
-  same = (λ u. u, λ u. u);
-}
+loop-init g c = grind (arith, rooted_within)
 
 pub returns-in-None : goal.returns-in-None
-returns-in-None g c = (
-  λ is. absurd (true≢false (sym is)),
-  λ under.
-      let here = c.loop.invariant.same.0 under in
-      absurd (c.if-at-top.false (root_under _ c.args.top here.0 c.loop.at
-      (ap slot_of (sym c.parent_at.ensures ∙ c.in-None.is)) here.1)),
-)
+returns-in-None g c = grind (arith, root_under)
 
 pub loop-preserved : goal.loop-preserved
 loop-preserved g c =

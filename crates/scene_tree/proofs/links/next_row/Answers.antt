@@ -1,5 +1,5 @@
 use Rattle.scene_tree.proofs.{arith, first_row, first_within, no_row, one_deeper, placed_short, refl, rules}
-use Rattle.scene_tree.proofs.{slice_get_read, sym, ◌∙◌}
+use Rattle.scene_tree.proofs.{slice_get_read}
 use Rattle.scene_tree.proofs.links.next_row.Goals as goal
 
 pub overflow_add-result : goal.overflow_add-result
@@ -9,10 +9,7 @@ overflow_add-result g c =
     let small = c.args.links.now.small in search (rules, arith)
 
 pub index-requires-in-Some : goal.index-requires-in-Some
-index-requires-in-Some g c =
-    let here = slice_get_read _ _ _ _ refl c.requires.placed.2 c.index.ensures in
-    let lt = first_within _ c.requires.linked c.requires.forest _ _ c.index.result.now here c.in-Some.is in
-    let len = c.args.links.now.ok.0 in omega (arith, lt, len)
+index-requires-in-Some g c = grind (arith, slice_get_read, first_within)
 
 pub returns-in-Some : goal.returns-in-Some
 returns-in-Some g c =
@@ -25,5 +22,4 @@ returns-in-Some g c =
     }
 
 pub returns-in-None-clause-next : goal.returns-in-None-clause-next
-returns-in-None-clause-next g c = c.row_behind.ensures.next ∙ sym (no_row _ c.requires.linked c.requires.forest
-    c.args.depth _ c.index.result.now (slice_get_read _ _ _ _ refl c.requires.placed.2 c.index.ensures) c.in-None.is)
+returns-in-None-clause-next g c = grind (arith, no_row, slice_get_read)

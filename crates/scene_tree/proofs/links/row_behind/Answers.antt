@@ -1,16 +1,9 @@
-use Rattle.scene_tree.proofs.{after_tied, after_within, ap, arith, behind_up, families, refl, sibling_row}
-use Rattle.scene_tree.proofs.{slice_get_read, slot_of, Some, sym, tie_of, under_has, ◌∙◌}
+use Rattle.scene_tree.proofs.{after_within, ap, arith, behind_up, sibling_row, slice_get_read, slot_of, Some, sym}
+use Rattle.scene_tree.proofs.{under_has, ◌∙◌}
 use Rattle.scene_tree.proofs.links.row_behind.Goals as goal
 
 pub index-requires-in-Some : goal.index-requires-in-Some
-index-requires-in-Some g c =
-    let links = c.args.links.now.items in
-    let placed = c.loop-steps.invariant.placed in
-    let has = under_has (families links) placed.0 c.loop-steps.steps c.loop-steps.at c.loop-steps-test.true placed.1 in
-    let here = slice_get_read links _ _ c.index.result.now refl placed.2 c.index.ensures in
-    let lt = after_within links c.requires.linked c.requires.forest _ has.0 c.in-Some.sibling has.1
-    (ap (λ o. after_tied (tie_of o)) here ∙ c.in-Some.is) in
-    let len = c.args.links.now.ok.0 in omega (arith, lt, len)
+index-requires-in-Some g c = grind (arith, under_has, slice_get_read, after_within)
 
 pub returns-in-Some : goal.returns-in-Some
 returns-in-Some g c =
