@@ -1,15 +1,9 @@
 -- What callers say of a walk, from what holds of its items.
-use Rattle.std.proofs.Common.{◌≡◌, ◌≤◌, ℕ, zero, suc, Option, None, Some, List, [], ◌∷◌, ◌++◌, length, map}
-use Rattle.std.proofs.Common.{refl, sym, ap, subst, ◌∙◌}
-use Rattle.std.specs.Prelude.{slice_get, option_map}
-use Rattle.std.proofs.lemmas.Option.{none-some, same_Some, slice_get-map}
-use Rattle.scene_tree.specs.declared.node.Node.{Node}
-use Rattle.std.proofs.Common.{◌<◌, true, arith, ⊎_elim}
-use Rattle.std.proofs.lemmas.Bool.{cases_Bool}
-use Rattle.generational_sessions.proofs.callers.Ids.{same_id_sees}
-use Rattle.scene_tree.specs.Nodes.{is_same, pointer_in, times}
-use Rattle.scene_tree.specs.Trees.{AreAncestors, IsStepsBelow, TreeState, parent_of, value_of}
-use Rattle.scene_tree.proofs.Counting.{is_id, times_apart}
+use Rattle.example_libraries.proofs.Common
+use Common.{ap, AreAncestors, arith, cases_Bool, get_pushed, is_id, is_same, IsStepsBelow, length, List, map}
+use Common.{Node, None, none-some, Option, option_map, parent_of, pointer_in, refl, same_id_sees, same_Some}
+use Common.{slice_get, slice_get-map, Some, subst, suc, sym, times, times_apart, TreeState, true, value_of}
+use Common.{zero, [], ℕ, ⊎_elim, ◌++◌, ◌<◌, ◌∙◌, ◌∷◌, ◌≡◌}
 
 -- a row's key stands beside a value
 pub stands_with : {E V : Type 0} (pairs : List (E × V)) (row : ℕ) (e : E)
@@ -18,29 +12,12 @@ stands_with [] row e is = absurd (none-some e is)
 stands_with (p ∷ pairs) zero e is = (p.1, ap (λ k. Some (k, p.1)) (same_Some p.0 e is))
 stands_with (p ∷ pairs) (suc row) e is = stands_with pairs row e is
 
--- a bound on the number of each item is one on each pair
-pub bounds_each : {P E : Type 0} (key : P → E) (number : P → ℕ) (most : ℕ) (items : List P)
-    (pairs : List (E × ℕ)) → map (λ p. (key p, number p)) items ≡ pairs
-    → ((k : ℕ) (p : P) → slice_get items k ≡ Some p → number p ≤ most)
-    → (row : ℕ) (e : E) (v : ℕ) → slice_get pairs row ≡ Some (e, v) → v ≤ most
-bounds_each {P} {E} key number most items pairs is low row e v at =
-    by (slice_get items row) (sym (slice_get-map (λ p. (key p, number p)) items row)
-    ∙ (ap (λ ys. slice_get ys row) is ∙ at)) (low row)
-  where
-    by : (o : Option P) → option_map {U = E × ℕ} (λ p. (key p, number p)) o ≡ Some (e, v)
-        → ((p : P) → o ≡ Some p → number p ≤ most) → v ≤ most
-    by None none h = absurd (none-some _ none)
-    by (Some p) same h = subst (λ n. n ≤ most) (ap (λ q. q.1) (same_Some _ _ same)) (h p refl)
-
 -- what holds of each item and of one more holds of all
 pub each_more : {P : Type 0} (Q : P → Type 0) (xs : List P) (y : P)
     → ((k : ℕ) (p : P) → slice_get xs k ≡ Some p → Q p) → Q y
     → (k : ℕ) (p : P) → slice_get (xs ++ y ∷ []) k ≡ Some p → Q p
-each_more Q [] y each last zero p is = subst Q (same_Some y p is) last
-each_more Q [] y each last (suc k) p is = absurd (none-some p is)
-each_more Q (x ∷ xs) y each last zero p is = each 0 p is
-each_more Q (x ∷ xs) y each last (suc k) p is =
-    each_more Q xs y (λ j q there. each (suc j) q there) last k p is
+each_more Q xs y each last k p is =
+    ⊎_elim (λ old. each k p old) (λ new. subst Q new.1 last) (get_pushed xs k y p is)
 
 -- what holds of each item as it is seen holds of all that is seen
 pub holds_all : {P Y : Type 0} (view : P → Y) (Q : Y → Type 0) (items : List P) (ys : List Y)

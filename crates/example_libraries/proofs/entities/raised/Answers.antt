@@ -1,5 +1,4 @@
-use Rattle.std.proofs.Common.{◌≡◌, ◌∙◌, ap, rules, Some}
-use Rattle.std.proofs.lemmas.Option.{IfSome_then}
+use Rattle.example_libraries.proofs.{ap, IfSome_then, rules, Some, ◌∙◌, ◌≡◌}
 use Rattle.example_libraries.proofs.entities.raised.Goals as goal
 
 pub returns-clause-before : goal.returns-clause-before

@@ -1,6 +1,4 @@
-use Rattle.std.proofs.Common.{◌≤◌, arith}
-use Rattle.std.proofs.lemmas.Iterator.Consumers.{YieldsList-from_first, YieldsList-end}
-use Rattle.example_libraries.proofs.Walks.{each_more, holds_all}
+use Rattle.example_libraries.proofs.{arith, each_more, holds_all, YieldsList-end, YieldsList-from_first, ◌≤◌}
 use Rattle.example_libraries.proofs.entities.within_limits.Goals as goal
 
 pub returns : goal.returns

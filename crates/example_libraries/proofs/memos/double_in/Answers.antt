@@ -1,5 +1,4 @@
-use Rattle.std.proofs.Common.{ap, sym, ◌∙◌, ◌≢◌}
-use Rattle.reactive.specs.Graphs.{kind_in}
+use Rattle.example_libraries.proofs.{ap, kind_in, sym, ◌∙◌, ◌≢◌}
 use Rattle.example_libraries.proofs.memos.double_in.Goals as goal
 
 pub returns-clause-others : goal.returns-clause-others

@@ -1,6 +1,4 @@
-use Rattle.std.proofs.Common.{rules}
-use Rattle.std.proofs.lemmas.List.Elements.{All-get_or}
-use Rattle.entity_table.specs.Entities.{IsOther}
+use Rattle.example_libraries.proofs.{All-get_or, IsOther, rules}
 use Rattle.example_libraries.proofs.proving.set_all.Goals as goal
 
 pub loop-item-preserved : goal.loop-item-preserved

@@ -1,7 +1,4 @@
-use Rattle.std.proofs.Common.{◌≡◌, ℕ, All}
-use Rattle.entity_table.specs.declared.entity.Entity.{Entity}
-use Rattle.entity_table.specs.Entities.{IsOther}
-use Rattle.entity_table.specs.Tables.{element_in}
+use Rattle.example_libraries.proofs.{All, element_in, Entity, IsOther, ℕ, ◌≡◌}
 use Rattle.example_libraries.proofs.proving.set_all.Given as goal
 
 abbrev pub invariant-loop-item : goal.invariant-loop-item

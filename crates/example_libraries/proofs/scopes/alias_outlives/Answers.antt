@@ -1,5 +1,4 @@
-use Rattle.std.proofs.Common.{arith, ◌∙◌}
-use Rattle.std.proofs.lemmas.Grind.{common_steps}
+use Rattle.example_libraries.proofs.{arith, common_steps, ◌∙◌}
 use Rattle.signals.specs.Signals.{pointer_in}
 use Rattle.example_libraries.proofs.scopes.alias_outlives.Goals as goal
 

@@ -1,10 +1,5 @@
-use Rattle.std.proofs.Common.{inr, ap, subst, sym, ◌∙◌}
-use Rattle.generational_core.specs.Leaving.{IsUnchanged}
-use Rattle.generational_errors.specs.Texts.{as_refused_mut}
-use Rattle.generational_core.proofs.machine.Calling.{keeps_free}
-use Rattle.generational_sessions.proofs.callers.Lefts.{left_ticket, left_twice}
-use Rattle.generational_sessions.proofs.callers.Results.{err_so}
-use Rattle.generational_sessions.proofs.callers.Shortage.{read_short}
+use Rattle.example_libraries.proofs.{ap, as_refused_mut, err_so, inr, IsUnchanged, keeps_free, left_ticket}
+use Rattle.example_libraries.proofs.{left_twice, read_short, subst, sym, ◌∙◌}
 use Rattle.example_libraries.proofs.scopes.count_up.Goals as goal
 
 pub returns-in_err-seen-clause-refused : goal.returns-in_err-seen-clause-refused

@@ -1,9 +1,5 @@
-use Rattle.std.proofs.Common.{inl, inr, ap, subst, sym, ◌∙◌, refl}
-use Rattle.generational_core.specs.Leaving.{IsUnchanged}
-use Rattle.generational_errors.specs.Texts.{as_refused_mut}
-use Rattle.generational_sessions.proofs.callers.Lefts.{left_ticket, left_twice, set_free}
-use Rattle.generational_sessions.proofs.callers.Results.{err_so}
-use Rattle.generational_sessions.proofs.callers.Shortage.{read_short}
+use Rattle.example_libraries.proofs.{ap, as_refused_mut, err_so, inl, inr, IsUnchanged, left_ticket}
+use Rattle.example_libraries.proofs.{left_twice, read_short, refl, set_free, subst, sym, ◌∙◌}
 use Rattle.example_libraries.proofs.scopes.set_source.Goals as goal
 
 pub returns-in-Err-clause-refused : goal.returns-in-Err-clause-refused

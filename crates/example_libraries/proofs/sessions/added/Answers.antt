@@ -1,5 +1,4 @@
-use Rattle.std.proofs.Common.{◌≡◌, ◌+◌, ◌∙◌, ap, rules, Some}
-use Rattle.std.proofs.lemmas.Result.{IfOk-weaker}
+use Rattle.example_libraries.proofs.{ap, IfOk-weaker, rules, Some, ◌+◌, ◌∙◌, ◌≡◌}
 use Rattle.example_libraries.proofs.sessions.added.Goals as goal
 
 pub returns-clause-added : goal.returns-clause-added

@@ -1,8 +1,5 @@
-use Rattle.std.proofs.Common.{nat_eq, ◌≤◌, sym, subst, ◌∙◌}
-use Rattle.std.proofs.lemmas.Bool.{eqb-true}
-use Rattle.std.proofs.lemmas.Iterator.Consumers.{YieldsList-from_first, YieldsList-end}
-use Rattle.std.proofs.lemmas.Map.Entries.{place_from_lookup}
-use Rattle.example_libraries.proofs.Walks.{holds_all}
+use Rattle.example_libraries.proofs.{eqb-true, holds_all, nat_eq, place_from_lookup, subst, sym}
+use Rattle.example_libraries.proofs.{YieldsList-end, YieldsList-from_first, ◌∙◌, ◌≤◌}
 use Rattle.example_libraries.proofs.sessions.greatest_key.Goals as goal
 
 pub returns : goal.returns

@@ -1,8 +1,5 @@
-use Rattle.std.proofs.Common.{◌≤◌, nat_eq, ◌∙◌}
-use Rattle.std.proofs.lemmas.Iterator.Consumers.{YieldsList-from_first, YieldsList-end}
-use Rattle.std.proofs.lemmas.Map.Entries.{place_from_lookup}
-use Rattle.session_table.specs.Tables.{live}
-use Rattle.example_libraries.proofs.Walks.{holds_all}
+use Rattle.example_libraries.proofs.{holds_all, live, nat_eq, place_from_lookup, YieldsList-end}
+use Rattle.example_libraries.proofs.{YieldsList-from_first, ◌∙◌, ◌≤◌}
 use Rattle.example_libraries.proofs.sessions.latest_use.Goals as goal
 
 pub returns : goal.returns

@@ -1,5 +1,4 @@
-use Rattle.std.proofs.Common.{◌≡◌, ◌≤◌, ℕ, Some}
-use Rattle.std.specs.Prelude.{slice_get}
+use Rattle.example_libraries.proofs.{slice_get, Some, ℕ, ◌≡◌, ◌≤◌}
 use Rattle.example_libraries.proofs.sessions.latest_use.Given as goal
 
 abbrev pub invariant-walk : goal.invariant-walk

@@ -1,8 +1,5 @@
-use Rattle.std.proofs.Common.{◌≡◌, ℕ, zero, suc, None, refl, sym, ◌∙◌}
-use Rattle.std.proofs.lemmas.Option.{none-some}
-use Rattle.scene_tree.specs.declared.node.Node.{Node}
-use Rattle.scene_tree.specs.Trees.{IsRootedIn, TreeState, parent_of}
-use Rattle.std.proofs.lemmas.Result.{IfOk-weaker}
+use Rattle.example_libraries.proofs.{IfOk-weaker, IsRootedIn, Node, None, none-some, parent_of, refl, suc}
+use Rattle.example_libraries.proofs.{sym, TreeState, zero, ℕ, ◌∙◌, ◌≡◌}
 use Rattle.example_libraries.proofs.trees.freed.Goals as goal
 
 -- a root is no steps below one

@@ -1,9 +1,5 @@
-use Rattle.std.proofs.Common.{◌<◌, ◌≤◌, sym, ap, subst, ◌∙◌}
-use Rattle.std.specs.Prelude.{is_some}
-use Rattle.std.proofs.lemmas.Iterator.Consumers.{YieldsList-from_first, YieldsList-end}
-use Rattle.std.proofs.lemmas.List.{map-id}
-use Rattle.scene_tree.specs.Nodes.{times}
-use Rattle.example_libraries.proofs.Walks.{shown_too}
+use Rattle.example_libraries.proofs.{ap, is_some, map-id, shown_too, subst, sym, times, YieldsList-end}
+use Rattle.example_libraries.proofs.{YieldsList-from_first, ◌<◌, ◌∙◌, ◌≤◌}
 use Rattle.example_libraries.proofs.trees.greatest_root.Goals as goal
 
 pub returns : goal.returns

@@ -1,7 +1,4 @@
-use Rattle.std.proofs.Common.{◌≡◌, ◌≤◌, ℕ, Some}
-use Rattle.std.specs.Prelude.{slice_get}
-use Rattle.scene_tree.specs.declared.node.Node.{Node}
-use Rattle.scene_tree.specs.Trees.{value_of}
+use Rattle.example_libraries.proofs.{Node, slice_get, Some, value_of, ℕ, ◌≡◌, ◌≤◌}
 use Rattle.example_libraries.proofs.trees.greatest_root.Given as goal
 
 abbrev pub invariant-over : goal.invariant-over

@@ -1,8 +1,5 @@
-use Rattle.std.proofs.Common.{arith, sym, ap, ⊎_elim, ◌∙◌, ℕ}
-use Rattle.std.specs.Prelude.{slice_get}
-use Rattle.std.proofs.lemmas.Iterator.Consumers.{YieldsList-from_first, YieldsList-end}
-use Rattle.std.proofs.lemmas.List.{map-id}
-use Rattle.generational_sessions.proofs.callers.Elements.{get_pushed}
+use Rattle.example_libraries.proofs.{ap, arith, get_pushed, map-id, slice_get, sym, YieldsList-end}
+use Rattle.example_libraries.proofs.{YieldsList-from_first, ℕ, ⊎_elim, ◌∙◌}
 use Rattle.example_libraries.proofs.trees.height.Goals as goal
 
 pub rows-preserved-then-depth-height : goal.rows-preserved-then-depth-height

@@ -1,7 +1,5 @@
-use Rattle.std.proofs.Common.{sym, ap, ◌∙◌}
-use Rattle.std.proofs.lemmas.Iterator.Consumers.{YieldsList-from_first, YieldsList-end}
-use Rattle.std.proofs.lemmas.List.{map-id}
-use Rattle.example_libraries.proofs.Walks.{last_in, last_pushed}
+use Rattle.example_libraries.proofs.{ap, last_in, last_pushed, map-id, sym, YieldsList-end}
+use Rattle.example_libraries.proofs.{YieldsList-from_first, ◌∙◌}
 use Rattle.example_libraries.proofs.trees.last_child.Goals as goal
 
 pub over-preserved : goal.over-preserved

@@ -1,5 +1,4 @@
-use Rattle.std.proofs.Common.{◌≡◌}
-use Rattle.example_libraries.proofs.Walks.{last_in}
+use Rattle.example_libraries.proofs.{last_in, ◌≡◌}
 use Rattle.example_libraries.proofs.trees.last_child.Given as goal
 
 abbrev pub invariant-over : goal.invariant-over

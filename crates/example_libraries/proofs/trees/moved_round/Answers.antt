@@ -1,6 +1,5 @@
-use Rattle.std.proofs.Common.{◌≡◌, false, Option, None, Some, refl, sym, subst, ⊎_elim}
-use Rattle.std.specs.Prelude.{IsErr, is_some}
-use Rattle.std.proofs.lemmas.Bool.{cases_Bool, true≢false}
+use Rattle.example_libraries.proofs.{cases_Bool, false, is_some, IsErr, None, Option, refl, Some, subst, sym}
+use Rattle.example_libraries.proofs.{true≢false, ⊎_elim, ◌≡◌}
 use Rattle.example_libraries.proofs.trees.moved_round.Goals as goal
 
 none_there : {X : Type 0} (x : Option X) → is_some x ≡ false → x ≡ None

@@ -1,8 +1,6 @@
-use Rattle.std.proofs.Common.{length, sym, ap, subst, ◌∙◌}
-use Rattle.std.proofs.lemmas.Iterator.Consumers.{YieldsList-from_first, YieldsList-end}
-use Rattle.std.proofs.lemmas.List.{map-id}
-use Rattle.scene_tree.specs.Trees.{AreAncestors, IsStepsBelow, parent_of}
-use Rattle.example_libraries.proofs.Walks.{last_above, last_more, last_root}
+use Rattle.example_libraries.proofs.{ap, AreAncestors, IsStepsBelow, last_above, last_more, last_root, length}
+use Rattle.example_libraries.proofs.{map-id, parent_of, subst, sym, YieldsList-end, YieldsList-from_first}
+use Rattle.example_libraries.proofs.{◌∙◌}
 use Rattle.example_libraries.proofs.trees.root_of.Goals as goal
 
 pub up-preserved : goal.up-preserved

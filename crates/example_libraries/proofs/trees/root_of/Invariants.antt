@@ -1,5 +1,4 @@
-use Rattle.std.proofs.Common.{◌≡◌}
-use Rattle.example_libraries.proofs.Walks.{last_of}
+use Rattle.example_libraries.proofs.{last_of, ◌≡◌}
 use Rattle.example_libraries.proofs.trees.root_of.Given as goal
 
 abbrev pub invariant-up : goal.invariant-up

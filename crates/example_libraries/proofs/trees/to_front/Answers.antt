@@ -1,5 +1,4 @@
-use Rattle.std.proofs.Common.{sym, ◌∙◌}
-use Rattle.std.proofs.lemmas.Result.{IfOk-weaker}
+use Rattle.example_libraries.proofs.{IfOk-weaker, sym, ◌∙◌}
 use Rattle.example_libraries.proofs.trees.to_front.Goals as goal
 
 pub returns-in-Some : goal.returns-in-Some

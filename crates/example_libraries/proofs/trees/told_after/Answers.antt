@@ -1,5 +1,4 @@
-use Rattle.std.proofs.Common.{Err, ap, inl, refl, sym, ◌∙◌}
-use Rattle.std.proofs.lemmas.Option.{none-some}
+use Rattle.example_libraries.proofs.{ap, Err, inl, none-some, refl, sym, ◌∙◌}
 use Rattle.scene_tree.specs.declared.node.TreeError.TheVariants as error
 use Rattle.example_libraries.proofs.trees.told_after.Goals as goal
 
