@@ -114,10 +114,6 @@ module _ {F : Type 0} {g : Mut F (Bor Place × Unit {0}) ℕ} {f : F} (t : ℕ) 
       none_apart t ps (gap_apart t ps up i
       (position (λ p. p.borrow.ticket) (answers_always g _ f calls)))
 
--- a dead place at the beginning
-first_dropped : (p : Place) (ps : List Place) → p.stands ≡ false → standing_at (p ∷ ps) ≡ standing_at ps
-first_dropped p ps off = rw off refl
-
 -- a place that dies takes its ticket's borrow away, and no other
 module _ (t : ℕ) (b : Borrow) where
   dies : (ps : List Place) (i : ℕ) → TicketsAscend ps → IsOwnPlace t ps i
