@@ -2,17 +2,15 @@
 -- retired, and that each call keeps the bound.
 use Rattle.generational_core.proofs.machine
 use machine.{absent, absent_beside, act_leads, Action, add_cell, after, Answer, AreNew, arith, by_keys}
-use machine.{by_name, by_number, Cell, Change, change_follows, Content, eq_by_cmp, eq_by_cmp_equiv, false}
-use machine.{free, fresh, get-insert_apart, get-insert_here, inl, inr, is_free, is_last_live, is_retired}
+use machine.{by_name, by_number, Cell, Change, change_follows, Content, eq_by_cmp, false, free, fresh}
+use machine.{get-insert_apart, get-insert_here, get-keep, inl, inr, is_free, is_last_live, is_retired}
 use machine.{is_some, IsBounded, IsGiven, IsLawful, IsLive, IsSound, keep_view, kept_key, key_here}
-use machine.{key_same, keys_apart, last, last_name, len_keys, len_within, length-le_from_is_member}
-use machine.{length-map, List, list_any, list_any-append, list_map, live_before, max, Meets, meets_each}
-use machine.{meets_sound, Name, name_cases, name_cmp, name_total, Names, nat_cmp, nat_cmp_total, NewNames}
-use machine.{None, Option, refl, retired, slots, slots_of, Some, State, subst, sym, true, unwrap_or, []}
-use machine.{ℕ, ◌++◌, ◌+◌, ◌<◌, ◌∷◌, ◌≡◌, ◌≢◌, ◌≤◌, ◌⊎◌}
+use machine.{key_same, last, last_name, len_from, len_parts, len_within, List, list_any, live_before, max}
+use machine.{Meets, meets_each, meets_sound, Name, name_cases, name_cmp, name_total, Names, nat_cmp}
+use machine.{nat_cmp_total, NewNames, None, not, Option, refl, retired, slots, slots_of, Some, State}
+use machine.{subst, sym, true, unwrap_or, [], ℕ, ◌+◌, ◌<◌, ◌∷◌, ◌≡◌, ◌≢◌, ◌≤◌, ◌⊎◌}
 use Rattle.generational_core.specs
 use specs.{Slots.Fits, Slots.lasts}
-use Rattle.std.proofs.Common.{length-append}
 use Rattle.std.specs.FinMap as map
 use Rattle.std.specs.FinSet as set
 
@@ -66,32 +64,8 @@ lasts_insert given n =
     let same = set.contains-insert name_total given n in
     let items = set.contains-items (set.insert given n) in
     let old = set.contains-items given in
-    lasts_same (set.items (set.insert given n)) (n ∷ set.items given)
-    (λ q h. grind (arith, same q, items q, old q)) (λ q h. grind (arith, same q, items q, old q))
-
--- the slot of a name in a list is in the list of slots
-slot_there : (n : Name) (names : List Name) → IsIn names n
-    → list_any (eq_by_cmp nat_cmp n.slot) (list_map (λ (m : Name). m.slot) names) ≡ true
-slot_there n [] h = h
-slot_there n (m ∷ names) h = grind (arith, key_here, by_number, by_name, key_same, slot_there n names)
-
--- every slot is live, free or retired, and those whose last names are live are no more than the
--- live cells
-pub slots_bounded : {T : Type 0} (S : State T) → slots S ≤ map.len S.cells + free S + retired S
-slots_bounded S =
-    let free = map.keys (map.retain_keys (slots_of S) (is_free S)) in
-    let gone = map.keys (map.retain_keys (slots_of S) (is_retired S)) in
-    let live = list_map (λ (n : Name). n.slot) (map.keys S.cells) in
-    let kept = kept_key by_number (slots_of S) in
-    let le = length-le_from_is_member (eq_by_cmp_equiv nat_cmp_total) (map.keys (slots_of S))
-    (live ++ (free ++ gone)) (keys_apart nat_cmp (slots_of S)) (λ q h.
-    let there = slot_there (last_name S q) (map.keys S.cells) in
-    let either = list_any-append (eq_by_cmp nat_cmp q) in
-    grind (arith, there, kept (is_free S) q, kept (is_retired S) q, map.contains_key-keys, either)) in
-    let same = length-map (map.keys S.cells) (λ (n : Name). n.slot) in
-    let whole = length-append live (free ++ gone) in
-    let slots = len_keys {X = ℕ} nat_cmp in
-    omega (arith, le, whole, length-append free gone, same, slots, len_keys name_cmp S.cells)
+    lasts_same _ (n ∷ set.items given) (grind (arith, same, items, old))
+    (grind (arith, same, items, old))
 
 module _ {T : Type 0} where
   -- no retired slot is lost where such slots keep their last generations, and get no live cell
@@ -121,6 +95,24 @@ module _ {T : Type 0} where
   abbrev AreGiven : State T → Type 0
   AreGiven S = (q : Name) → IsLive S q → IsGiven S q
 
+  -- each slot is live, free or retired, and is one of them
+  pub slots_live : (S : State T) → AreGiven S → IsBounded S
+      → slots S ≡ map.len S.cells + free S + retired S
+  slots_live S given b =
+      let keep = map.retain_keys (slots_of S) in
+      let live = keep (is_last_live S) in
+      let rest = keep (λ s. not (is_last_live S s)) in
+      let view = get-keep by_number (slots_of S) in
+      let one = len_parts by_number (slots_of S) live rest (grind (arith, view))
+      (λ s. grind (arith, view)) in
+      let two = len_parts by_number rest (keep (is_free S)) (keep (is_retired S))
+      (grind (arith, view)) (λ s. grind (arith, view)) in
+      let few = len_from by_name by_number (λ n. n.slot) live S.cells (last_name S)
+      (grind (arith, view)) in
+      let many = len_from by_number by_name (last_name S) S.cells live (λ n. n.slot)
+      (λ n live. grind (arith, view, slot_made S n, given n, b.last n)) in
+      omega arith
+
   -- no live name has the slot of a new one
   pub slot_apart : (S : State T) (n : Name) → AreGiven S → IsBounded S → Fits S n
       → (q : Name) → IsLive S q → q.slot ≢ n.slot
@@ -134,7 +126,7 @@ module _ {T : Type 0} where
   given_beside : (S : State T) (n : Name) (c : Cell T) → AreGiven S → AreGiven (add_cell S n c)
   given_beside S n c given q live =
       let is = set.contains-insert name_total S.given n q in
-      grind (arith, is, live_beside S n c q, given q, name_cases q n, key_here by_name n)
+      grind (arith, is, live_beside S n c q, given q, key_same by_name)
 
   -- a new cell at a name that fits
   module _ (S : State T) (n : Name) (c : Cell T) (given : AreGiven S)
@@ -162,23 +154,20 @@ module _ {T : Type 0} where
         }
 
     -- the new name is the last of its slot, and so are the others still
-    greatest : Fits S n → greater n.generation (map.get (slots_of S) n.slot) ≡ n.generation
-    greatest h = grind arith
-
     all_last : Fits S n → (q : Name) → IsLive (add_cell S n c) q → q ≡ last_name (add_cell S n c) q.slot
     all_last fits q live =
         let last = lasts_insert S.given n in
         let apart = slot_apart S n given b fits q in
         let old = live_beside S n c q in
         let rest = other_slots q.slot in
-        grind (arith, greatest fits, last, get-insert_here, by_number, old, rest, apart, name_cases q n)
+        grind (arith, last, get-insert_here, by_number, old, rest, apart, name_cases q n)
 
     born_bounded : Fits S n → IsBounded (add_cell S n c)
     born_bounded (inl new) =
         let missing : map.contains_key (slots_of S) n.slot ≡ false = grind (arith, b.dense n.slot) in
         let more : slots (add_cell S n c) ≡ slots S + 1 =
         rw (lasts_insert S.given n, map.len-insert nat_cmp_total, missing) in
-        bounded_with (λ r e. cc) (omega (arith, new.0, slots_bounded S)) (omega arith)
+        bounded_with (λ r e. cc) (omega (arith, new.0, slots_live S given b)) (omega arith)
         (omega (arith, new.1)) (all_last (inl new))
     born_bounded (inr old) =
         let same : slots (add_cell S n c) ≡ slots S =

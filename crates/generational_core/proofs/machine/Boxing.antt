@@ -1,9 +1,9 @@
 -- Names of boxes: that they stay so, that they end for good, and what a box sees that was pointed
 -- elsewhere.
 use Rattle.generational_core.proofs.machine
-use machine.{Action, among, Answer, arith, BorrowMutError, box_ends, boxed_among, Done, End, end_answer}
-use machine.{Err, GenerationalPointer, IsBoxed, IsEnded, IsSound, Seeing.kept_value, Made, Meets}
-use machine.{meets_follows, meets_given, meets_says, meets_sound, Name, name_here, name_of, Ok, OnOk}
+use machine.{Action, among, Answer, arith, BorrowMutError, box_ends, boxed_among, End, end_answer}
+use machine.{GenerationalPointer, IsBoxed, IsEnded, IsSound, Seeing.kept_value, Made, Meets}
+use machine.{meets_follows, meets_given, meets_says, meets_sound, Name, name_here, name_of, OnOk}
 use machine.{OwnerName, Ownership, ownership, Point, Calling.points, reach, Seeing.reached_live}
 use machine.{Seeing.reaches, release_answer, ReleaseOwner, Result, shared_still, Some, State, true}
 use machine.{value_in, ◌≡◌, ◌≤◌}
@@ -49,8 +49,7 @@ module _ {T : Type 0} where
     pub points_seen : (a b : GenerationalPointer) {U : Type 0} (r : Result U (Refused BorrowMutError))
         → IsSound S → Meets S (Point a b) (end_answer r) R → OnOk r (value_in R a ≡ value_in S b)
     unfolding value_in
-    points_seen a b {U} (Ok u) s m =
-        let sound = meets_sound S R (Point a b) Done s m in
-        let kept = kept_value S R (Point a b) Done in
-        grind (arith, points a b {U = U} (Ok u) m, reached_live R a, reached_live S b, sound, kept)
-    points_seen a b (Err e) s m = tt
+    points_seen a b r s m =
+        let sound = meets_sound S R (Point a b) (end_answer r) s m in
+        let kept = kept_value S R (Point a b) (end_answer r) in
+        grind (arith, points a b r m, reached_live R a, reached_live S b, sound, kept)

@@ -2,8 +2,8 @@
 -- found from the clause of the call that it is given.
 use Rattle.generational_core.proofs.machine
 use machine.{Action, AllByRecursion, among, Answer, ap, arith, back_answer, Bool, BorrowError}
-use machine.{BorrowMutError, box_answer, can_write, Done, End, end_answer, Telling.ended_leads, Err}
-use machine.{false, Flag, Resting.free_ends, free_read_answer, Resting.free_stays, free_write_answer}
+use machine.{BorrowMutError, box_answer, can_write, End, end_answer, Telling.ended_leads, Err, false}
+use machine.{Flag, Resting.free_ends, free_read_answer, Resting.free_stays, free_write_answer}
 use machine.{GenerationalBox, GenerationalPointer, Guard, held_record, IfOk, is_name, IsErr, IsOk}
 use machine.{IsSound, LeavesBox, LeavesUnborrowed, LeavesValue, List, Location, Made, made_new, Make}
 use machine.{MakeShared, Meets, Telling.meets_tells, Name, name_apart, name_here, name_of, names_in}
@@ -11,11 +11,10 @@ use machine.{NewOwner, None, Ok, Old, one_listed, OnOk, Option, or_right, owner_
 use machine.{Ownership, ownership, Point, pointer_of, reach, Seeing.reach_stays, Seeing.reaches, Read}
 use machine.{read_answer, Resting.read_released, Reads, reads_known, Refer, reference_box_answer, refl}
 use machine.{Refusal, release_answer, ReleaseOwner, ReleaseReader, ReleaseWriter, Result, SetValue, Some}
-use machine.{some_live, State, StoreError, sym, true, value_behind, value_in, value_reached}
-use machine.{Seeing.value_stays, Write, write_answer, WriteGuard, Writes, [], ◌++◌, ◌+◌, ◌||◌, ◌∙◌, ◌∷◌}
-use machine.{◌≡◌, ◌≢◌, ◌≤◌}
+use machine.{some_live, State, StoreError, true, value_behind, value_in, value_reached}
+use machine.{Seeing.value_stays, Write, write_answer, WriteGuard, [], ◌++◌, ◌+◌, ◌||◌, ◌∙◌, ◌∷◌, ◌≡◌, ◌≢◌}
+use machine.{◌≤◌}
 use Rattle.generational_errors.specs.declared.error.Refused.{Refused}
-use Rattle.generational_errors.specs.declared.error.Refused.TheVariants as refused
 
 -- a name stands in the list that it ends
 pub listed_last : (names : List Name) (n : Name) → among (names ++ n ∷ []) n ≡ true
@@ -46,8 +45,7 @@ module _ {T : Type 0} where
     module _ (o : Option OwnerName) (v : T) (l : Location) where
       pub made : (r : Result (GenerationalBox T) (Refusal T))
           → Meets S (Make o v l) (box_answer r) R → IfOk r (λ b. value_in R (pointer_of b) ≡ Some v)
-      made (Ok b) m = (meets_tells S R (Make o v l) (Made (pointer_of b)) m).1
-      made (Err e) m = tt
+      made r m = grind (arith, meets_tells S R (Make o v l) (box_answer r) m)
 
       pub made_apart : (r : Result (GenerationalBox T) (Refusal T)) → IsSound S
           → Meets S (Make o v l) (box_answer r) R → IfOk r (λ b. (c : GenerationalPointer) (w : T)
@@ -57,31 +55,26 @@ module _ {T : Type 0} where
 
       pub made_free : (r : Result (GenerationalBox T) (Refusal T))
           → Meets S (Make o v l) (box_answer r) R → IfOk r (λ b. can_write R (pointer_of b) ≡ true)
-      made_free (Ok b) m = (meets_tells S R (Make o v l) (Made (pointer_of b)) m).3
-      made_free (Err e) m = tt
+      made_free r m = grind (arith, meets_tells S R (Make o v l) (box_answer r) m)
 
       pub made_shared : (r : Result (GenerationalBox T) (Refusal T))
           → Meets S (MakeShared o v l) (box_answer r) R → IfOk r (λ b. value_in R (pointer_of b) ≡ Some v)
-      made_shared (Ok b) m = (meets_tells S R (MakeShared o v l) (Made (pointer_of b)) m).0
-      made_shared (Err e) m = tt
+      made_shared r m = grind (arith, meets_tells S R (MakeShared o v l) (box_answer r) m)
 
       pub made_shared_free : (r : Result (GenerationalBox T) (Refusal T))
           → Meets S (MakeShared o v l) (box_answer r) R → IfOk r (λ b. can_write R (pointer_of b) ≡ true)
-      made_shared_free (Ok b) m = (meets_tells S R (MakeShared o v l) (Made (pointer_of b)) m).2
-      made_shared_free (Err e) m = tt
+      made_shared_free r m = grind (arith, meets_tells S R (MakeShared o v l) (box_answer r) m)
 
     module _ (o : Option OwnerName) (c : GenerationalPointer) where
       pub referred : (r : Result (GenerationalBox T) (Refused BorrowError)) → IsSound S
           → Meets S (Refer o c) (reference_box_answer r) R
           → IfOk r (λ b. value_in R (pointer_of b) ≡ value_in S c)
-      referred (Ok b) s m = (meets_tells S R (Refer o c) (Made (pointer_of b)) m).1 s
-      referred (Err e) s m = tt
+      referred r s m = grind (arith, meets_tells S R (Refer o c) (reference_box_answer r) m)
 
       pub referred_reach : (r : Result (GenerationalBox T) (Refused BorrowError))
           → Meets S (Refer o c) (reference_box_answer r) R
           → IfOk r (λ b. reach R (pointer_of b) ≡ reach S c)
-      referred_reach (Ok b) m = (meets_tells S R (Refer o c) (Made (pointer_of b)) m).0
-      referred_reach (Err e) m = tt
+      referred_reach r m = grind (arith, meets_tells S R (Refer o c) (reference_box_answer r) m)
 
       pub referred_apart : (r : Result (GenerationalBox T) (Refused BorrowError)) → IsSound S
           → Meets S (Refer o c) (reference_box_answer r) R
@@ -104,23 +97,19 @@ module _ {T : Type 0} where
 
     pub opens : (b : GenerationalPointer) (l : Location) (r : Result Guard (Refused BorrowError))
         → Meets S (Read b l) (read_answer r) R → IfOk r (λ g. value_behind R g ≡ value_in S b)
-    opens b l (Ok g) m =
-        rw (reads_known S R (Read b l) g m).0 (meets_tells S R (Read b l) (Reads g) m).1
-    opens b l (Err e) m = tt
+    opens b l r m =
+        grind (arith, reads_known S R (Read b l), meets_tells S R (Read b l) (read_answer r) m)
 
     pub lends : (b : GenerationalPointer) (l : Location)
         (r : Result (WriteGuard T) (Refused BorrowMutError))
         → Meets S (Write b l) (write_answer r) R → IfOk r (λ w. value_in S b ≡ Some w.value)
-    lends b l (Ok w) m = (meets_tells S R (Write b l) (Writes w.guard w.value) m).1
-    lends b l (Err e) m = tt
+    lends b l r m = grind (arith, meets_tells S R (Write b l) (write_answer r) m)
 
     pub lends_at : (b : GenerationalPointer)
         (l : Location) (r : Result (WriteGuard T) (Refused BorrowMutError))
         → Meets S (Write b l) (write_answer r) R → IfOk r
         (λ w. (reach S b ≡ Some w.guard.cell) × ((c : GenerationalPointer) → reach R c ≡ reach S c))
-    lends_at b l (Ok w) m =
-        let t = meets_tells S R (Write b l) (Writes w.guard w.value) m in (t.0, t.2)
-    lends_at b l (Err e) m = tt
+    lends_at b l r m = grind (arith, meets_tells S R (Write b l) (write_answer r) m)
 
     -- the same of a read and a write under their conditions
     pub opens_free : (b : GenerationalPointer) (l : Location) (r : Result Guard StoreError)
@@ -131,8 +120,7 @@ module _ {T : Type 0} where
     pub lends_free : (b : GenerationalPointer) (l : Location) (r : Result (WriteGuard T) StoreError)
         → Meets S (Write b l) (free_write_answer r) R → IfOk r (λ w. (reach S b ≡ Some w.guard.cell)
         × (value_in S b ≡ Some w.value) × ((c : GenerationalPointer) → reach R c ≡ reach S c))
-    lends_free b l (Ok w) m = meets_tells S R (Write b l) (Writes w.guard w.value) m
-    lends_free b l (Err e) m = tt
+    lends_free b l r m = grind (arith, meets_tells S R (Write b l) (free_write_answer r) m)
 
     -- what a set gives back, and who sees the new value
     pub sets : (b : GenerationalPointer) (v old : T) → Meets S (SetValue b v) (Old old) R
@@ -143,8 +131,7 @@ module _ {T : Type 0} where
     pub puts_back : (g : Guard) (v : T) {U : Type 0} (r : Result U T)
         → Meets S (ReleaseWriter g v) (back_answer r) R
         → OnOk r ((b : GenerationalPointer) → reach S b ≡ Some g.cell → value_in R b ≡ Some v)
-    puts_back g v (Ok u) m = meets_tells S R (ReleaseWriter g v) Done m
-    puts_back g v (Err w) m = tt
+    puts_back g v r m = grind (arith, meets_tells S R (ReleaseWriter g v) (back_answer r) m)
 
     -- ---- values at which no borrow stands
 
@@ -155,9 +142,7 @@ module _ {T : Type 0} where
 
     pub ends_free : (b : GenerationalPointer) {U : Type 0} (r : Result U (Refused BorrowMutError))
         → Meets S (End b) (end_answer r) R → can_write S b ≡ true → IsOk r
-    ends_free b (Ok u) m free = refl
-    ends_free b (Err (refused.Borrow e)) m free = cc (free_ends S R b _ free m)
-    ends_free b (Err (refused.Store e)) m free = cc (free_ends S R b _ free m)
+    ends_free b r m free = grind (arith, free_ends S R b _ free m)
 
     pub reads_back : {Q : State T} (b : GenerationalPointer) (l : Location) (g : Guard)
         (flag : Bool) → IsSound S → Meets S (Read b l) (Reads g) R
@@ -168,8 +153,7 @@ module _ {T : Type 0} where
 
     pub ends : (b : GenerationalPointer) {U : Type 0} (r : Result U (Refused BorrowMutError))
         → Meets S (End b) (end_answer r) R → OnOk r (reach R b ≡ None)
-    ends b (Ok u) m = meets_tells S R (End b) Done m
-    ends b (Err e) m = tt
+    ends b r m = grind (arith, meets_tells S R (End b) (end_answer r) m)
 
     pub ends_owned : (o : OwnerName) {U V : Type 0} (r : Result U (V × Refused BorrowMutError))
         → Meets S (ReleaseOwner o) (release_answer r) R
@@ -180,8 +164,7 @@ module _ {T : Type 0} where
 
     pub points : (a b : GenerationalPointer) {U : Type 0} (r : Result U (Refused BorrowMutError))
         → Meets S (Point a b) (end_answer r) R → OnOk r (reach R a ≡ reach S b)
-    points a b (Ok u) m = meets_tells S R (Point a b) Done m
-    points a b (Err e) m = tt
+    points a b r m = grind (arith, meets_tells S R (Point a b) (end_answer r) m)
 
     -- a box that reaches nothing can't be read
     pub unread : (b : GenerationalPointer) (l : Location) (r : Result Guard (Refused BorrowError))
@@ -192,15 +175,12 @@ module _ {T : Type 0} where
 
     pub owned : (r : Result OwnerName StoreError) → Meets S NewOwner (owner_answer r) R
         → IfOk r (λ o. ownership R o ≡ Some (record { names = []; count = 1 }))
-    owned (Ok o) m = meets_tells S R NewOwner (Answer.Owned o) m
-    owned (Err e) m = tt
+    owned r m = grind (arith, meets_tells S R NewOwner (owner_answer r) m)
 
     pub lists : (o : OwnerName) (v : T) (l : Location) (r : Result (GenerationalBox T) (Refusal T))
         → Meets S (Make (Some o) v l) (box_answer r) R → IfOk r (λ b. (h : Ownership)
         → ownership S o ≡ Some h → ownership R o ≡ Some (one_listed (name_of (pointer_of b)) h))
-    lists o v l (Ok b) m = λ h held.
-        (meets_tells S R (Make (Some o) v l) (Made (pointer_of b)) m).2 o h refl held
-    lists o v l (Err e) m = tt
+    lists o v l r m = grind (arith, meets_tells S R (Make (Some o) v l) (box_answer r) m)
 
     -- ---- what stays
 
@@ -222,8 +202,7 @@ module _ {T : Type 0} where
         none : (names : List Name) → AllByRecursion (λ n. n ≢ name_of b) names
             → among names (name_of b) ≡ false
         none [] all = refl
-        none (n ∷ names) all =
-            rw (name_apart (name_of b) n (λ e. all.0 (sym e))) (none names all.1)
+        none (n ∷ names) all = grind (arith, name_apart, none names all.1)
 
     -- and reaches what it reached
     pub keeps_reach : (call : Action T) (answer : Answer T) → IsSound S → Meets S call answer R

@@ -9,12 +9,12 @@ use Common.{get-changed_name, get-insert_apart, get-insert_here, get-remove_apar
 use Common.{has_writer, Here, hindrance_at, hindrance_to, is_known, is_name, is_shared, IsBoxed, IsNew}
 use Common.{knows_reader, knows_writer, Lends, Lent, List, list_any-append, Location, Made, Make}
 use Common.{MakeShared, Name, name_here, name_of, Names, names_in, nat_eq, nat_lt, NewNames, NewOwner}
-use Common.{next_borrow, None, not, one_less, one_listed, one_more, Option, option_map, Outcome, own_name}
-use Common.{Owned, OwnerName, Owners, Ownership, ownership, Point, point, reach, Read, read_at, Reads}
-use Common.{Ref, Refer, refer, refill, refl, refusal_at, refusal_to_write, Refused, release_owner}
-use Common.{ReleaseOwner, ReleaseReader, ReleaseWriter, remove_reader, set_at, Sets, SetValue, Shared}
-use Common.{Some, State, StoreError, sweep, sym, tickets_of, true, Turns, unless, Value, want, Write}
-use Common.{write_at, write_refusal, Writes, [], ℕ, ◌++◌, ◌+◌, ◌<◌, ◌∷◌, ◌≡◌, ◌≢◌, ◌≤◌}
+use Common.{next_borrow, None, not, one_listed, Option, option_map, Outcome, own_name, Owned, OwnerName}
+use Common.{Owners, Ownership, ownership, Point, point, reach, Read, read_at, Reads, Ref, Refer, refer}
+use Common.{refill, refl, refusal_at, refusal_to_write, Refused, release_owner, ReleaseOwner}
+use Common.{ReleaseReader, ReleaseWriter, remove_reader, set_at, Sets, SetValue, Shared, Some, State}
+use Common.{StoreError, sweep, sym, tickets_of, true, Turns, unless, Value, want, Write, write_at}
+use Common.{write_refusal, Writes, [], ℕ, ◌++◌, ◌+◌, ◌<◌, ◌∷◌, ◌≡◌, ◌≢◌, ◌≤◌}
 use Rattle.generational_core.proofs.machine.Ends.{cond_gives}
 use Rattle.std.specs.FinMap as map
 use Rattle.std.specs.FinSet as set
@@ -242,15 +242,14 @@ module _ {T : Type 0} where
         → Leads S (CloneOwner o) f (clone_owner S o h)
     leads_cloned o None is = still
     leads_cloned o (Some h) is = leads Stay _ (S.next + 1) (omega arith) tt
-        (λ all. let old = all o.key h (held_record S o h is) in
-        records_put S _ S.owners all o.key (one_more h) old.0 old.1)
+        (λ all. grind (arith, all o.key h (held_record S o h is), records_put S _ S.owners all))
 
     leads_released : (o : OwnerName) (h : Option Ownership) → ownership S o ≡ h
         → Leads S (ReleaseOwner o) f (release_owner S o h)
     leads_released o None is = still
-    leads_released o (Some h) is = leads_if (nat_lt 1 h.count) (λ _.
-        leads Stay _ S.next (omega arith) tt (λ all. let old = all o.key h (held_record S o h is) in
-        records_put S _ S.owners all o.key (one_less h) old.0 old.1))
+    leads_released o (Some h) is = leads_if (nat_lt 1 h.count)
+        (λ _. leads Stay _ S.next (omega arith) tt
+        (λ all. grind (arith, all o.key h (held_record S o h is), records_put S _ S.owners all)))
         (leads_unless (hindrance_to S h.names) (λ free. leads
         (Close h.names) _ S.next (omega arith) (free, ap names_in (sym (held_record S o h is)))
         (λ all. records_left (close S h.names) _ S.owners all o.key)))
@@ -320,6 +319,10 @@ module _ {T : Type 0} where
         (at_a, ap is_shared at_b, free, refl) (λ h. h)))
     leads_pointed a b _ _ _ _ at_a at_b = still
 
+  ruleset owning = (leads_cloned, leads_released)
+
+  ruleset borrowing = (leads_read, leads_write, leads_left, leads_set)
+
   -- what each call leads to
   pub act_leads : (S : State T) (call : Action T) (f : NewNames) → Leads S call f (act S call f)
   unfolding refusal_to_write
@@ -329,28 +332,18 @@ module _ {T : Type 0} where
   act_leads S (MakeShared o v l) f = leads_if (is_known S o)
       (λ _. leads_made (Pair v l) o _ (omega arith) (refl, λ new. new)
       (boxed_here (add_cell S f.first (Shared (Here v []) l)) f.second (Ref f.first l) refl)) still
-  act_leads S (Refer o b) f = search (leads_if, leads_unless, leads_referred, still)
   act_leads S NewOwner f = leads Stay _ (S.next + 1) (omega arith) tt
       (λ all. records_put S _ S.owners all S.next _ tt (omega arith))
-  act_leads S (CloneOwner o) f = search leads_cloned
-  act_leads S (ReleaseOwner o) f = search leads_released
-  act_leads S (Read b l) f = search (leads_unless, leads_read)
-  act_leads S (Write b l) f = search (leads_unless, leads_write)
-  act_leads S (ReleaseReader g) f = search (leads_if, leads_left, still)
   act_leads S (ReleaseWriter g v) f = leads_if (knows_writer S g)
       (λ known. leads_returned g v _ refl (and_parts _ _ known).1) still
-  act_leads S (SetValue b v) f = search leads_set
   act_leads S (End b) f = leads_unless (hindrance_to S (own_name S b))
       (λ free. leads (Close (own_name S b)) _ S.next (omega arith) (free, refl) (λ h. h))
-  act_leads S (Point a b) f = search (leads_if, leads_unless, leads_pointed, still)
-  act_leads S _ f = still
+  act_leads S call f =
+      search (leads_if, leads_unless, leads_referred, leads_pointed, owning, borrowing, still)
 
   -- what each call answers is so
   pub act_says : (S : State T) (call : Action T) (f : NewNames)
       → AreFresh S call f → IsSaid S (act S call f)
-  act_says S (Make o v l) f new = grind (arith, get-insert_here, by_name, contains-insert_here)
-  act_says S (MakeShared o v l) f new = grind (arith, get-insert_here, by_name, contains-insert_here)
-  act_says S (Refer o b) f new = grind (arith, get-insert_here, by_name, contains-insert_here)
   act_says S (Read b l) f new = grind (arith, get-changed_name, name_here, list_any-append)
   act_says S (Write b l) f new = grind (arith, get-changed_name, name_here)
-  act_says S call f new = grind arith
+  act_says S call f new = grind (arith, get-insert_here, by_name, contains-insert_here)

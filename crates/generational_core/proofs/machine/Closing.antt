@@ -184,13 +184,9 @@ module _ {T : Type 0} where
     apart : (k : Name) → k ≢ a → map.get (map.insert cells a (Ref new l)) k ≡ map.get cells k
     apart k ne = get-insert_apart by_name cells a (Ref new l) k ne
 
-    -- what is Shared afterwards was Shared before
-    turned_other : (q : Name) → is_shared (map.get turned q) ≡ true → is_shared (map.get cells q) ≡ true
-    turned_other q h = grind (arith, by_name, get-insert_here, apart)
-
     -- all but the old target are named still
     turned_named : (q : Name) → q ≢ old → is_shared (map.get turned q) ≡ true → is_named turned q ≡ true
-    turned_named q ne h = grind (arith, apart, named_from, turned_other)
+    turned_named q ne h = grind (arith, apart, named_from, by_name, get-insert_here)
 
     module _ (other : is_name old new ≡ false) where
       -- the old target is named if another Ref names it

@@ -52,7 +52,7 @@ pub use Maps.{by_keys, by_name, by_number, by_option, changed_view, contains-ins
 pub use Maps.{contains-insert_name, contains-insert_old, get-changed_apart, get-changed_here}
 pub use Maps.{get-changed_name, get-insert_apart, get-insert_here, get-keep, get-remove_apart}
 pub use Maps.{get-remove_here, is_ref, keep_view, kept_key, key_cases, key_here, key_same, keys_apart}
-pub use Maps.{len_keys, len_within, name_apart, name_cases, name_exact, name_here, name_same}
+pub use Maps.{len_from, len_keys, len_parts, len_within, name_apart, name_cases, name_exact, name_here, name_same}
 pub use Maps.{name_total, named_from, named_gives, remove_each, same_ids}
 unfoldable pub use specs.{Names.change, Ending.hindrance_to, Names.is_name, State.is_named}
 unfoldable pub use specs.{Steps.may_lack, Borrowing.reach, Borrowing.refusal_to_read}

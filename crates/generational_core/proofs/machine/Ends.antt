@@ -1,11 +1,11 @@
 -- Cells when some go: what is left, what Refs name then, and that nothing borrowed goes.
 use Rattle.generational_core.proofs.machine.Common
-use Common.{among, ap, arith, Bool, by_keys, by_name, Cell, cells_after, cond, content_of, false}
+use Common.{among, arith, Bool, by_keys, by_name, Cell, cells_after, cond, content_of, false}
 use Common.{first_hindrance, get-insert_apart, get-insert_here, get-keep, HasTargets, hindrance_at}
 use Common.{hindrance_of, hindrance_to, inl, inr, is_named, is_shared, is_some, IsLinked, IsSound}
 use Common.{keep_view, List, Location, Name, name_same, named_from, named_gives, NameMap, None, not}
-use Common.{Option, Ref, Some, State, sweep, sym, take_away, true, true≢false, write_refusal, [], ⊎_elim}
-use Common.{◌||◌, ◌∙◌, ◌∷◌, ◌≡◌, ◌⊎◌}
+use Common.{Option, Ref, Some, State, sweep, take_away, true, write_refusal, [], ⊎_elim, ◌||◌, ◌∙◌, ◌∷◌}
+use Common.{◌≡◌, ◌⊎◌}
 use Rattle.std.specs.FinMap as map
 
 -- what is there
@@ -16,10 +16,6 @@ some_live o h = grind arith
 pub live_by : {A : Type 0} (p : Option A → Bool) → p None ≡ false → (o : Option A)
     → p o ≡ true → is_some o ≡ true
 live_by p none o h = grind arith
-
--- nothing is not something
-pub none≢some : {A : Type 0} (o : Option A) (x : A) → o ≡ None → o ≡ Some x → ⊥
-none≢some o x e h = true≢false (sym (ap is_some h) ∙ ap is_some e)
 
 -- what holds in both cases of a test
 pub by_cond : {A : Type 0} (P : A → Type 0) (b : Bool) {x y : A}
@@ -114,12 +110,9 @@ module _ {T : Type 0} where
       let left = cells_after S.cells names in
       let rest = take_away S.cells names in
       let none = none_hindered S.cells left names free in
-      let away = without_view S.cells names in
       let own = own_free S.cells left n (map.get S.cells n) in
-      let named = named_gives S.cells n in
-      ⊎_elim (λ e. grind (arith, e, away n, own, none n))
-      (λ e. inr (e.0, λ s borrowed. grind (arith, e, named, s.shared n, named_from rest n, away, none)))
-      (swept_view rest n)
+      let away = without_view S.cells names in
+      grind (arith, away, own, none, named_gives S.cells n, named_from rest n, swept_view rest n)
 
   -- the same where a Ref turns to another cell, but for the Ref
   pub turned_view : (S : State T) (a old new : Name) (l : Location) → map.get
@@ -129,13 +122,10 @@ module _ {T : Type 0} where
       ⊎ ((map.get left n ≡ None) × (IsSound S → IsBorrowed (map.get S.cells n) → ⊥)))
   turned_view S a old new l at_a free n =
       let one = map.insert S.cells a (Ref new l) in
-      let named = named_gives S.cells n in
       let other = get-insert_apart by_name S.cells a (Ref new l) in
       by_keys by_name n a
       (λ is. inr (inl (cc, swept_ref one n new l (grind (arith, get-insert_here, by_name)))))
-      (λ ne. ⊎_elim (λ e. inl (grind (arith, e, other n))) (λ e. inr (inr
-      (e.0, λ s borrowed. grind (arith, e, named, s.shared n, named_from one n, other))))
-      (swept_view one n))
+      (λ ne. grind (arith, other, named_gives S.cells n, named_from one n, swept_view one n))
 
   -- so Refs name Shared cells still
   pub turned_linked : (cells : NameMap (Cell T)) (a old new : Name) (l : Location)

@@ -6,21 +6,20 @@ use machine.{Content, content_at, fill, filled_content, Telling.filled_reach, Fl
 use machine.{get-changed_apart, get-changed_name, Guard, has_reader, has_writer, Here, IfOk, IsOk, IsSet}
 use machine.{IsSound, IsUnchanged, knows_reader, knows_writer, Lent, list_any, Location, Meets}
 use machine.{meets_cases, meets_follows, Name, name_exact, name_total, NameMap, nat_eq, nat_eq_equiv}
-use machine.{next_borrow, None, Calling.opens, Option, OwnerName, ownership, reach, Read, read_answer}
+use machine.{next_borrow, Calling.opens, Option, OwnerName, ownership, reach, Read, read_answer}
 use machine.{reader_stays, Reads, Calling.reads_back, reads_known, refill, refl, refusal_to_write}
 use machine.{ReleaseReader, ReleaseWriter, Result, Some, State, subst, sym, take_ticket, tickets_of, true}
-use machine.{value_at, value_behind, value_in, value_of, Write, writer_stays, Writes, writes_known, [], ℕ}
-use machine.{◌&&◌, ◌∷◌, ◌≡◌, ◌≢◌}
+use machine.{value_at, value_behind, value_in, Write, writer_stays, Writes, writes_known, [], ℕ, ◌&&◌}
+use machine.{◌∷◌, ◌≡◌, ◌≢◌}
 use Rattle.generational_core.specs
 use specs.{Leaving.LeavesGuard}
 use Rattle.generational_errors.specs.declared.error.Refused.{Refused}
 use Rattle.std.specs.FinMap as map
 
--- what is changed twice at one key
-changed_twice : {X : Type 0} (m : NameMap X) (k : Name) (f g h : X → X)
-    → ((x : X) → g (f x) ≡ h x) → change (change m k f) k g ≡ change m k h
-changed_twice {X} m k f g h both =
-    map.same_map name_total name_exact _ _ (λ q. grind (arith, get-changed_name, both))
+-- what is filled twice at one name
+filled_twice : {T : Type 0} (m : NameMap (Cell T)) (k : Name) (c d : Content T)
+    → change (change m k (refill c)) k (refill d) ≡ change m k (refill d)
+filled_twice m k c d = map.same_map name_total name_exact _ _ (λ q. grind (arith, get-changed_name))
 
 module _ {T : Type 0} where
   -- ---- a guard is told by its ticket
@@ -28,11 +27,9 @@ module _ {T : Type 0} where
   -- the ticket of a known guard stands at its cell
   pub reader_stands : (c : Option (Content T)) (t : ℕ)
       → has_reader c t ≡ true → list_any (nat_eq t) (tickets_of c) ≡ true
-  reader_stands None t h = h
-  reader_stands (Some (Lent w)) t h = cc
-  reader_stands (Some (Here v [])) t h = cc
   reader_stands (Some (Here v (r ∷ readers))) t h =
       grind (arith, nat_eq_equiv, reader_stands (Some (Here v readers)) t)
+  reader_stands c t h = grind arith
 
   pub writer_stands : (c : Option (Content T)) (t : ℕ)
       → has_writer c t ≡ true → list_any (nat_eq t) (tickets_of c) ≡ true
@@ -63,18 +60,12 @@ module _ {T : Type 0} where
         let one = one_guard has_writer writer_stands S s g in
         grind (arith, meets_cases S R call answer m, one, writer_stays S R call answer s m g)
 
-    -- the value at a cell stays while a reader stands there
-    read_value_stays : IsSound S → Meets S call answer R → (n : Name) (t : ℕ)
-        → has_reader (content_at S n) t ≡ true → has_reader (content_at R n) t ≡ true
-        → value_at R n ≡ value_at S n
-    read_value_stays s m n t before after = grind (arith, (meets_follows S R call answer m).view n)
-
   -- so a known reader's guard opens the same value
   pub reader_sees : (S R : State T) (call : Action T) (answer : Answer T) → IsSound S
       → Meets S call answer R → (g : Guard) → LeavesGuard call g
       → knows_reader S g ≡ true → value_behind R g ≡ value_behind S g
   reader_sees S R call answer s m g leaves known =
-      grind (arith, reader_kept S R call answer s m g, read_value_stays S R call answer s m g.cell g.ticket)
+      grind (arith, reader_kept S R call answer s m, (meets_follows S R call answer m).view g.cell)
 
   -- and there is one
   pub reader_opens : (S : State T) (g : Guard) → knows_reader S g ≡ true
@@ -108,17 +99,12 @@ module _ {T : Type 0} where
   unfolding refusal_to_write
   wrote S R b l g w m = grind (arith, meets_cases S R (Write b l) (Writes g w) m)
 
-  refill_twice : (c d : Content T) (x : Cell T) → refill d (refill c x) ≡ refill d x
-  refill_twice c d x = grind arith
-
   -- a write whose guard was released has set the guard's value, and its release is done
   pub writes_back : {S R Q : State T} (b : GenerationalPointer) (l : Location) (g : Guard) (w v : T)
       {U : Type 0} (r : Result U T) → Meets S (Write b l) (Writes g w) R
       → Meets R (ReleaseWriter g v) (back_answer r) Q → IsOk r × IsSet S b v Q
   writes_back {S} {R} {Q} b l g w v r write release =
-      let lent = refill (Lent (next_borrow S l)) in
-      let here = refill (Here v []) in
-      let twice = changed_twice S.cells g.cell lent here here (refill_twice _ _) in
+      let twice = filled_twice S.cells g.cell (Lent (next_borrow S l)) (Here v []) in
       let known = (writes_known S R (Write b l) g w write).0 in
       grind (arith, wrote S R b l g w write, known, twice, release)
 
@@ -137,19 +123,14 @@ module _ {T : Type 0} where
       subst (IsUnchanged S c) (sym (reads_back b l g flag s read release)) (ticket_leaves S c)
 
   -- a value that is filled in is seen by each box that reaches it, and other boxes are left
-  module _ (S : State T) (n : Name) (k : Content T) (c : GenerationalPointer) where
-    filled_seen : (old : Content T) → content_at S n ≡ Some old → reach S c ≡ Some n
-        → value_in (fill S n k) c ≡ value_of (Some k)
-    unfolding value_in
-    filled_seen old had to = grind (arith, filled_reach S n k c, filled_content S n k old had)
-
   module _ {S Q : State T} {b : GenerationalPointer} {v : T} (it : IsSet S b v Q) where
     -- each box that reaches the same sees the value that was set
     pub set_seen : (c : GenerationalPointer) → reach S c ≡ reach S b → value_in Q c ≡ Some v
     unfolding value_in
     set_seen c same =
-        let seen = filled_seen S it.name (Here v []) c (Here it.old []) it.content in
-        grind (arith, it.after, it.reached, ticket_leaves (fill S it.name (Here v [])) c, seen)
+        let to = filled_reach S it.name (Here v []) c in
+        let new = filled_content S it.name (Here v []) (Here it.old []) it.content in
+        grind (arith, it.after, it.reached, ticket_leaves (fill S it.name (Here v [])) c, to, new)
 
     -- another box is left
     pub set_beside : (c : GenerationalPointer) → reach S c ≢ reach S b → IsUnchanged S c Q

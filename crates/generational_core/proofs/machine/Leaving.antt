@@ -2,11 +2,10 @@
 use Rattle.generational_core.proofs.machine
 use machine.{absent, act, act_start, Action, among, Answer, ap, AreNew, arith, by_name, false}
 use machine.{GenerationalPointer, get-insert_apart, get-insert_here, held_record, is_making, IsGiven}
-use machine.{IsSound, IsUnchanged, LeavesBox, LeavesValue, made_new, Make, MakeShared, Meets, meets_cases}
+use machine.{IsSound, IsUnchanged, LeavesBox, LeavesValue, made_new, MakeShared, Meets, meets_cases}
 use machine.{meets_follows, meets_sound, name_of, names_in, NewNames, None, OwnerName, Ownership}
-use machine.{ownership, reach, Seeing.reach_stays, Seeing.reached_live, Refer, refusal_to_read}
-use machine.{refusal_to_write, ReleaseOwner, Some, State, true, Calling.unseen, value_in}
-use machine.{Seeing.value_stays, ◌∙◌, ◌≡◌}
+use machine.{ownership, reach, Seeing.reach_stays, Seeing.reached_live, refusal_to_read, refusal_to_write}
+use machine.{ReleaseOwner, Some, State, true, Calling.unseen, value_in, Seeing.value_stays, ◌∙◌, ◌≡◌}
 use Rattle.generational_core.specs
 use specs.{Leaving.GivesOther, Leaving.LeavesContent}
 
@@ -18,11 +17,9 @@ module _ {T : Type 0} where
       → is_making call ≡ true → (b : GenerationalPointer)
       → GivesOther call (act S call f).0 b → reach (act S call f).1 b ≡ reach S b
   unfolding reach
-  making_beside S s (Make o v l) f new making b = grind (arith, get-insert_apart, by_name)
   making_beside S s (MakeShared o v l) f new making b =
       grind (arith, get-insert_apart, get-insert_here, by_name, absent S s f.first new.0.ungiven)
-  making_beside S s (Refer o a) f new making b = grind (arith, get-insert_apart, by_name)
-  making_beside S s _ f new making b = cc
+  making_beside S s call f new making b = grind (arith, get-insert_apart, by_name)
 
   -- ---- what a box reaches
 
@@ -53,14 +50,10 @@ module _ {T : Type 0} where
         → LeavesContent S call b → GivesOther call answer b → IsUnchanged S b R
     leaves s m b h other =
         let reach = same_reach s m b (grind arith) other in
+        let seen = same_value s m b (grind arith) other in
         let sound = meets_sound S R call answer s m in
-        let follows = meets_follows S R call answer m in
-        record {
-          reached = reach;
-          content = λ n to.
-              grind (arith, follows.view n, reached_live S b n s to, reached_live R b n sound (reach ∙ to));
-          seen = same_value s m b (grind arith) other;
-        }
+        let view = (meets_follows S R call answer m).view in
+        grind (arith, reach, seen, view, reached_live S b, reached_live R b, sound)
 
   -- which is so of each box that isn't in the list, where an owner is released
   pub release_leaves : (S R : State T) (o : OwnerName) (answer : Answer T) → IsSound S

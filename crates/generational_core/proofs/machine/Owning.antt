@@ -1,12 +1,12 @@
 -- Owners' records: which calls list a box there, and which leave a record as it was.
 use Rattle.generational_core.proofs.machine
 use machine.{act, Action, among, Answer, arith, BorrowError, box_answer, boxed_among, by_number, change}
-use machine.{CloneOwner, cond, eqb-true, Err, false, GenerationalBox, GenerationalPointer}
-use machine.{get-changed_apart, get-insert_apart, get-remove_apart, IfOk, is_some, IsSound, Location}
-use machine.{Made, Make, MakeShared, Meets, meets_cases, Telling.meets_tells, Name, name_of, nat_eq}
-use machine.{NewNames, NewOwner, None, Ok, one_listed, Outcome, owner_answer, OwnerName, Owners}
-use machine.{Ownership, ownership, pointer_of, Refer, reference_box_answer, refl, Refusal, ReleaseOwner}
-use machine.{Result, Some, State, StoreError, true, ◌≡◌, ◌≢◌}
+use machine.{CloneOwner, cond, eqb-true, false, GenerationalBox, GenerationalPointer, get-changed_apart}
+use machine.{get-insert_apart, get-remove_apart, IfOk, is_some, IsSound, Location, Make, MakeShared}
+use machine.{Meets, meets_cases, Telling.meets_tells, Name, name_of, nat_eq, NewNames, NewOwner, None}
+use machine.{one_listed, Outcome, owner_answer, OwnerName, Owners, Ownership, ownership, pointer_of}
+use machine.{Refer, reference_box_answer, Refusal, ReleaseOwner, Result, Some, State, StoreError, true}
+use machine.{◌≡◌, ◌≢◌}
 use Rattle.generational_core.specs
 use specs.{Leaving.GivesOtherOwner, Leaving.LeavesOwner}
 use Rattle.std.specs.FinMap as map
@@ -21,18 +21,15 @@ module _ {T : Type 0} where
         → Meets S (MakeShared (Some o) v l) (box_answer r) R
         → IfOk r (λ b. (h : Ownership) → ownership S o ≡ Some h
         → ownership R o ≡ Some (one_listed (name_of (pointer_of b)) h))
-    lists_shared v l (Ok b) m = λ h held.
-        (meets_tells S R (MakeShared (Some o) v l) (Made (pointer_of b)) m).1 o h refl held
-    lists_shared v l (Err e) m = tt
+    lists_shared v l r m = grind (arith, meets_tells S R (MakeShared (Some o) v l) (box_answer r) m)
 
     pub lists_reference : (c : GenerationalPointer)
         (r : Result (GenerationalBox T) (error.Refused BorrowError))
         → Meets S (Refer (Some o) c) (reference_box_answer r) R
         → IfOk r (λ b. (h : Ownership) → ownership S o ≡ Some h
         → ownership R o ≡ Some (one_listed (name_of (pointer_of b)) h))
-    lists_reference c (Ok b) m = λ h held.
-        (meets_tells S R (Refer (Some o) c) (Made (pointer_of b)) m).2 o h refl held
-    lists_reference c (Err e) m = tt
+    lists_reference c r m =
+        grind (arith, meets_tells S R (Refer (Some o) c) (reference_box_answer r) m)
 
   -- a name that was never given is in no list
   pub unlisted : (S : State T) (o : OwnerName) (h : Ownership) (n : Name) → IsSound S
@@ -59,32 +56,28 @@ module _ {T : Type 0} where
   -- no call but those of owners changes a record
   module _ (S : State T) (o : OwnerName) where
     -- the record is kept where another owner's is changed, put in or forgotten
-    module _ (a : OwnerName) where
-      own_record : (owners : Owners) → (o.key ≢ a.key → map.get owners o.key ≡ map.get S.owners o.key)
-          → is_some (ownership S a) ≡ true → a ≢ o
-          → cond (nat_eq o.store S.number) (map.get owners o.key) None ≡ ownership S o
-      own_record owners same known ne = grind (arith, apart S a o known ne, same)
+    abbrev Kept : Owners → Type 0
+    Kept owners = cond (nat_eq o.store S.number) (map.get owners o.key) None ≡ ownership S o
 
-      listed_apart : (n : Name) → is_some (ownership S a) ≡ true → a ≢ o
-          → let owners = change S.owners a.key (one_listed n) in
-          cond (nat_eq o.store S.number) (map.get owners o.key) None ≡ ownership S o
+    module _ (a : OwnerName) (known : is_some (ownership S a) ≡ true) (ne : a ≢ o) where
+      own_record : (owners : Owners)
+          → (o.key ≢ a.key → map.get owners o.key ≡ map.get S.owners o.key) → Kept owners
+      own_record owners same = grind (arith, apart S a o known ne, same)
+
+      listed_apart : (n : Name) → Kept (change S.owners a.key (one_listed n))
       listed_apart n = own_record _ (get-changed_apart by_number S.owners a.key (one_listed n) o.key)
 
-      put_apart : (h : Ownership) → is_some (ownership S a) ≡ true → a ≢ o
-          → let owners = map.insert S.owners a.key h in
-          cond (nat_eq o.store S.number) (map.get owners o.key) None ≡ ownership S o
+      put_apart : (h : Ownership) → Kept (map.insert S.owners a.key h)
       put_apart h = own_record _ (get-insert_apart by_number S.owners a.key h o.key)
 
-      gone_apart : is_some (ownership S a) ≡ true → a ≢ o
-          → let owners = map.remove S.owners a.key in
-          cond (nat_eq o.store S.number) (map.get owners o.key) None ≡ ownership S o
+      gone_apart : Kept (map.remove S.owners a.key)
       gone_apart = own_record _ (get-remove_apart by_number S.owners a.key o.key)
 
     act_keeps : (call : Action T) (f : NewNames) → LeavesOwner call o → IsNotNext S call o
         → Keeps S o (act S call f)
-    act_keeps (Make (Some a) v l) f ne next = grind (arith, listed_apart a f.first)
-    act_keeps (MakeShared (Some a) v l) f ne next = grind (arith, listed_apart a f.second)
-    act_keeps (Refer (Some a) b) f ne next = grind (arith, listed_apart a f.first)
+    act_keeps (Make (Some a) v l) f ne next = grind (arith, listed_apart a)
+    act_keeps (MakeShared (Some a) v l) f ne next = grind (arith, listed_apart a)
+    act_keeps (Refer (Some a) b) f ne next = grind (arith, listed_apart a)
     act_keeps NewOwner f ne next = grind (arith, get-insert_apart by_number S.owners S.next, eqb-true)
     act_keeps (CloneOwner a) f ne next = grind (arith, put_apart a)
     act_keeps (ReleaseOwner a) f ne next = grind (arith, put_apart a, gone_apart a)

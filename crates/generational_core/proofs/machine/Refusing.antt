@@ -6,7 +6,7 @@ use machine.{GenerationalBox, Guard, Meets, meets_each, NewNames, Outcome, owner
 use machine.{read_answer, reference_box_answer, refl, Refusal, Refused, release_answer, ReleaseReader}
 use machine.{Result, State, StoreError, true, UnknownOwner, write_answer, WriteGuard, ◌≡◌}
 use Rattle.generational_core.specs
-use specs.{Answers.end_refused, Answers.read_refused, Leaving.refuses}
+use specs.{Leaving.refuses}
 use Rattle.std.specs.Prelude.{OnErr}
 use Rattle.generational_errors.specs.declared.error.Refused as error
 use Rattle.generational_errors.specs.declared.error.Refused.TheVariants as refused
@@ -41,25 +41,17 @@ module _ {T : Type 0} where
         → OnErr r (R ≡ S)
     refused_make r m = grind arith
 
-    told_read : (e : error.Refused BorrowError) → Meets S call (read_refused e) R → R ≡ S
-    told_read (refused.Borrow e) m = refused_stays _ m refl
-    told_read (refused.Store e) m = refused_stays _ m refl
-
-    told_end : (e : error.Refused BorrowMutError) → Meets S call (end_refused e) R → R ≡ S
-    told_end (refused.Borrow e) m = refused_stays _ m refl
-    told_end (refused.Store e) m = refused_stays _ m refl
-
     pub refused_refer : (r : Result (GenerationalBox T) (error.Refused BorrowError))
         → Meets S call (reference_box_answer r) R → OnErr r (R ≡ S)
-    refused_refer r m = grind (arith, told_read)
+    refused_refer r m = grind (arith, refused_stays (reference_box_answer r) m)
 
     pub refused_read : (r : Result Guard (error.Refused BorrowError))
         → Meets S call (read_answer r) R → OnErr r (R ≡ S)
-    refused_read r m = grind (arith, told_read)
+    refused_read r m = grind (arith, refused_stays (read_answer r) m)
 
     pub refused_write : (r : Result (WriteGuard T) (error.Refused BorrowMutError))
         → Meets S call (write_answer r) R → OnErr r (R ≡ S)
-    refused_write r m = grind (arith, told_end)
+    refused_write r m = grind (arith, refused_stays (write_answer r) m)
 
     pub refused_free_read : (r : Result Guard StoreError)
         → Meets S call (free_read_answer r) R → OnErr r (R ≡ S)
@@ -74,7 +66,7 @@ module _ {T : Type 0} where
 
     pub refused_end : {U : Type 0} (r : Result U (error.Refused BorrowMutError))
         → Meets S call (end_answer r) R → OnErr r (R ≡ S)
-    refused_end r m = grind (arith, told_end)
+    refused_end r m = grind (arith, refused_stays (end_answer r) m)
 
     pub refused_owner : (r : Result OwnerName StoreError) → Meets S call (owner_answer r) R
         → OnErr r (R ≡ S)
@@ -82,7 +74,7 @@ module _ {T : Type 0} where
 
     pub refused_release : {U V : Type 0} (r : Result U (V × error.Refused BorrowMutError))
         → Meets S call (release_answer r) R → OnErr r (R ≡ S)
-    refused_release r m = grind (arith, told_end)
+    refused_release r m = grind (arith, refused_stays (release_answer r) m)
 
   -- nor does the release of a reader that isn't known
   pub unknown_reader : {S R : State T} (g : Guard) → Meets S (ReleaseReader g) (Flag false) R → R ≡ S

@@ -1,11 +1,10 @@
 -- What the release of an owner value leaves, and when a recorded call is ready.
 use Rattle.generational_core.proofs.machine.Common
-use Common.{act, Action, AllByRecursion, among, Answer, ap, arith, by_number, cases_lt, Cell, cells_after}
+use Common.{act, Action, AllByRecursion, among, Answer, arith, by_number, cases_lt, Cell, cells_after}
 use Common.{close, Done, false, get-insert_apart, get-insert_here, get-remove_apart, get-remove_here}
-use Common.{is_shared, IsBoxed, IsNamed, IsReleased, IsSound, List, lt-ltb, Meets, Name, name_same}
-use Common.{named_from, named_gives, NameMap, NewNames, None, not, one_less, Outcome, OwnerName}
-use Common.{Ownership, ownership, refl, release_owner, set_ownership, Some, State, StepCall, true, [], ℕ}
-use Common.{⊎_elim, ◌<◌, ◌∙◌, ◌∷◌, ◌≡◌, ◌≢◌, ◌≤◌}
+use Common.{is_shared, IsBoxed, IsNamed, IsReleased, IsSound, List, Meets, Name, name_same, named_from}
+use Common.{named_gives, NameMap, NewNames, None, not, one_less, OwnerName, Ownership, ownership}
+use Common.{set_ownership, Some, State, StepCall, true, [], ℕ, ⊎_elim, ◌<◌, ◌∷◌, ◌≡◌, ◌≢◌, ◌≤◌}
 use Rattle.generational_core.specs
 use specs.{StepCalls.is_hindered, StepCalls.is_ready, StepCalls.recorded_as}
 use Rattle.generational_core.proofs.machine.Ends.{get-swept, get-without}
@@ -44,16 +43,13 @@ module _ {T : Type 0} where
   listed_boxed S o h n s is there = grind (arith, boxed_among)
 
   module _ {S R : State T} {o : OwnerName} {h : Ownership} (r : IsReleased S o h R) where
-    release : ◌≡◌ {A = Outcome T} (Done, R) (release_owner S o (Some h))
-    release = grind arith
-
     -- with the last owner value the list is closed, and the record goes
     last_release : h.count ≤ 1 → R ≡ record (close S h.names) { owners = map.remove S.owners o.key }
     last_release last = grind arith
 
     -- else the record stands for one owner value less
     earlier_release : 1 < h.count → R ≡ set_ownership S o.key (one_less h)
-    earlier_release more = ap (λ (out : Outcome T). out.1) release ∙ rw (lt-ltb 1 h.count more) refl
+    earlier_release more = grind arith
 
     pub last_cells : h.count ≤ 1 → R.cells ≡ cells_after S.cells h.names
     last_cells last = cc (last_release last)
@@ -69,9 +65,9 @@ module _ {T : Type 0} where
     earlier_record more = grind (arith, earlier_release, get-insert_here, by_number)
 
     pub other_records : (k : ℕ) → k ≢ o.key → map.get R.owners k ≡ map.get S.owners k
-    other_records k apart =
-        ⊎_elim (λ more. grind (arith, earlier_release more, get-insert_apart, by_number))
-        (λ last. grind (arith, last_release last, get-remove_apart, by_number)) (cases_lt 1 h.count)
+    other_records k apart = ⊎_elim
+        (λ more. grind (arith, earlier_release, get-insert_apart, by_number))
+        (λ last. grind (arith, last_release, get-remove_apart, by_number)) (cases_lt 1 h.count)
 
     -- nothing but cells and records changes
     pub rest_stays : R ≡ record S { cells = R.cells; owners = R.owners }

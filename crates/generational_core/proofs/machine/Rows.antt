@@ -1,11 +1,11 @@
 -- Rows that are read back, one list after the other: the cell of a name, and owners' records; and
 -- what stands under a name without its value.
 use Rattle.generational_core.proofs.machine
-use machine.{AllByRecursion, ap, arith, Bool, Borrow, by_name, by_number, Cell, change, cond}
-use machine.{contains-insert_name, Content, eq_by_cmp, false, get-insert_here, Here, IsDistinct, key_same}
-use machine.{keys_apart, Lent, List, Name, name_cmp, name_total, NameMap, Names, nat_eq, None, Option}
-use machine.{option_map, option_or, Owners, Ownership, Ref, refill, refl, Shared, Some, sym, Value, [], ℕ}
-use machine.{◌&&◌, ◌++◌, ◌||◌, ◌∙◌, ◌∷◌, ◌≡◌}
+use machine.{AllByRecursion, ap, arith, Borrow, by_name, by_number, Cell, change, contains-insert_name}
+use machine.{Content, eq_by_cmp, false, get-insert_here, Here, IsDistinct, key_same, keys_apart, Lent}
+use machine.{List, Name, name_cmp, name_total, NameMap, Names, nat_eq, None, option_map, option_or}
+use machine.{Owners, Ownership, Ref, refill, refl, Shared, Some, Value, [], ℕ, ◌&&◌, ◌++◌, ◌||◌, ◌∙◌, ◌∷◌}
+use machine.{◌≡◌}
 use Rattle.generational_core.specs
 use specs.{Plain.bare_cell, Plain.bare_cells, Plain.bare_content, Plain.bare_entry}
 use specs.{declared.rows.BaseRow.BaseRow, Rows.borrow_rows, Rows.cell_rows, Rows.give_up_to, Boxes.id_of}
@@ -37,17 +37,11 @@ abbrev pub AreApart : {K X : Type 0} → (K → K → Ordering) → List (K × X
 AreApart R [] = Unit {0}
 AreApart R (e ∷ es) = (map.find R e.0 es ≡ None) × AreApart R es
 
-shadowed : {A : Type 0} (b : Bool) (x y z : A) → cond b x (cond b y z) ≡ cond b x z
-shadowed b x y z = grind arith
-
-or_none : {A : Type 0} (x : Option A) → option_or x None ≡ x
-or_none x = grind arith
-
 module _ {K X : Type 0} {R : K → K → Ordering} (o : IsKeyOrder R) where
   put_twice : (m : map.FinMap R X) (k : K) (x y : X)
       → map.insert (map.insert m k x) k y ≡ map.insert m k y
-  put_twice m k x y = map.same_map o.total o.exact _ _ (λ q. simp (map.get-insert {X = X} o.total)
-      (shadowed (eq_by_cmp R q k) (Some y) (Some x) (map.get m q)))
+  put_twice m k x y = map.same_map o.total o.exact _ _
+      (λ q. grind (arith, map.get-insert {X = X} o.total))
 
   -- what was put is changed
   changed_put : (m : map.FinMap R X) (k : K) (x : X) (f : X → X)
@@ -65,7 +59,7 @@ module _ {K X : Type 0} {R : K → K → Ordering} (o : IsKeyOrder R) where
   pub put_new : (es : List (K × X)) → AreApart R es → put (map.empty {R = R}) es ≡ map.from_entries es
   put_new es apart = map.same_map o.total o.exact _ _ (λ q.
       rw (get_put map.empty es apart q, map.get-empty R q, map.get-from_entries o.total es q)
-      (or_none (map.find R q es)))
+      (grind arith))
 
   find_none : (k : K) (es : List (K × X))
       → AllByRecursion (λ y. eq_by_cmp R k y ≡ false) (list_map (λ (e : K × X). e.0) es)
@@ -84,42 +78,40 @@ module _ {K X : Type 0} {R : K → K → Ordering} (o : IsKeyOrder R) where
   put_all m =
       let none = map.get-empty {X = X} R in
       map.same_map o.total o.exact _ _
-      (λ q. grind (arith, get_put, apart_of, keys_apart, none, map.get-entries, or_none))
+      (λ q. grind (arith, get_put, apart_of, keys_apart, none, map.get-entries))
 
 -- ---- the cell of a name
 
-module _ (P : Plain) (number : ℕ) (n : Name) (as_cell : Content (Unit {0}) → Cell (Unit {0})) where
+module _ (P : Plain) (number : ℕ) (n : Name) (cell : Cell (Unit {0})) where
   abbrev holding : Content (Unit {0}) → Plain
-  holding c = record P { cells = map.insert P.cells n (as_cell c) }
+  holding c = record P { cells = map.insert P.cells n (refill c cell) }
 
-  readers_read : ((b : Borrow) (c : Content (Unit {0})) → one_reader b (as_cell c) ≡ as_cell
-      (read_more b c)) → (done rest : List Borrow)
+  more_read : (b : Borrow) (c : Content (Unit {0}))
+      → one_reader b (refill c cell) ≡ refill (read_more b c) cell
+  more_read b c = grind arith
+
+  readers_read : (done rest : List Borrow)
       → read_rows (holding (Here tt done)) (list_map (reader_row (id_of number n)) rest)
       ≡ holding (Here tt (done ++ rest))
-  readers_read one done [] = ap (λ rs. holding (Here tt rs)) (sym (append-nil done))
-  readers_read one done (b ∷ rest) =
+  readers_read done [] = grind (arith, append-nil)
+  readers_read done (b ∷ rest) =
       ap (λ m. read_rows (record P { cells = m }) (list_map (reader_row (id_of number n)) rest))
-      (changed_put by_name P.cells n (as_cell (Here tt done)) (one_reader b)
-      ∙ ap (map.insert P.cells n) (one b (Here tt done)))
-      ∙ readers_read one (done ++ b ∷ []) rest
+      (changed_put by_name P.cells n (refill (Here tt done) cell) (one_reader b)
+      ∙ ap (map.insert P.cells n) (more_read b (Here tt done)))
+      ∙ readers_read (done ++ b ∷ []) rest
       ∙ ap (λ rs. holding (Here tt rs)) (append_assoc done (b ∷ []) rest)
 
-  content_read : {T : Type 0}
-      → ((b : Borrow) (c : Content (Unit {0})) → one_reader b (as_cell c) ≡ as_cell (read_more b c))
-      → ((w : Borrow) (c : Content (Unit {0})) → refill (Lent w) (as_cell c) ≡ as_cell (Lent w))
-      → (c : Content T) → read_rows (holding (Here tt [])) (borrow_rows (id_of number n) c)
-      ≡ holding (bare_content c)
-  content_read one lent (Here v readers) = readers_read one [] readers
-  content_read one lent (Lent w) =
-      let put = changed_put by_name P.cells n (as_cell (Here tt [])) (refill (Lent w)) in
-      grind (arith, put, lent w (Here tt []))
+  content_read : {T : Type 0} (c : Content T)
+      → read_rows (holding (Here tt [])) (borrow_rows (id_of number n) c) ≡ holding (bare_content c)
+  content_read (Here v readers) = readers_read [] readers
+  content_read (Lent w) =
+      let is : refill (Lent w) (refill (Here tt []) cell) ≡ refill (Lent w) cell = grind arith in
+      rw (changed_put by_name P.cells n (refill (Here tt []) cell) (refill (Lent w)), is)
 
 pub cell_read : {T : Type 0} (P : Plain) (number : ℕ) (n : Name) (c : Cell T)
     → read_rows P (cell_rows number n (Some c)) ≡ record P { cells = map.insert P.cells n (bare_cell c) }
-cell_read P number n (Value c l) =
-    content_read P number n (λ c. Value c l) (λ b c. refl) (λ w c. refl) c
-cell_read P number n (Shared c l) =
-    content_read P number n (λ c. Shared c l) (λ b c. refl) (λ w c. refl) c
+cell_read P number n (Value c l) = content_read P number n (Value (Here tt []) l) c
+cell_read P number n (Shared c l) = content_read P number n (Shared (Here tt []) l) c
 cell_read P number n (Ref m l) = refl
 
 -- ---- the names of a slot

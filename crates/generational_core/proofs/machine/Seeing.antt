@@ -2,10 +2,10 @@
 use Rattle.generational_core.proofs.machine
 use machine.{act_leads, Action, after, among, Answer, ap, AreNew, arith, box_stays, by_name, Cell, Change}
 use machine.{changed_view, cond_gives, content_at, content_of, ending, false, GenerationalPointer}
-use machine.{get-insert_apart, is_shared, is_some, IsGiven, IsLawful, IsSound, last, leads_to, LeavesBox}
+use machine.{get-insert_apart, is_shared, is_some, IsGiven, IsLawful, IsSound, leads_to, LeavesBox}
 use machine.{LeavesValue, Lends, live_by, Meets, meets_each, meets_follows, meets_sound, Name, name_apart}
 use machine.{name_of, nat_eq, NewNames, Option, reach, refl, same_store, second_fresh, Sets, Some, State}
-use machine.{swept_view, true, Turns, value_at, value_in, value_reached, ℕ, ◌∙◌, ◌≡◌}
+use machine.{swept_view, true, Turns, value_at, value_in, value_reached, ℕ, ◌≡◌}
 use Rattle.std.specs.FinMap as map
 
 module _ {T : Type 0} where
@@ -19,10 +19,6 @@ module _ {T : Type 0} where
   pub reaches : (S : State T) (b : GenerationalPointer) (m : Name) → reach S b ≡ Some m → Reaches S b m
   unfolding reach
   reaches S b m e = let it = cond_gives _ _ m e in record { number = it.0; leads = it.1 }
-
-  pub reach_by : (S : State T) (b : GenerationalPointer) (m : Name) → Reaches S b m → reach S b ≡ Some m
-  unfolding reach
-  reach_by S b m r = rw (r.number) r.leads
 
   -- what leads somewhere is a Value or a Ref, and a filled one leads to the same
   pub led_box : (c : Option (Cell T)) (q m : Name) → leads_to c q ≡ Some m
@@ -61,6 +57,7 @@ module _ {T : Type 0} where
     -- a box reaches what it reached, unless the call ends it or points it elsewhere
     pub reach_stays : (b : GenerationalPointer) (m : Name) → IsSound S → Meets S call answer R
         → LeavesBox S call b → reach S b ≡ Some m → reach R b ≡ Some m
+    unfolding reach
     reach_stays b m s meets leaves e =
         meets_each S R call answer (λ o. reach o.1 b ≡ Some m) (λ _. e) (λ f new.
         let h = act_leads S call f in
@@ -68,8 +65,7 @@ module _ {T : Type 0} where
         let box = led_box _ (name_of b) m r.leads in
         let stays = kept_cell S call f h.next new (name_of b) (s.given (name_of b) box.0) box.1
         (grind (arith, name_apart)) (λ t. grind arith) h.change h.lawful in
-        ap (λ (X : State T). reach X b) h.is ∙ reach_by (last h) b m
-        (record { number = rw (same_store S f h.change).0 r.number; leads = stays ∙ r.leads })) meets
+        grind (arith, h.is, stays, r.number, r.leads, same_store S f h.change)) meets
 
     -- what stands at a live name keeps its value, unless the call lends it or sets it
     pub kept_value : (m : Name) → IsSound S → Meets S call answer R

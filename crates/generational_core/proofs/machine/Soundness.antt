@@ -1,22 +1,22 @@
 -- Each call takes nothing back, and leads from a sound state to a sound state.
 use Rattle.generational_core.proofs.machine.Common
-use Common.{Action, add_cell, AllByRecursion, ap, AreNew, arith, Bool, Borrow, by_keys, by_name, Cell}
+use Common.{Action, add_cell, AllByRecursion, ap, AreNew, arith, Bool, Borrow, by_name, Cell}
 use Common.{changed_view, contains-insert_here, contains-insert_old, Content, content_of, eqb-true, false}
 use Common.{filter, fresh, GenerationalPointer, get-insert_apart, get-insert_here, Here, is_shared}
 use Common.{is_some, IsBoxed, IsDistinct, IsDistinct-push, IsEnded, IsGiven, IsLinked, IsNamed, IsSound}
-use Common.{List, list_any, list_any-append, list_map, Location, Name, name_cmp, name_of, named_from}
-use Common.{nat_cmp, nat_eq, nat_eq_equiv, NewNames, None, Option, Outcome, Owners, Ownership, reach, Ref}
-use Common.{refill, refl, Shared, Some, Stands, State, subst, sym, tickets_at, tickets_of, true, [], ℕ}
-use Common.{⊎_elim, ◌<◌, ◌∷◌, ◌≡◌, ◌≤◌, ◌⊎◌}
+use Common.{List, list_any, list_any-append, list_map, Location, Name, name_cases, name_cmp, name_of}
+use Common.{named_from, nat_cmp, nat_eq, nat_eq_equiv, NewNames, None, Option, Outcome, Owners, Ownership}
+use Common.{reach, Ref, refill, refl, Shared, Some, Stands, State, subst, sym, tickets_at, tickets_of}
+use Common.{true, [], ℕ, ⊎_elim, ◌<◌, ◌∷◌, ◌≡◌, ◌≤◌, ◌⊎◌}
 use Rattle.generational_core.proofs.machine.Changes.{after, AreRecords, Change, Filling, IsFilling}
 use Rattle.generational_core.proofs.machine.Changes.{IsLawful, Leads, new_content, old_content}
 use Rattle.generational_core.proofs.machine.Changes.{second_fresh}
 use Rattle.generational_core.proofs.machine.Changes.Change.{Birth, Close, Fill, Pair, Stay, Turn}
-use Rattle.generational_core.proofs.machine.Ends.{by_cond, closed_linked, closed_view, IsBorrowed}
-use Rattle.generational_core.proofs.machine.Ends.{some_live, turned_linked, turned_view}
+use Rattle.generational_core.proofs.machine.Ends.{closed_linked, closed_view, IsBorrowed, some_live}
+use Rattle.generational_core.proofs.machine.Ends.{turned_linked, turned_view}
 use Rattle.generational_core.proofs.machine.Linking.{born_linked, pair_linked, refilled_linked}
 use Rattle.generational_core.proofs.machine.Linking.{sound_linked}
-use Rattle.generational_core.proofs.machine.Changes.Filling.{Leave, Reader, Writer}
+use Rattle.generational_core.proofs.machine.Changes.Filling.{Leave}
 use Rattle.std.proofs.lemmas.List.{map-append}
 use Rattle.std.specs.FinMap as map
 use Rattle.std.specs.FinSet as set
@@ -43,8 +43,7 @@ apart_filter : (p : Borrow → Bool) (rs : List Borrow)
     → IsDistinct nat_eq (tickets rs) → IsDistinct nat_eq (tickets (filter p rs))
 unfolding IsDistinct
 apart_filter p [] h = h
-apart_filter p (r ∷ rs) h = by_cond (λ ss. IsDistinct nat_eq (tickets ss)) (p r)
-    (λ _. (none_after p r.ticket rs h.0, apart_filter p rs h.1)) (λ _. apart_filter p rs h.1)
+apart_filter p (r ∷ rs) h = grind (arith, none_after p r.ticket rs, apart_filter p rs)
 
 module _ {T : Type 0} where
   -- ---- what each name keeps
@@ -81,20 +80,18 @@ module _ {T : Type 0} where
     view : (c : Change T) → IsLawful S call f next c
         → View S (record (after S f c) { owners = owners; next = next }) call (place f c) q
     view Stay law = Same refl
-    view (Birth c) law = by_keys by_name q f.first
-        (λ is. grind (arith, Born, law.2 new, born_here S f.first q c))
-        (λ ne. grind (arith, Same, get-insert_apart, by_name))
+    view (Birth c) law = let here = born_here S f.first q c in
+        grind (arith, Born, Same, law.2 new, here, get-insert_apart, by_name, name_cases q)
     view (Pair v l) law =
         let c : Cell T = Shared (Here v []) l in
         let one = add_cell S f.first c in
         let second = second_fresh S.given f.first f.second (law.1 new).1.ungiven in
         let given = contains-insert_old by_name one.given f.second q in
         let other = get-insert_apart by_name one.cells f.second (Ref f.first l) q in
-        by_keys by_name q f.second
-        (λ is. grind (arith, Born, second, born_here one f.second q (Ref f.first l)))
-        (λ no. by_keys by_name q f.first
-        (λ is. grind (arith, Born, law.1 new, given, other no, born_here S f.first q c))
-        (λ ne. grind (arith, Same, other no, get-insert_apart, by_name)))
+        let at = born_here one f.second q (Ref f.first l) in
+        let first = born_here S f.first q c in
+        let apart = get-insert_apart by_name S.cells f.first c q in
+        grind (arith, Born, Same, second, at, law.1 new, given, other, first, apart, name_cases q)
     view (Fill n k) law = ⊎_elim Same
         (λ e. Filled k e.1 e.0 (grind (arith, e, law)) e.2 e.3 (cc (law.0, ap content_of e.2)))
         (changed_view by_name S.cells n (refill (new_content S k)) q)
@@ -103,12 +100,7 @@ module _ {T : Type 0} where
         (⊎_elim (λ e. Turned old to l e.0 e.1) (λ e. Gone e.0 e.1))
         (turned_view S a old to l law.0 law.2 q)
 
-  -- no change takes a name back
-  given_still : (S : State T) (f : NewNames) (c : Change T) (q : Name)
-      → IsGiven S q → IsGiven (after S f c) q
-  given_still S f c q h = grind (arith, contains-insert_old, by_name)
-
-  -- nor another store's number, or a slot's first generation; and none changes owners' records
+  -- no change leads to another store's number or first generation, or changes owners' records
   pub same_store : (S : State T) (f : NewNames) (c : Change T) → ((after S f c).number ≡ S.number)
       × ((after S f c).start ≡ S.start) × ((after S f c).owners ≡ S.owners)
   same_store S f c = grind arith
@@ -136,7 +128,7 @@ module _ {T : Type 0} where
       number = (same_store S f h.change).0;
       start = (same_store S f h.change).1;
       next = h.up;
-      given = given_still S f h.change;
+      given = grind (arith, contains-insert_old, by_name);
       spot = place f h.change;
       view = λ q. view S call f h.owners h.next new q h.change h.lawful;
     }
@@ -180,11 +172,9 @@ module _ {T : Type 0} where
   renewed : (S : State T) (call : Action T) (next : ℕ) (spot q : Name) (k : Filling T) → q ≡ spot
       → IsFilling S call next q k → Renews S next spot q (Some (old_content k)) (Some (new_content S k))
   unfolding IsDistinct
-  renewed S call next spot q (Reader v rs l) here law d low =
-      grind (arith, map-append, IsDistinct-push, nat_eq_equiv, list_any-append, eqb-true)
-  renewed S call next spot q (Writer v l) here law d low = grind (arith, eqb-true)
   renewed S call next spot q (Leave v rs g) here law d low = grind (arith, apart_filter, in_filter)
-  renewed S call next spot q _ here law d low = grind arith
+  renewed S call next spot q _ here law d low =
+      grind (arith, map-append, IsDistinct-push, nat_eq_equiv, list_any-append, eqb-true)
 
   -- ---- what Refs name
 

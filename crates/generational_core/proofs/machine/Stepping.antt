@@ -3,7 +3,7 @@ use Rattle.generational_core.proofs.machine.Common
 use Common.{act, Action, Answer, AreNew, arith, Bool, Borrow, BorrowRefused, Dropped, eqb-true, false}
 use Common.{GenerationalPointer, Guard, inl, inr, is_some, IsEnded, IsGiven, IsSound, knows_reader}
 use Common.{knows_writer, last_ticket, List, list_any, list_any-append, location_at, Made, Meets, Name}
-use Common.{name_of, nat_eq, nat_eq_equiv, NewNames, no_names, None, not, Outcome, reach, Reads, refl}
+use Common.{name_of, nat_eq, nat_eq_equiv, NewNames, no_names, not, Outcome, reach, Reads}
 use Common.{refusal_to_read, refusal_to_write, Refused, ReleaseReader, ReleaseWriter, Sets, Some, State}
 use Common.{subst, sym, Takes, takes_ticket, true, value_at, Writes, ℕ, ⊎_elim, ◌&&◌, ◌+◌, ◌∙◌, ◌≡◌, ◌≤◌}
 use Common.{◌⊎◌}
@@ -72,22 +72,15 @@ module _ {T : Type 0} where
   meets_cases S R call answer (inr m) = inl (grind arith)
 
   -- a box of an ended name reaches nothing, so it is answered that its value is gone
-  ended_reach : (S : State T) (b : GenerationalPointer) → IsEnded S (name_of b) → reach S b ≡ None
-  unfolding reach
-  ended_reach S b e = grind arith
-
   pub ended_read : (S : State T) (b : GenerationalPointer)
       → IsEnded S (name_of b) → refusal_to_read S b ≡ Some (Dropped b.created_at)
-  unfolding refusal_to_read
-  ended_read S b e = rw (ended_reach S b e) refl
+  unfolding refusal_to_read reach
+  ended_read S b e = grind arith
 
   pub ended_write : (S : State T) (b : GenerationalPointer)
       → IsEnded S (name_of b) → refusal_to_write S b ≡ Some (Dropped b.created_at)
-  unfolding refusal_to_write
-  ended_write S b e = rw (ended_reach S b e) refl
-
-  says_refused : (S R : State T) (answer : Answer T) → is_refusal answer ≡ true → Says S answer R
-  says_refused S R answer h = grind arith
+  unfolding refusal_to_write reach
+  ended_write S b e = grind arith
 
   -- whether a call gives back the reader, or the writer, with a ticket
   abbrev pub ends_reader : Action T → ℕ → Bool
@@ -134,7 +127,7 @@ module _ {T : Type 0} where
 
     -- what an answer says is so
     pub meets_says : Meets S call answer R → Says S answer R
-    meets_says = meets_each (λ o. Says S o.0 o.1) (says_refused S S answer)
+    meets_says = meets_each (λ o. Says S o.0 o.1) (λ h. grind arith)
         (λ f new. (act_says S call f (new_fresh S call f new)).so)
 
     -- ---- values that stay
@@ -172,15 +165,13 @@ module _ {T : Type 0} where
   -- a box that is made is a new one of the store
   pub made_new : (S R : State T) (call : Action T) (b : GenerationalPointer) → Meets S call (Made b) R
       → (b.id.store ≡ S.number) × (set.contains S.given (name_of b) ≡ false) × IsGiven R (name_of b)
-  made_new S R call b m =
-      let it = meets_says S R call (Made b) m in (it.number, it.ungiven, it.boxed.0)
+  made_new S R call b m = grind (arith, meets_says S R call (Made b) m)
 
   -- a new reader is known, with the next ticket; so is a new writer
   pub reads_known : (S R : State T) (call : Action T) (g : Guard) → Meets S call (Reads g) R
       → (knows_reader R g ≡ true) × (g.ticket ≡ S.next) × (R.next ≡ S.next + 1)
-  reads_known S R call g m = let it = meets_says S R call (Reads g) m in (it.1, it.0.is, it.0.next)
+  reads_known S R call g m = grind (arith, meets_says S R call (Reads g) m)
 
   pub writes_known : (S R : State T) (call : Action T) (g : Guard) (v : T) → Meets S
       call (Writes g v) R → (knows_writer R g ≡ true) × (g.ticket ≡ S.next) × (R.next ≡ S.next + 1)
-  writes_known S R call g v m =
-      let it = meets_says S R call (Writes g v) m in (it.1, it.0.is, it.0.next)
+  writes_known S R call g v m = grind (arith, meets_says S R call (Writes g v) m)

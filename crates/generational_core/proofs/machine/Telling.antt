@@ -4,15 +4,14 @@ use machine.{act, Action, add_cell, add_to_list, among, Answer, AreFresh, arith,
 use machine.{by_number, can_write, Cell, cell_at, cells_after, changed_view, close, cond, cond_gives}
 use machine.{Content, content_at, content_of, Done, End, fill, filled_content, GenerationalPointer}
 use machine.{get-changed_here, get-changed_name, get-insert_apart, get-insert_here, get-without, Guard}
-use machine.{has_writer, Here, is_refusal, is_some, IsSound, leads_to, Lent, List, Location, Made, Make}
-use machine.{make, MakeShared, Meets, meets_each, Name, name_here, name_of, name_same, NameMap, nat_eq}
+use machine.{has_writer, Here, is_some, IsSound, leads_to, Lent, List, Location, Made, Make, make}
+use machine.{MakeShared, Meets, meets_each, Name, name_here, name_of, name_same, NameMap, nat_eq}
 use machine.{nat_eq_equiv, new_fresh, NewNames, NewOwner, next_borrow, None, Old, one_listed, Option}
 use machine.{Outcome, own_name, Owned, OwnerName, Ownership, ownership, Point, point, reach, Read, Reads}
 use machine.{Ref, Refer, refl, refusal_to_write, ReleaseWriter, same_ids, set_at, SetValue, Shared, Some}
 use machine.{State, swept_ref, swept_view, true, Value, value_at, value_in, Seeing.value_in_reached}
 use machine.{Write, write_at, Writes, [], ◌≡◌, ◌≢◌}
 use Rattle.std.specs.FinMap as map
-use Rattle.std.specs.FinSet as set
 
 module _ {T : Type 0} where
   -- ---- what answers tell
@@ -45,11 +44,6 @@ module _ {T : Type 0} where
 
   abbrev TellsOf : State T → Action T → Outcome T → Type 0
   TellsOf S call out = Tells S call out.0 out.1
-
-  -- a refusal tells nothing, and so does one that may come
-  refused_tells : (S R : State T) (answer : Answer T) (call : Action T)
-      → is_refusal answer ≡ true → Tells S call answer R
-  refused_tells S R answer call h = grind arith
 
   -- boxes of one id reach the same
   same_reach : (S : State T) (a b : GenerationalPointer) → a.id ≡ b.id → reach S a ≡ reach S b
@@ -115,17 +109,15 @@ module _ {T : Type 0} where
   written_told : (S : State T) (g : Guard) (v : T) (c : Option (Content T)) → content_at S g.cell ≡ c
       → has_writer c g.ticket ≡ true → TellsOf S (ReleaseWriter g v) (Done, fill S g.cell (Here v []))
   unfolding value_in
-  written_told S g v None had known = cc
-  written_told S g v (Some k) had known =
-      grind (arith, filled_reach S g.cell (Here v []), filled_content S g.cell (Here v []) k had)
+  written_told S g v c had known =
+      grind (arith, filled_reach S g.cell (Here v []), filled_content S g.cell (Here v []))
 
   set_told : (S : State T) (b : GenerationalPointer) (v : T) (m : Option Name) (c : Option (Content T))
       → reach S b ≡ m → content_of (cell_at S m) ≡ c → TellsOf S (SetValue b v) (set_at S b v m c)
   unfolding value_in
-  set_told S b v (Some m) (Some (Here old [])) to had =
-      grind (arith, filled_reach S m (Here v []), filled_content S m (Here v []) (Here old []) had)
+  set_told S b v (Some m) c to had =
+      grind (arith, filled_reach S m (Here v []), filled_content S m (Here v []))
   set_told S b v None c to had = tt
-  set_told S b v (Some m) _ to had = tt
 
   -- ---- ends, and references that turn
 
@@ -167,4 +159,4 @@ module _ {T : Type 0} where
   pub meets_tells : (S R : State T) (call : Action T) (answer : Answer T)
       → Meets S call answer R → Tells S call answer R
   meets_tells S R call answer = meets_each S R call answer (TellsOf S call)
-      (refused_tells S S answer call) (λ f new. act_tells S call f (new_fresh S call f new))
+      (λ h. grind arith) (λ f new. act_tells S call f (new_fresh S call f new))

@@ -1,15 +1,15 @@
 -- Stores in which no borrow stands: which calls leave them so, and what is never refused there; and
 -- what the tests of boxes say.
 use Rattle.generational_core.proofs.machine
-use machine.{act, Action, among, Answer, arith, Bool, BorrowMutError, box_of, by_name, can_read}
-use machine.{can_write, Cell, cells_after, Done, End, end_answer, filled_content, first_hindrance, Flag}
-use machine.{Resting.free_sees, fresh, GenerationalPointer, get-changed_apart, Guard, Here, hindrance_of}
-use machine.{hindrance_to, is_some, IsOk, IsSet, IsSound, List, Location, may_lack, Meets, meets_follows}
-use machine.{Name, name_cases, name_cmp, name_here, nat_eq_equiv, NewNames, None, Option, own_name}
-use machine.{OwnerName, Ownership, ownership, reach, Resting.reached_content, Read, Reads}
-use machine.{Calling.reads_back, Ref, refill, refilled_content, refl, refusal_to_read, refusal_to_write}
-use machine.{release_answer, ReleaseOwner, ReleaseReader, Resting.rests, Resting.rests_free, Result, Some}
-use machine.{State, true, Value, value_in, [], ℕ, ◌∷◌, ◌≡◌}
+use machine.{Action, among, Answer, arith, Bool, BorrowMutError, box_of, can_read, can_write, Cell}
+use machine.{cells_after, End, end_answer, first_hindrance, Flag, Resting.free_sees, fresh}
+use machine.{GenerationalPointer, get-changed_name, Guard, hindrance_of, hindrance_to, is_some, IsOk}
+use machine.{IsSet, IsSound, List, Location, may_lack, Meets, meets_follows, Name, name_cmp, name_here}
+use machine.{name_same, nat_eq_equiv, None, Option, own_name, OwnerName, Ownership, ownership, reach}
+use machine.{Resting.reached_content, Read, Reads, Calling.reads_back, Ref, refilled_content, refl}
+use machine.{refusal_to_read, refusal_to_write, release_answer, ReleaseOwner, ReleaseReader}
+use machine.{Resting.rests, Resting.rests_free, Result, Some, State, true, Value, value_in, [], ℕ, ◌∷◌}
+use machine.{◌≡◌}
 use Rattle.generational_core.specs
 use specs.{Leaving.AreFree, Leaving.BeginsNoBorrow, Leaving.HasNoBorrows}
 use Rattle.std.specs.FinMap as map
@@ -49,11 +49,8 @@ module _ {T : Type 0} where
     -- each that asks for no borrow
     pub quiet_stays : (call : Action T) (answer : Answer T) → Meets S call answer R
         → BeginsNoBorrow call → HasNoBorrows S → HasNoBorrows R
-    quiet_stays call answer m begins quiet = record {
-      none = λ n.
-          let view = (meets_follows S R call answer m).view n in
-          grind (arith, view, quiet.none n, refilled_content);
-    }
+    quiet_stays call answer m begins quiet =
+        grind (arith, (meets_follows S R call answer m).view, quiet.none, refilled_content)
 
     -- a read that was released, and a write
     pub quiet_read : {Q : State T} (b : GenerationalPointer) (l : Location) (g : Guard)
@@ -63,20 +60,10 @@ module _ {T : Type 0} where
         rw (reads_back b l g flag s read release) (record { none = quiet.none })
 
     pub quiet_set : (b : GenerationalPointer) (v : T) → IsSet S b v R → HasNoBorrows S → HasNoBorrows R
-    quiet_set b v it quiet = record {
-      none = λ n.
-          let filled = filled_content S it.name (Here v []) (Here it.old []) it.content in
-          let apart = get-changed_apart by_name S.cells it.name (refill (Here v [])) n in
-          grind (arith, it.after, filled, apart, quiet.none n, name_cases n it.name);
-    }
+    quiet_set b v it quiet =
+        grind (arith, it.after, it.content, get-changed_name, name_same, quiet.none)
 
   -- ---- ends that no borrow hinders
-
-  -- a call that is done whatever names it takes is answered so: it lacks nothing
-  done_always : (S R : State T) (call : Action T) (answer : Answer T)
-      → ((f : NewNames) → (act S call f).0 ≡ Done) → Meets S call answer R → answer ≡ Done
-  unfolding may_lack
-  done_always S R call answer goes m = grind arith
 
   -- no borrow hinders names that are free
   unhindered : (S : State T) (names : List Name) → AreFree S names → hindrance_to S names ≡ None
@@ -101,19 +88,15 @@ module _ {T : Type 0} where
     pub frees_owned : (o : OwnerName) (h : Ownership) {U V : Type 0}
         (r : Result U (V × error.Refused BorrowMutError)) → ownership S o ≡ Some h
         → AreFree S h.names → Meets S (ReleaseOwner o) (release_answer r) R → IsOk r
-    frees_owned o h r held free m =
-        let goes = unhindered S h.names free in
-        let done : release_answer {T = T} r ≡ Done =
-        done_always S R (ReleaseOwner o) _ (λ f. grind (arith, goes)) m in
-        grind (arith, done)
+    unfolding may_lack
+    frees_owned o h r held free m = grind (arith, unhindered S h.names free)
 
     -- nor is an end in a store without borrows, or an owner's release
     pub quiet_ends : (b : GenerationalPointer) {U : Type 0} (r : Result U (error.Refused BorrowMutError))
         → HasNoBorrows S → Meets S (End b) (end_answer r) R → IsOk r
+    unfolding may_lack
     quiet_ends b r quiet m =
-        let goes = unhindered S (own_name S b) (λ a m there to gone. quiet_free S quiet a m to) in
-        let done : end_answer {T = T} r ≡ Done = done_always S R (End b) _ (λ f. rw goes) m in
-        grind (arith, done)
+        grind (arith, unhindered S (own_name S b) (λ a m there to gone. quiet_free S quiet a m to))
 
     pub quiet_releases : (o : OwnerName) (h : Ownership) {U V : Type 0}
         (r : Result U (V × error.Refused BorrowMutError)) → ownership S o ≡ Some h

@@ -1,18 +1,22 @@
 -- Finite maps and sets read at a key, how many keys a map has, and when names and ids are the same.
 use Rattle.std.specs.declared.cmp.{Ordering.Ordering}
 use Rattle.std.proofs.lemmas.Bool.{cases_Bool, false_from_ne_true, or_cases, or_right}
-use Rattle.std.proofs.lemmas.{Cmp.on_total, Cmp.then_total, List.length-map, Map.Made.length-le_from_is_member}
+use Rattle.std.proofs.lemmas.{Cmp.on_total, Cmp.then_total, List.length-map}
+use Rattle.std.proofs.lemmas.{Map.Made.length-le_from_is_member}
+use Rattle.std.proofs.lemmas.Map.Made.{length-intersection_difference}
+use Rattle.std.proofs.Common.{not, ◌+◌}
 use Rattle.std.specs.Prelude.{◌⊎◌, option_map, map as list_map, ◌&&◌, nat_eq, ◌↔◌}
 use Rattle.std.specs.Cmp.{IsTotalOrder, nat_cmp_total, Equal-is, tied_itself, eq_by_cmp_equiv}
-use Rattle.std.specs.{Ordering.nat_cmp, Ordering.eq_by_cmp, Ordering.is_eq, Ordering.is_lt}
-use Rattle.std.specs.{List.AllByRecursion, List.IsDistinct, List.list_any}
+use Rattle.std.specs.{List.AllByRecursion, Ordering.eq_by_cmp, List.IsDistinct, Ordering.is_eq}
+use Rattle.std.specs.{List.list_any, Ordering.nat_cmp}
 use Rattle.generational_core.specs
 use specs.Names.{Name, Names, NameMap, name_cmp, is_name, change, change_if}
-use specs.{Boxes.has_same_id, Cells.Cell, Cells.refers_to, Cells.Cell.Ref, Conditions.IsNamed, State.is_named}
+use specs.{Boxes.has_same_id, Cells.Cell, Cells.refers_to, Cells.Cell.Ref, Conditions.IsNamed}
+use specs.{State.is_named}
 use specs.declared.boxes.GenerationalPointer.{GenerationalPointer}
 use Rattle.generational_errors.specs.declared.error.Location.{Location}
-use Rattle.std.proofs.Common.{◌≡◌, ◌≢◌, ◌≤◌, Bool, true, false, cond, ◌||◌, Option, None}
-use Rattle.std.proofs.Common.{Some, List, [], ◌∷◌, length, refl, sym, ap, ◌∙◌, inl, inr, ⊎_elim, arith}
+use Rattle.std.proofs.Common.{◌≡◌, ◌≢◌, ◌≤◌, Bool, true, false, cond, ◌||◌, Option, None, Some, List, []}
+use Rattle.std.proofs.Common.{◌∷◌, length, refl, sym, ap, ◌∙◌, inl, inr, ⊎_elim, arith}
 use Rattle.std.specs.FinMap as map
 use Rattle.std.specs.FinSet as set
 
@@ -175,15 +179,12 @@ contains-insert_name s k q = set.contains-insert name_total s k q
 
 -- ---- how many keys a map has
 
-less_apart : (r : Ordering) → is_lt r ≡ true → is_eq r ≡ false
-less_apart r h = grind arith
-
 -- the keys of a finite map are distinct
 module _ {K X : Type 0} (R : K → K → Ordering) where
   below_apart : (x : K) (es : List (K × X)) → map.Entries.below_all R x es ≡ true
       → AllByRecursion (λ y. eq_by_cmp R x y ≡ false) (list_map (λ (e : K × X). e.0) es)
   below_apart x [] h = tt
-  below_apart x (e ∷ es) h = grind (arith, less_apart, below_apart x es)
+  below_apart x (e ∷ es) h = grind (arith, below_apart x es)
 
   sorted_apart : (es : List (K × X))
       → map.is_sorted R es ≡ true → IsDistinct (eq_by_cmp R) (list_map (λ (e : K × X). e.0) es)
@@ -199,22 +200,45 @@ module _ {K X : Type 0} (R : K → K → Ordering) where
   pub len_keys : (m : map.FinMap R X) → map.len m ≡ length (map.keys m)
   len_keys m = map.len-entries m ∙ sym (length-map (map.entries m) (λ e. e.0))
 
-module _ {K X : Type 0} {R : K → K → Ordering}
-    (o : IsKeyOrder R) where
+module _ {J K : Type 0} {Q : J → J → Ordering} {R : K → K → Ordering}
+    (p : IsKeyOrder Q) (o : IsKeyOrder R) (f : J → K) where
+  mapped_there : (j : J) (js : List J) → list_any (eq_by_cmp Q j) js ≡ true
+      → list_any (eq_by_cmp R (f j)) (list_map f js) ≡ true
+  mapped_there j [] h = h
+  mapped_there j (i ∷ js) h = grind (arith, key_here o, key_same p j i, mapped_there j js)
+
+  -- a map each of whose keys comes from a key of another is no larger
+  pub len_from : {X Y : Type 0} (m : map.FinMap R X) (n : map.FinMap Q Y) (g : K → J)
+      → ((k : K) → map.contains_key m k ≡ true → (map.contains_key n (g k) ≡ true) × (f (g k) ≡ k))
+      → map.len m ≤ map.len n
+  len_from m n g h =
+      let le = length-le_from_is_member (eq_by_cmp_equiv o.total) (map.keys m)
+      (list_map f (map.keys n)) (keys_apart R m)
+      (λ k e. grind (arith, h k, map.contains_key-keys, mapped_there (g k) (map.keys n))) in
+      omega (arith, le, len_keys R m, len_keys Q n, length-map (map.keys n) f)
+
+module _ {K X : Type 0} {R : K → K → Ordering} (o : IsKeyOrder R) where
   -- what passes is kept
   pub kept_key : (m : map.FinMap R X) (p : K → Bool) (q : K)
       → map.contains_key m q ≡ true → p q ≡ true → map.contains_key (map.retain_keys m p) q ≡ true
   kept_key m p q h t = rw (get-keep o m p q, t) h
 
-module _ {K X Y : Type 0} {R : K → K → Ordering} (o : IsKeyOrder R) where
   -- a map whose keys are another's is no larger
-  pub len_within : (m : map.FinMap R X) (n : map.FinMap R Y)
+  pub len_within : {Y : Type 0} (m : map.FinMap R X) (n : map.FinMap R Y)
       → ((k : K) → map.contains_key m k ≡ true → map.contains_key n k ≡ true) → map.len m ≤ map.len n
-  len_within m n h =
-      let le =
-      length-le_from_is_member (eq_by_cmp_equiv o.total) (map.keys m) (map.keys n) (keys_apart R m)
-      (λ k e. sym (map.contains_key-keys n k) ∙ h k (map.contains_key-keys m k ∙ e)) in
-      omega (arith, len_keys R m, len_keys R n)
+  len_within m n h = len_from o o (λ k. k) m n (λ k. k) (λ k e. (h k e, refl))
+
+  -- a map's keys are as many as those of two that share them
+  pub len_parts : (m l r : map.FinMap R X)
+      → ((k : K) → map.contains_key l k ≡ true → map.contains_key m k ≡ true)
+      → ((k : K) → map.contains_key r k ≡ (map.contains_key m k && not (map.contains_key l k)))
+      → map.len l + map.len r ≡ map.len m
+  len_parts m l r within rest =
+      let parts = length-intersection_difference (eq_by_cmp_equiv o.total) (map.keys m) (map.keys l)
+      (map.keys l) (map.keys r) (keys_apart R m) (keys_apart R l) (keys_apart R r)
+      (λ q. grind (arith, within q, map.contains_key-keys))
+      (λ q. grind (arith, rest q, map.contains_key-keys)) in
+      omega (arith, parts, len_keys {X = X} R)
 
 -- two names are the same if both their numbers are
 pub name_test : (a b : Name) → is_name a b ≡ (nat_eq a.slot b.slot && nat_eq a.generation b.generation)
