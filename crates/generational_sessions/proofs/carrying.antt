@@ -7,26 +7,23 @@ pub use CarriedCalls.*
 use Rattle.generational_sessions.proofs.sessions
 use sessions.{act, act_says, act_start, Action, add_place, AllByRecursion, Answer, AnswersAs, ap}
 use sessions.{AreFresh, AreListed, AreNumbersBelow, arith, ask, Asks, at_place, Bool, box_held}
-use sessions.{box_in, BoxAt, Boxed, by_name, Call, CarriesSession, Cell, cond_both}
-use sessions.{contains-insert_apart, contains-insert_here, contains-insert_name}
-use sessions.{contains-insert_old, empty_session, eq_by_cmp, erase, false, false_from_ne_true}
+use sessions.{box_in, BoxAt, by_name, Call, CarriesSession, Cell, cond_both, contains-insert_apart}
+use sessions.{contains-insert_name, contains-insert_old, empty_session, eq_by_cmp, erase, false}
 use sessions.{Foreign, fresh, GenerationalPointer, get_or_append_left, get_or_push, gives, Guard}
-use sessions.{Held, if_ready, inl, inr, is_making, is_name, is_refusal, is_some, IsFresh}
-use sessions.{IsNumberBelow, IsSound, key_same, KnowsAnswer, KnowsBox, KnowsCall, KnowsGuard}
-use sessions.{KnowsHeld, KnowsNewNames, last_ticket, length, length_push, List, list_any}
-use sessions.{list_any-append, list_any_at, list_map, Location, Make, MakeShared, map-append}
-use sessions.{map-set, Matches, Meets, Name, name_cases, name_cmp, name_here, name_total, named_by}
-use sessions.{Names, nat_cmp, nat_eq, new_fresh, NewNames, next_numbers, None, NoSuch, not_there}
-use sessions.{Nothing, number, numbered, numbered_act, Option, option_map, or_cases, Outcome}
-use sessions.{owner_held, owner_in, OwnerName, Ownership, Owning, Place, pointer_of, Reading, Refer}
-use sessions.{refl, refusal, refusal_in, refusal_told, Refused, release, rename_action}
-use sessions.{rename_answer, rename_box, rename_cell, rename_guard, rename_held, rename_new_names}
-use sessions.{rename_ownership, replace, reply_of, Request, Run, session_in, session_sound}
-use sessions.{SessionReply, SessionState, SessionStep, settle, Settles, shift_owner, slice_set}
-use sessions.{Some, spend, State, StoreError, subst, suc, swap, Swaps, sym, Takes, takes_new}
-use sessions.{takes_ticket, tell, Tells, Thing, true, true≢false, unspent, want, with_box}
-use sessions.{with_owner, Writing, zero, [], ℕ, ⊎_elim, ◌&&◌, ◌++◌, ◌+◌, ◌-◌, ◌<◌, ◌∙◌, ◌∷◌, ◌≡◌}
-use sessions.{◌≢◌, ◌≤◌}
+use sessions.{Held, inl, inr, is_making, is_refusal, is_some, IsFresh, IsNumberBelow, IsSound}
+use sessions.{key_same, KnowsAnswer, KnowsBox, KnowsCall, KnowsGuard, KnowsHeld, KnowsNewNames}
+use sessions.{last_ticket, length, length_push, List, list_any, list_any-append, list_any_at}
+use sessions.{list_map, Make, MakeShared, map-append, map-set, Matches, Meets, Name, name_apart}
+use sessions.{name_cases, name_cmp, name_here, name_total, named_by, Names, nat_cmp, nat_eq}
+use sessions.{new_fresh, NewNames, next_numbers, None, Nothing, number, numbered, numbered_act}
+use sessions.{Option, option_map, or_cases, Outcome, owner_held, owner_in, Ownership, Place, Refer}
+use sessions.{refl, refusal, refusal_in, refusal_told, Refused, rename_action, rename_answer}
+use sessions.{rename_box, rename_guard, rename_held, rename_new_names, rename_ownership, reply_of}
+use sessions.{Request, Run, session_in, session_sound, SessionReply, SessionState, SessionStep}
+use sessions.{settle, Settles, shift_owner, slice_set, Some, spend, State, StoreError, subst, suc}
+use sessions.{swap, Swaps, sym, Takes, takes_new, takes_ticket, tell, Tells, Thing, true}
+use sessions.{true≢false, unspent, want, Writing, [], ℕ, ⊎_elim, ◌&&◌, ◌++◌, ◌+◌, ◌-◌, ◌<◌, ◌∙◌}
+use sessions.{◌∷◌, ◌≡◌, ◌≢◌}
 use Rattle.std.specs.FinMap as map
 use Rattle.std.specs.FinSet as set
 use Rattle.generational_sessions.specs.declared.calls.Call.TheVariants as call
@@ -34,16 +31,6 @@ use Rattle.generational_errors.specs.declared.error.StoreError.TheVariants as er
 
 -- ---- sessions that carry others: calls come to the same, ids aside, and new names are numbered
 -- behind the old ones
-
--- what the calls of two sessions come to
-pub data AskedAlike {T : Type 0} (f : Name → Name)
-    (d : ℕ) (Knows : Name → Type 0) (number : ℕ) : Request T → Request T → Type 0 where
-  both_ask : {x : Action T} → KnowsCall Knows number x
-      → AskedAlike f d Knows number (Asks (rename_action f d (λ (v : T). v) number x)) (Asks x)
-  both_tell : (x y : SessionReply T)
-      → erase x ≡ erase y → refusal_in x ≡ None → AskedAlike f d Knows number (Tells x) (Tells y)
-  both_swap : (p : ℕ) (g : Guard) (v old : T) → KnowsGuard Knows number g
-      → AskedAlike f d Knows number (Swaps p (rename_guard f d number g) v old) (Swaps p g v old)
 
 -- ---- tables
 
@@ -79,10 +66,8 @@ module _ {T : Type 0} (f : Name → Name) (d : ℕ) (Knows : Name → Type 0) (s
 
   tables_spend : (t u : List (Held T)) (x : Call T) (answer : Answer T)
       → Tables t u → Tables (spend x (rename_reply answer) t) (spend x answer u)
-  tables_spend t u (call.Release p) answer h = tables_set t u p Nothing h tt
-  tables_spend t u (call.ReleaseOwner p) Answer.Done h = tables_set t u p Nothing h tt
-  tables_spend t u (call.LeakOwner p) answer h = tables_set t u p Nothing h tt
-  tables_spend t u x answer h = h
+  tables_spend t u x answer h =
+      let put = λ (p : ℕ). tables_set t u p Nothing h tt in grind (arith, put)
 
   said_moved : (x : Call T) (answer : Answer T)
       → erase (reply_of x (rename_reply answer)) ≡ erase (reply_of x answer)
@@ -95,68 +80,51 @@ module _ {T : Type 0} {f : Name → Name} {d : ℕ} {Knows : Name → Type 0} {s
   abbrev store : ℕ
   store = a.state.number
 
+  -- what the calls of two sessions come to
   abbrev Alike : Request T → Request T → Type 0
-  Alike x y = AskedAlike f d Knows store x y
+  Alike (Asks y) (Asks x) =
+      (y ≡ rename_action f d (λ (v : T). v) store x) × KnowsCall Knows store x
+  Alike (Tells y) (Tells x) = (erase y ≡ erase x) × (refusal_in y ≡ None)
+  Alike (Swaps p h v old) (Swaps q g w was) = (p ≡ q) × (h ≡ rename_guard f d store g)
+      × (v ≡ w) × (old ≡ was) × KnowsGuard Knows store g
+  Alike _ _ = ⊥
 
-  no_such : (back : Option T) → Alike (Tells (NoSuch back)) (Tells (NoSuch back))
-  no_such back = both_tell _ _ refl refl
-
-  -- what depends on what a place holds
-  place_alike : (x y : Held T → Request T) → ((h : Held T)
-      → KnowsHeld Knows store h → Alike (x (rename_held f d store h)) (y h))
-      → (p : ℕ) → Alike (x (at_place s.table p)) (y (at_place a.table p))
-  place_alike x y alike p = rw c.table (at a.table p c.known)
+  -- what a place holds is moved, and with it the box or the owner that is named
+  place_moved : (p : ℕ) → (at_place s.table p ≡ rename_held f d store (at_place a.table p))
+      × KnowsHeld Knows store (at_place a.table p)
+  place_moved p = rw c.table (at a.table p c.known)
     where
       at : (u : List (Held T)) (p : ℕ) → AllByRecursion (KnowsHeld Knows store) u
-          → Alike (x (at_place (list_map (rename_held f d store) u) p)) (y (at_place u p))
-      at [] p k = alike Nothing tt
-      at (h ∷ u) zero k = alike h k.0
+          → (at_place (list_map (rename_held f d store) u) p ≡ rename_held f d store (at_place u p))
+          × KnowsHeld Knows store (at_place u p)
       at (h ∷ u) (suc p) k = at u p k.1
+      at u p k = grind arith
 
-  -- a call of a box
-  with_box_alike : (b : BoxAt T) (back : Option T) (x y : GenerationalPointer → Request T)
-      → ((b : GenerationalPointer) → KnowsBox Knows store b
-      → Alike (x (rename_box f d store b)) (y b))
-      → Alike (with_box (box_in s b) back x) (with_box (box_in a b) back y)
-  with_box_alike (Place p) back x y alike = place_alike
-      (λ h. with_box (box_held h) back x) (λ h. with_box (box_held h) back y)
-      (elim [ Boxed b ↦ alike b | _ ↦ λ k. no_such back ]) p
-  with_box_alike (Foreign foreign) back x y alike =
-      let b = pointer_of foreign in let own = nat_eq b.id.store store in
-      rw c.state.number (cond_both own None (Some b)
-      (λ o. Alike (with_box o back x) (with_box o back y)) (λ _. no_such back)
-      (λ e. rw e at (alike b (λ k. cc))))
+  held_moved : (x y : Held T) → x ≡ rename_held f d store y → KnowsHeld Knows store y
+      → (box_held x ≡ option_map (rename_box f d store) (box_held y))
+      × IfThere (box_held y) (KnowsBox Knows store)
+      × (owner_held x ≡ option_map (shift_owner f d store) (owner_held y))
+  held_moved x y is k = grind arith
 
-  -- a call of an owner
-  with_owner_alike : (p : ℕ) (back : Option T) (x y : OwnerName → Request T)
-      → ((o : OwnerName) → Alike (x (shift_owner f d store o)) (y o))
-      → Alike (with_owner (owner_in s p) back x) (with_owner (owner_in a p) back y)
-  with_owner_alike p back x y alike = place_alike
-      (λ h. with_owner (owner_held h) back x) (λ h. with_owner (owner_held h) back y)
-      (elim [ Owning o ↦ λ k. alike o | _ ↦ λ k. no_such back ]) p
+  box_moved : (b : BoxAt T) → (box_in s b ≡ option_map (rename_box f d store) (box_in a b))
+      × IfThere (box_in a b) (KnowsBox Knows store)
+  box_moved (Place p) = let at = place_moved p in
+      let held = held_moved _ _ at.0 at.1 in (held.0, held.1)
+  box_moved (Foreign b) = let number = c.state.number in grind arith
 
-  -- a call with a condition, where it holds in both or in none
-  ready_alike : {p q : Bool} (back : Option T) (x y : Request T)
-      → p ≡ q → Alike x y → Alike (if_ready p back x) (if_ready q back y)
-  ready_alike {q = true} back x y same alike = rw same alike
-  ready_alike {q = false} back x y same alike = rw same (both_tell _ _ refl refl)
+  owner_moved : (p : ℕ) → owner_in s p ≡ option_map (shift_owner f d store) (owner_in a p)
+  owner_moved p = let at = place_moved p in (held_moved _ _ at.0 at.1).2
 
-  asks_alike : {x y : Action T} → y ≡ rename_action f d (λ (v : T). v) store x
-      → KnowsCall Knows store x → Alike (Asks y) (Asks x)
-  asks_alike same k = rw same (both_ask k)
-
-  -- what is asked of a box is answered as before, so calls come to the same
   ruleset moves = (read_moved, write_moved, created_moved, same_box_moved)
-
-  ruleset alike = (with_box_alike, with_owner_alike, ready_alike, asks_alike, both_tell, moves)
 
   -- each call comes to the same
   pub asked_alike : (x : Call T) → Alike (ask s x) (ask a x)
-  asked_alike (call.Replace p v) = place_alike (λ h. replace p h v) (λ h. replace p h v)
-      (elim [ Writing g old ↦ both_swap p g v old | _ ↦ λ k. no_such (Some v) ]) p
-  asked_alike (call.Release p) = place_alike release release
-      (elim [ Reading g ↦ both_ask | Writing g v ↦ both_ask | _ ↦ λ k. no_such None ]) p
-  asked_alike _ = search alike
+  asked_alike (call.Replace p v) = let held = place_moved p in grind arith
+  asked_alike (call.Release p) = let held = place_moved p in grind arith
+  asked_alike (call.PointTo b e) = grind (arith, box_moved b, box_moved e)
+  asked_alike (call.PtrEq b e) =
+      grind (arith, box_moved b, box_moved e, same_box_moved f d c.state.apart store)
+  asked_alike x = grind (arith, box_moved, owner_moved, moves)
 
   -- ---- after a call
 
@@ -191,11 +159,6 @@ all_agree P Q u w same (x ∷ xs) k = let here = same x k.0 in
 
 module _ (f h : Name → Name) (d n : ℕ) (Knows More : Name → Type 0)
     (agree : (k : Name) → Knows k → (h k ≡ f k) × More k) where
-  cell_agrees : {T : Type 0} (c : Option (Cell T))
-      → ((m : Name) (l : Location) → c ≡ Some (Cell.Ref m l) → Knows m)
-      → option_map (rename_cell h d (λ (v : T). v)) c ≡ option_map (rename_cell f d (λ v. v)) c
-  cell_agrees c leads = grind arith
-
   holding_agrees : (x : Option Ownership)
       → ((y : Ownership) → x ≡ Some y → AllByRecursion Knows y.names)
       → option_map (rename_ownership h d) x ≡ option_map (rename_ownership f d) x
@@ -216,8 +179,7 @@ module _ (order : List Name) (y : Name) {n : ℕ} (is : n ≡ length order) wher
   pub older : (k : Name) → IsNumberBelow (length order) k
       → (named_by (order ++ y ∷ []) k ≡ named_by order k)
       × IsNumberBelow (length (order ++ y ∷ [])) k
-  older k b =
-      (get_or_append_left order (y ∷ []) k k.slot b.1, (b.0, omega (arith, length_push order y)))
+  older k b = grind (arith, get_or_append_left, length_push)
 
   pub back : named_by (order ++ y ∷ []) (number n) ≡ y
   back = get_or_push order y (number n) n (sym is)
@@ -245,17 +207,7 @@ module _ {T : Type 0} {s a : SessionState T} {d : ℕ} {order : List Name} {give
 
   -- no number below stands for the new name, since the names of the list were given
   other : (k : Name) → IsBelow k → named_by order k ≢ y
-  other k b e = true≢false (sym (r.names.all (named_by order k)
-      ∙ list_any_at (is_name (named_by order k)) order k.slot k b.1 (name_here (named_by order k)))
-      ∙ (ap (set.contains given_s) e ∙ new))
-
-  -- a number below the next one is below n, or n
-  by_last : {X : Type 0} (k : Name) → IsNumberBelow (length (order ++ y ∷ [])) k
-      → (IsBelow k → X) → (k ≡ number n → X) → X
-  by_last k b old last = grind (arith, length_push)
-
-  not_below : IsBelow (number n) → ⊥
-  not_below b = omega arith
+  other k b e = grind (arith, true≢false, list_any_at, name_here)
 
   -- a name more, which was never given, at the end of the list
   pub reserve : Reserves s a d
@@ -266,13 +218,6 @@ module _ {T : Type 0} {s a : SessionState T} {d : ℕ} {order : List Name} {give
       let last = back order y is in
       let held = all_agree (KnowsHeld IsBelow a.state.number) _ _ _ (held_agrees (named_by order)
       renamed d a.state.number IsBelow _ old) a.table r.carries.known in
-      let moved = option_map (rename_cell renamed d (λ (v : T). v)) in
-      let unborn_s = not_there (map.get s.state.cells y)
-      (λ live. let it = c.cells.from y live in other it.0 it.1 it.2) in
-      let unborn_a = not_there (map.get a.state.cells (number n))
-      (λ live. not_below (c.cells.known (number n) live)) in
-      let fresh_a = false_from_ne_true (set.contains given_a (number n))
-      (λ e. not_below (r.numbers.only (number n) e)) in
       record {
         carries = record {
           state = record {
@@ -280,47 +225,37 @@ module _ {T : Type 0} {s a : SessionState T} {d : ℕ} {order : List Name} {give
             next = c.next;
             peak = c.peak;
             cells = record {
-              at = λ k b. by_last k b (λ lt. rw ((old k lt).0, c.cells.at k lt)
-                  (sym (cell_agrees (named_by order) renamed d n IsBelow _ old
-                  (map.get a.state.cells k) (c.cells.leads k))))
-                  (λ e. rw (e, last, unborn_s, unborn_a));
+              at = λ k b. grind (
+                arith,
+                other,
+                length_push,
+                c.cells.at k,
+                c.cells.leads k,
+                c.cells.from y,
+                c.cells.known k,
+              );
               from = λ m e. let it = c.cells.from m e in
                   (it.0, (old it.0 it.1).1, (old it.0 it.1).0 ∙ it.2);
               known = λ k e. (old k (c.cells.known k e)).1;
               leads = λ k m l e. (old m (c.cells.leads k m l e)).1;
             };
-            given = λ k b. by_last k b (λ lt. rw (old k lt).0 (c.given k lt))
-                (λ e. rw (e, last) (false_from_ne_true _ (λ e. let more = r.more_s y e in cc)
-                ∙ sym (false_from_ne_true _
-                (λ e. not_below (r.numbers.only (number n) (r.more_a (number n) e))))));
+            given = λ k b.
+                grind (arith, length_push, c.given k, r.more_s y, r.more_a k, r.numbers.only k);
             owners = λ key. c.owners key ∙ sym (holding_agrees (named_by order) renamed d n
                 IsBelow _ old (map.get a.state.owners key) (c.listed key));
             keys = c.keys;
             listed = λ key x e. (all_agree IsBelow _ renamed (named_by order)
                 old x.names (c.listed key x e)).1;
-            apart = λ j k bj bk e. by_last j bj (λ lj. by_last k bk
-                (λ lk. c.apart j k lj lk (rw ((old j lj).0, (old k lk).0) at e))
-                (λ at. absurd (other j lj (cc (last, (old j lj).0))))) (λ here. by_last k bk
-                (λ lk. absurd (other k lk (cc (last, (old k lk).0)))) (λ at. here ∙ sym at));
+            apart = λ j k bj bk e.
+                grind (arith, length_push, other j, other k, c.apart j k, old j, old k);
           };
           table = r.carries.table ∙ sym held.0;
           known = held.1;
         };
-        names = record {
-          count = rw (set.len-insert name_total given_s y, new, r.names.count)
-              (sym (length_push order y));
-          all = λ m. let behind = list_any-append (is_name m) order (y ∷ []) in
-              grind (arith, contains-insert_name given_s y m, r.names.all m, behind);
-        };
-        numbers = record {
-          count = rw (set.len-insert name_total given_a (number n), fresh_a, r.numbers.count)
-              (sym (length_push order y));
-          all = λ k b. by_last k b
-              (λ lt. contains-insert_old by_name given_a (number n) k (r.numbers.all k lt))
-              (λ e. rw e (contains-insert_here by_name given_a (number n)));
-          only = λ k e. let known = last_known order y is in let was = r.numbers.only k in
-              grind (arith, old k, contains-insert_apart by_name given_a (number n) k, name_cases);
-        };
+        names = let count = set.len-insert name_total given_s y in
+            grind (arith, length_push, contains-insert_name, list_any-append);
+        numbers = let count = set.len-insert name_total given_a (number n) in
+            grind (arith, length_push, contains-insert_name, name_here, name_apart, name_cases);
         more_s = λ m e. contains-insert_old by_name given_s y m (r.more_s m e);
         more_a = λ m e. contains-insert_old by_name given_a (number n) m (r.more_a m e);
       }
@@ -340,12 +275,9 @@ module _ {T : Type 0} where
   fresh_names : (S : State T) (call : Action T) → (new : NewNames) × AreFresh S call new
   fresh_names S call =
       let behind = slot_behind (set.items S.given) in
-      let new : (n : Name) → behind.0 ≤ n.slot → set.contains S.given n ≡ false =
-      λ n from. false_from_ne_true _
-      (λ h. omega (arith, behind.1 n (sym (set.contains-items S.given n) ∙ h))) in
       let both : NewNames = record { first = number behind.0; second = number (behind.0 + 1) } in
-      let one = new both.first (omega arith) in let two = new both.second (omega arith) in
-      (both, grind arith)
+      let one = behind.1 both.first in let two = behind.1 both.second in
+      let given = set.contains-items S.given in (both, grind (arith, given))
 
   -- nothing changes, or names were given
   abbrev Left : Bool → State T → Names → State T → Type 0
@@ -493,10 +425,12 @@ module _ {T : Type 0} {s a : SessionState T} (m : Matches s a) where
       → StepMatches (x, r) (numbered a c q (refusal_in x))
   answered c q out is told step = grind arith
 
-  settles_step : (c : Call T) (x : SessionReply T) (r : SessionState T) (p q : Request T)
-      → ask s c ≡ p → AskedAlike (named_by m.order) m.difference (IsNumberBelow (length m.order))
-      a.state.number p q → Settles s c p x r → StepMatches (x, r) (numbered a c q (refusal_in x))
-  settles_step c x r p q asked (both_ask {x = action} k) step =
+  asks_settled : (c : Call T) (x : SessionReply T) (r : SessionState T) (action : Action T)
+      → ask s c ≡ Asks (mine action)
+      → KnowsCall (IsNumberBelow (length m.order)) a.state.number action
+      → Settles s c (Asks (mine action)) x r
+      → StepMatches (x, r) (numbered a c (Asks action) (refusal_in x))
+  asks_settled c x r action asked k step =
       meets_fresh s.state step.1 (mine action) step.0 (λ e is same.
       let after : List (Held T) → SessionReply T × SessionState T =
       λ table. (refusal c e, add_place (record s { table = table }) Held.Nothing) in
@@ -509,25 +443,32 @@ module _ {T : Type 0} {s a : SessionState T} (m : Matches s a) where
       answered c (Asks action) (settle s c out) (step.3 ∙ ap (settle s c) is)
       ((tell c out.0).0 ∙ (act_says s.state (mine action) new unused).able)
       (asks_step c action new k unused)) step.2
-  settles_step c x r p q asked (both_tell y z e able) step =
-      answered c (Tells z) _ (λ i. (step.0 i, step.1 i)) able
-      (matched start (e, placed_alike m.carries) refl refl)
-  settles_step c x r p q asked (both_swap place g v old known) step =
-      answered c (Swaps place g v old) _ (λ i. (step.0 i, step.1 i)) refl
-      (matched start (refl, placed_alike (swapped_alike m.carries place g v known)) refl refl)
+
+  settles_step : (c : Call T) (x : SessionReply T) (r : SessionState T) (p q : Request T)
+      → ask s c ≡ p → Alike m.carries p q → Settles s c p x r
+      → StepMatches (x, r) (numbered a c q (refusal_in x))
+  settles_step c x r (Asks y) (Asks action) asked alike step =
+      asks_settled c x r action (rw alike.0 at asked) alike.1 (rw alike.0 at step)
+  settles_step c x r (Tells y) (Tells z) asked alike step =
+      answered c (Tells z) _ (λ i. (step.0 i, step.1 i)) alike.1
+      (matched start (alike.0, placed_alike m.carries) refl refl)
+  settles_step c x r (Swaps p h v old) (Swaps q g w was) asked alike step =
+      let went = rw (alike.0, alike.1, alike.2, alike.3) at step in
+      answered c (Swaps q g w was) _ (λ i. (went.0 i, went.1 i)) refl
+      (matched start (refl, placed_alike (swapped_alike m.carries q g w alike.4)) refl refl)
+  settles_step c x r p q asked alike step = absurd alike
 
 module _ {T : Type 0} where
   -- so a run is answered as by the numbered machine, ids aside, and the sessions left match
   pub run_answers : (calls : List (Call T)) (replies : List (SessionReply T))
       (s r a : SessionState T)
       → Matches s a → IsSound s.state → Run s calls replies r → AnswersAs a calls replies r
-  run_answers [] [] s r a m sound run = record { same = refl; matches = rw run m }
   run_answers (c ∷ calls) (x ∷ replies) s r a m sound run =
       let one = settles_step m c x run.0 _ _ refl (asked_alike m.carries c) run.1 in
       let rest = run_answers calls replies run.0 r (numbered_act a c (refusal_in x)).1
       one.after (session_sound s run.0 c x sound run.1) run.2 in
       record { same = λ i. one.said i ∷ rest.same i; matches = rest.matches }
-  run_answers _ _ s r a m sound run = absurd run
+  run_answers calls replies s r a m sound run = grind arith
 
   -- and one call is a run
   pub call_answers : (c : Call T) (x : SessionReply T) (s r a : SessionState T) → Matches s a

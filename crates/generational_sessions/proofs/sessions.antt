@@ -61,9 +61,6 @@ module _ {T : Type 0} where
   gives_nothing : (answer : Answer T) → is_refusal answer ≡ true → gives answer ≡ Nothing
   gives_nothing answer refused = grind arith
 
-  own_wants_none : (x : SessionReply T) → is_own x ≡ true → refusal_in x ≡ None
-  own_wants_none x own = grind arith
-
   -- ---- how the machine refuses
 
   -- a call that is refused changes nothing, and what the machine answers of itself wants nothing
@@ -105,14 +102,12 @@ module _ {T : Type 0} where
       → Meets S action out.0 out.1 → Refusing S action out
   meets_refusing S action out (inl m) = subst (Refusing S action) (sym m.2)
       (cond_both (takes_ticket (act S action m.0).0 && nat_eq S.next last_ticket) _ _
-      (Refusing S action) (λ both. let are = and_parts _ _ both in record {
-        lacks = λ told. cc;
-        last = λ _. (sym (same_ticket S action m.0) ∙ are.0, eqb-true S.next last_ticket are.1);
-        still = λ _. refl;
-      }) (λ _. let how = act_answered S action m.0 in let none = wants_none S _ how in
-      record { lacks = λ told. cc; last = λ told. cc; still = still S _ how }))
-  meets_refusing S action out (inr m) =
-      record { lacks = λ _. m.0; last = λ told. cc; still = λ _. m.2 }
+      (Refusing S action) (λ both. let are = and_parts _ _ both in
+      let same = same_ticket S action m.0 in
+      let last = eqb-true S.next last_ticket are.1 in grind arith)
+      (λ _. let how = act_answered S action m.0 in let none = wants_none S _ how in
+      let stays = still S _ how in grind arith))
+  meets_refusing S action out (inr m) = grind arith
 
   -- ---- the replies of a session
 
@@ -138,24 +133,17 @@ module _ {T : Type 0} where
             λ h. let same : h.action ≡ action = cc in says.0 ∙ ap wants (exhausted
                 s.state step.1 action step.0 (rw same at h.takes, h.last) step.2),
           );
-          leaves_all = λ told. let refused = rw says.1 at told in
-              let spent = unspent s c action step.0 step.1 asked step.2 refused in
-              rw (spent, refusing.still refused, gives_nothing step.0 refused);
+          leaves_all = λ told. let spent = unspent s c action step.0 step.1 asked step.2 in
+              let none = gives_nothing step.0 in let still = refusing.still in grind arith;
         })
-
-    by_itself : refusal_in x ≡ None → ((action : Action T) → ask s c ≡ Asks action → ⊥)
-        → RefusalLeavesAll s x r → Refuses s c x r
-    by_itself none unasked leaves = grind arith
 
     pub refusals : SessionStep s c x r → Refuses s c x r
     refusals step = at (ask s c) refl (comes_to s c) step
       where
-        at : (q : Request T) → ask s c ≡ q → ComesTo s c q → Settles s c q x r → Refuses s c x r
-        at q is (asks {action} empties) step = by_machine action is step
-        at q is (tells y own) step =
-            by_itself (rw step.0 (own_wants_none y own)) (λ action asked. cc) (λ _. step.1)
-        at q is (swaps p g v old there) step =
-            by_itself (rw step.0 refl) (λ action asked. cc) (λ told. cc (ap refuses step.0))
+        at : (q : Request T) → ask s c ≡ q → ((a : Answer T) → ComesTo s c q a)
+            → Settles s c q x r → Refuses s c x r
+        at (Asks action) is comes step = by_machine action is step
+        at q is comes step = let own = comes Done in grind arith
 
 -- ---- what each call leaves, and each run
 
@@ -178,13 +166,7 @@ module _ {T : Type 0} where
   pub tells_ends : (s r : SessionState T) (c : Call T) (x : SessionReply T)
       → SessionStep s c x r → TellsEnds s c x
   unfolding may_lack
-  tells_ends s r (call.LeakReference p) x step b needed ended = grind (arith, ended_read)
-  tells_ends s r (call.TryRead p l) x step b needed ended = grind (arith, ended_read)
-  tells_ends s r (call.TryWrite p l) x step b needed ended = grind (arith, ended_write)
-  tells_ends s r (call.Read p l) x step b needed ended = grind (arith, ended_read)
-  tells_ends s r (call.Write p l) x step b needed ended = grind (arith, ended_write)
-  tells_ends s r (call.Set p v) x step b needed ended = grind (arith, ended_write)
-  tells_ends s r c x step b needed ended = absurd needed
+  tells_ends s r c x step b needed ended = grind (arith, ended_read, ended_write)
 
   -- a reply gives the box that the machine made
   made_by : (answer : Answer T) (c : Call T) (b : GenerationalPointer)
@@ -200,8 +182,7 @@ module _ {T : Type 0} where
   held_beside : (table : List (Held T)) (q : ℕ) (y : Held T) (p : ℕ) (b : GenerationalPointer)
       → at_place table q ≢ Boxed b → at_place table p ≡ Boxed b
       → at_place (slice_set table q y) p ≡ Boxed b
-  held_beside table q y p b other is = ⊎_elim (λ e. e ∙ is)
-      (λ e. absurd (other (rw e.0 at is))) (held_changed table q y p)
+  held_beside table q y p b other is = grind (arith, held_changed)
 
   -- an owner at a place whose release is answered done was released by the store
   pub session_released : (s r : SessionState T) (p : ℕ) (o : OwnerName) (h : Ownership)
@@ -215,13 +196,13 @@ module _ {T : Type 0} where
     session_new : (b : GenerationalPointer) → x ≡ ABox b → IsNewBox s.state r.state b
     session_new b is = at (ask s c) (comes_to s c) step
       where
-        at : (q : Request T) → ComesTo s c q → Settles s c q x r → IsNewBox s.state r.state b
-        at q (asks {action} empties) step =
+        at : (q : Request T) → ((a : Answer T) → ComesTo s c q a) → Settles s c q x r
+            → IsNewBox s.state r.state b
+        at (Asks action) comes step =
             let after = settled s r c x action step in
             rw after.1 (meets_says s.state step.1 action (Made b)
             (rw (made_by step.0 c b (rw after.0 at is)) at step.2))
-        at q (tells y own) step = cc (ap is_own step.0, ap is_own is)
-        at q (swaps p g v old there) step = cc
+        at q comes step = let own = comes Done in absurd (grind arith)
 
     pub gives_new_box : GivesNewBox s x
     gives_new_box b is = assumption (session_new b is)
@@ -230,13 +211,14 @@ module _ {T : Type 0} where
     pub keep_boxes : KeepBoxes s r
     keep_boxes p b is = at (ask s c) (comes_to s c) step
       where
-        at : (q : Request T) → ComesTo s c q → Settles s c q x r → at_place r.table p ≡ Boxed b
-        at q (asks {action} empties) step = let it = empties step.0 in
-            rw ((settled s r c x action step).1, it.1) (held_before _ (gives step.0) p b
-            (held_beside s.table it.0 Nothing p b
-            (λ e. takes_no_box action step.0 b (rw it.2 at e)) is))
-        at q (tells y own) step = rw step.1 (held_before s.table _ p b is)
-        at q (swaps k g v old there) step = rw step.1
+        at : (q : Request T) → ((a : Answer T) → ComesTo s c q a) → Settles s c q x r
+            → at_place r.table p ≡ Boxed b
+        at (Asks action) comes step = let it = comes step.0 in
+            rw ((settled s r c x action step).1, it.0) (held_before _ (gives step.0) p b
+            (held_beside s.table (emptied s c step.0) Nothing p b
+            (λ e. takes_no_box action step.0 b (rw it.1 at e)) is))
+        at (Tells y) comes step = rw step.1 (held_before s.table _ p b is)
+        at (Swaps k g v old) comes step = let there = comes Done in rw step.1
             (held_before _ Nothing p b (held_beside s.table k (Writing g v) p b (λ e. cc) is))
 
     -- so a call names the same box after another call
@@ -255,11 +237,16 @@ module _ {T : Type 0} where
     -- the last release of an owner that is done ends its boxes
     pub lasts_end : IsSound s.state → EndsOwned s c x r
     lasts_end sound h it done =
-        let cells = s.state.cells in
-        let release = session_released s r it.place it.owner h
-        (rw (done, it.releases) at step) it.there it.known in
-        let left = last_cells release it.last in
-        grind (arith, box_ends, listed_boxed, box_stays, shared_ends, shared_stays)
+        grind (
+          arith,
+          session_released,
+          last_cells,
+          box_ends,
+          listed_boxed,
+          box_stays,
+          shared_ends,
+          shared_stays,
+        )
 
   -- no reply gives a box of a name that was given before the run
   run_new : (calls : List (Call T)) (replies : List (SessionReply T)) (s r : SessionState T)
@@ -292,13 +279,10 @@ module _ {T : Type 0} where
 
   pub all_tell_ends : (calls : List (Call T)) (replies : List (SessionReply T))
       (s r : SessionState T) → Run s calls replies r → AllTellEnds s calls replies
-  all_tell_ends (c ∷ calls) (x ∷ replies) s r run zero k b there needed ended =
-      let same : k ≡ c = cc in
-      rw same (ap Some (tells_ends s run.0 c x run.1 b (rw same at needed) ended))
   all_tell_ends (c ∷ calls) (x ∷ replies) s r run (suc i) k b there needed ended =
       all_tell_ends calls replies run.0 r run.2 i k b there
       (need_kept s run.0 c x run.1 k b needed) (session_ended s run.0 c x run.1 (name_of b) ended)
-  all_tell_ends calls replies s r run i k b there needed ended = grind arith
+  all_tell_ends calls replies s r run i k b there needed ended = grind (arith, tells_ends)
 
   pub all_keep_promises : (calls : List (Call T)) (replies : List (SessionReply T))
       (s r : SessionState T) → IsSoundSession s → (run : Run s calls replies r)
@@ -361,10 +345,7 @@ module _ {T : Type 0} where
       → list_map as_held after ≡ slice_set (list_map as_held items) p (as_held u)
       → x ≡ (exchange h v).0 → as_held u ≡ (exchange h v).1 → GivesAsked
       (session_in S items) (call.Replace p v) (replace p h v) x Nothing (session_in S after)
-  exchange_gives S items after p v x u (Writing g old) is set reply put =
-      (reply, refl, rw (set, put))
-  exchange_gives S items after p v x u h is set reply put =
-      (reply, refl, rw (set, put ∙ sym is, set-get_or (list_map as_held items) p Nothing))
+  exchange_gives S items after p v x u h is set reply put = grind (arith, set-get_or)
 
   -- a run of the calls that are left, behind the replies so far, is a run of all
   abbrev Continues : SessionState T → List (Call T) → State T → List (Thing T) → List (Call T)
@@ -376,8 +357,7 @@ module _ {T : Type 0} where
   pub run_starts : {s : SessionState T} (S : State T) (items kept : List (Thing T))
       (all calls : List (Call T)) (replies : List (Reply T)) → session_in S items ≡ s
       → kept ≡ items → calls ≡ reverse all → replies ≡ [] → Continues s all S kept calls replies
-  run_starts S items kept all calls replies view same turned none =
-      λ rs last run. rw (none, ← view) (rw (same, turned, reverse-reverse all) at run)
+  run_starts S items kept all calls replies view same turned none = grind (arith, reverse-reverse)
 
   -- one call more of a run
   pub run_goes : (s : SessionState T) (S R : State T) (items kept after : List (Thing T))

@@ -2,8 +2,8 @@
 -- that leaves each box of another name leaves each of another id.
 use Rattle.generational_sessions.proofs
 use proofs.{Action, Answer, ap, arith, GenerationalPointer, is_some, IsSound, Meets, meets_number}
-use proofs.{Name, name_cases, name_of, None, reach, Some, some_live, State, sym, true, unseen}
-use proofs.{value_in, ⊎_elim, ◌∙◌, ◌≡◌, ◌≢◌}
+use proofs.{Name, name_cases, name_of, None, reach, Some, some_live, State, true, unseen, value_in}
+use proofs.{◌≡◌, ◌≢◌}
 use Rattle.std.specs.FinMap as map
 use Rattle.generational_core.specs.{Keeping.box_with, Seeing.value_reached}
 use Rattle.generational_core.specs.declared.boxes.GenerationalBoxId.{GenerationalBoxId}
@@ -57,18 +57,17 @@ module _ {T : Type 0} where
       → name_of a ≡ name_of b → a.id ≡ b.id
   one_id S a b s seen saw same = grind (arith, seen_store)
 
+  -- where each box of another name is left, each of another id is
+  others_apart : (S R : State T) (a b : GenerationalPointer) → R.number ≡ S.number
+      → a.id.store ≡ S.number → (name_of a ≢ name_of b → value_in R b ≡ value_in S b)
+      → a.id ≢ b.id → value_in R b ≡ value_in S b
+  others_apart S R a b number own left other =
+      grind (arith, unseen, unreached, name_cases (name_of a) (name_of b))
+
   -- a call that leaves each box of another name leaves each of another id
   pub others_left : {S R : State T} (call : Action T) (answer : Answer T)
       → Meets S call answer R → (a b : GenerationalPointer) → a.id.store ≡ S.number
       → (name_of a ≢ name_of b → value_in R b ≡ value_in S b) → a.id ≢ b.id
       → value_in R b ≡ value_in S b
-  others_left {S} {R} call answer m a b own left other = ⊎_elim
-      (λ same. let apart : b.id.store ≢ S.number = λ store. other
-      (let e = own ∙ sym store in λ i. record {
-        store = e i;
-        slot = (same i).slot;
-        generation = (same i).generation;
-      }) in
-      unseen R b (unreached R b (λ store. apart (store ∙ meets_number S R call answer m)))
-      ∙ sym (unseen S b (unreached S b apart)))
-      left (name_cases (name_of a) (name_of b))
+  others_left {S} {R} call answer m a b =
+      others_apart S R a b (meets_number S R call answer m)

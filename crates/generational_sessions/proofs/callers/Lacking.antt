@@ -1,10 +1,8 @@
 -- What a store lacks where it refuses a call by itself, and what such a call leaves.
 use Rattle.generational_sessions.proofs
 use proofs.{Answer, arith, can_write, End, false, GenerationalPointer, is_known, last_ticket}
-use proofs.{Location, Make, may_lack, Meets, NewOwner, None, NumbersExhausted, Option, OutOfMemory}
-use proofs.{OwnerName, Read, refusal_to_read, refusal_to_write, Refused, State, StoreError, true}
-use proofs.{Write, ◌≡◌}
-use Rattle.generational_sessions.specs.Lacking.{Lacks}
+use proofs.{Location, Make, may_lack, Meets, None, NumbersExhausted, Option, OutOfMemory, OwnerName}
+use proofs.{Read, refusal_to_read, refusal_to_write, Refused, State, StoreError, true, ◌≡◌}
 
 module _ {T : Type 0} where
   -- the first reader at a value needs no memory
@@ -14,18 +12,6 @@ module _ {T : Type 0} where
   first_reader S b l free = grind arith
 
   module _ {S R : State T} where
-    -- a new owner, a read and a write
-    pub owner_lacks : (e : StoreError) → Meets S NewOwner (Refused e) R → Lacks S e
-    owner_lacks e m = grind arith
-
-    pub read_lacks : (b : GenerationalPointer) (l : Location) (e : StoreError)
-        → Meets S (Read b l) (Refused e) R → Lacks S e
-    read_lacks b l e m = grind arith
-
-    pub write_lacks : (b : GenerationalPointer) (l : Location) (e : StoreError)
-        → Meets S (Write b l) (Refused e) R → Lacks S e
-    write_lacks b l e m = grind arith
-
     -- a making lacks memory alone, where its owner is known
     pub make_lacks : (o : Option OwnerName) (v : T) (l : Location) (e : StoreError)
         → is_known S o ≡ true → Meets S (Make o v l) (Refused e) R → e ≡ OutOfMemory

@@ -17,8 +17,9 @@ use proofs.{name_total, nat_cmp, nat_eq, nat_lt, new_fresh, NewNames, NewOwner, 
 use proofs.{one_listed, one_more, Option, Outcome, OwnerName, Owners, Ownership, ownership, reach}
 use proofs.{Refer, refer, refl, refusal_to_read, release_leaves, release_owner, ReleaseOwner, Run}
 use proofs.{session_kept, SessionReply, SessionState, SessionStep, Shared, Some, State, subst, sym}
-use proofs.{true, unless, unlisted, [], ℕ, ⊎_elim, ◌++◌, ◌∙◌, ◌∷◌, ◌≡◌, ◌≢◌, ◌⊎◌}
+use proofs.{true, unless, unlisted, [], ℕ, ⊎_elim, ◌++◌, ◌∷◌, ◌≡◌, ◌≢◌, ◌⊎◌}
 use Rattle.std.specs.FinMap as map
+use Rattle.generational_core.proofs.machine.Stepping.{meets_each}
 use Rattle.std.specs.FinSet as set
 
 -- names are compared for equality
@@ -143,13 +144,10 @@ module _ {T : Type 0} where
           → Becomes S (names_of S o) (names_of R o) → AreApart R
       keeps_apart others own = record {
         once = λ p. grind (arith, owner_cases o p, others p, a.once p, once_after own);
-        apart = λ p q n ne there. ⊎_elim
-            (λ e. let other : o ≢ q = λ is. ne (sym e ∙ is) in
-            rw (others q other) (apart_from q n other own (rw e there)))
-            (λ first. let was = rw (others p first) at there in
-            ⊎_elim (λ e. rw (← e) (apart_after p n first own was))
-            (λ second. rw (others q second) (a.apart p q n ne was)) (owner_cases o q))
-            (owner_cases o p);
+        apart = λ p q n ne there. let from = λ (one : o ≢ q). apart_from q n one own in
+            let after = λ (one : o ≢ p). apart_after p n one own in
+            let mine = owner_cases o p in let his = owner_cases o q in let was = a.apart p q n ne in
+            let p_was = others p in let q_was = others q in grind arith;
       }
 
     -- where all lists are
@@ -162,10 +160,8 @@ module _ {T : Type 0} where
           → ((p : OwnerName) → o ≢ p → LeavesOwner call p × GivesOtherOwner call answer p)
           → ((f : NewNames) → AreNew S call f → Follows S o (act S call f)) → AreApart R
       by_owner o others follows = keeps_apart o (λ p ne. ap names_in
-          (keeps_record call answer m p (others p ne).0 (others p ne).1)) (⊎_elim
-          (λ refused. same (ap (λ (X : State T). names_of X o) refused.1))
-          (λ acts. subst (Follows S o) (sym acts.2) (follows acts.0 acts.1))
-          (meets_cases S R call answer m))
+          (keeps_record call answer m p (others p ne).0 (others p ne).1))
+          (meets_each S R call answer (Follows S o) (λ refused. same refl) follows m)
 
   calls_apart : {S R : State T} → IsSound S → AreApart S → (call : Action T) (answer : Answer T)
       → Meets S call answer R → AreApart R
@@ -190,16 +186,8 @@ module _ {T : Type 0} where
       keeps_apart S R s a new (λ p ne. ap names_in (keeps_record NewOwner answer m p tt
       (subst (λ (out : Outcome T). IsOtherOwner out.0 p) (sym acts.2) ne)))
       (subst (λ (out : Outcome T). Becomes S (names_of S new) (names_of out.1 new)) (sym acts.2)
-      (none (empty (nat_eq S.number S.number)))))
+      (none (grind (arith, get-insert_here, by_number)))))
       (meets_cases S R NewOwner answer m)
-    where
-      begun : Ownership
-      begun = record { names = []; count = 1 }
-
-      empty : (own : Bool)
-          → names_in (cond own (map.get (map.insert S.owners S.next begun) S.next) None) ≡ []
-      empty false = refl
-      empty true = ap names_in (get-insert_here by_number S.owners S.next begun)
   calls_apart {S} {R} s a call answer m = all_kept S R s a (λ o. ap names_in (keeps_record call answer m o tt tt))
 
   pub stays_listed : {S R : State T} (call : Action T) (answer : Answer T) → IsSound S
@@ -214,9 +202,8 @@ module _ {T : Type 0} where
   release_beside {S} {R} o p h answer s l m ne held b there = at (ownership S o) refl
     where
       at : (x : Option Ownership) → ownership S o ≡ x → IsUnchanged S b R
-      at None is = left_still b (⊎_elim (λ refused. refused.1)
-          (λ acts. ap (λ (out : Outcome T). out.1) acts.2
-          ∙ ap (λ x. (release_owner S o x).1) is) (meets_cases S R (ReleaseOwner o) answer m))
+      at None is = left_still b (meets_each S R (ReleaseOwner o) answer (λ out. out.1 ≡ S)
+          (λ refused. refl) (λ f new. ap (λ x. (release_owner S o x).1) is) m)
       at (Some k) is = release_leaves S R o answer s m k is b
           (l.apart p o h k (name_of b) (λ e. ne (sym e)) held is there)
 

@@ -4,10 +4,6 @@ use Rattle.std.specs.Prelude.{IfErr, IfNone, IfOk, IfSome, OnErr}
 use Rattle.generational_sessions.proofs.{arith, OnOk, Option, Result, Some, ◌≡◌}
 
 module _ {X : Type 0} where
-  -- where `?` goes on, what holds of an Ok result holds
-  pub on_ok : {E P : Type 0} (r : Result X E) (x : X) → Some x ≡ result_ok r → OnOk r P → P
-  on_ok r x e p = grind arith
-
   -- what follows where a result is Ok
   pub on_ok_so : {E P Q : Type 0} (r : Result X E) → (P → Q) → OnOk r P → OnOk r Q
   on_ok_so r so p = grind arith

@@ -4,8 +4,8 @@ use Rattle.std.specs.Prelude.{slice_index_or}
 use proofs.{Answer, arith, can_write, Done, End, free_sees, GenerationalBox, GenerationalPointer}
 use proofs.{IsSound, keeps, keeps_free, length, Location, Made, made, made_apart, made_free, Make}
 use proofs.{map-append, map-set, Meets, None, Ok, Option, OwnerName, pointer_of, reach, refl}
-use proofs.{refusal_to_write, slice_set, Some, State, subst, suc, sym, true, value_in, zero, [], ℕ}
-use proofs.{◌++◌, ◌+◌, ◌<◌, ◌∙◌, ◌∷◌, ◌≡◌}
+use proofs.{refusal_to_write, slice_set, Some, State, subst, suc, sym, true, value_in, [], ℕ, ◌++◌}
+use proofs.{◌+◌, ◌<◌, ◌∙◌, ◌∷◌, ◌≡◌}
 use Rattle.generational_sessions.specs.BoxRows.{AreApart, AreKept, EachBox, HasOtherName, IsFree}
 use Rattle.generational_sessions.specs.BoxRows.{Rows, shown_in, values_in}
 
@@ -24,15 +24,13 @@ module _ {T : Type 0} where
 
   each_emptied : (P : GenerationalPointer → Type 0) (rows : Rows T) (row : ℕ)
       → EachBox P rows → EachBox P (slice_set rows row None)
-  each_emptied P [] row all = tt
-  each_emptied P (r ∷ rows) zero all = grind arith
   each_emptied P (r ∷ rows) (suc row) all = grind (arith, each_emptied P rows row)
+  each_emptied P rows row all = grind arith
 
   pub each_at : (P : GenerationalPointer → Type 0) (rows : Rows T) (row : ℕ) (a : GenerationalBox T)
       → EachBox P rows → slice_index_or rows row None ≡ Some a → P (pointer_of a)
-  each_at P [] row a all is = cc
-  each_at P (r ∷ rows) zero a all is = grind arith
   each_at P (r ∷ rows) (suc row) a all is = grind (arith, each_at P rows row a)
+  each_at P rows row a all is = grind arith
 
   -- ---- names
 
@@ -43,39 +41,34 @@ module _ {T : Type 0} where
 
   apart_emptied : (rows : Rows T) (row : ℕ) → AreApart rows
       → AreApart (slice_set rows row None)
-  apart_emptied [] row apart = tt
-  apart_emptied (r ∷ rows) zero apart = grind arith
   apart_emptied (r ∷ rows) (suc row) apart = grind (arith, apart_emptied rows row, each_emptied)
+  apart_emptied rows row apart = grind arith
 
   -- once a row is emptied, all that are left have other names than its box
   others : (rows : Rows T) (row : ℕ) (a : GenerationalBox T) → AreApart rows
       → slice_index_or rows row None ≡ Some a
       → EachBox (HasOtherName (pointer_of a)) (slice_set rows row None)
-  others [] row a apart is = tt
-  others (r ∷ rows) zero a apart is = grind arith
   others (r ∷ rows) (suc row) a apart is = grind (arith, others rows row a, each_at)
+  others rows row a apart is = grind arith
 
   -- ---- values
 
   pub shown_at : (S : State T) (rows : Rows T) (row : ℕ)
       → slice_index_or (values_in S rows) row None ≡ shown_in S (slice_index_or rows row None)
-  shown_at S [] row = refl
-  shown_at S (r ∷ rows) zero = refl
   shown_at S (r ∷ rows) (suc row) = shown_at S rows row
+  shown_at S rows row = grind arith
 
   -- an empty row may be emptied
   pub empty_again : (S : State T) (rows : Rows T) (row : ℕ) → slice_index_or rows row None ≡ None
       → slice_set (values_in S rows) row None ≡ values_in S rows
-  empty_again S [] row is = refl
-  empty_again S (r ∷ rows) zero is = grind arith
   empty_again S (r ∷ rows) (suc row) is = cc (empty_again S rows row is)
+  empty_again S rows row is = grind arith
 
   -- the row of a box is one of the rows
   pub within : (rows : Rows T) (row : ℕ) (a : GenerationalBox T)
       → slice_index_or rows row None ≡ Some a → row < length rows
-  within [] row a is = cc
-  within (r ∷ rows) zero a is = omega arith
   within (r ∷ rows) (suc row) a is = omega (arith, within rows row a is)
+  within rows row a is = grind arith
 
   -- a state keeps a box: it sees what it saw, and no borrow stands there if none did
   pub record Keeps (S R : State T) (b : GenerationalPointer) : Type 0 where

@@ -5,17 +5,16 @@ use Rattle.generational_core.proofs.machine.{Seeing.reached_live}
 use Rattle.generational_core.proofs.maps.Maps.{kept_key, len_within}
 use Rattle.generational_core.specs.{Answers.read_refused}
 use Rattle.generational_errors.specs.declared.error.BorrowError.{BorrowError}
-use proofs.{add_cell, Answer, arith, Bool, BorrowMutError, box_of, by_cond, by_name, by_number}
-use proofs.{can_read, can_write, Cell, end_refused, false, free, GenerationalBox}
-use proofs.{GenerationalPointer, get-insert_apart, get-insert_here, given_other, Here, is_free}
-use proofs.{IsGiven, IsSound, keep_view, keeps_free, key_cases, last_ticket, lasts_insert, leaves}
-use proofs.{limit_tickets, Location, Made, Make, MakeShared, may_lack, Meets, meets_cases}
-use proofs.{meets_sound, Name, name_of, nat_cmp, nat_cmp_total, new_fresh, None, NumbersExhausted}
-use proofs.{Ok, Option, Outcome, OutOfMemory, OwnerName, pointer_of, reach, Read, Ref, ref_reaches}
-use proofs.{Refer, referred_together, refl, refusal_to_read, refusal_to_write, Refused, rests}
-use proofs.{rests_free, Shared, slots_of, State, StoreError, subst, sym, true, true≢false, Write}
-use proofs.{[], ℕ, ⊎_elim, ◌+◌, ◌<◌, ◌∙◌, ◌≡◌, ◌≢◌, ◌≤◌}
-use Rattle.generational_sessions.specs.Lacking.{IsReference, IsShort, IsShortage}
+use proofs.{add_cell, Answer, arith, Bool, BorrowMutError, box_of, by_name, by_number, can_read}
+use proofs.{can_write, Cell, end_refused, false, free, GenerationalBox, GenerationalPointer}
+use proofs.{get-insert_apart, get-insert_here, given_other, Here, is_free, IsGiven, IsSound}
+use proofs.{keep_view, keeps_free, key_cases, last_ticket, lasts_insert, leaves, limit_tickets}
+use proofs.{Location, Made, Make, MakeShared, may_lack, Meets, meets_cases, meets_sound, Name}
+use proofs.{name_of, nat_cmp, new_fresh, None, NumbersExhausted, Ok, Option, Outcome, OutOfMemory}
+use proofs.{OwnerName, pointer_of, reach, Read, Ref, ref_reaches, Refer, referred_together, refl}
+use proofs.{refusal_to_read, refusal_to_write, Refused, rests, rests_free, Shared, slots_of, State}
+use proofs.{StoreError, subst, sym, true, true≢false, Write, [], ℕ, ⊎_elim, ◌+◌, ◌<◌, ◌≡◌, ◌≢◌, ◌≤◌}
+use Rattle.generational_sessions.specs.Lacking.{IsReference}
 use Rattle.std.specs.FinMap as map
 use Rattle.std.specs.FinSet as set
 use Rattle.generational_errors.specs.declared.error.Refused as error
@@ -24,8 +23,7 @@ use Rattle.generational_errors.specs.declared.error.Refused.TheVariants as refus
 -- a map with one more entry, or another one, has one key more at most
 one_longer : {X : Type 0} (m : map.FinMap nat_cmp X) (k : ℕ) (v : X)
     → map.len (map.insert m k v) ≤ map.len m + 1
-one_longer m k v = subst (λ n. n ≤ map.len m + 1) (sym (map.len-insert nat_cmp_total m k v))
-    (by_cond (λ n. n ≤ map.len m + 1) (map.contains_key m k) (λ _. omega arith) (λ _. omega arith))
+one_longer m k v = grind (arith, map.len-insert)
 
 module _ {T : Type 0} where
   -- ---- slots
@@ -93,17 +91,14 @@ module _ {T : Type 0} where
       made : (m n : Name) → set.contains S.given m ≡ false → Shares S
           (add_cell (add_cell S m (Shared (Here v []) l)) n (Ref m l)) (box_of S.number n l)
       made m n new =
+          let shared = add_cell S m (Shared (Here v []) l) in
           let first = one_taken S m (Shared (Here v []) l) in
-          let second = one_taken (add_cell S m (Shared (Here v []) l)) n (Ref m l) in
+          let second = one_taken shared n (Ref m l) in
+          let cell = get-insert_here by_name shared.cells n (Ref m l) in
           record {
-            slots = omega (arith, first, second);
+            slots = omega arith;
             next = refl;
-            reference = record {
-              own = refl;
-              shared = m;
-              created_at = l;
-              cell = get-insert_here by_name (add_cell S m (Shared (Here v []) l)).cells n (Ref m l);
-            };
+            reference = record { own = refl; shared = m; created_at = l; cell = cell };
             new = new;
           }
 
@@ -118,9 +113,8 @@ module _ {T : Type 0} where
       it.reference.cell in
       let was = leaves S R (MakeShared None v l) (Made b) s m c tt
       (given_other S R (MakeShared None v l) (Made b) c m given) in
-      let reached = sym was.reached ∙ (sym same ∙ to.0) in
-      let old = s.given it.reference.shared (reached_live S c it.reference.shared s reached) in
-      cc (it.new)
+      let old = reached_live S c it.reference.shared s (cc (was.reached, same, to.0)) in
+      cc (it.new, s.given it.reference.shared old)
 
   -- ---- a reference, where no writer has the value
 
@@ -161,15 +155,5 @@ module _ {T : Type 0} where
       (b : GenerationalBox T) → IsSound S → Meets S (Refer o c) (Made (pointer_of b)) R
       → can_write S c ≡ true → can_write R (pointer_of b) ≡ true
   referred_free {S} {R} o c b s m alone =
-      let at = rests R c (keeps_free (Refer o c) (Made (pointer_of b)) s m c tt alone) in
-      rests_free R (pointer_of b) at.0 (record {
-        reaches = referred_together o c (Ok b) s m ∙ at.1.reaches;
-        free = at.1.free;
-      })
-
-  -- ---- what is short
-
-  pub short_refusal : {E : Type 0} (S : State T) (slots tickets : ℕ) (e : error.Refused E)
-      (cause : StoreError) → e ≡ refused.Store cause → IsShort S slots tickets cause
-      → IsShortage S slots tickets e
-  short_refusal S slots tickets e cause is short = rw is short
+      let free = keeps_free (Refer o c) (Made (pointer_of b)) s m c tt alone in
+      let to = referred_together o c (Ok b) s m in grind (arith, rests, rests_free)

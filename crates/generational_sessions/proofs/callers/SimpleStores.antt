@@ -1,10 +1,10 @@
 -- What a table or a tree keeps of its store, after each of its calls: no borrow, no reference, and
 -- slots that are bounded.
 use Rattle.generational_sessions.proofs
-use proofs.{Action, add_cell, Answer, ap, arith, Bool, can_write, false, free_sees, fresh}
+use proofs.{Action, add_cell, Answer, arith, Bool, can_write, Cell, false, free_sees, fresh}
 use proofs.{fresh_bounded, GenerationalPointer, Here, is_some, IsSound, Location, Made, Make, Meets}
-use proofs.{meets_bounded, meets_sound, name_of, None, Old, Option, reach, refl, Some, State, sym}
-use proofs.{true, true≢false, unseen, Value, value_in, [], ℕ, ◌∙◌, ◌≡◌}
+use proofs.{meets_bounded, meets_sound, name_cmp, name_of, None, Old, reach, State, sym, true}
+use proofs.{unseen, Value, value_in, [], ℕ, ◌∙◌, ◌≡◌}
 use Rattle.std.specs.FinMap as map
 use Rattle.generational_core.specs.Leaving.{BeginsNoBorrow, HasNoBorrows}
 use Rattle.generational_core.specs.{Machine.Action.SetValue, Slots.Fits}
@@ -50,13 +50,8 @@ module _ {T : Type 0} where
   -- a fresh store shows no box a value
   pub fresh_sees : (number start next : ℕ) (b : GenerationalPointer)
       → value_in (fresh {T = T} number start next) b ≡ None
-  fresh_sees number start next b = at (value_in (fresh {T = T} number start next) b) refl
-    where
-      at : (v : Option T) → value_in (fresh {T = T} number start next) b ≡ v
-          → value_in (fresh {T = T} number start next) b ≡ None
-      at None is = is
-      at (Some v) is = absurd (true≢false (sym (seen_cell _ b (ap is_some is))
-          ∙ ap is_some (map.get-empty _ _)))
+  fresh_sees number start next b = let none = map.get-empty {X = Cell T} name_cmp in
+      let seen = seen_cell (fresh {T = T} number start next) b in grind arith
 
   -- a set leaves which boxes see a value
   pub set_seen : {S R : State T} → IsSound S → HasNoBorrows S → (a : GenerationalPointer) (v old : T)

@@ -6,19 +6,19 @@ use sessions.{CarriesCells, Cell, changed_there, clone_owner, close, cond, conta
 use sessions.{Content, content_at, content_of, Done, Dropped, eq-eqb, eq_by_cmp, false, fill}
 use sessions.{filter, Flag, GenerationalPointer, has_reader, has_same_id, has_writer, Here}
 use sessions.{hindrance_to, is_known, is_some, key_same, KnowsAnswer, KnowsBox, KnowsCall}
-use sessions.{KnowsNewNames, Lent, List, list_map, Location, location_of, make, map-append, max}
-use sessions.{Name, name_of, NameMap, nat_cmp, nat_cmp_total, nat_eq, nat_eq_equiv, nat_lt}
-use sessions.{NewNames, next_borrow, None, not, one_listed, Option, option_map, Outcome, own_cell}
-use sessions.{Owned, OwnerName, Owners, Ownership, ownership, point, reach, read_at, Ref, refer}
-use sessions.{refl, refusal_to_read, refusal_to_write, Refused, release_owner, remove_reader}
+use sessions.{KnowsNewNames, Lent, List, list_map, Location, location_of, make, map-append, Name}
+use sessions.{name_of, NameMap, nat_cmp, nat_cmp_total, nat_eq, nat_eq_equiv, nat_lt, NewNames}
+use sessions.{next_borrow, None, not, one_listed, Option, option_map, Outcome, own_cell, Owned}
+use sessions.{OwnerName, Owners, Ownership, ownership, point, reach, read_at, Ref, refer, refl}
+use sessions.{refusal_to_read, refusal_to_write, Refused, release_owner, remove_reader}
 use sessions.{rename_action, rename_answer, rename_box, rename_cell, rename_content}
 use sessions.{rename_new_names, rename_ownership, set_at, set_ownership, Shared, shift_borrow}
 use sessions.{shift_owner, Some, State, sym, take_ticket, true, UnknownOwner, unless, unwrap_or}
 use sessions.{Value, write_at, [], ℕ, ⊎_elim, ◌++◌, ◌+◌, ◌-◌, ◌∙◌, ◌∷◌, ◌≡◌, ◌≤◌, ◌⊎◌}
 use Rattle.generational_sessions.proofs.carrying.CarriedCells
-use CarriedCells.{cell_moved, cells_insert, cells_left, cells_refilled, cells_swept, cond_map}
-use CarriedCells.{first_moved, hindrance_at_moved, IfThere, key_moved, known_target, KnowsTarget}
-use CarriedCells.{others_moved, reader_moved, refusals_moved, same_size, same_test, ticket_moved}
+use CarriedCells.{cell_moved, cells_insert, cells_left, cells_refilled, cells_swept, first_moved}
+use CarriedCells.{hindrance_at_moved, IfThere, key_moved, known_target, KnowsTarget, others_moved}
+use CarriedCells.{reader_moved, refusals_moved, same_size, same_test, ticket_moved}
 use Rattle.std.specs.FinMap as map
 
 -- two outcomes, the first of which is the second one, renamed
@@ -134,18 +134,8 @@ module _ {T U : Type 0} {f : Name → Name} {d : ℕ} {g : T → U}
   -- a new cell at a known name
   pub with_born : (n : Name) (x : Cell T) → Knows n → KnowsTarget Knows x
       → Carries f d g Knows (add_cell S (f n) (cell x)) (add_cell A n x)
-  with_born n x kn target = let more = cells_insert c.apart c.cells n x kn target in record {
-    number = c.number;
-    next = c.next;
-    peak = λ i. max (c.peak i) (same_size c.apart more i);
-    cells = more;
-    given = λ k kk. contains-insert_name S.given (f n) (f k)
-        ∙ rw (contains-insert_name A.given n k, same_test c.apart k n kk kn, c.given k kk) refl;
-    owners = c.owners;
-    keys = c.keys;
-    listed = c.listed;
-    apart = c.apart;
-  }
+  with_born n x kn target = let more = cells_insert c.apart c.cells n x kn target in
+      let size = same_size c.apart more in grind (arith, contains-insert_name, same_test c.apart)
 
   -- a record put in, or taken away
   with_record : (key : ℕ) (h : Option Ownership) → IfThere h (λ h. AllByRecursion Knows h.names)
@@ -156,8 +146,7 @@ module _ {T U : Type 0} {f : Name → Name} {d : ℕ} {g : T → U}
       → Carries f d g Knows (record S { owners = owners }) (record A { owners = held })
   with_record key h k owners held s a =
       let moved : (q : ℕ) → map.get owners (q + d) ≡ option_map owner_record (map.get held q) =
-      λ q. rw (s (q + d), a q, key_moved d q key, c.owners q)
-      (cond_map (option_map owner_record) (eq_by_cmp nat_cmp q key) h (map.get A.owners q)) in
+      λ q. grind (arith, s (q + d), a q, key_moved d q key, c.owners q) in
       let low : (q : ℕ) → is_some (map.get owners q) ≡ true → d ≤ q =
       λ q live. grind (arith, s q, c.keys q, key_same by_number q (key + d)) in
       let known : (q : ℕ) (x : Ownership) → map.get held q ≡ Some x → AllByRecursion Knows x.names =
@@ -207,9 +196,7 @@ module _ {T U : Type 0} {f : Name → Name} {d : ℕ} {g : T → U}
 
   set_alike : (b : GenerationalPointer) (v : T) (n : Name) (x : Option (Content T)) → Knows n
       → Alike (set_at S (box b) (g v) (Some (f n)) (option_map content x)) (set_at A b v (Some n) x)
-  set_alike b v n (Some (Here old [])) k =
-      matches refl tt refl (with_content n _ (Here v []) k refl)
-  set_alike b v n _ k = stays (Back v) refl tt
+  set_alike b v n x k = let put = with_content n _ (Here v []) k refl in grind arith
 
   reader_alike : (n : Name) (t : ℕ) (y : Option (Content T)) → Knows n → Alike
       (cond (has_reader (option_map content y) (t + d))
@@ -223,9 +210,8 @@ module _ {T U : Type 0} {f : Name → Name} {d : ℕ} {g : T → U}
   writer_alike : (v : T) (n : Name) (t : ℕ) (y : Option (Content T)) → Knows n → Alike
       (cond (has_writer (option_map content y) (t + d)) (Done, fill S (f n) (Here (g v) []))
       (Back (g v), S)) (cond (has_writer y t) (Done, fill A n (Here v [])) (Back v, A))
-  writer_alike v n t (Some (Lent w)) k = if_alike (ticket_moved d w.ticket t) (λ _.
-      matches refl tt refl (with_content n _ (Here v []) k refl)) (stays (Back v) refl tt)
-  writer_alike v n t _ k = stays (Back v) refl tt
+  writer_alike v n t y k =
+      let put = with_content n _ (Here v []) k refl in grind (arith, ticket_moved)
 
   point_alike : (a b : GenerationalPointer) (new : Name) (y : Option (Cell T))
       → KnowsBox Knows A.number a → Knows new
@@ -255,15 +241,14 @@ module _ {T U : Type 0} {f : Name → Name} {d : ℕ} {g : T → U}
       → KnowsTarget Knows x → Knows n → is_known A o ≡ true
       → Alike c (make S (option_map (owner c) o) (f n) (cell c x) l) (make A o n x l)
   make_alike o n x l target kn ko =
-      let listed = listed_alike (with_born c n x kn target) o n ko kn in
-      matches c (rw (nat_eq_equiv.refl A.number, c.number) refl) (λ _. kn) listed.1 listed.0
+      let listed = listed_alike (with_born c n x kn target) o n ko kn in grind arith
 
   refer_alike : (o : Option OwnerName) (b : GenerationalPointer) (n : Name) → Knows n
       → is_known A o ≡ true → (m : Name) (x : Option (Cell T)) → Knows m → Alike c (refer S
       (option_map (owner c) o) (box c b) (Some (f m)) (option_map (cell c) x) (f n))
       (refer A o b (Some m) x n)
-  refer_alike o b n kn ko m (Some (Shared y l)) km = make_alike o n (Ref m l) l km kn ko
-  refer_alike o b n kn ko m _ km = drop_alike c b
+  refer_alike o b n kn ko m x km = let made = λ (l : Location). make_alike o n (Ref m l) l km kn ko
+      in grind (arith, made, created_moved c b)
 
   read_alike : (l : Location) (n : Name) (x : Option (Content T)) → Knows n
       → Alike c (read_at S l (Some (f n)) (option_map (content c) x)) (read_at A l (Some n) x)
@@ -275,10 +260,8 @@ module _ {T U : Type 0} {f : Name → Name} {d : ℕ} {g : T → U}
 
   write_alike : (l : Location) (n : Name) (x : Option (Content T)) → Knows n
       → Alike c (write_at S l (Some (f n)) (option_map (content c) x)) (write_at A l (Some n) x)
-  write_alike l n (Some (Here v readers)) k =
-      matches c (rw (nat_eq_equiv.refl A.number, c.number, c.next) refl) (λ _. k) refl
-      (next_moved (with_content c n _ (Lent (next_borrow A l)) k (rw c.next refl)))
-  write_alike l n _ k = stays c Done refl tt
+  write_alike l n x k = let lent = next_moved (with_content c n (Lent (next_borrow S l))
+      (Lent (next_borrow A l)) k (rw c.next refl)) in grind arith
 
   -- a box that may be read, or written, may be so in both
   pub read_moved : (b : GenerationalPointer) → KnowsBox Knows A.number b

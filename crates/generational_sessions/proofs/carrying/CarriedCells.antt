@@ -1,16 +1,14 @@
 -- What is asked of cells that are carried is answered alike, and what is done to them is carried.
 use Rattle.generational_sessions.proofs.sessions
-use sessions.{AllByRecursion, among, ap, arith, Bool, Borrow, BorrowRefusal, both_ways, by_name}
-use sessions.{CarriesCells, cases_eq, Cell, cells_after, change, change_if, cond, cond-true}
-use sessions.{Content, content_of, eq_by_cmp, false, filter, first_hindrance, get-insert_apart}
-use sessions.{get-insert_here, get-insert_name, get-keep, get-remove_apart, Here, hindrance_at}
-use sessions.{is_name, is_named, is_shared, is_some, IsDistinct, keep_view, key_here, keys_apart}
-use sessions.{len_keys, length, List, list_any, list_map, Location, location_of, Name, name_apart}
-use sessions.{name_cmp, name_here, name_total, named_from, named_gives, NameMap, nat_cmp, nat_eq}
-use sessions.{None, not, Option, option_map, or_left, or_right, read_refusal, Ref, refill, refl}
-use sessions.{rename_cell, rename_content, shift_borrow, Some, some_live, sweep, sym, take_away}
-use sessions.{true, unsigned_tied, Value, write_refusal, [], ℕ, ⊎_elim, ◌+◌, ◌||◌, ◌∙◌, ◌∷◌, ◌≡◌}
-use sessions.{◌≢◌, ◌≤◌, ◌⊎◌}
+use sessions.{AllByRecursion, among, ap, arith, Bool, Borrow, BorrowRefusal, by_name, CarriesCells}
+use sessions.{Cell, cells_after, change, cond, Content, content_of, eq_by_cmp, false, filter}
+use sessions.{first_hindrance, get-insert_name, get-keep, get-remove_apart, Here, hindrance_at}
+use sessions.{is_name, is_named, is_shared, is_some, IsDistinct, key_here, keys_apart, len_keys}
+use sessions.{length, List, list_any, list_map, Location, location_of, Name, name_apart, name_cmp}
+use sessions.{name_here, name_total, named_from, named_gives, NameMap, nat_cmp, nat_eq, None, not}
+use sessions.{Option, option_map, or_left, or_right, read_refusal, Ref, refill, refl, rename_cell}
+use sessions.{rename_content, shift_borrow, Some, sweep, sym, take_away, true, unsigned_tied}
+use sessions.{write_refusal, [], ℕ, ◌+◌, ◌||◌, ◌∙◌, ◌∷◌, ◌≡◌, ◌≢◌, ◌≤◌}
 use Rattle.std.specs.FinMap as map
 
 pub cond_map : {A B : Type 0} (h : A → B) (b : Bool) (x y : A) → cond b (h x) (h y) ≡ h (cond b x y)
@@ -62,11 +60,6 @@ module _ {T U : Type 0} (f : Name → Name) (d : ℕ) (g : T → U) where
   others_moved (r ∷ readers) t = rw (ticket_moved d r.ticket t, others_moved readers t)
       (cond_map (list_map (shift_borrow f d)) (not (nat_eq r.ticket t)) _ _)
 
-  -- a Ref comes from a Ref
-  pub was_ref : (o : Option (Cell T)) (n : Name) (l : Location) → option_map
-      (rename_cell f d g) o ≡ Some (Ref n l) → (m : Name) × (o ≡ Some (Ref m l)) × (f m ≡ n)
-  was_ref o n l h = grind arith
-
 not_among : (n : Name) (names : List Name) → AllByRecursion
     (λ m. eq_by_cmp name_cmp n m ≡ false) names → list_any (eq_by_cmp name_cmp n) names ≡ false
 not_among n [] d = refl
@@ -91,9 +84,8 @@ no_larger {Y = Y} R one S A h = let apart = keys_apart name_cmp S in
         let other : k.0 ≢ it.0 = λ is. let same = one q n it.0 (rw is at k.1) it.1 in
         let among = rw same at e in let out = not_among n names d.0 in cc in
         (k.0, k.1, rw (get-remove_apart by_name A it.0 k.0 other) k.2)) in
-        let fewer = map.len-remove name_total A it.0 ∙ cond-true _ _ _ it.2 in
-        ⊎_elim (λ e. let live = rw (map.empty_of_len A e) at it.2 in
-        cc (map.get-empty name_cmp it.0)) (λ ne. omega arith) (cases_eq (map.len A) 0)
+        let fewer = map.len-remove name_total A it.0 in let empty = map.empty_of_len A in
+        let none = map.get-empty {X = Y} name_cmp it.0 in grind arith
 
 -- P of what is there
 abbrev pub IfThere : {A : Type 0} → Option A → (A → Type 0) → Type 0
@@ -108,21 +100,6 @@ KnowsTarget Knows _ = Unit {0}
 pub known_target : {T : Type 0} {Knows : Name → Type 0} (x : Option (Cell T))
     → ((m : Name) (l : Location) → x ≡ Some (Ref m l) → Knows m) → IfThere x (KnowsTarget Knows)
 known_target x leads = grind arith
-
--- what is there after a cut was there before it
-kept_cell : {X : Type 0} (m : NameMap X) (p : Name → Bool) (n : Name) (x : X)
-    → map.get (map.retain_keys m p) n ≡ Some x → map.get m n ≡ Some x
-kept_cell m p n x h = ⊎_elim (λ e. sym e.0 ∙ h) (λ e. cc) (keep_view by_name m p n)
-
-kept_live : {X : Type 0} (m : NameMap X) (p : Name → Bool) (n : Name)
-    → is_some (map.get (map.retain_keys m p) n) ≡ true → is_some (map.get m n) ≡ true
-kept_live m p n h = let it = some_live _ h in ap is_some (kept_cell m p n it.0 it.1)
-
--- the one name that an insert changes
-insert_view : {X : Type 0} (m : NameMap X) (n : Name) (x : X) (q : Name)
-    → ((q ≡ n) × (map.get (map.insert m n x) q ≡ Some x))
-    ⊎ (map.get (map.insert m n x) q ≡ map.get m q)
-insert_view m n x q = grind (arith, get-insert_here, by_name, get-insert_apart)
 
 module _ {f : Name → Name} {Knows : Name → Type 0}
     (apart : (j k : Name) → Knows j → Knows k → f j ≡ f k → j ≡ k) where
@@ -154,22 +131,11 @@ module _ {T U : Type 0} {f : Name → Name} {d : ℕ} {g : T → U} {Knows : Nam
         let kk = c.known k live in (f k, (kk, refl), live_at k kk ∙ live)) in omega arith
 
     pub named_moved : (m : Name) → Knows m → is_named S (f m) ≡ is_named A m
-    named_moved m km = both_ways (is_named S (f m)) (is_named A m) (λ h.
-        let it = named_gives S (f m) h in let k = c.from it.0 (ap is_some it.2) in
-        let was = was_ref f d g (map.get A k.0) (f m) it.1 (rw (← c.at k.0 k.1, k.2) it.2) in
-        let same = apart was.0 m (c.leads k.0 was.0 it.1 was.1) km was.2 in
-        named_from A m (k.0, it.1, rw same at was.1)) (λ h. let it = named_gives A m h in
-        named_from S (f m) (f it.0, it.1, rw (c.at it.0 (c.known it.0 (ap is_some it.2)), it.2)))
+    named_moved m km = grind (arith, named_gives, named_from)
 
     cells_keep : (p q : Name → Bool) → ((k : Name) → Knows k → p (f k) ≡ q k)
         → CarriesCells f d g Knows (map.retain_keys S p) (map.retain_keys A q)
-    cells_keep p q same = record {
-      at = λ k kk. rw (get-keep by_name S p (f k), get-keep by_name A q k, same k kk, c.at k kk)
-          (cond_map (option_map cell) (q k) (map.get A k) None);
-      from = λ n h. c.from n (kept_live S p n h);
-      known = λ k h. c.known k (kept_live A q k h);
-      leads = λ k m l h. c.leads k m l (kept_cell A q k _ h);
-    }
+    cells_keep p q same = grind (arith, get-keep, by_name)
 
     pub cells_swept : CarriesCells f d g Knows (sweep S) (sweep A)
     unfolding sweep
@@ -178,27 +144,14 @@ module _ {T U : Type 0} {f : Name → Name} {d : ℕ} {g : T → U} {Knows : Nam
     -- one cell more, at a known name
     pub cells_insert : (n : Name) (x : Cell T) → Knows n → KnowsTarget Knows x
         → CarriesCells f d g Knows (map.insert S (f n) (cell x)) (map.insert A n x)
-    cells_insert n x kn target = record {
-      at = λ k kk. let after = get-insert_name S (f n) (cell x) (f k) in
-          rw (after, get-insert_name A n x k, same_test apart k n kk kn, c.at k kk)
-          (cond_map (option_map cell) (is_name k n) (Some x) (map.get A k));
-      from = λ q h. grind (arith, insert_view S (f n) (cell x) q, c.from q);
-      known = λ k h. grind (arith, insert_view A n x k, c.known k);
-      leads = λ k m l h. grind (arith, insert_view A n x k, c.leads k m l);
-    }
+    cells_insert n x kn target = grind (arith, get-insert_name, name_here, name_apart)
 
     -- another content in a known cell
     pub cells_refilled : (n : Name) (x : Content T) → Knows n → CarriesCells f d g Knows
         (change S (f n) (refill (rename_content f d g x))) (change A n (refill x))
     unfolding change
-    cells_refilled n x kn = rw (c.at n kn) (at (map.get A n) (known_target _ (c.leads n)))
-      where
-        at : (y : Option (Cell T)) → IfThere y (KnowsTarget Knows) → CarriesCells f d g Knows
-            (change_if S (f n) (refill (rename_content f d g x)) (option_map cell y))
-            (change_if A n (refill x) y)
-        at None k = c
-        at (Some (Value o l)) k = cells_insert n (Value x l) kn tt
-        at (Some y) k = cells_insert n (refill x y) kn k
+    cells_refilled n x kn = let here = c.at n kn in let known = known_target _ (c.leads n) in
+        let put = λ (x : Cell T). cells_insert n x kn in grind (arith, put)
 
   -- what is left when known names end
   pub cells_left : {S : NameMap (Cell U)} {A : NameMap (Cell T)}

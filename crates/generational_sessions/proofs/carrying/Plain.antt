@@ -4,14 +4,13 @@ use Rattle.generational_core.proofs.machine.Rows.{get_bare_cell}
 use Rattle.generational_sessions.proofs.carrying.CarriedCalls.{act_matched, content_there}
 use Rattle.generational_sessions.proofs.carrying.CarriedCalls.{reach_cases, with_born}
 use Rattle.generational_sessions.proofs.carrying.CarriedCells.{refusals_moved}
-use Common.{act, act_start, Action, add_cell, AllByRecursion, Answer, ap, AreNew, arith, bare}
-use Common.{bare_cells, Borrow, Carries, Cell, cell_at, Content, content_at, content_of, free}
-use Common.{fresh, GenerationalPointer, is_some, IsNew, KnowsCall, KnowsNewNames, limit_tickets}
-use Common.{List, list_map, map-id, may_lack, Meets, Name, name_cmp, name_exact, name_total}
+use Common.{act, act_start, Action, add_cell, AllByRecursion, Answer, AreNew, arith, bare}
+use Common.{bare_cells, Borrow, Carries, Cell, cell_at, Content, content_of, free, fresh}
+use Common.{GenerationalPointer, is_some, IsNew, KnowsCall, KnowsNewNames, limit_tickets, List}
+use Common.{list_map, map-id, nat_cmp, may_lack, Meets, Name, name_cmp, name_exact, name_total}
 use Common.{NameMap, nat_cmp_total, needs_memory, NewNames, Option, option_map, Outcome, Ownership}
 use Common.{plain, plain_answer, plain_call, reach, refl, rename_box, rename_cell, rename_ownership}
-use Common.{renaming, shift_borrow, State, sym, without_values, write_refusal, [], ℕ, ⊎_elim, ◌∙◌}
-use Common.{◌∷◌, ◌≡◌}
+use Common.{renaming, shift_borrow, State, sym, without_values, write_refusal, [], ℕ, ◌∙◌, ◌∷◌, ◌≡◌}
 use Rattle.std.proofs.Math.Nat.{add-zero}
 use Rattle.std.specs.FinMap as map
 use Rattle.std.specs.FinSet as set
@@ -62,8 +61,7 @@ module _ {T : Type 0} where
       let owners : P.owners ≡ S.owners = map.same_map nat_cmp_total map.nat_cmp-IsAntisymmetric
       P.owners S.owners
       (λ key. rw (add-zero, same_ownership (map.get S.owners key)) at (c.owners key)) in
-      let next : P.next ≡ S.next = rw add-zero at c.next in
-      rw (sym c.number, sym cells, sym given, sym owners, sym next, sym c.peak, sym start) refl
+      grind arith
 
   all_calls : (number : ℕ) (call : Action T) → KnowsCall Any number call
   all_calls number call = grind arith
@@ -117,10 +115,8 @@ module _ {T : Type 0} where
       → is_some (write_refusal (content_of (cell_at (plain S) (reach (plain S) b))))
       ≡ is_some (write_refusal (content_of (cell_at S (reach S b))))
   plain_reached S b = let same = same_box S.number b in
-      ⊎_elim (λ e. rw (rw same at e.0, e.1)) (λ e. rw
-      (rw same at e.2, e.3, content_there (carries_plain S) e.0 e.1)
-      (ap is_some (refusals_moved same_name 0 bare (content_at S e.0)).1))
-      (reach_cases (carries_plain S) b (λ _. tt))
+      let cases = reach_cases (carries_plain S) b (λ _. tt) in
+      grind (arith, content_there (carries_plain S), refusals_moved same_name 0 (bare {T = T}))
 
   plain_needs : (S : State T) (answer : Answer T) (call : Action T)
       → needs_memory (plain S) (plain_answer answer) (plain_call call) ≡ needs_memory S answer call
@@ -135,7 +131,11 @@ module _ {T : Type 0} where
 -- a fresh state has no values
 pub plain_fresh : (T : Type 0) (number start next : ℕ)
     → plain (fresh {T = T} number start next) ≡ fresh number start next
-plain_fresh T number start next = let new : State T = fresh number start next in
-    let cells = map.same_map name_total
-    name_exact (plain new).cells map.empty (λ q. rw (get_bare new.cells q, map.get-empty name_cmp q)
-    (sym (map.get-empty name_cmp q))) in λ i. record (plain new) { cells = cells i }
+plain_fresh T number start next =
+    sym (plain_from (fresh number start next) (fresh number start next) (search (
+      arith,
+      any_listed,
+      map.get-empty {X = Cell T} name_cmp,
+      map.get-empty {X = Cell (Unit {0})} name_cmp,
+      map.get-empty {X = Ownership} nat_cmp,
+    )) refl)

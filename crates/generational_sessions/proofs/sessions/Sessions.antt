@@ -3,21 +3,21 @@ use Rattle.generational_sessions.proofs.sessions.Common
 use Rattle.generational_core.proofs.machine.Guarding.{reader_stands, writer_stands}
 use Rattle.generational_core.specs.Keeping.{IsUnwritten}
 use Common.{act, Action, add_place, add_to_list, and_parts, Answer, ap, AreOne, arith, ask}
-use Common.{AskedSets, at_place, Bool, BorrowRefusal, box_in, BoxAt, Boxed, boxed_stays, by_cond}
-use Common.{by_number, Call, Cell, cell_at, changed_view, clone_owner, cond, count_by, count_under}
-use Common.{Done, ends_reader, ends_writer, false, false_from_ne_true, fresh, fresh_bounded}
-use Common.{fresh_sound, GenerationalPointer, get-insert_apart, get-insert_here, get-remove_apart}
-use Common.{gives, Guard, has_same_id, Held, holds_owner, if_ready, inl, inr, is_known, is_shared}
-use Common.{is_some, IsBounded, IsEnded, IsOwn, IsSound, IsSoundSession, IsUndisturbed, length}
-use Common.{List, Location, Made, made_boxed, made_new, Meets, meets_bounded, meets_ended}
-use Common.{meets_number, meets_sound, meets_value, Name, name_of, nat_eq, nat_eq_equiv, NewNames}
-use Common.{None, Nothing, Option, Outcome, own_cell, Owned, owner_held, owner_in, OwnerName}
-use Common.{Ownership, ownership, Owning, point, reach, reader_stays, Reading, Reads, reads_known}
-use Common.{ref_reaches, refl, release, release_owner, replace, Request, Run, SessionReply}
-use Common.{SessionState, SessionStep, settle, Settles, slice_set, Some, spend, State, suc}
-use Common.{sum_by-cons, sum_by_push, swap, sym, true, Undisturbed, unless, value_at, with_box}
-use Common.{with_owner, writer_stays, Writes, writes_known, Writing, zero, [], ℕ, ⊎_elim, ◌++◌, ◌+◌}
-use Common.{◌<◌, ◌∙◌, ◌∷◌, ◌≡◌, ◌≢◌, ◌≤◌, ◌⊎◌}
+use Common.{AskedSets, at_place, Bool, BorrowRefusal, Boxed, boxed_stays, by_cond, by_number, Call}
+use Common.{Cell, cell_at, changed_view, clone_owner, cond, count_by, count_under, Done}
+use Common.{ends_reader, ends_writer, false, false_from_ne_true, fresh, fresh_bounded, fresh_sound}
+use Common.{GenerationalPointer, get-insert_apart, get-insert_here, get-remove_apart, gives, Guard}
+use Common.{has_same_id, Held, holds_owner, inl, inr, is_known, is_shared, is_some, IsBounded}
+use Common.{IsEnded, IsOwn, IsSound, IsSoundSession, IsUndisturbed, length, List, Location, Made}
+use Common.{made_boxed, made_new, Meets, meets_bounded, meets_ended, meets_number, meets_sound}
+use Common.{meets_value, Name, name_of, nat_eq, nat_eq_equiv, NewNames, None, Nothing, Option}
+use Common.{Outcome, own_cell, Owned, OwnerName, Ownership, ownership, Owning, point, reach}
+use Common.{reader_stays, Reading, Reads, reads_known, ref_reaches, refl, release_owner, Request}
+use Common.{Run, SessionReply, SessionState, SessionStep, settle, Settles, slice_set, Some, spend}
+use Common.{State, suc}
+use Rattle.std.proofs.lemmas.List.{get_or_past, set_past, Sums.sum_by-set}
+use Common.{sum_by_push, swap, sym, true, Undisturbed, unless, value_at, writer_stays, Writes}
+use Common.{writes_known, Writing, [], ℕ, ⊎_elim, ◌++◌, ◌+◌, ◌<◌, ◌∙◌, ◌∷◌, ◌≡◌, ◌≢◌, ◌≤◌, ◌⊎◌}
 use Rattle.std.specs.FinMap as map
 use Rattle.generational_sessions.specs.declared.calls.Call.TheVariants as call
 use Rattle.generational_core.proofs.machine.Stepping.{meets_each}
@@ -126,21 +126,16 @@ module _ {T : Type 0} where
   held_emptied table p q = grind arith
 
   -- a place that isn't given yet is empty already
-  beyond : (table : List (Held T))
-      → (p : ℕ) × (table ≡ slice_set table p Nothing) × (at_place table p ≡ Nothing)
-  beyond [] = (0, refl, refl)
-  beyond (h ∷ table) = let b = beyond table in (suc b.0, ap (λ rest. h ∷ rest) b.1, b.2)
+  beyond : (table : List (Held T)) → let p = length table in
+      (table ≡ slice_set table p Nothing) × (at_place table p ≡ Nothing)
+  beyond table = grind (arith, set_past, get_or_past)
 
   -- how many owner values are held, with another thing at a place
   count_changed : (key : ℕ) (table : List (Held T)) (i : ℕ) (x : Held T)
       → count_by (holds_owner key) (slice_set table i x) + owners_in key (at_place table i)
       ≤ count_by (holds_owner key) table + owners_in key x
-  count_changed key [] i x = omega arith
-  count_changed key (h ∷ table) zero x =
-      omega (arith, sum_by-cons (owners_in key) x table, sum_by-cons (owners_in key) h table)
-  count_changed key (h ∷ table) (suc i) x =
-      let new = sum_by-cons (owners_in key) h (slice_set table i x) in
-      omega (arith, new, sum_by-cons (owners_in key) h table, count_changed key table i x)
+  count_changed key table i x =
+      grind (arith, sum_by-set (owners_in key) table i x Nothing, set_past, get_or_past)
 
   -- ---- things that are one
 
@@ -165,14 +160,10 @@ module _ {T : Type 0} where
       → ((key : ℕ) → count_by (holds_owner key) s.table + owners_in key x
       ≤ count_under s.state.owners key)
       → IsSoundSession (add_place s x)
-  kept_pushed s x kept own new room = record {
-    sound = kept.sound;
-    bounded = kept.bounded;
-    own = λ p. ⊎_elim (λ e. rw e (kept.own p)) (λ e. rw e.1 own) (held_pushed s.table x p);
-    apart = still_apart s.table (s.table ++ x ∷ []) (length s.table) x kept.apart
-        (held_pushed s.table x) (λ q one. absurd (new q one));
-    counted = λ key. omega (arith, sum_by_push (owners_in key) s.table x, room key);
-  }
+  kept_pushed s x kept own new room =
+      let apart = still_apart s.table (s.table ++ x ∷ []) (length s.table) x kept.apart
+      (held_pushed s.table x) (λ q one. absurd (new q one)) in
+      grind (arith, held_pushed, sum_by_push)
 
   kept_told : (s : SessionState T) → IsSoundSession s → IsSoundSession (add_place s Nothing)
   unfolding AreOne IsOwn
@@ -279,9 +270,17 @@ module _ {T : Type 0} where
           (λ e. given_new answer meets (at_place s.table q) (kept.own q) (rw e.0 at one))
           (held_emptied s.table p q)) room
 
+  -- the place that a call empties; one that isn't given yet, where it takes nothing
+  abbrev pub emptied : SessionState T → Call T → Answer T → ℕ
+  emptied s (call.Release p) answer = p
+  emptied s (call.ReleaseOwner p) Done = p
+  emptied s (call.LeakOwner p) answer = p
+  emptied s c answer = length s.table
+
   -- a call empties a place of what it takes
   abbrev pub Empties : SessionState T → Call T → Action T → Answer T → Type 0
-  Empties s c action answer = (p : ℕ) × (spend c answer s.table ≡ slice_set s.table p Nothing)
+  Empties s c action answer = let p = emptied s c answer in
+      (spend c answer s.table ≡ slice_set s.table p Nothing)
       × (at_place s.table p ≡ takes action answer)
 
   -- a reply that needs no machine: it gives no box, and isn't a refusal of the store
@@ -293,54 +292,15 @@ module _ {T : Type 0} where
 
   -- What a call comes to: a reply that needs no machine, another value for a writer that is there,
   -- or a call of the machine.
-  pub data ComesTo (s : SessionState T) (c : Call T) : Request T → Type 0 where
-    tells : (x : SessionReply T) → is_own x ≡ true → ComesTo s c (Request.Tells x)
-    swaps : (p : ℕ) (g : Guard) (v old : T) → at_place s.table p ≡ Writing g old
-        → ComesTo s c (Request.Swaps p g v old)
-    asks : {action : Action T}
-        → ((answer : Answer T) → Empties s c action answer) → ComesTo s c (Request.Asks action)
-
-  comes_box : {s : SessionState T} {c : Call T} (a : BoxAt T) (back : Option T)
-      (next : GenerationalPointer → Request T) → ((b : GenerationalPointer) → ComesTo s c (next b))
-      → ComesTo s c (with_box (box_in s a) back next)
-  comes_box {s} {c} a back next h = (elim (box_in s a) as (λ o. ComesTo s c (with_box o back next))
-      [ None ↦ tells _ refl | Some b ↦ h b ])
-
-  -- a call that goes by what a place holds
-  comes_held : {s : SessionState T} {c : Call T} (p : ℕ) (next : Held T → Request T)
-      → ((x : Held T) → at_place s.table p ≡ x → ComesTo s c (next x))
-      → ComesTo s c (next (at_place s.table p))
-  comes_held p next h = h _ refl
-
-  comes_owner : {s : SessionState T} {c : Call T} (p : ℕ) (back : Option T)
-      (next : OwnerName → Request T) → ((o : OwnerName) → at_place s.table p ≡ Owning o
-      → ComesTo s c (next o)) → ComesTo s c (with_owner (owner_in s p) back next)
-  comes_owner p back next h = comes_held p (λ x. with_owner (owner_held x) back next)
-      (elim [ Owning o ↦ h o | _ ↦ λ is. tells _ refl ])
-
-  comes_ready : {s : SessionState T} {c : Call T} (ready : Bool) (back : Option T)
-      (next : Request T) → ComesTo s c next → ComesTo s c (if_ready ready back next)
-  comes_ready true back next h = h
-  comes_ready false back next h = tells _ refl
-
-  comes_release : (s : SessionState T) (p : ℕ) (x : Held T) → at_place s.table p ≡ x
-      → ComesTo s (call.Release p) (release x)
-  comes_release s p (Reading g) is = asks (λ answer. (p, refl, is))
-  comes_release s p (Writing g v) is = asks (λ answer. (p, refl, is))
-  comes_release s p x is = tells _ refl
-
-  -- the ways by which a call of a box or of an owner comes to something
-  ruleset ways = (comes_box, comes_owner, comes_ready, asks, tells, beyond)
+  abbrev pub ComesTo : SessionState T → Call T → Request T → Answer T → Type 0
+  ComesTo s c (Request.Tells x) answer = is_own x ≡ true
+  ComesTo s c (Request.Swaps p g v old) answer = at_place s.table p ≡ Writing g old
+  ComesTo s c (Request.Asks action) answer = Empties s c action answer
 
   -- what each call comes to
-  pub comes_to : (s : SessionState T) (c : Call T) → ComesTo s c (ask s c)
-  comes_to s (call.ReleaseOwner p) = comes_owner p _ _
-      (λ o is. asks (elim [ Done ↦ (p, refl, is) | _ ↦ beyond s.table ]))
-  comes_to s (call.LeakOwner p) = comes_owner p _ _ (λ o is. asks (λ answer. (p, refl, is)))
-  comes_to s (call.Replace p v) = comes_held p (λ x. replace p x v)
-      (elim [ Writing g old ↦ swaps p g v old | _ ↦ λ is. tells _ refl ])
-  comes_to s (call.Release p) = comes_held p release (comes_release s p)
-  comes_to s _ = search ways
+  pub comes_to : (s : SessionState T) (c : Call T) (answer : Answer T)
+      → ComesTo s c (ask s c) answer
+  comes_to s c answer = grind (arith, beyond)
 
   -- the reply to a call of the machine, and the session after it
   pub settled : (s r : SessionState T) (c : Call T) (x : SessionReply T) (action : Action T)
@@ -353,13 +313,14 @@ module _ {T : Type 0} where
     pub session_kept : IsSoundSession s → SessionStep s c x r → IsSoundSession r
     session_kept kept step = at (ask s c) (comes_to s c) step
       where
-        at : (q : Request T) → ComesTo s c q → Settles s c q x r → IsSoundSession r
-        at q (asks {action} spends) step = let it = spends step.0 in rw
-            ((settled s r c x action step).1, it.1)
-            (kept_after s action step.1 it.0 kept step.0 step.2 it.2)
-        at q (tells y own) step = rw step.1 (kept_told s kept)
-        at q (swaps p g v old there) step =
-            rw step.1 (kept_told (swap s p g v) (kept_swapped s p g v old kept there))
+        at : (q : Request T) → ((a : Answer T) → ComesTo s c q a) → Settles s c q x r
+            → IsSoundSession r
+        at (Request.Asks action) empties step = let it = empties step.0 in rw
+            ((settled s r c x action step).1, it.0)
+            (kept_after s action step.1 (emptied s c step.0) kept step.0 step.2 it.1)
+        at (Request.Tells y) comes step = rw step.1 (kept_told s kept)
+        at (Request.Swaps p g v old) comes step =
+            rw step.1 (kept_told (swap s p g v) (kept_swapped s p g v old kept (comes Done)))
 
     -- what each call of the machine keeps, each call of a session keeps
     pub by_step : (P : State T → Type 0) → ((S R : State T) (action : Action T) (answer : Answer T)
@@ -411,8 +372,7 @@ module _ {T : Type 0} where
       → map.get s.state.cells (name_of b) ≡ Some (Cell.Ref m l)
       → (reach s.state b ≡ Some m) × (is_shared (map.get s.state.cells m) ≡ true)
   unfolding IsOwn
-  held_reaches s p b m l kept is =
-      ref_reaches s.state b m l kept.sound (rw is at (kept.own p)).0
+  held_reaches s p b m l kept is = grind (arith, ref_reaches)
 
   -- and its name is no Shared cell's
   pub held_boxed : (s : SessionState T) (p : ℕ) (b : GenerationalPointer) → IsSoundSession s
@@ -445,18 +405,16 @@ module _ {T : Type 0} where
   run_ended calls replies s r run n ended = by_run (λ s. IsEnded s.state n)
       (λ s r c x h step. session_ended s r c x step n h) calls replies s r ended run
 
-  -- a value that nothing disturbs in a run stays
+  -- a value that nothing disturbs in a run stays, which no writer has at its begin
   pub run_value : (calls : List (Call T)) (replies : List (SessionReply T)) (s r : SessionState T)
       (b : GenerationalPointer) (m : Name) → IsSound s.state → (run : Run s calls replies r)
-      → Undisturbed b m s calls replies r run → value_at r.state m ≡ value_at s.state m
+      → Undisturbed b m s calls replies r run
+      → IsUnwritten b m s.state × (value_at r.state m ≡ value_at s.state m)
   run_value (c ∷ calls) (x ∷ replies) s r b m sound run u =
-      run_value calls replies run.0 r b m (session_sound s run.0 c x sound run.1) run.2 u.2
-      ∙ session_value s run.0 c x b m sound run.1
-      (record { before = u.0; after = first calls replies run.0 run.2 u.2; unset = u.1 })
-    where
-      first : (calls : List (Call T)) (replies : List (SessionReply T)) (s : SessionState T)
-          (run : Run s calls replies r) → Undisturbed b m s calls replies r run
-          → IsUnwritten b m s.state
-      first (c ∷ calls) (x ∷ replies) s run u = u.0
-      first calls replies s run u = grind arith
+      let next = session_sound s run.0 c x sound run.1 in
+      let rest = run_value calls replies run.0 r b m next run.2 u.2 in (
+        u.0,
+        rest.1 ∙ session_value s run.0 c x b m sound run.1
+            (record { before = u.0; after = rest.0; unset = u.1 }),
+      )
   run_value calls replies s r b m sound run u = grind arith

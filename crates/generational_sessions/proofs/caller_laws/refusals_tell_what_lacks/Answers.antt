@@ -1,6 +1,5 @@
-use Rattle.generational_sessions.proofs.callers.Lacking.{owner_lacks, read_lacks, write_lacks}
-use Rattle.generational_sessions.proofs.callers.Lacking.{make_lacks, free_read_lacks}
+use Rattle.generational_sessions.proofs.callers.Lacking.{free_read_lacks}
 use Rattle.generational_sessions.proofs.caller_laws.refusals_tell_what_lacks.Goals as goal
 
-pub returns : goal.returns
-returns g c = search (owner_lacks, read_lacks, write_lacks, make_lacks, free_read_lacks)
+pub returns-clause-free_read : goal.returns-clause-free_read
+returns-clause-free_read g c = search free_read_lacks

@@ -7,5 +7,5 @@ returns g c = record {
       meets_value S R call answer m sound meets unset before.here after.here;
   location = meets_location;
   session = λ s r call reply b m kept. session_value s r call reply b m kept.sound;
-  run = λ calls replies s r b m kept. run_value calls replies s r b m kept.sound;
+  run = λ calls replies s r b m kept run u. (run_value calls replies s r b m kept.sound run u).1;
 }

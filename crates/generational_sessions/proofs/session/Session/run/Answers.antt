@@ -46,5 +46,5 @@ returns g c =
       kept = run_kept calls _ _ _ before run;
       bounded = (run_kept calls _ _ _ before run).bounded.few;
       ended = λ n ended. run_ended calls _ _ _ run n ended;
-      kept_value = λ b m run. run_value calls _ _ _ b m before.sound run;
+      kept_value = λ b m run u. (run_value calls _ _ _ b m before.sound run u).1;
     }
