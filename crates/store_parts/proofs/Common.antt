@@ -1,43 +1,44 @@
 -- The names of machine and store that most proofs here cite, passed on from one place.
 use Rattle.store_parts.specs
 use Rattle.std.proofs
-pub use proofs.Common.{OnErr, option_to_list, Result}
-pub use proofs.Common.{All, ap, append-nil, arith, Bool, Bor, cond, drop, Err, false, get_or}
-pub use proofs.Common.{IfSome, if◌then◌else◌, inl, inr, is_some, IsSome, length}
-pub use proofs.Common.{length-append, Less, List, map, nat_cmp, nat_eq, None, not, Ok, OnSome}
-pub use proofs.Common.{Option, option_map, refl, reverse, rules, slice_get, slice_set, Some, subst}
-pub use proofs.Common.{suc, sym, T, take, true, true≢false, zero, ℕ, [], ⊎_elim, ◌&&◌, ◌++◌, ◌+◌}
-pub use proofs.Common.{◌-◌, ◌<◌, ◌||◌, ◌∙◌, ◌∷◌, ◌≡◌, ◌≢◌, ◌≤◌}
-pub use proofs.Math.{Seq.take-nil}
+pub use proofs.Common.{OnErr, option_to_list, Result, All, ap, append-nil, arith, Bool, Bor, cond}
+pub use proofs.Common.{drop, Err, false, get_or, IfSome, if◌then◌else◌, inl, inr, is_some, length}
+pub use proofs.Common.{length-append, Less, List, map, nat_cmp, nat_eq, None, not, Ok, Option}
+pub use proofs.Common.{option_map, refl, reverse, rules, slice_get, slice_set, Some, subst, suc}
+pub use proofs.Common.{sym, T, take, true, zero, ℕ, [], ⊎_elim, ◌++◌, ◌+◌, ◌-◌, ◌<◌, ◌||◌, ◌∙◌, ◌∷◌}
+pub use proofs.Common.{◌≡◌, ◌≢◌, ◌≤◌}
+pub use proofs.Math.{Seq.get_or-append_seam, Seq.take-nil}
 pub use proofs.lemmas.{Bool.or_parts, Bool.Decides.nat_tests, List.Sorted.answers_always}
-pub use proofs.lemmas.Bool.{cases_Bool, cases_eq, cases_lt, eq-eqb, eqb-true, false≢true, ne_eqb}
+pub use proofs.lemmas.Bool.{cases_Bool, cases_lt, eq-eqb, false≢true}
 pub use proofs.lemmas.Cmp.{ranked}
-pub use proofs.lemmas.List.{length-map, map-append}
-pub use proofs.lemmas.List.{Elements.filter-append, Elements.filter_from_retain, Kept.AllPairs-filter}
-pub use proofs.lemmas.List.{get_or-set_other, get_or-set_same, get_or_append_left, get_or_read}
-pub use proofs.lemmas.List.{get_or_read_under, length-reverse, length-set, reverse-append, take_all}
-pub use proofs.lemmas.List.{Elements.recursion_from_All, Quantifiers.all_pairs_push}
-pub use proofs.lemmas.List.Folds.{list_any-append, list_any_at, list_any_none}
-pub use proofs.lemmas.Map.{Keys.IsDistinct-push, Steps.length-le_from_distinct_below}
-pub use proofs.lemmas.Option.{none-some, slice_get_past, slice_get_read, slice_get_within}
+pub use proofs.lemmas.List.{length-map, Elements.filter_from_retain, Elements.filter_passes}
+pub use proofs.lemmas.List.{Kept.AllPairs-filter, get_or-set_other, get_or-set_same}
+pub use proofs.lemmas.List.{get_or_append_left, get_or_read, get_or_read_under, length-reverse}
+pub use proofs.lemmas.List.{length-set, reverse-append, take_all, Elements.All-from_recursion}
+pub use proofs.lemmas.List.{Elements.All-get_or, Elements.All-weaker, Elements.recursion_from_All}
+pub use proofs.lemmas.List.{get_or_default, Quantifiers.all_pairs_push}
+pub use proofs.lemmas.List.Folds.{list_any-append, list_any_none}
+pub use proofs.lemmas.Map.Keys.{IsDistinct-cons, IsDistinct-head, IsDistinct-push, IsDistinct-tail}
+pub use proofs.lemmas.Map.{Steps.length-le_from_distinct_below}
+pub use proofs.lemmas.Option.{slice_get_past, slice_get_read, slice_get_within}
 pub use Rattle.std.specs.{BTreeMap.get, BTreeMap.is_at, Ordering.eq_by_cmp, Ordering.ordering_index}
 pub use Rattle.std.specs.{Cmp.nat_cmp_total, Cmp.nat_eq_equiv, FinMap.nat_cmp-IsAntisymmetric}
 pub use Rattle.std.specs.{Fn.Called, Fn.ComputesKey, Vec.vec_len, VecDeque.Iter.deque_iter_rest}
 pub use Rattle.std.specs.{Map.keys_of, Map.lookup, Option.option_or}
-pub use Rattle.std.specs.List.{AllByRecursion, filter, HoldsAt, list_any, remove}
-pub use Rattle.std.specs.List.Sorted.{IsBinarySearchResult, IsNonDecreasingBy, IsPartitionPoint}
-pub use Rattle.std.specs.declared.cmp.Ordering.TheVariants.{Equal, Greater}
-pub use specs.{Borrows.AreBelow, Borrows.IsOnly, declared.names.CellName.CellName}
-pub use specs.{CellNames.name_of_cell, Lists.how_many, Pools.chain, Pools.IsPool, Pools.last_of}
+pub use Rattle.std.specs.List.{AllByRecursion, filter, list_any, remove}
+pub use Rattle.std.specs.List.Sorted.{IsBinarySearchResult, IsNonDecreasingBy}
+pub use specs.{Borrows.AreBelow, declared.names.CellName.CellName, CellNames.name_of_cell}
+pub use specs.{Lists.how_many, Pools.chain, Pools.IsPool, Pools.last_of}
 pub use specs.OwnerPlaces.{ArePlaced, change_place, change_record, change_record_if}
 pub use specs.OwnerPlaces.{HasDistinctKeys, HasRecord, HasRoom, is_vacant, IsPlaceOf, IsReserved}
 pub use specs.OwnerPlaces.{keyed_ownerships, KeyedOwnership, Place, place_rows, record_at}
 pub use specs.OwnerPlaces.{record_in, Records, with_ownership, with_rooms}
 pub use specs.OwnerRecords.{add_to_list_in, knows, record_of}
-pub use specs.Queues.{HasTicketAt, AreKept, IsOwnPlace, IsQueue, standing_at, StandsAt, TicketsAscend}
+pub use specs.Queues.{HasTicketAt, AreKept, IsOwnPlace, IsQueue, standing_at, StandsAt}
+pub use specs.Queues.{TicketsAscend}
 pub use specs.Table.{IsTable}
 pub use Rattle.generational_core.proofs.maps.Maps.{by_number, changed_there, get-changed_none}
-pub use Rattle.generational_core.proofs.maps.Maps.{get-remove_apart, insert_there, key_same}
+pub use Rattle.generational_core.proofs.maps.Maps.{insert_there}
 pub use Rattle.generational_core.specs.{Boxes.id_of, Conditions.names_in, Conditions.names_under}
 pub use Rattle.generational_core.specs.{Machine.OwnerName, Names.Name, StepCalls.owner_of}
 pub use Rattle.generational_core.specs.Rows.{owner_rows, reader_row, record_rows}

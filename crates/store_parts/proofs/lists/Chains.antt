@@ -32,24 +32,15 @@ chain_same : (links others : List ℕ) (first n : ℕ)
     → chain others first n ≡ chain links first n
 chain_same links others first zero same = refl
 chain_same links others first (suc n) same =
-    rw (
-      same first (rw (eq-eqb first first refl) refl),
-      chain_same links others (get_or links first 0) n
-          (λ q there. same q (or_right (nat_eq q first) _ there)),
-    )
+    let rest = chain_same links others (get_or links first 0) n
+    (λ q there. same q (or_right (nat_eq q first) _ there)) in
+    rw (same first (rw (eq-eqb first first refl) refl), rest)
 
 -- more links at the end
 pub chain_grown : (links more : List ℕ) (first n : ℕ) → IsPool (chain links first n) (length links)
     → chain (links ++ more) first n ≡ chain links first n
 chain_grown links more first n p =
     chain_same links _ first n (λ q there. get_or_append_left links _ 0 q (p.below q there))
-
--- another link of a slot that isn't there
-pub chain_apart : (links : List ℕ) (slot x first n : ℕ)
-    → set.contains (members (chain links first n)) slot ≡ false
-    → chain (slice_set links slot x) first n ≡ chain links first n
-chain_apart links slot x first n absent = chain_same links _ first n (λ q there.
-    get_or-set_other links slot q x 0 (λ e. cc (members-holds (chain links first n) slot)))
 
 last_there : (x : ℕ) (xs : List ℕ) → holds (x ∷ xs) (last_of x xs) ≡ true
 last_there x [] = rw (eq-eqb x x refl) refl
@@ -82,13 +73,10 @@ pub chain_put : (links after : List ℕ) (first n slot : ℕ) → slot < length 
     → chain after slot (n + 1) ≡ slot ∷ chain links first n
 chain_put links after first zero slot within absent linked = refl
 chain_put links after first (suc n) slot within absent linked =
-    let e : suc n + 1 ≡ suc (suc n) = omega arith in
-    rw (
-      linked (omega arith),
-      e,
-      get_or-set_same links slot first 0 within,
-      chain_apart links slot first first (suc n) absent,
-    )
+    let apart = chain_same links (slice_set links slot first) first (suc n)
+    (λ q there. get_or-set_other
+    links slot q first 0 (λ e. cc (members-holds (chain links first (suc n)) slot))) in
+    grind (arith, linked, get_or-set_same links slot first 0 within)
 
 -- so many slots as are there have a link each
 pub chain_length : (links : List ℕ) (first n : ℕ) → length (chain links first n) ≡ n
@@ -111,13 +99,6 @@ last_within links first (suc n) last some p ends =
     let there = last_there first (chain links (get_or links first 0) n) in
     p.below last (sym (ap (holds (chain links first (suc n))) ends) ∙ there)
 
-pub pool_grown : (links more : List ℕ) (first n : ℕ) → IsPool (chain links first n) (length links)
-    → IsPool (chain (links ++ more) first n) (length (links ++ more))
-pool_grown links more first n p = rw (chain_grown links more first n p) record {
-  distinct = p.distinct;
-  below = λ slot there. omega (arith, p.below slot there, length-append links more);
-}
-
 -- links that were added, where memory was found, change no slot of the list
 pub resized : (ok : Bool) (n : ℕ) (links more after : List ℕ) (first count : ℕ)
     → after ≡ (if ok then take n links ++ more else links) → length links ≤ n
@@ -125,9 +106,12 @@ pub resized : (ok : Bool) (n : ℕ) (links more after : List ℕ) (first count :
     → IsPool (chain after first count) (length after)
     × (chain after first count ≡ chain links first count)
 resized true n links more after first count is few p =
-    rw (is, take_all n links few) (
-      pool_grown links more first count p,
-      chain_grown links more first count p,
+    rw (is, take_all n links few, chain_grown links more first count p) (
+      record {
+        distinct = p.distinct;
+        below = λ slot there. omega (arith, p.below slot there, length-append links more);
+      },
+      refl,
     )
 resized false n links more after first count is few p = rw is (p, refl)
 

@@ -1,12 +1,11 @@
 -- Lists after a write or a push, key counts, and lists of free slots.
 use Rattle.store_parts.proofs.Common
 use Rattle.std.proofs.lemmas.Bool.{or_right}
-use Common.{AllByRecursion, ap, arith, Bool, cases_Bool, cond, eq-eqb, eq_by_cmp, false, false≢true}
-use Common.{how_many, inl, inr, IsDistinct, IsDistinct-push, IsPool, length}
-use Common.{length-le_from_distinct_below, List, list_any, list_any-append, nat_cmp}
-use Common.{nat_cmp-IsAntisymmetric, nat_cmp_total, nat_eq, nat_eq_equiv, nat_tests, None, Option}
-use Common.{or_parts, refl, reverse, reverse-append, slice_get, slice_set, Some, suc, sym, true}
-use Common.{zero, ℕ, [], ◌++◌, ◌+◌, ◌-◌, ◌<◌, ◌||◌, ◌∙◌, ◌∷◌, ◌≡◌, ◌≢◌, ◌≤◌}
+use Common.{All-from_recursion, AllByRecursion, ap, arith, Bool, cases_Bool, cond, eq-eqb, eq_by_cmp, false, false≢true}
+use Common.{how_many, inl, inr, IsDistinct, IsDistinct-cons, IsDistinct-head, IsDistinct-push, IsDistinct-tail, IsPool, length}
+use Common.{length-le_from_distinct_below, List, list_any, list_any-append, list_any_none, nat_cmp, nat_cmp-IsAntisymmetric}
+use Common.{nat_cmp_total, nat_eq, nat_eq_equiv, nat_tests, None, Option, or_parts, refl, slice_get, slice_set, Some, suc, sym}
+use Common.{true, zero, ℕ, [], ◌++◌, ◌+◌, ◌-◌, ◌<◌, ◌||◌, ◌∙◌, ◌∷◌, ◌≡◌, ◌≢◌, ◌≤◌}
 use Rattle.std.specs.FinMap as map
 use Rattle.std.specs.FinSet as set
 
@@ -19,9 +18,6 @@ cond_same b x = grind arith
 -- one where a test is passed
 abbrev pub bit : Bool → ℕ
 bit b = cond b 1 0
-
-bit_most : (b : Bool) → bit b ≤ 1
-bit_most b = grind arith
 
 module _ {A : Type 0} where
   -- whether something stands there that passes
@@ -83,7 +79,7 @@ module _ {A : Type 0} where
   -- no more pass than there are
   pub many_within : (p : A → Bool) (xs : List A) → how_many p xs ≤ length xs
   many_within p [] = omega arith
-  many_within p (x ∷ xs) = omega (arith, many_within p xs, bit_most (p x))
+  many_within p (x ∷ xs) = grind (arith, many_within p xs)
 
   -- fewer pass than there are, where one doesn't
   pub fewer_within : (p : A → Bool) (xs : List A) (i : ℕ) (x : A)
@@ -91,7 +87,7 @@ module _ {A : Type 0} where
   fewer_within p [] i x there fails = absurd cc
   fewer_within p (y ∷ xs) zero x there fails = let most = many_within p xs in grind arith
   fewer_within p (y ∷ xs) (suc i) x there fails =
-      omega (arith, fewer_within p xs i x there fails, bit_most (p y))
+      grind (arith, fewer_within p xs i x there fails)
 
 -- ---- how many keys a map has
 
@@ -145,12 +141,6 @@ module _ (pool : set.FinSet nat_cmp) (i : ℕ) (member : set.contains pool i ≡
   put_back = set.same_set nat_cmp_total nat_cmp-IsAntisymmetric _ _ (λ k.
       rw (contains-insert_at, contains-remove_at) (grind (arith, nat_tests)))
 
--- a slot that is put in and taken out again leaves the set as it was
-pub remove-insert_new : (s : set.FinSet nat_cmp) (i : ℕ)
-    → set.contains s i ≡ false → set.remove (set.insert s i) i ≡ s
-remove-insert_new s i absent = set.same_set nat_cmp_total nat_cmp-IsAntisymmetric _ _ (λ k.
-    rw (contains-remove_at, contains-insert_at) (grind (arith, nat_tests)))
-
 abbrev pub holds : List ℕ → ℕ → Bool
 holds slots slot = list_any (nat_eq slot) slots
 
@@ -170,34 +160,30 @@ absent_all x [] h = tt
 absent_all x (y ∷ ys) h =
     let parts = or_parts (nat_eq x y) (holds ys x) h in (parts.0, absent_all x ys parts.1)
 
-all_absent : (x : ℕ) (xs : List ℕ) → AllByRecursion (λ y. nat_eq x y ≡ false) xs
-    → holds xs x ≡ false
-all_absent x [] h = refl
-all_absent x (y ∷ ys) h = rw h.0 (all_absent x ys h.1)
-
 module _ {xs : List ℕ} {rooms slot : ℕ} where
   pub pool_put : IsPool xs rooms → slot < rooms → set.contains (members xs) slot ≡ false
       → IsPool (slot ∷ xs) rooms
-  unfolding IsDistinct
   pool_put p room absent = record {
-    distinct = (absent_all slot xs (sym (members-holds xs slot) ∙ absent), p.distinct);
+    distinct = IsDistinct-cons nat_eq slot xs
+        (absent_all slot xs (sym (members-holds xs slot) ∙ absent)) p.distinct;
     below = λ q h. grind (arith, nat_tests, p.below q);
   }
 
   pub pool_take : IsPool (slot ∷ xs) rooms → IsPool xs rooms
-  unfolding IsDistinct
   pool_take p = record {
-    distinct = p.distinct.1;
+    distinct = IsDistinct-tail nat_eq slot xs p.distinct;
     below = λ q h. p.below q (or_right (nat_eq q slot) _ h);
   }
 
   pub head_absent : IsPool (slot ∷ xs) rooms → set.contains (members xs) slot ≡ false
-  unfolding IsDistinct
-  head_absent p = members-holds xs slot ∙ all_absent slot xs p.distinct.0
+  head_absent p = members-holds xs slot ∙ list_any_none _ xs
+      (All-from_recursion _ xs (IsDistinct-head nat_eq slot xs p.distinct))
 
   pub members_take : IsPool (slot ∷ xs) rooms
       → members xs ≡ set.remove (members (slot ∷ xs)) slot
-  members_take p = sym (remove-insert_new (members xs) slot (head_absent p))
+  members_take p = let absent = head_absent p in
+      set.same_set nat_cmp_total nat_cmp-IsAntisymmetric _ _ (λ k.
+      rw (contains-remove_at, contains-insert_at) (grind (arith, nat_tests)))
 
 pub pool_length : {xs : List ℕ} {rooms : ℕ} → IsPool xs rooms → length xs ≤ rooms
 pool_length {xs} {rooms} p = length-le_from_distinct_below xs rooms p.distinct p.below
@@ -208,11 +194,6 @@ pool_count [] p = set.len-empty nat_cmp
 pool_count (x ∷ xs) p =
     rw (set.len-insert nat_cmp_total (members xs) x, head_absent p)
     (omega (arith, pool_count xs (pool_take p)))
-
--- a buffer keeps the last one at its end
-pub reverse_pushed : (xs ys : List ℕ) (x : ℕ) → xs ≡ ys ++ x ∷ []
-    → reverse xs ≡ x ∷ reverse ys
-reverse_pushed xs ys x e = ap reverse e ∙ reverse-append ys (x ∷ [])
 
 pub pool_empty : (rooms : ℕ) → IsPool [] rooms
 unfolding IsDistinct

@@ -1,16 +1,13 @@
 -- Places of borrows whose tickets ascend: what a binary search finds in them, and what stands there
 -- after a push, after a release, and where dead places are taken away.
 use Rattle.store_parts.proofs.Common
-use Common.{AllPairs-filter, all_pairs_push, answers_always, ap, append-nil, AreBelow, arith, Bool}
-use Common.{Bor, Borrow, Called, cases_lt, ComputesKey, Equal, Err}
-use Common.{false, filter, filter-append, get_or}
-use Common.{get_or_append_left, Greater, HasTicketAt, HoldsAt, IsBinarySearchResult}
-use Common.{IsNonDecreasingBy, IsPartitionPoint, IsOwnPlace, IsQueue, length, length-append}
-use Common.{length-map, Less, List, list_any, map, map-append, Mut, nat_cmp}
-use Common.{nat_eq, nat_tests, not, Ok, or_parts, ordering_index, ranked, refl, slice_set}
-use Common.{false≢true, AreKept, option_to_list, Option, slice_get, Some, standing_at, StandsAt}
-use Common.{suc, sym, TicketsAscend, true, zero, ℕ, [], ⊎_elim, ◌++◌, ◌+◌}
-use Common.{◌-◌, ◌<◌, ◌∙◌, ◌∷◌, ◌≡◌, ◌≢◌, ◌≤◌}
+use Common.{All-get_or, AllPairs-filter, all_pairs_push, answers_always, ap, append-nil, AreBelow, arith}
+use Common.{AreKept, Bool, Bor, Borrow, Called, cases_lt, ComputesKey, Err, false, false≢true, filter}
+use Common.{filter_passes, get_or, get_or-append_seam, get_or_append_left, get_or_default, HasTicketAt}
+use Common.{IsBinarySearchResult, IsNonDecreasingBy, IsOwnPlace, IsQueue, length, length-append}
+use Common.{length-map, List, list_any, Mut, nat_cmp, nat_eq, nat_tests, not, Ok, Option, option_to_list}
+use Common.{ordering_index, ranked, refl, slice_get, slice_set, Some, standing_at, StandsAt, suc, sym}
+use Common.{TicketsAscend, true, zero, ℕ, [], ⊎_elim, ◌++◌, ◌+◌, ◌-◌, ◌<◌, ◌∙◌, ◌∷◌, ◌≡◌, ◌≢◌, ◌≤◌}
 use Rattle.store_parts.specs.declared.queue.Place.{Place}
 
 abbrev has : ℕ → Borrow → Bool
@@ -46,14 +43,12 @@ none_apart : (t : ℕ) (ps : List Place) → IsApart t ps → list_any (has t) (
 none_apart t [] apart = refl
 none_apart t (p ∷ ps) apart =
     let rest = none_apart t ps (λ k d within. apart (suc k) d (omega arith)) in
-    let other = apart 0 p (omega arith) in grind (arith, nat_tests)
+    grind (arith, nat_tests, apart 0 p)
 
 -- where no borrow has the ticket, all are left
 pub none_left : (t : ℕ) (bs : List Borrow) → list_any (has t) bs ≡ false → without t bs ≡ bs
 none_left t [] none = refl
-none_left t (b ∷ bs) none =
-    let parts = or_parts (has t b) (list_any (has t) bs) none in
-    rw (parts.0, none_left t bs parts.1) refl
+none_left t (b ∷ bs) none = grind (arith, none_left t bs)
 
 all_left : (t : ℕ) (ps : List Place) → IsApart t ps → without t (standing_at ps) ≡ standing_at ps
 all_left t ps apart = none_left t _ (none_apart t ps apart)
@@ -63,33 +58,10 @@ pub stands_there : (t : ℕ) (ps : List Place) (i : ℕ) (d : Place) → Tickets
     → HasTicketAt t ps i → list_any (has t) (standing_at ps) ≡ (get_or ps i d).stands
 stands_there t [] i d up within own = absurd (omega arith)
 stands_there t (p ∷ ps) zero d up within own =
-    let none = none_apart t ps (rw (own p) at (behind_apart p ps up)) in let here = own p in grind (arith, nat_tests)
+    grind (arith, nat_tests, own p, none_apart t ps (rw (own p) at (behind_apart p ps up)))
 stands_there t (p ∷ ps) (suc i) d up within own =
-    let rest = stands_there t ps i d (tail_ascends p ps up) (omega arith) own in
-    let below = first_below p ps up i p (omega arith) in let there = own p in grind (arith, nat_tests)
-
-module _ (t : ℕ) (ps : List Place) (up : TicketsAscend ps) where
-  -- the comparisons with t rise along the places, as a binary search asks
-  comparisons_rise : IsNonDecreasingBy (λ p. ordering_index (nat_cmp p.borrow.ticket t)) ps
-  comparisons_rise i j d le within =
-      ⊎_elim (λ (before : i < j). let rise = up i j d before within in grind (arith, nat_tests))
-      (λ (behind : j ≤ i). let same : i ≡ j = omega arith in rw same (omega arith)) (cases_lt i j)
-
-  -- a binary search by ticket ends at the ticket
-  equal_at : (i : ℕ) → HoldsAt (λ p. nat_cmp p.borrow.ticket t ≡ Equal) ps i → HasTicketAt t ps i
-  equal_at i equal d = ranked _ t _ (sym (equal d))
-
-  -- or nothing has it
-  gap_apart : (i : ℕ) → (IsNonDecreasingBy (λ p. ordering_index (nat_cmp p.borrow.ticket t)) ps
-      → IsPartitionPoint (λ p. nat_cmp p.borrow.ticket t ≡ Less)
-      (λ p. nat_cmp p.borrow.ticket t ≡ Greater) ps i)
-      → IsApart t ps
-  gap_apart i parted k d within =
-      let parts = parted comparisons_rise in
-      ⊎_elim (λ before. let less = ranked _ t _ (sym (parts.0 k d (omega arith) before)) in
-      λ e. omega (arith, less, e))
-      (λ after. let more = ranked _ t _ (sym (parts.1 k d after within)) in
-      λ e. omega (arith, more, e)) (cases_lt k i)
+    let rest = stands_there t ps i d (tail_ascends p ps up) in
+    grind (arith, nat_tests, own p, rest, first_below p ps up i p)
 
 -- what a binary search by ticket answers, where each call of its closure gives a ticket
 module _ {F : Type 0} {g : Mut F (Bor Place × Unit {0}) ℕ} {f : F} (t : ℕ) (ps : List Place)
@@ -102,17 +74,21 @@ module _ {F : Type 0} {g : Mut F (Bor Place × Unit {0}) ℕ} {f : F} (t : ℕ) 
       → (i < length ps) × HasTicketAt t ps i
   search_finds i n within long position = (
     omega arith,
-    equal_at t ps up i
-        (position (λ p. p.borrow.ticket) (answers_always g _ f calls)),
+    λ d. ranked _ t _ (sym (position (λ p. p.borrow.ticket) (answers_always g _ f calls) d)),
   )
 
   pub search_misses : (i : ℕ)
       → ((key : Place → ℕ) → ComputesKey g key f
       → IsBinarySearchResult (λ p. nat_cmp (key p) t) ps (Err i))
       → list_any (has t) (standing_at ps) ≡ false
-  search_misses i position =
-      none_apart t ps (gap_apart t ps up i
-      (position (λ p. p.borrow.ticket) (answers_always g _ f calls)))
+  search_misses i position = none_apart t ps (λ k d within.
+      let rises : IsNonDecreasingBy (λ p. ordering_index (nat_cmp p.borrow.ticket t)) ps =
+      λ i j d le within. grind (arith, nat_tests, up i j d) in
+      let parts = position (λ p. p.borrow.ticket) (answers_always g _ f calls) rises in
+      ⊎_elim (λ before. let less = ranked _ t _ (sym (parts.0 k d (omega arith) before)) in
+      λ e. omega (arith, less, e))
+      (λ after. let more = ranked _ t _ (sym (parts.1 k d after within)) in
+      λ e. omega (arith, more, e)) (cases_lt k i))
 
 -- a place that dies takes its ticket's borrow away, and no other
 module _ (t : ℕ) (b : Borrow) where
@@ -121,37 +97,17 @@ module _ (t : ℕ) (b : Borrow) where
       × (length (standing_at (slice_set ps i (dead b))) + 1 ≡ length (standing_at ps))
   dies [] i up own = absurd (omega (arith, own.0))
   dies (p ∷ ps) zero up own =
-      let all = all_left t ps (rw (own.1 p) at (behind_apart p ps up)) in let here = own.1 p in
-      let stands = own.2 p (omega arith) in grind (arith, nat_tests)
+      let all = all_left t ps (rw (own.1 p) at (behind_apart p ps up)) in
+      grind (arith, nat_tests, own.1 p, own.2 p)
   dies (p ∷ ps) (suc i) up own =
       let rest = dies ps i (tail_ascends p ps up) (omega (arith, own.0), own.1, λ d within. own.2 d (omega arith)) in
-      let below = first_below p ps up i p (omega (arith, own.0)) in let there = own.1 p in grind (arith, nat_tests)
+      grind (arith, nat_tests, own.0, own.1 p, first_below p ps up i p)
 
 -- a place more at the end
-standing_pushed : (ps : List Place) (p : Place)
+pub standing_pushed : (ps : List Place) (p : Place)
     → standing_at (ps ++ p ∷ []) ≡ standing_at ps ++ standing_at (p ∷ [])
-standing_pushed ps p =
-    ap (map (λ q. q.borrow)) (filter-append (λ q. q.stands) ps (p ∷ []))
-    ∙ map-append (λ q. q.borrow) (filter (λ q. q.stands) ps) (filter (λ q. q.stands) (p ∷ []))
-
--- a dead place at the end
-module _ (ps : List Place) (p : Place) where
-  pub last_dropped : p.stands ≡ false → standing_at (ps ++ p ∷ []) ≡ standing_at ps
-  last_dropped off = standing_pushed ps p ∙ rw off (append-nil (standing_at ps))
-
-  pub front_ascends : TicketsAscend (ps ++ p ∷ []) → TicketsAscend ps
-  front_ascends up i j d before within =
-      let long = length-append ps (p ∷ []) in
-      rw (
-        ← get_or_append_left ps (p ∷ []) d i (omega arith),
-        ← get_or_append_left ps (p ∷ []) d j
-            within,
-      ) (up i j d before (omega arith))
-
-  pub front_stands : StandsAt 0 (ps ++ p ∷ []) → StandsAt 0 ps
-  front_stands stands d within =
-      let long = length-append ps (p ∷ []) in
-      rw (← get_or_append_left ps (p ∷ []) d 0 within) (stands d (omega arith))
+standing_pushed [] p = refl
+standing_pushed (q ∷ ps) p = grind (arith, standing_pushed ps p)
 
 -- of places without dead ones
 abbrev kept : List Place → List Place
@@ -161,30 +117,13 @@ pub standing_kept : (ps : List Place) → standing_at (kept ps) ≡ standing_at 
 standing_kept [] = refl
 standing_kept (p ∷ ps) = let rest = standing_kept ps in grind arith
 
-all_stand : (ps : List Place) (i : ℕ) (d : Place) → i < length (kept ps) → (get_or (kept ps) i d).stands ≡ true
-all_stand [] i d within = absurd (omega arith)
-all_stand (p ∷ ps) zero d within = let rest = all_stand ps zero d in grind arith
-all_stand (p ∷ ps) (suc i) d within =
-    let here = all_stand ps i d in let rest = all_stand ps (suc i) d in grind arith
-
-kept_length : (ps : List Place) → length (kept ps) ≡ length (standing_at ps)
-kept_length ps = sym (length-map (kept ps) (λ p. p.borrow))
+all_stand : (ps : List Place) (i : ℕ) → StandsAt i (kept ps)
+all_stand ps i d within = All-get_or (λ (p : Place). p.stands ≡ true) (kept ps) i d within
+    (filter_passes (λ p. p.stands) ps)
 
 pub standing_within : (ps : List Place) → length (standing_at ps) ≤ length ps
 standing_within [] = omega arith
 standing_within (p ∷ ps) = let rest = standing_within ps in grind arith
-
--- what a place's index reads is no matter of the default
-same_at : (ps : List Place) (i : ℕ) (d e : Place) → i < length ps → get_or ps i d ≡ get_or ps i e
-same_at [] i d e within = absurd (omega arith)
-same_at (p ∷ ps) zero d e within = refl
-same_at (p ∷ ps) (suc i) d e within = same_at ps i d e (omega arith)
-
-at_end : (ps : List Place) (p d : Place) (i : ℕ) → i ≡ length ps → get_or (ps ++ p ∷ []) i d ≡ p
-at_end [] p d zero e = refl
-at_end [] p d (suc i) e = absurd (omega arith)
-at_end (q ∷ ps) p d zero e = absurd (omega arith)
-at_end (q ∷ ps) p d (suc i) e = at_end ps p d i (omega arith)
 
 -- the last place lives, so a ticket above all that stand is above all
 above_last : (ps : List Place) (n : ℕ) → IsQueue ps n → (t : ℕ) → AreBelow t (standing_at ps)
@@ -194,9 +133,9 @@ above_last ps n q t below k d within =
     let low : m < length ps = omega arith in
     let last = get_or ps m d in
     let known = stands_there last.borrow.ticket ps m d q.ascend low
-    (λ e. ap (λ p. p.borrow.ticket) (same_at ps m e d low)) in
+    (λ e. ap (λ p. p.borrow.ticket) (get_or_default ps m e d low)) in
     let top = below last.borrow.ticket (known ∙ q.last d low) in
-    ⊎_elim (λ (before : k < m). let rise = q.ascend k m d before low in omega (arith, rise, top))
+    ⊎_elim (λ (before : k < m). omega (arith, q.ascend k m d before low, top))
     (λ (behind : m ≤ k). let same : k ≡ m = omega arith in rw same top) (cases_lt k m)
 
 -- no place
@@ -215,24 +154,16 @@ pub pushed : (ps : List Place) (n : ℕ) (b : Borrow) → IsQueue ps n
 pushed ps n b q below = record {
   ascend = all_pairs_push (λ p r. p.borrow.ticket < r.borrow.ticket) ps (live b) q.ascend
       (above_last ps n q b.ticket below);
-  count = rw (standing_pushed ps (live b)) (omega (
-    arith,
-    q.count,
-    length-append (standing_at ps) (b ∷ []),
-  ));
+  count = rw standing_pushed (omega (arith, q.count, length-append (standing_at ps) (b ∷ [])));
   first = first ps q;
-  last = λ d within. ap (λ p. p.stands) (at_end ps (live b) d (length (ps ++ live b ∷ []) - 1)
-      (omega (arith, length-append ps (live b ∷ []))));
+  last = λ d within. let end : length (ps ++ live b ∷ []) - 1 ≡ length ps =
+      omega (arith, length-append ps (live b ∷ [])) in rw (end, get_or-append_seam) refl;
   half = omega (arith, q.half, length-append ps (live b ∷ []));
 }
   where
     first : (ps : List Place) → IsQueue ps n → StandsAt 0 (ps ++ live b ∷ [])
     first [] q d within = refl
     first (p ∷ ps) q d within = q.first d (omega arith)
-
-pub standing_after_push : (ps : List Place) (b : Borrow)
-    → standing_at (ps ++ live b ∷ []) ≡ standing_at ps ++ b ∷ []
-standing_after_push ps b = standing_pushed ps (live b)
 
 -- two borrows begin
 pub two_queue : (a b : Borrow) → AreBelow b.ticket (a ∷ []) → IsQueue (live a ∷ live b ∷ []) 2
@@ -247,7 +178,7 @@ kept_queue ps n up count = record {
   count = rw (standing_kept ps) count;
   first = all_stand ps 0;
   last = all_stand ps (length (kept ps) - 1);
-  half = omega (arith, kept_length ps, count);
+  half = omega (arith, length-map (kept ps) (λ p. p.borrow), count);
 }
 
 -- room is made
@@ -257,21 +188,22 @@ roomy ps qs n q = ⊎_elim
     (λ same. rw same (q, refl))
     (λ fewer. rw fewer (kept_queue ps n q.ascend q.count, standing_kept ps))
 
--- where at most one of two is gone, one is left
-pub left_some : (bs left : List Borrow) → 2 ≤ length bs → length bs ≤ length left + 1 → left ≢ []
-left_some bs [] two fewer e = absurd (omega arith)
-left_some bs (b ∷ left) two fewer e = cc
-
 -- a dead place is taken away at the end
 pub popped : (before after : List Place) (end : Option Place) (p : Place)
     → before ≡ after ++ option_to_list end → end ≡ Some p → p.stands ≡ false
     → TicketsAscend before → StandsAt 0 before
     → (standing_at after ≡ standing_at before) × TicketsAscend after × StandsAt 0 after
 popped before after end p items some off up first =
-    let parts = rw some at items in (
-      sym (ap (λ ps. standing_at ps) parts ∙ last_dropped after p off),
-      front_ascends after p (rw parts at up),
-      front_stands after p (rw parts at first),
+    let parts = rw some at items in
+    let ascend = rw parts at up in
+    let begins = rw parts at first in
+    let front = get_or_append_left after (p ∷ []) in
+    let long = length-append after (p ∷ []) in (
+      sym (ap (λ ps. standing_at ps) parts ∙ standing_pushed after p ∙ rw off
+          (append-nil (standing_at after))),
+      λ i j d before within. rw (← front d i (omega arith), ← front d j within)
+          (ascend i j d before (omega arith)),
+      λ d within. rw (← front d 0 within) (begins d (omega arith)),
     )
 
 -- what is left of a queue when a borrow ends
@@ -295,9 +227,5 @@ left ps qs n i t b q own same =
 -- one borrow is the first
 pub only_first : (bs : List Borrow) (b : Borrow) → length bs ≡ 1 → slice_get bs 0 ≡ Some b
     → b ∷ [] ≡ bs
-only_first [] b one first = absurd (omega arith)
 only_first (a ∷ []) b one first = cc
-only_first (a ∷ d ∷ bs) b one first = absurd (omega arith)
-
-pub none_some : (b : Borrow) (bs : List Borrow) → b ∷ bs ≡ [] → ⊥
-none_some b bs z = cc
+only_first _ b one first = absurd (omega arith)

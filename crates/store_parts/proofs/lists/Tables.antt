@@ -1,7 +1,6 @@
 -- The table of standing borrows: its free indexes, and what a call leaves of its invariant.
-use Rattle.store_parts.proofs.Common.{arith, Borrow, IsTable, length, length-set, List}
-use Rattle.store_parts.proofs.Common.{nat_cmp, nat_cmp_total, nat_tests, slice_set, ℕ}
-use Rattle.store_parts.proofs.Common.{[], ◌<◌, ◌≡◌}
+use Rattle.store_parts.proofs.Common.{arith, Borrow, IsTable, length, length-set, List, nat_cmp}
+use Rattle.store_parts.proofs.Common.{nat_cmp_total, nat_tests, slice_set, ℕ, [], ◌<◌, ◌≡◌}
 use Rattle.store_parts.proofs.lists.Lists.{contains-insert_at, contains-remove_at}
 use Rattle.std.specs.FinSet as set
 

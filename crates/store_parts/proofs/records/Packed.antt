@@ -1,11 +1,10 @@
 -- Owners' records in few bytes: a place more, and what doesn't rest on the room for names.
 use Rattle.store_parts.proofs.Common
-use Common.{ap, arith, CellName, HasDistinctKeys, KeyedOwnership, length}
-use Common.{length-append, List, name_of_cell, nat_cmp, None, Option}
-use Common.{option_map, owners_of, Ownership, Place, record_at, refl, slice_get, Some, sym}
-use Common.{ℕ, [], ◌++◌, ◌+◌, ◌∙◌, ◌∷◌, ◌≡◌, ◌≤◌}
-use Rattle.std.proofs.Common.{drop, Err, if◌then◌else◌, is_ok, is_some, map as list_map, Ok, OnOk}
-use Rattle.std.proofs.Common.{Result, take_all}
+use Common.{ap, arith, CellName, HasDistinctKeys, KeyedOwnership, length, length-append, List}
+use Common.{name_of_cell, nat_cmp, Option, option_map, owners_of, Ownership, Place, record_at, refl}
+use Common.{slice_get, Some, sym, ℕ, [], ◌++◌, ◌+◌, ◌∙◌, ◌∷◌, ◌≡◌, ◌≤◌}
+use Rattle.std.proofs.Common.{drop, Err, if◌then◌else◌, is_ok, map as list_map, Ok, OnOk, Result}
+use Rattle.std.proofs.Common.{take_all}
 use Rattle.std.proofs.lemmas.List.{drop-append-le, length-drop, nil_from_length, take-append-le}
 use Rattle.std.proofs.lemmas.Option.{slice_get-map}
 use Rattle.std.specs.FinMap as map
@@ -23,22 +22,17 @@ names_more (q ∷ places) p = let rest = names_more places p in omega arith
 
 unpack_more : (names more : List CellName) (p : Option PackedRecord) → names_in p ≤ length names
     → unpack_place (names ++ more) p ≡ unpack_place names p
-unpack_more names more None within = refl
-unpack_more names more (Some r) within = rw (take-append-le r.names names more within) refl
+unpack_more names more p within = grind (arith, take-append-le)
 
 unpack_snoc : (names more : List CellName) (places : List (Option PackedRecord))
     (p : Option PackedRecord) → names_of places ≡ length names
     → unpack_places (names ++ more) (places ++ p ∷ [])
     ≡ unpack_places names places ++ unpack_place more p ∷ []
+unpack_snoc names more (q ∷ places) p all =
+    let left = length-drop (names_in q) names in let cut = drop-append-le (names_in q) names more in
+    grind (arith, unpack_more names more q, unpack_snoc (drop (names_in q) names) more places p)
 unpack_snoc [] more [] p all = refl
 unpack_snoc (n ∷ names) more [] p all = absurd (omega arith)
-unpack_snoc names more (q ∷ places) p all =
-    let within : names_in q ≤ length names = omega (arith, all) in
-    let less : names_of places ≡ length (drop (names_in q) names) =
-    omega (arith, all, length-drop (names_in q) names) in
-    (λ i. unpack_more names more q within i
-    ∷ unpack_places (drop-append-le (names_in q) names more within i) (places ++ p ∷ []))
-    ∙ ap (λ ps. unpack_place names q ∷ ps) (unpack_snoc (drop (names_in q) names) more places p less)
 
 pub packed_more : (names more after : List CellName) (places longer : List (Option PackedRecord))
     (p : Option PackedRecord) (q : Place) → names_of places ≡ length names
@@ -69,9 +63,7 @@ packed_place key count rooms boxes n r many view =
 -- ---- whatever room there is
 
 record_bare : (key : ℕ) (o : Option Place) → record_at key (option_map bare_place o) ≡ record_at key o
-record_bare key None = refl
-record_bare key (Some None) = refl
-record_bare key (Some (Some r)) = refl
+record_bare key o = grind arith
 
 module _ (ps : List Place) where
   has_bare : (key i : ℕ)
@@ -79,22 +71,16 @@ module _ (ps : List Place) where
   has_bare key i = ap (record_at key) (slice_get-map bare_place ps i) ∙ record_bare key (slice_get ps i)
 
   pub apart_bare : HasDistinctKeys ps → HasDistinctKeys (bare_places ps)
-  apart_bare apart = record {
-    one = λ key i j first second.
-        apart.one key i j (ap is_some (sym (has_bare key i)) ∙ first)
-        (ap is_some (sym (has_bare key j)) ∙ second);
-  }
+  apart_bare apart =
+      record { one = λ key i j first second. grind (arith, apart.one key i j, has_bare key) }
 
   pub apart_full : HasDistinctKeys (bare_places ps) → HasDistinctKeys ps
-  apart_full apart = record {
-    one = λ key i j first second.
-        apart.one key i j (ap is_some (has_bare key i) ∙ first) (ap is_some (has_bare key j) ∙ second);
-  }
+  apart_full apart =
+      record { one = λ key i j first second. grind (arith, apart.one key i j, has_bare key) }
 
 keyed_bare : (ps : List Place) → keyed_ownerships (bare_places ps) ≡ keyed_ownerships ps
 keyed_bare [] = refl
-keyed_bare (None ∷ ps) = keyed_bare ps
-keyed_bare (Some r ∷ ps) = ap (λ es. (r.key, r.ownership) ∷ es) (keyed_bare ps)
+keyed_bare (p ∷ ps) = grind (arith, keyed_bare ps)
 
 pub owners_bare : (ps : List Place) → owners_of (bare_places ps) ≡ owners_of ps
 unfolding owners_of

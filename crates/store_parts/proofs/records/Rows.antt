@@ -1,13 +1,13 @@
 -- The rows of owners' records: the place of each record by its key, and that the records in the
 -- order of these are the map's.
 use Rattle.store_parts.proofs.Common
-use Common.{All, AllByRecursion, ap, arith, BaseRow, CellName}
+use Common.{All, All-weaker, AllByRecursion, ap, arith, BaseRow, CellName}
 use Common.{HasDistinctKeys, HasRecord, is_at, IsPlaceOf, IsStrictlySortedBy, keys_of}
 use Common.{length, Less, List, lookup, Name, name_of_cell, nat_cmp, nat_cmp_total, None}
 use Common.{Option, option_map, owner_rows, owners_of, Ownership, Place, place_rows, record_at}
 use Common.{record_rows, recursion_from_All, refl, slice_get, Some, suc}
 use Common.{sym, T, take, take-nil, zero, ℕ, [], ◌++◌, ◌<◌, ◌∙◌, ◌∷◌, ◌≡◌, ◌≤◌}
-use Rattle.store_parts.proofs.records.Places.{get_none, get_one, standing, stands}
+use Rattle.store_parts.proofs.records.Places.{get_none, get_one, standing}
 use Rattle.std.proofs.Common.{map as list_map}
 use Rattle.std.specs.FinMap as map
 
@@ -32,12 +32,6 @@ module _ (places : List Place) where
   abbrev pub rows_at : ℕ → List (ℕ × ℕ) → List BaseRow
   rows_at number [] = []
   rows_at number (e ∷ es) = place_rows number (slice_get places e.1) ++ rows_at number es
-
-  found_record : (key i : ℕ) → HasRecord key (slice_get places i)
-      → record_at key (slice_get places i) ≡ Some (ownership_in (slice_get places i))
-  found_record key i has =
-      stands key (slice_get places i) has
-      ∙ ap (λ o. Some (ownership_in o)) (sym (standing key (slice_get places i) has).1)
 
   rows_there : (number key i : ℕ) → HasRecord key (slice_get places i)
       → place_rows number (slice_get places i)
@@ -69,9 +63,7 @@ rising : (places : List Place) (es : List (ℕ × ℕ)) → IsStrictlySortedBy n
     → T (map.is_sorted nat_cmp (list_map (record_of_entry places) es))
 unfolding IsStrictlySortedBy
 rising places [] all = tt
-rising places (e ∷ es) all =
-    let below = below_keys places e.0 es all.0 in
-    let rest = rising places es all.1 in grind arith
+rising places (e ∷ es) all = grind (arith, below_keys places e.0 es all.0, rising places es all.1)
 
 pub in_order : {places : List Place} → HasDistinctKeys places → (number : ℕ)
     → (es : List (ℕ × ℕ)) → IsStrictlySortedBy nat_cmp (keys_of es)
@@ -79,22 +71,18 @@ pub in_order : {places : List Place} → HasDistinctKeys places → (number : �
     → All (λ (e : ℕ × ℕ). lookup (is_at (nat_cmp e.0)) es ≡ Some e.1) es
     → rows_at places number es ≡ owner_rows number (map.entries (owners_of places))
 in_order {places} apart number es sorted found each =
-    rows_each places number es (has_each es (recursion_from_All _ es each))
+    rows_each places number es (recursion_from_All _ es (All-weaker
+    (λ (e : ℕ × ℕ). lookup (is_at (nat_cmp e.0)) es ≡ Some e.1)
+    (λ (e : ℕ × ℕ). HasRecord e.0 (slice_get places e.1)) (λ e is. rw is at (found e.0)) es each))
     ∙ ap (owner_rows number) (sym (map.entries-from_sorted nat_cmp (list_map (record_of_entry places) es)
     (rising places es sorted))
     ∙ ap map.entries same)
   where
-    has_each : (fs : List (ℕ × ℕ))
-        → AllByRecursion (λ (e : ℕ × ℕ). lookup (is_at (nat_cmp e.0)) es ≡ Some e.1) fs
-        → AllByRecursion (λ (e : ℕ × ℕ). HasRecord e.0 (slice_get places e.1)) fs
-    has_each [] all = tt
-    has_each (f ∷ fs) all =
-        (rw all.0 at (found f.0), has_each fs all.1)
-
     at : (q : ℕ) (o : Option ℕ) → IsPlaceOf places q o
         → option_map (λ i. ownership_in (slice_get places i)) o ≡ map.get (owners_of places) q
     at q None none = sym (get_none places q none)
-    at q (Some i) has = sym (get_one apart q i _ (found_record places q i has))
+    at q (Some i) has = let there = standing q (slice_get places i) has in
+        sym (get_one apart q i _ there.3 ∙ ap (λ o. Some (ownership_in o)) (sym there.1))
 
     same : map.from_sorted {R = nat_cmp} (list_map (record_of_entry places) es) ≡ owners_of places
     same = map.same_map nat_cmp_total map.nat_cmp-IsAntisymmetric _ _ (λ q.
@@ -106,7 +94,7 @@ in_order {places} apart number es sorted found each =
 pub owned_all : (row_of : Name → BaseRow) (cells : List CellName) (n : ℕ) → length cells ≤ n
     → list_map (λ c. row_of (name_of_cell c)) (take n cells)
     ≡ list_map row_of (list_map name_of_cell cells)
-owned_all row_of [] n all = rw (take-nil n) refl
+owned_all row_of [] n all = rw take-nil
 owned_all row_of (c ∷ cells) zero all = absurd (omega arith)
 owned_all row_of (c ∷ cells) (suc n) all =
     rw (owned_all row_of cells n (omega arith))

@@ -1,7 +1,6 @@
 -- The ticket's own borrow is taken away, where another stands.
 use Rattle.std.proofs.Common.{◌≡◌, ◌∙◌, ◌∷◌, [], ap, length, List, sym}
-use Rattle.store_parts.proofs.lists.Queues.{none_left, none_some}
-use Rattle.store_parts.proofs.lists.Queues.{only_first}
+use Rattle.store_parts.proofs.lists.Queues.{none_left, only_first}
 use Rattle.generational_core.specs.declared.borrow.Borrow.{Borrow}
 use Rattle.store_parts.proofs.borrows.Borrows.remove.Goals as goal
 use Rattle.store_parts.proofs.borrows.Borrows.remove.Goals.{in-Several-1, in-One-1}
@@ -25,5 +24,5 @@ returns-then-len-eq1 c =
     elim c.match-self-2.branch [ in-Several-1 w ↦ w.self-is | in-One-1 w ↦ w.self-is ] in
     rw (← c.self.view_is, c.in-Several.is) (
       sym known ∙ c.if-not-remove.false,
-      (told ∙ only ∙ after, λ e. none_some c.first.result [] (sym told ∙ e)),
+      (told ∙ only ∙ after, λ e. absurd (cc (told, e))),
     )

@@ -1,4 +1,4 @@
-use Rattle.store_parts.proofs.{ap, arith, resized, resized_few, vec_len, ◌∙◌, ◌≤◌}
+use Rattle.store_parts.proofs.{arith, resized, resized_few, vec_len, ◌≤◌}
 use Rattle.store_parts.proofs.free_list.FreeList.grow.Goals as goal
 
 pub invariant_of-self : goal.invariant_of-self
@@ -13,7 +13,6 @@ invariant_of-self c =
     )
 
 pub returns-clause-slots : goal.returns-clause-slots
-returns-clause-slots c =
+returns-clause-slots c = rw (← c.self.view_is)
     (resized _ c.args.room _ _ _ _ _ c.extend.ensures.items
     (omega (arith, c.len.ensures, c.if-room-len.false)) c.self.invariant.0).1
-    ∙ ap (λ p. p.slots) c.self.view_is

@@ -6,23 +6,22 @@ use Rattle.store_parts.proofs.free_list.FreeList.take.Goals.{else-self-gt1, Join
 
 pub index-requires : goal.index-requires
 index-requires c =
-    let l = c.self.inside in
-    let some : 0 < l.count = omega (arith, c.if-self-eq0.false) in
-    omega (arith, first_within l.links.items l.first l.count some c.self.invariant.0, l.links.ok.0)
+    let some : 0 < c.self.inside.count = omega (arith, c.if-self-eq0.false) in
+    let within = first_within _ _ c.self.inside.count some c.self.invariant.0 in
+    omega (arith, c.self.inside.links.ok.0, within)
 
 begins : (c : Joined-self-gt1)
     → (chain c.self.inside.links.items c.self.inside.first c.self.inside.count ≡ c.self.inside.first
     ∷ chain c.if-self-gt1.self-inside.links.items c.if-self-gt1.self-inside.first (c.if-self-gt1.self-inside.count - 1))
     × (c.if-self-gt1.self-inside.links ≡ c.self.inside.links)
 begins c =
-    let l = c.self.inside in
-    let some : 0 < l.count = omega (arith, c.if-self-eq0.false) in
+    let some : 0 < c.self.inside.count = omega (arith, c.if-self-eq0.false) in
     elim c.if-self-gt1.branch [
       | then-self-gt1 w ↦ rw w.self-inside-is
-          (chain_read l.links.items _ _ _ some c.self.invariant.0 (λ more. w.index.ensures), refl)
+          (chain_read _ _ _ _ some c.self.invariant.0 (λ more. w.index.ensures), refl)
       | else-self-gt1 w ↦ rw w.self-inside-is (
-        chain_read l.links.items _ _ l.first some c.self.invariant.0
-            (λ more. absurd (omega (arith, more, w.if-self-gt1.false))),
+        chain_read _ _ _ c.self.inside.first some
+            c.self.invariant.0 (λ more. absurd (omega (arith, more, w.if-self-gt1.false))),
         refl,
       )
     ]

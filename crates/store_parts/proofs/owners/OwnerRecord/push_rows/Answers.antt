@@ -1,5 +1,4 @@
-use Rattle.store_parts.proofs.{ap, arith, id_of, KeyedOwnership, Name, owned_all, ◌++◌}
-use Rattle.store_parts.proofs.{◌∙◌, ◌∷◌}
+use Rattle.store_parts.proofs.{ap, arith, id_of, KeyedOwnership, Name, owned_all, ◌++◌, ◌∙◌, ◌∷◌}
 use Rattle.std.proofs.Common.{map as list_map}
 use Rattle.generational_core.specs.declared.rows.BaseRow.TheVariants as row
 use Rattle.store_parts.proofs.owners.OwnerRecord.push_rows.Goals as goal

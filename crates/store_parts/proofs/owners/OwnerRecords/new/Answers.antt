@@ -1,8 +1,8 @@
-use Rattle.store_parts.proofs.records.Places.{placed_new, owners_new}
+use Rattle.store_parts.proofs.records.Places.{no_places}
 use Rattle.store_parts.proofs.owners.OwnerRecords.new.Goals as goal
 
 pub invariant_of-result : goal.invariant_of-result
-invariant_of-result c = placed_new _ _ _ c.new-2.ensures.empty c.new.ensures.items
+invariant_of-result c = rw (c.new-2.ensures.empty, c.new.ensures.items) (no_places _).placed
 
 pub returns : goal.returns
-returns c = owners_new _ c.new.ensures.items
+returns c = rw c.new.ensures.items (no_places 0).owners
