@@ -1,5 +1,5 @@
 -- The rows of packed slots, one slot more, and where there are more whole rows.
-use Rattle.std.proofs.Common.{◌≡◌, ℕ, suc, ◌+◌, ◌≤◌, List, [], ◌∷◌, ◌++◌, length, refl, sym, ap, ◌∙◌, arith}
+use Rattle.std.proofs.Common.{◌≡◌, ℕ, suc, ◌+◌, ◌≤◌, List, [], ◌∷◌, ◌++◌, length, refl, ◌∙◌, arith}
 use Rattle.std.proofs.Common.{append_assoc, append-nil, drop}
 use Rattle.std.proofs.lemmas.List.{drop-append-le, drop-drop, length-drop, take-append-le}
 use Rattle.std.specs.FinMap as map
@@ -16,7 +16,7 @@ use Rattle.store_rows.specs.declared.packed.PackedSlot.TheVariants as packed
 pub whole_snoc : (slots : List (PackedSlot × Location)) (e : PackedSlot × Location)
     → whole_of (slots ++ e ∷ []) ≡ whole_of slots + whole_in e.0
 whole_snoc [] e = omega arith
-whole_snoc (x ∷ slots) e = let rest = whole_snoc slots e in omega arith
+whole_snoc (x ∷ slots) e = omega (arith, whole_snoc slots e)
 
 module _ (number : ℕ) where
   -- a slot after these
@@ -26,34 +26,29 @@ module _ (number : ℕ) where
       ++ unpack number (drop (whole_of slots) whole) (slot + length slots) e
   unpack_snoc whole slot [] e =
       let at : slot ≡ slot + 0 = omega arith in
-      append-nil (unpack number whole slot e) ∙ ap (λ s. unpack number whole s e) at
+      append-nil (unpack number whole slot e) ∙ rw (← at) refl
   unpack_snoc whole slot (x ∷ slots) e =
       let at : (slot + 1) + length slots ≡ slot + suc (length slots) = omega arith in
-      let first = unpack number whole slot x in
-      let less = drop (whole_in x.0) whole in
-      ap (λ rows. first ++ rows) (unpack_snoc less (slot + 1) slots e
-      ∙ (λ i. unpack_all number less (slot + 1) slots
-      ++ unpack number (drop-drop (whole_of slots) (whole_in x.0) whole i) (at i) e))
-      ∙ sym (append_assoc first (unpack_all number less (slot + 1) slots) _)
+      let rest = unpack_snoc (drop (whole_in x.0) whole) (slot + 1) slots e in
+      rw (rest, drop-drop (whole_of slots) (whole_in x.0) whole, at, append_assoc) refl
 
   -- more whole rows
   unpack_more : (whole more : List BaseRow) (slot : ℕ) (e : PackedSlot × Location)
       → whole_in e.0 ≤ length whole → unpack number (whole ++ more) slot e ≡ unpack number whole slot e
-  unpack_more whole more slot (packed.Free g, l) within = refl
-  unpack_more whole more slot (packed.Value g, l) within = refl
-  unpack_more whole more slot (packed.Shared g, l) within = refl
   unpack_more whole more slot (packed.Whole n, l) within = take-append-le n whole more within
+  unpack_more whole more slot _ within = refl
 
   pub unpack_grows : (whole more : List BaseRow) (slot : ℕ) (slots : List (PackedSlot × Location))
       → whole_of slots ≤ length whole
       → unpack_all number (whole ++ more) slot slots ≡ unpack_all number whole slot slots
   unpack_grows whole more slot [] within = refl
   unpack_grows whole more slot (x ∷ slots) within =
-      let less = drop (whole_in x.0) whole in
-      (λ i. unpack_more whole more slot x (omega arith) i
-      ++ unpack_all number (drop-append-le (whole_in x.0) whole more (omega arith) i) (slot + 1) slots)
-      ∙ ap (λ rows. unpack number whole slot x ++ rows)
-      (unpack_grows less more (slot + 1) slots (omega (arith, length-drop (whole_in x.0) whole)))
+      rw (
+        unpack_more whole more slot x (omega arith),
+        drop-append-le (whole_in x.0) whole more (omega arith),
+        unpack_grows (drop (whole_in x.0) whole) more (slot + 1) slots
+            (omega (arith, length-drop (whole_in x.0) whole)),
+      ) refl
 
 -- no slots and no owners have no rows
 pub no_rows : (number : ℕ) (whole : List BaseRow) (slots : List (PackedSlot × Location))

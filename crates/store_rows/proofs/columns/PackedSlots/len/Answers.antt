@@ -1,11 +1,8 @@
-use Rattle.std.proofs.Common.{◌≡◌, ap, arith, length, rules}
-use Rattle.store_rows.proofs.Pairs.{zip_length}
+use Rattle.std.proofs.Common.{ap, arith, length}
+use Rattle.std.proofs.lemmas.Slice.Zip.{length-zip}
 use Rattle.store_rows.proofs.columns.PackedSlots.len.Goals as goal
 
 pub returns : goal.returns
 returns c =
     let s = c.self.inside in
-    let long = zip_length s.slots.items s.made_at.items c.self.invariant in
-    let seen = ap length c.self.view_is in
-    let all : c.len.result ≡ length s.slots.items = search rules in
-    omega (arith, long, seen, all)
+    omega (arith, length-zip s.slots.items s.made_at.items, ap length c.self.view_is)

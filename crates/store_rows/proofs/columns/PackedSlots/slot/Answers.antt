@@ -1,21 +1,19 @@
-use Rattle.std.proofs.Common.{◌≡◌, ap, arith, length, refl, rules, vec_len}
+use Rattle.std.proofs.Common.{ap, arith, length, refl}
 use Rattle.std.proofs.lemmas.Option.{slice_get_read}
-use Rattle.store_rows.proofs.Pairs.{first_at, zip_length}
+use Rattle.std.proofs.lemmas.Slice.Zip.{length-zip}
+use Rattle.store_rows.proofs.Pairs.{pair_at}
 use Rattle.store_rows.proofs.columns.PackedSlots.slot.Goals as goal
 
 pub index-requires : goal.index-requires
 index-requires c =
     let s = c.self.inside in
-    let long = zip_length s.slots.items s.made_at.items c.self.invariant in
-    let seen = ap length c.self.view_is in
-    let all : length s.slots.items ≡ vec_len s.slots = search rules in
-    omega (arith, long, seen, all, c.requires, c.self.invariant)
+    omega (arith, length-zip s.slots.items s.made_at.items, ap length c.self.view_is)
 
 pub returns : goal.returns
 returns c =
     let s = c.self.inside in
-    let long = zip_length s.slots.items s.made_at.items c.self.invariant in
+    let long = length-zip s.slots.items s.made_at.items in
     let seen = ap length c.self.view_is in
-    first_at s.slots.items s.made_at.items c.args.self.now c.args.slot c.index.result.now c.self.view_is
-    c.self.invariant (slice_get_read s.slots.items (length s.slots.items) c.args.slot
-    c.index.result.now refl (omega (arith, long, seen, c.requires, c.self.invariant)) c.index.ensures)
+    let there = slice_get_read s.slots.items _ _ _ refl (omega arith) c.index.ensures in
+    let pair = rw c.self.view_is at (pair_at _ s.made_at.items c.args.slot c.self.invariant) in
+    grind arith
