@@ -25,42 +25,42 @@ pub record Changes (t t' : Table) (x : ℕ) : Type 0 where
 
 pub used_still : {t t' : Table} {x : ℕ} → Changes t t' x → (q : ℕ) → q ≢ x → IsUsed t q → IsUsed t'
     q
-used_still c q other u =
-    record {
-      within = omega arith;
-      used = c.free q other ∙ u.used;
-      some = λ z. u.some (sym (c.lists q other) ∙ z);
-    }
+used_still c q other u = record {
+  within = omega arith;
+  used = c.free q other ∙ u.used;
+  some = λ z. u.some (sym (c.lists q other) ∙ z);
+}
 
 put_other : (lists : List (List Borrow)) (x : ℕ) (bs : List Borrow) (q : ℕ) → q ≢ x
     → list_at (put_list lists x bs) q ≡ list_at lists q
-put_other lists x bs q other = grind (
-  arith,
-  nat_tests,
-  get_or-append lists (bs ∷ []) [] q,
-  get_or-eq_default,
-  get_or-set_other lists x q bs [],
-  length-append lists (bs ∷ []),
-)
+put_other lists x bs q other =
+    let long = length-append lists (bs ∷ []) in let before = get_or-append lists (bs ∷ []) [] q in
+    grind (arith, nat_tests, before, get_or-eq_default, get_or-set_other lists x q bs [])
 
 -- a list that takes the place of another at an index
-pub list_changed : (t t' : Table) (x : ℕ) (bs : List Borrow) → t' ≡ record t {
-  lists = slice_set t.lists x bs;
-} → Changes t t' x
+pub list_changed : (t t' : Table) (x : ℕ) (bs : List Borrow)
+    → t' ≡ record t { lists = slice_set t.lists x bs } → Changes t t' x
 list_changed t t' x bs is = rw is (record {
   lists = λ q other. get_or-set_other t.lists x q bs [] other;
   free = λ q other. refl;
   more = omega (arith, length-set t.lists x bs);
 })
 
+pub list_used : {t : Table} {x : ℕ} {bs : List Borrow} → IsUsed t x → bs ≢ []
+    → IsUsed (record t { lists = slice_set t.lists x bs }) x
+list_used {t} {x} {bs} u some = record {
+  within = omega (arith, u.within, length-set t.lists x bs);
+  used = u.used;
+  some = rw (get_or-set_same t.lists x bs [] u.within) some;
+}
+
 -- an index that is free again
 pub closed : {t t' : Table} {x : ℕ} → IsClosed t t' x → Changes t t' x
-closed {t} {t'} {x} c =
-    record {
-      lists = c.others;
-      free = λ q other. rw (c.freed, contains-insert_at t.free x q, ne_eqb q x other);
-      more = omega arith;
-    }
+closed {t} {t'} {x} c = record {
+  lists = c.others;
+  free = λ q other. rw (c.freed, contains-insert_at t.free x q, ne_eqb q x other);
+  more = omega arith;
+}
 
 pub closed_count : {t t' : Table} {x : ℕ} → IsClosed t t' x → set.contains t.free x ≡ false
     → set.len t'.free ≡ set.len t.free + 1
@@ -85,25 +85,23 @@ module _ {t t' : Table} {x : ℕ} {list : List Borrow} (o : Opens t t' x list) w
   put_length = grind (arith, length-append t.lists (list ∷ []), length-set t.lists x list)
 
   pub opened : Changes t t' x
-  opened =
-      record {
-        lists = λ q other. rw o.lists (put_other t.lists x list q other);
-        free = λ q other. rw (o.free, contains-remove_at t.free x q, ne_eqb q x other);
-        more = rw (o.lists, put_length) (omega arith);
-      }
+  opened = record {
+    lists = λ q other. rw o.lists (put_other t.lists x list q other);
+    free = λ q other. rw (o.free, contains-remove_at t.free x q, ne_eqb q x other);
+    more = rw (o.lists, put_length) (omega arith);
+  }
 
   pub opened_list : list_at t'.lists x ≡ list
   opened_list = let vacant = o.vacant in
       rw o.lists (grind (arith, nat_tests, get_or-set_same, get_or-append_seam t.lists list [] []))
 
   pub opened_used : IsUsed t' x
-  opened_used =
-      record {
-        within = let vacant = o.vacant in
-            rw (o.lists, put_length) (grind (arith, nat_tests));
-        used = rw (o.free, contains-remove_at t.free x x, eq-eqb x x refl);
-        some = λ z. o.some (sym opened_list ∙ z);
-      }
+  opened_used = record {
+    within = let vacant = o.vacant in
+        rw (o.lists, put_length) (grind (arith, nat_tests));
+    used = rw (o.free, contains-remove_at t.free x x, eq-eqb x x refl);
+    some = λ z. o.some (sym opened_list ∙ z);
+  }
 
   -- one index more is used, and none is added but where none was free
   pub opened_count : set.len t'.free + length t.lists + 1 ≡ set.len t.free + length t'.lists

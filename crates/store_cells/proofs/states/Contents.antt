@@ -1,7 +1,7 @@
 -- What a slot's content says, by its form.
 use Rattle.store_cells.proofs.Common.{ap, arith, Borrow, content_in, data_in, false, has_writer, index_of, inl, inr}
-use Rattle.store_cells.proofs.Common.{is_noted_at, kept_data, Kind, LastBorrow, List, Location, may_note, ne_eqb}
-use Rattle.store_cells.proofs.Common.{no_index, None, read_refusal, refl, StorageEntry, StorageEntryData, Table, true}
+use Rattle.store_cells.proofs.Common.{is_noted_at, kept_data, Kind, LastBorrow, List, Location, ne_eqb, no_index}
+use Rattle.store_cells.proofs.Common.{None, read_refusal, refl, StorageEntry, StorageEntryData, Table, true}
 use Rattle.store_cells.proofs.Common.{unread_data, value_of, ℕ, ◌≡◌, ◌≢◌, ◌⊎◌}
 use Rattle.store_cells.proofs.states.Entries.{has_place, is_free, IsSlot, lent, noted_here, NotRead}
 use Rattle.store_cells.specs.Data.{SlotData as slot}
@@ -19,10 +19,7 @@ module _ {T : Type 0} {d : StorageEntryData T} where
 
   pub index_form : {x : ℕ} → ((v : T) × (d ≡ content.Read x v)) ⊎ ((v : T) × (d ≡ content.SharedRead x v))
       → (kd : Kind) × (v : T) × (data_in d ≡ slot.Read kd x v)
-  index_form is = elim is [
-    | inl own ↦ (kind.Value, own.0, ap data_in own.1)
-    | inr own ↦ (kind.Shared, own.0, ap data_in own.1)
-  ]
+  index_form is = grind arith
 
   -- what it isn't
   pub no_read : ((x : ℕ) (v : T) → d ≡ content.Read x v → ⊥) → ((x : ℕ) (v : T) → d ≡ content.SharedRead x v → ⊥)
@@ -55,12 +52,8 @@ module _ {T : Type 0} {r : LastBorrow} {t : Table} {es : List (StorageEntry T)} 
     (a : IsSlot r t es i e) (on : is_noted_at r i ≡ true) where
   pub noted_placed : ((v : T) → e.content ≡ content.Data v → ⊥) → ((v : T) → e.content ≡ content.Shared v → ⊥)
       → ((x : ℕ) (kd : Kind) → e.content ≡ content.Lent x kd → ⊥) → index_of (data_in e.content) ≢ no_index
-  noted_placed own shared lent = placed e.content (noted_here a on).1 own shared lent (λ kd x v is. has_place a is)
-    where
-      placed : (k : StorageEntryData T) → may_note r t.lists (data_in k) ≡ true → ((v : T) → k ≡ content.Data v → ⊥)
-          → ((v : T) → k ≡ content.Shared v → ⊥) → ((x : ℕ) (kd : Kind) → k ≡ content.Lent x kd → ⊥)
-          → ((kd : Kind) (x : ℕ) (v : T) → data_in k ≡ slot.Read kd x v → x ≢ no_index) → index_of (data_in k) ≢ no_index
-      placed k may own shared lent place none = grind (arith, own, shared, lent, place)
+  noted_placed own shared lent none =
+      grind (arith, own, shared, lent, noted_here a on, has_place a)
 
 -- readers that have an index stay listed
 pub still_read : {T : Type 0} (kd : Kind) (x : ℕ) (v : T) → x ≢ no_index → slot.Read kd x v ≡ unread_data (slot.Read kd x v)

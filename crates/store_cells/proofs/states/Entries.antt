@@ -1,17 +1,16 @@
 -- The slots of a store with the table of their borrows and the noted one, as methods find them.
 use Rattle.store_cells.proofs.Common
 use Common.{ap, AreIndexed, AreNoted, AreRoomy, arith, Bool, Borrow, BorrowMutError, borrows_of, cases_eq, cell_in}
-use Common.{cell_of, change_entry, cleared, cond, content_in, content_of, content_rows, data_in, entries_from}
-use Common.{entries_of, Entry, entry_of, EntryDetails, EntryList, eq-eqb, Err, false, false_from_ne_true}
-use Common.{FoundBorrowed, FoundReaders, GenerationalBoxId, get_or, has_no_borrow, HasListIndex, HasWriter}
-use Common.{HasWriterAt, IfSome, index_in, index_of, inl, inr, is_lent_data, is_none, is_noted, is_noted_at}
-use Common.{is_reader, is_some, is_unborrowed_data, is_unborrowed_value, is_writer, IsAlone, IsListable, IsListed}
-use Common.{IsNoted, IsReadable, IsUnborrowed, IsUsed, IsWritten, Kept, kept_data, Kind, kind_in, kind_of, LastBorrow}
-use Common.{lead_of, leads_to, length, length-set, Lent, lent_kept, List, list_at, Live, Location, location_of}
-use Common.{may_note, Name, named_by, nat_eq, nat_tests, ne_eqb, no_index, None, not, noted_at, Option, refl, Refused}
-use Common.{set-own, set_written, slice_get, slice_get_cases, slice_get_past, slice_get_read, slice_get_within}
-use Common.{slice_set, SlotData, Some, StorageEntry, StorageEntryData, suc, sym, Table, target_in, true, value_for}
-use Common.{value_of, write_refusal, zero, [], ℕ, ⊎_elim, ◌&&◌, ◌+◌, ◌<◌, ◌∙◌, ◌∷◌, ◌≡◌, ◌≢◌, ◌≤◌}
+use Common.{change_entry, cleared, cond, content_in, content_of, content_rows, data_in, entries_from, entries_of}
+use Common.{Entry, entry_of, EntryDetails, EntryList, eq-eqb, Err, false, FoundBorrowed, FoundReaders}
+use Common.{GenerationalBoxId, get_or, has_no_borrow, HasListIndex, HasWriter, IfSome, index_in, index_of, inl, inr}
+use Common.{is_lent_data, is_none, is_noted, is_noted_at, is_reader, is_some, is_unborrowed_data, is_unborrowed_value}
+use Common.{is_writer, IsAlone, IsListable, IsListed, IsNoted, IsReadable, IsUnborrowed, IsUsed, IsWritten, Kept}
+use Common.{kept_data, Kind, kind_in, kind_of, LastBorrow, lead_of, leads_to, length, length-set, Lent, List, list_at}
+use Common.{Live, Location, may_note, Name, named_by, nat_eq, nat_tests, ne_eqb, no_index, None, not, noted_at}
+use Common.{Option, refl, Refused, set-own, set_written, slice_get, slice_get_cases, slice_get_past, slice_get_read}
+use Common.{slice_get_within, slice_set, SlotData, Some, StorageEntry, StorageEntryData, suc, sym, Table, target_in}
+use Common.{true, value_for, value_of, write_refusal, zero, [], ℕ, ⊎_elim, ◌&&◌, ◌+◌, ◌<◌, ◌∙◌, ◌∷◌, ◌≡◌, ◌≢◌, ◌≤◌}
 use Rattle.store_cells.proofs.lists.TableChanges.{none_some}
 use Rattle.store_cells.specs.Data.{SlotData as slot}
 
@@ -59,11 +58,6 @@ module _ {T : Type 0} where
   SameBorrows r r' before after es i = (k : ℕ) → k ≢ i
       → borrows_of r' after k (index_in (slice_get es k)) ≡ borrows_of r before k (index_in (slice_get es k))
 
-  both_same : (r r' : LastBorrow) (before after : List (List Borrow)) (k : ℕ)
-      (o : Option (StorageEntry T)) (p : Option EntryDetails)
-      → borrows_of r' after k (index_in o) ≡ borrows_of r before k (index_in o) → both r' after k o p ≡ both r before k o p
-  both_same r r' before after k o p same = grind arith
-
   -- a slot that is written with its details, or a slot more
   module _ (r r' : LastBorrow) (before after : List (List Borrow)) {es es' : List (StorageEntry T)}
       {ds ds' : List EntryDetails} {i : ℕ} {e : StorageEntry T} {d : EntryDetails} {seen : List (Entry T)}
@@ -73,8 +67,7 @@ module _ {T : Type 0} where
     pub entries_written : entries_of r' after es' ds' ≡ seen
     entries_written = same_each _ _ (λ k.
         rw (from_get r' after 0 es' ds' k k (omega arith), w.at k, v.at k, s.at k, from_get r before 0 es ds k k (omega arith))
-        (⊎_elim (λ (at : k ≡ i). rw (at, eq-eqb i i refl))
-        (λ other. rw (ne_eqb k i other) (both_same r r' before after k _ _ (same k other))) (cases_eq k i)))
+        (grind (arith, nat_tests, same k)))
 
 -- ---- a slot's content
 
@@ -102,17 +95,6 @@ module _ {T : Type 0} (d : SlotData T) where
   -- as content without borrows is
   pub unborrowed_free : IsUnborrowed d → is_free d ≡ true
   unborrowed_free free = grind arith
-
--- a cell has the location where it was made
-pub created_there : {T : Type 0} (d : SlotData T) (bs : List Borrow) (l : Location)
-    → IfSome (location_of (cell_of (kept_data bs l d))) (λ x. l ≡ x)
-created_there d bs l = grind arith
-
--- readers stand in the way
-found_readers : {T : Type 0} (d : SlotData T) (bs : List Borrow) (l : Location) (r : Refused BorrowMutError) → bs ≢ []
-    → is_lent_data d ≡ false → is_some (kind_of d) ≡ true → FoundReaders bs r
-    → FoundBorrowed (write_refusal (content_in (kept_data bs l d))) (Err r)
-found_readers d bs l r some here value found = grind arith
 
 -- ---- a store's slots, as their methods find them
 
@@ -260,20 +242,14 @@ module _ {T : Type 0} {r : LastBorrow} {t : Table} {es : List (StorageEntry T)} 
     pub lent_seen : {w : Borrow} → (x ≡ no_index → w ≡ r.borrow)
         → (x ≢ no_index → slice_get (list_at t.lists x) 0 ≡ Some w) → (l : Location)
         → kept_data standing l (data_in e.content) ≡ Live kd (Lent w) l
-    lent_seen apart listed l = ⊎_elim (λ none. rw (lent_apart none, is, apart none))
-        (λ some. rw (is, ne_eqb x no_index some) (lent_first _ (listed some))) (cases_eq x no_index)
-      where
-        lent_first : {w : Borrow} (bs : List Borrow) → slice_get bs 0 ≡ Some w → lent_kept {T = T} kd bs l ≡ Live kd (Lent w) l
-        lent_first bs first = grind arith
+    lent_seen apart listed l = grind (arith, nat_tests, lent_apart, apart, listed)
 
   -- borrows stand at an index, and where one is noted
   pub indexed_some : index_of (data_in e.content) ≢ no_index → standing ≢ []
   indexed_some some = rw (ne_eqb (index_of (data_in e.content)) no_index some) (used_here some).some
 
   pub noted_some : is_noted_at r i ≡ true → standing ≢ []
-  noted_some on = ⊎_elim
-      (λ none. rw (eq-eqb (index_of (data_in e.content)) no_index none, on) (none_some r.borrow []))
-      indexed_some (cases_eq (index_of (data_in e.content)) no_index)
+  noted_some on = grind (arith, nat_tests, none_some r.borrow [], indexed_some)
 
   pub lent : (kd : Kind) (x : ℕ) → data_in e.content ≡ slot.Lent kd x → standing ≢ []
   lent kd x is = ⊎_elim (λ none. noted_some (lent_noted is none)) (λ some. indexed_some (rw is some)) (cases_eq x no_index)
@@ -281,9 +257,7 @@ module _ {T : Type 0} {r : LastBorrow} {t : Table} {es : List (StorageEntry T)} 
   -- what holds where it is noted
   pub noted_here : is_noted_at r i ≡ true
       → (e.generation ≡ r.generation) × (may_note r t.lists (data_in e.content) ≡ true)
-  noted_here on =
-      let some : is_noted r.noted ≡ true = grind arith in
-      rw (noted_slot r i on, a.there) at (a.base.noted.noted some)
+  noted_here on = grind (arith, nat_tests, noted_slot r i, a.there, a.base.noted.noted)
 
   -- a noted writer's value is lent, without an index
   pub noted_lent : is_noted_at r i ≡ true → is_writer r.noted ≡ true
@@ -302,10 +276,6 @@ module _ {T : Type 0} {r : LastBorrow} {t : Table} {es : List (StorageEntry T)} 
       ≡ cond (is_noted_at r i) false (is_free (data_in e.content))
   write_seen l = grind (arith, noted_here, read_some, lent)
 
-  pub noted_busy : is_noted_at r i ≡ true → (l : Location)
-      → is_none (write_refusal (content_in (kept_data standing l (data_in e.content)))) ≡ false
-  noted_busy on l = write_seen l ∙ rw on refl
-
   -- a value without listed readers that isn't lent, where one is noted
   pub noted_data : is_noted_at r i ≡ true → is_free (data_in e.content) ≡ true
       → (kd : Kind) × (v : T) × (data_in e.content ≡ slot.Data kd v)
@@ -315,14 +285,7 @@ module _ {T : Type 0} {r : LastBorrow} {t : Table} {es : List (StorageEntry T)} 
   pub noted_opens : {n : ℕ} → is_noted_at r i ≡ true → r.borrow.ticket ≡ n → (l : Location)
       → value_of (content_in (kept_data standing l (data_in e.content)))
       ≡ value_for n (content_in (kept_data standing l (data_in e.content)))
-  noted_opens {n} on same l =
-      opens (data_in e.content) standing (noted_here on).1 (λ kd v is. rw (is, on) refl) (λ kd x v is. read_borrows is)
-    where
-      opens : (d : SlotData T) (bs : List Borrow) → may_note r t.lists d ≡ true
-          → ((kd : Kind) (v : T) → d ≡ slot.Data kd v → bs ≡ r.borrow ∷ [])
-          → ((kd : Kind) (x : ℕ) (v : T) → d ≡ slot.Read kd x v → bs ≡ list_at t.lists x)
-          → value_of (content_in (kept_data bs l d)) ≡ value_for n (content_in (kept_data bs l d))
-      opens d bs may own read = grind (arith, nat_tests, own, read, same)
+  noted_opens on same l = grind (arith, nat_tests, noted_here, read_borrows)
 
   -- other tickets don't, where no readers are listed
   pub noted_else : (n : ℕ) → (is_reader r.noted && nat_eq r.slot i && nat_eq r.borrow.ticket n) ≡ false
@@ -341,10 +304,7 @@ module _ (r : LastBorrow) (k n : ℕ) where
 
 -- a readable cell is within, and so is one without borrows
 pub readable_within : {T : Type 0} (slots : List (Entry T)) (i g : ℕ) → IsReadable g (slice_get slots i) → i < length slots
-readable_within slots i g has = elim (slice_get_cases slots i).1 [
-  | inl there ↦ there.1
-  | inr past ↦ absurd (rw past.1 at has)
-]
+readable_within slots i g has = grind (arith, slice_get_past)
 
 pub alone_readable : {T : Type 0} (o : Option (Entry T)) (g : ℕ) → IsAlone g o → IsReadable g o
 alone_readable o g has = grind arith
@@ -357,38 +317,22 @@ pub data Notes {T : Type 0} (r r' : LastBorrow) (lists : List (List Borrow)) (i 
   ends : r' ≡ cleared r → is_noted_at r i ≡ true → Notes r r' lists i e
   begins : is_noted r.noted ≡ false → r'.slot ≡ i → IsNoted r' lists (Some e) → Notes r r' lists i e
 
-module _ {T : Type 0} (o : Option (StorageEntry T)) where
-  still_noted : (r : LastBorrow) (before after : List (List Borrow)) → list_at after (index_in o) ≡ list_at before (index_in o)
-      → IsNoted r before o → IsNoted r after o
-  still_noted r before after same has = grind arith
-
-  still_written : (r r' : LastBorrow) (k : ℕ) → is_noted_at r' k ≡ is_noted_at r k → HasWriterAt r k o → HasWriterAt r' k o
-  still_written r r' k same has = grind arith
-
 module _ {T : Type 0} {r r' : LastBorrow} {i : ℕ} {e' : StorageEntry T} {lists : List (List Borrow)} where
   -- no other slot's borrow begins or ends
   notes_apart : Notes r r' lists i e' → (k : ℕ) → k ≢ i
       → (is_noted_at r' k ≡ is_noted_at r k) × (noted_at r' k ≡ noted_at r k)
-  notes_apart (stays is away) k other = rw is (refl, refl)
-  notes_apart (ends is on) k other = let at = noted_slot r i on in rw is (grind (arith, nat_tests))
-  notes_apart (begins none at has) k other = grind (arith, nat_tests)
+  notes_apart n k other = grind (arith, nat_tests, noted_slot r i)
 
   module _ {before : List (List Borrow)} {es es' : List (StorageEntry T)} (w : IsWritten es es' i e')
       (was : AreNoted r before es) (same : SameLists before lists es i) where
     -- the note stands at its cell
     noted_fits : Notes r r' lists i e' → is_noted r'.noted ≡ true → IsNoted r' lists (slice_get es' r'.slot)
-    noted_fits (stays is away) on =
-        let some : is_noted r.noted ≡ true = rw is at on in
-        let apart : r.slot ≢ i = λ z. grind (arith, nat_tests) in
-        rw (is, w.at r.slot, ne_eqb r.slot i apart) (still_noted _ r before lists (same r.slot apart) (was.noted some))
-    noted_fits (ends is _) on = cc
-    noted_fits (begins _ at has) on = rw (at, w.at i, eq-eqb i i refl) has
+    noted_fits n on = grind (arith, nat_tests, w.at r'.slot, same r.slot, was.noted)
 
     pub noted_after : Notes r r' lists i e' → HasWriter r' i (data_in e'.content) → AreNoted r' lists es'
     noted_after n written = record {
       noted = noted_fits n;
-      written = λ k. rw (w.at k) (⊎_elim (λ (at : k ≡ i). rw (at, eq-eqb i i refl) written)
-          (λ other. rw (ne_eqb k i other) (still_written _ r r' k (notes_apart n k other).0 (was.written k))) (cases_eq k i));
+      written = λ k. grind (arith, nat_tests, w.at k, was.written k, notes_apart n k);
     }
 
 -- what becomes of the table: the other slots have their lists
@@ -476,14 +420,12 @@ module _ {T : Type 0} {r : LastBorrow} {t : Table} {es : List (StorageEntry T)} 
   pub hindered : {bs : List Borrow} → standing a.at ≡ bs → bs ≢ [] → is_lent_data (data_in e.content) ≡ false
       → is_some (kind_of (data_in e.content)) ≡ true → (q : Refused BorrowMutError) → FoundReaders bs q
       → FoundBorrowed (write_refusal (content_in (entry_of r t.lists i e d).kept)) (Err q)
-  hindered is some here value q readers = found_readers _ _ _ q (rw is some) here value (rw is readers)
+  hindered is some here value q readers = grind arith
 
   -- a borrow with an index stands in the way
   pub stopped : index_of (data_in e.content) ≢ no_index
       → is_some (write_refusal (content_in (entry_of r t.lists i e d).kept)) ≡ true
-  stopped some =
-      let seen = write_seen a.at d.created_at in
-      let busy : is_free (data_in e.content) ≡ false = false_from_ne_true _ (λ free. some (free_none _ free)) in grind arith
+  stopped some = grind (arith, write_seen a.at d.created_at, free_none (data_in e.content))
 
   pub kind_seen : (g : ℕ) → cond (nat_eq e.generation g) (kind_of (data_in e.content)) None
       ≡ kind_in (cell_in (slice_get now.slots i) g)

@@ -1,17 +1,16 @@
 -- The table of borrows where a slot is written, and what that leaves of the store.
 use Rattle.store_cells.proofs.Common
-use Common.{ap, AreBelow, AreIndexed, AreNoted, arith, bit, Borrow, borrows_of, cases_Bool, cases_eq, cell_of}
-use Common.{change_entry, cleared, common_steps, cond, content_in, data_in, Empty, entries_of, Entry, entry_of}
-use Common.{entry_with, EntryDetails, EntryList, eq-eqb, false, false_from_ne_true, fewer_within, filter, full_data}
-use Common.{get_or, get_or-set_same, has_index, has_reader, HasListIndex, HasWriter, Here, how_many, IfSome, index_in}
-use Common.{index_of, inl, inr, is_noted, is_noted_at, is_reader, is_some, is_writer, IsAlone, IsClosed, IsListable}
-use Common.{IsListed, IsReadable, IsUnborrowed, IsUsed, kept_data, Kind, LastBorrow, lend_to, length, length-append}
-use Common.{length-set, lent_data, List, list_any, list_at, listed_beside, Live, Location, nat_cmp, nat_eq, nat_tests}
-use Common.{ne_eqb, no_index, None, not, push_written, readers_of, referring, refl, Releases, set-own, set_written}
-use Common.{slice_get, slice_get_past, slice_get_read, slice_get_within, slice_set, SlotData, Some, StorageEntry}
-use Common.{StorageEntryData, sym, Table, target_in, true, unread_data, unread_in, value_of, with_reader, with_value}
+use Common.{ap, AreBelow, AreIndexed, AreNoted, arith, bit, Borrow, borrows_of, cases_Bool, cases_eq, cell_of, change_entry}
+use Common.{cleared, common_steps, cond, content_in, data_in, Empty, entries_of, Entry, entry_of, entry_with, EntryDetails}
+use Common.{EntryList, eq-eqb, false, false_from_ne_true, fewer_within, filter, full_data, get_or, get_or-set_same, has_index}
+use Common.{has_reader, HasListIndex, HasWriter, Here, how_many, IfSome, index_in, index_of, inl, inr, is_noted, is_noted_at}
+use Common.{is_reader, is_some, is_writer, IsAlone, IsClosed, IsListable, IsListed, IsReadable, IsUnborrowed, IsUsed}
+use Common.{kept_data, Kind, LastBorrow, lend_to, length, length-append, length-set, lent_data, List, list_at, listed_beside}
+use Common.{Live, Location, nat_cmp, nat_eq, nat_tests, ne_eqb, no_index, None, not, push_written, readers_of, referring, refl}
+use Common.{Releases, set-own, set_written, slice_get, slice_get_past, slice_get_read, slice_get_within, slice_set, Some}
+use Common.{StorageEntry, StorageEntryData, sym, Table, target_in, true, unread_data, unread_in, with_reader, with_value}
 use Common.{without_reader_in, write_refusal, [], ℕ, ⊎_elim, ◌&&◌, ◌++◌, ◌+◌, ◌<◌, ◌∙◌, ◌∷◌, ◌≡◌, ◌≢◌, ◌≤◌, ◌⊎◌}
-use Rattle.store_cells.proofs.lists.TableChanges.{Changes, closed, closed_count, list_changed, none_some, not_empty}
+use Rattle.store_cells.proofs.lists.TableChanges.{Changes, closed, closed_count, list_changed, list_used, none_some, not_empty}
 use Rattle.store_cells.proofs.lists.TableChanges.{opened, opened_count, opened_few, opened_list, opened_used, Opens}
 use Rattle.store_cells.proofs.lists.TableChanges.{used_still}
 use Rattle.store_cells.proofs.states.Indexes.{has_listed, indexed, indexed_free}
@@ -70,7 +69,7 @@ module _ {T : Type 0} {r : LastBorrow} {t : Table} {es : List (StorageEntry T)} 
     fewer = fewer_within has_index es i e a.there (rw none refl)
 
     -- there is room for an index more
-    pub small_left : length t.lists < no_index
+    small_left : length t.lists < no_index
     small_left = let less = fewer in omega (arith, a.base.indexed.counted)
 
     pub room_left : t.free ≡ set.empty → length t.lists < t.rooms
@@ -89,12 +88,11 @@ module _ {T : Type 0} {r : LastBorrow} {t : Table} {es : List (StorageEntry T)} 
         let unused : IsUsed t x → ⊥ = λ u.
         elim o.vacant [ inl v ↦ cc (v.0, u.used) | inr v ↦ omega (arith, u.within, v.1) ] in
         let some = open_some o in
-        let has : has_index e' ≡ true = rw (at, ne_eqb x no_index some) refl in
-        let counts = opened_count o in let few = a.base.indexed.few in
-        let counted = a.base.indexed.counted in let less = fewer in
         step (opened o) rooms below (λ k other same. unused (rw same at (a.base.indexed.used k (λ z. some (sym same ∙ z)))))
-        (has_listed (data_in e'.content) (rw at some)) (λ _. (at, opened_used o)) (rw (has, none) (omega arith))
-        (opened_few o (length es) few (λ z. omega arith))
+        (has_listed (data_in e'.content) (rw at some)) (λ _. (at, opened_used o))
+        (rw (at, ne_eqb x no_index some, none) (omega (arith, opened_count o)))
+        (opened_few o (length es) a.base.indexed.few
+        (λ z. omega (arith, a.base.indexed.counted, fewer)))
 
   -- the slot's index
   module _ {x : ℕ} (is : index_of (data_in e.content) ≡ x) (some : x ≢ no_index) where
@@ -102,8 +100,7 @@ module _ {T : Type 0} {r : LastBorrow} {t : Table} {es : List (StorageEntry T)} 
     used_x = rw is at (used_here a (rw is some))
 
     own_index : (k : ℕ) → k ≢ i → index_in (slice_get es k) ≢ x
-    own_index k other same =
-        other (a.base.indexed.apart k i (λ z. some (sym same ∙ z)) (rw a.there (same ∙ sym is)))
+    own_index k other same = grind (arith, nat_tests, a.base.indexed.apart k i, a.there)
 
     -- another list stands there
     pub list_step : {t' : Table} {left : List Borrow} → left ≢ [] → t' ≡ record t { lists = slice_set t.lists x left }
@@ -111,14 +108,7 @@ module _ {T : Type 0} {r : LastBorrow} {t : Table} {es : List (StorageEntry T)} 
     list_step {left = left} left_some now {e'} at = rw now (
         let used = used_x in let long = length-set t.lists x left in let few = a.base.indexed.few in
         step (list_changed t _ x left refl) refl (omega arith) own_index (has_listed (data_in e'.content) (rw at some))
-        (λ _. (
-          at,
-          record {
-            within = omega arith;
-            used = used.used;
-            some = rw (get_or-set_same t.lists x left [] used.within) left_some;
-          },
-        )) (rw (at, is) (omega arith)) (omega arith))
+        (λ _. (at, list_used used left_some)) (rw (at, is) (omega arith)) (omega arith))
 
     -- it is given back
     pub close_step : {t' : Table} → IsClosed t t' x → {e' : StorageEntry T} → is_free (data_in e'.content) ≡ true
@@ -154,20 +144,10 @@ module _ {T : Type 0} {r : LastBorrow} {t : Table} {es : List (StorageEntry T)} 
         ≡ Live kd (Here v left) l
     release_seen r' t' y [] away r l = rw (eq-eqb y no_index r.0, away)
     release_seen r' t' y (b ∷ bs) away r l =
-        let some = has_place a is in
-        rw (
-          ne_eqb y no_index (λ z. some (sym r.0 ∙ z)),
-          r.0,
-          r.1,
-          ne_eqb x no_index some,
-          get_or-set_same t.lists x (b ∷ bs) [] (used_at a is).within,
-        )
+        let set = get_or-set_same t.lists x (b ∷ bs) [] (used_at a is).within in
+        grind (arith, nat_tests, has_place a is)
 
 -- ---- the noted borrow is listed
-
--- a cell whose borrows have an index needs no noted writer
-written_index : {T : Type 0} (r : LastBorrow) (k : ℕ) (d : SlotData T) → index_of d ≢ no_index → HasWriter r k d
-written_index r k d some = grind arith
 
 -- the slot whose borrow is noted, where it is read
 pub noted_is : {T : Type 0} {r : LastBorrow} {t : Table} {es : List (StorageEntry T)} → IsListable r t es
@@ -175,13 +155,10 @@ pub noted_is : {T : Type 0} {r : LastBorrow} {t : Table} {es : List (StorageEntr
     → (is_noted_at r r.slot ≡ true) × IsSlot r t es r.slot e
 noted_is {r = r} {t = t} {es = es} base some {e} is =
     let on : is_noted_at r r.slot ≡ true = rw (some, eq-eqb r.slot r.slot refl) refl in
-    let x = noted_there r t.lists r.slot _ base.noted.noted on in (
-      on,
-      record {
-        base = base;
-        there = slice_get_read es (length es) r.slot e refl (slice_get_within es r.slot x.0 x.1) is;
-      },
-    )
+    let x = noted_there r t.lists r.slot _ base.noted.noted on in
+    let there = slice_get_read es (length es) r.slot e refl (slice_get_within es r.slot x.0 x.1)
+    is in
+    (on, record { base = base; there = there })
 
 pub listed_after : {T : Type 0} {r : LastBorrow} {t t' : Table} {es : List (StorageEntry T)} {i : ℕ} {e e' : StorageEntry T}
     → IsSlot r t es i e → is_noted_at r i ≡ true → Steps t t' es i e' → HasWriter (cleared r) i (data_in e'.content)
@@ -208,13 +185,13 @@ module _ {T : Type 0} {r : LastBorrow} {t : Table} {es : List (StorageEntry T)} 
       → IsListed r (cleared r) t t' es (slice_set es i e')
   listed_opened {q = q} none o rooms e' at same =
       let some = open_some a none o in
-      listed_after a on (open_step a none o rooms at) (written_index (cleared r) i (data_in e'.content) (rw at some))
+      let put : index_of (data_in e'.content) ≢ no_index = rw at some in
+      listed_after a on (open_step a none o rooms at) (grind arith)
       (λ d. rw (at, ne_eqb q no_index some, opened_list o, none, on) (same d))
 
   -- it has one
   pub listed_there : index_of (data_in e.content) ≢ no_index → IsListed r (cleared r) t t es (slice_set es i e)
-  listed_there some = listed_after a on (same_step a refl (has_listed _ some))
-      (written_index (cleared r) i (data_in e.content) some)
+  listed_there some = listed_after a on (same_step a refl (has_listed _ some)) (grind arith)
       (λ d. rw (ne_eqb (index_of (data_in e.content)) no_index some) refl)
 
 -- ---- writes that leave the table
@@ -243,12 +220,9 @@ module _ {T : Type 0} {r : LastBorrow} {t : Table} {es : List (StorageEntry T)} 
       → IfSome (slice_get now.slots i) (λ e. is_some (target_in (cell_of e.kept)) ≡ true)
       → k ≡ content.Reference q g → Rewrites a r t k (referring (record { slot = q; generation = g }))
   redirected refers is =
-      let own = refers_is (data_in e.content) _ d.created_at (rw (seen a) at refers) in
+      let has = rw (seen a) at refers in
+      let own : (q : ℕ) × (g : ℕ) × (data_in e.content ≡ slot.Reference q g) = grind arith in
       wrote_free (quiet a (rw own.2 refl)) _ (rw is refl) _ (rw (is, own.2) refl)
-    where
-      refers_is : (c : SlotData T) (bs : List Borrow) (l : Location) → is_some (target_in (cell_of (kept_data bs l c))) ≡ true
-          → (q : ℕ) × (g : ℕ) × (c ≡ slot.Reference q g)
-      refers_is c bs l has = grind arith
 
   -- a cell without borrows stands where none was
   pub refilled : IfSome (slice_get now.slots i) (λ e. e.kept ≡ Empty) → (g : ℕ) (k : StorageEntryData T) (l : Location)
@@ -282,14 +256,11 @@ module _ {T : Type 0} {r : LastBorrow} {t : Table} {es : List (StorageEntry T)} 
       × Reborrows a (cleared r) t (without_reader_in n)
   read_ended n reads unread =
       let is = reads_at r i n reads in
-      let own = unread_is (data_in e.content) unread in (
+      let own : (kd : Kind) × (v : T) × (data_in e.content ≡ slot.Data kd v) = grind arith in (
         rw (seen a, own.2, is.0, eq-eqb r.borrow.ticket n is.1) refl,
         borrowed a (same_step a.at refl (rw own.2 tt)) (ends refl is.0) (rw own.2 tt) _
             (rw (own.2, is.0, eq-eqb r.borrow.ticket n is.1) refl),
       )
-    where
-      unread_is : (c : SlotData T) → is_some (unread_in c) ≡ true → (kd : Kind) × (v : T) × (c ≡ slot.Data kd v)
-      unread_is c some = grind arith
 
   -- the noted writer ends
   pub write_ended : (n : ℕ) (v : T) (k : StorageEntryData T)
@@ -313,21 +284,21 @@ module _ {T : Type 0} {r : LastBorrow} {t : Table} {es : List (StorageEntry T)} 
         → Releases t t' q p (filter (λ b. not (nat_eq b.ticket n)) (list_at t.lists q))
         → data_in k ≡ unread_data (slot.Read kd p v) → Rewrites a r t' k (without_reader_in n)
     released {kd} {q} {v} is p n k left same =
-        wrote_cell a (release_step a.at is p _ left same) (stays refl away) (rw same (unread_written kd p v)) _
+        wrote_cell a (release_step a.at is p _ left same) (stays refl away) (rw same (grind arith))
+        _
         (rw (same, release_seen a.at is r _ p _ away left d.created_at, is, ne_eqb q no_index (has_place a.at is)) refl)
-      where
-        unread_written : (kd : Kind) (p : ℕ) (v : T) → HasWriter r i (unread_data (slot.Read kd p v))
-        unread_written kd p v = grind arith
 
     -- where no reader is listed, none stands or ends
     pub unread : NotRead (data_in e.content) → (n : ℕ)
         → IfSome (slice_get now.slots i) (λ e. false ≡ has_reader (content_in e.kept) n)
         × (entries_of r t.lists es ds ≡ change_entry now.slots i (λ e. record e { kept = without_reader_in n e.kept }))
-    unread none n = rw (seen a) (own.0, a.view ∙ sym (rw (← own.1) (set-own now.slots i _ (seen a))))
-      where
-        own : (false ≡ has_reader (content_in (entry_of r t.lists i e d).kept) n)
-            × ((entry_of r t.lists i e d).kept ≡ without_reader_in n (entry_of r t.lists i e d).kept)
-        own = (grind (arith, away, none), grind (arith, away, none))
+    unread none n =
+        let own : (entry_of r t.lists i e d).kept ≡ without_reader_in n
+        (entry_of r t.lists i e d).kept =
+        grind (arith, away, none) in rw (seen a) (
+          grind (arith, away, none),
+          a.view ∙ sym (rw (← own) (set-own now.slots i _ (seen a))),
+        )
 
     -- a listed writer ends
     pub written_back : {kd : Kind} {q : ℕ} {w : Borrow} → data_in e.content ≡ slot.Lent kd q → q ≢ no_index
@@ -362,11 +333,7 @@ module _ {T : Type 0} {r : LastBorrow} {t : Table} {es : List (StorageEntry T)} 
     (a : IsAt r t es ds now room x y i e d) (g : ℕ) (there : IsReadable g (slice_get now.slots i)) where
   readable_here : ((kd : Kind) × (v : T) × (data_in e.content ≡ slot.Data kd v))
       ⊎ ((kd : Kind) × (q : ℕ) × (v : T) × (data_in e.content ≡ slot.Read kd q v))
-  readable_here = cases (data_in e.content) _ d.created_at (rw (seen a) at there).1
-    where
-      cases : (c : SlotData T) (bs : List Borrow) (l : Location) → is_some (value_of (content_in (kept_data bs l c))) ≡ true
-          → ((kd : Kind) × (v : T) × (c ≡ slot.Data kd v)) ⊎ ((kd : Kind) × (q : ℕ) × (v : T) × (c ≡ slot.Read kd q v))
-      cases c bs l has = grind arith
+  readable_here = let has = (rw (seen a) at there).1 in grind arith
 
   -- its ticket is beyond those of the listed readers
   pub listed_below : {n : ℕ} → IfSome (slice_get now.slots i) (λ e. AreBelow n (readers_of (content_in e.kept)))
@@ -390,13 +357,13 @@ module _ {T : Type 0} {r : LastBorrow} {t : Table} {es : List (StorageEntry T)} 
             let set = get_or-set_same t.lists own.1 (list_at t.lists own.1 ++ b ∷ []) [] (used_at a.at own.3).within in
             rw (is, own.3, ne_eqb own.1 no_index place) (borrowed a
             (list_step a.at (rw own.3 refl) place (not_empty _ b) refl (rw own.3 refl))
-            (begins nobody refl (same_cell, rw (own.3, set) (any_last b.ticket _ b refl))) (rw own.3 tt) _
+            (begins nobody refl (
+              same_cell,
+              rw (own.3, set)
+                  (grind (arith, nat_tests, common_steps)),
+            )) (rw own.3 tt) _
             (rw (own.3, ne_eqb own.1 no_index place, set)))
       ]
-    where
-      any_last : (n : ℕ) (bs : List Borrow) (b : Borrow) → b.ticket ≡ n
-          → list_any (λ r. nat_eq r.ticket n) (bs ++ b ∷ []) ≡ true
-      any_last n bs b same = grind (arith, nat_tests, common_steps)
 
   pub begun_alone : is_noted r.noted ≡ false → (b : Borrow) → IsAlone g (slice_get now.slots i)
       → Reborrows a (record { noted = noted.Reader; slot = i; generation = g; borrow = b }) t (with_reader b)

@@ -1,23 +1,23 @@
 -- The noted borrow is listed.
 use Rattle.store_cells.proofs.{ap, data_in, listed_opened, listed_there, noted_index, noted_is, noted_placed}
-use Rattle.store_cells.proofs.{opens_one, refl, room_left, small_left}
+use Rattle.store_cells.proofs.{opens_one, refl, room_left}
 use Rattle.store_cells.proofs.entries.list_last.Goals as goal
 
-pub open-requires : goal.open-requires
-open-requires g c =
+pub open-requires-clause-room : goal.open-requires-clause-room
+open-requires-clause-room g c =
     let a = noted_is c.requires.fits c.requires.noted c.index_mut.ensures.value in
-    record { room = room_left a.1 (rw c.in-Data.is refl); small = small_left a.1 (rw c.in-Data.is refl) }
+    room_left a.1 (rw c.in-Data.is refl)
 
-pub open-requires-in-Shared : goal.open-requires-in-Shared
-open-requires-in-Shared g c =
+pub open-requires-in-Shared-clause-room : goal.open-requires-in-Shared-clause-room
+open-requires-in-Shared-clause-room g c =
     let a = noted_is c.requires.fits c.requires.noted c.index_mut.ensures.value in
-    record { room = room_left a.1 (rw c.in-Shared.is refl); small = small_left a.1 (rw c.in-Shared.is refl) }
+    room_left a.1 (rw c.in-Shared.is refl)
 
-pub open-requires-in-Lent : goal.open-requires-in-Lent
-open-requires-in-Lent g c =
+pub open-requires-in-Lent-clause-room : goal.open-requires-in-Lent-clause-room
+open-requires-in-Lent-clause-room g c =
     let a = noted_is c.requires.fits c.requires.noted c.index_mut.ensures.value in
     let none = noted_index a.1 a.0 (ap data_in c.in-Lent.is) in
-    record { room = room_left a.1 (rw c.in-Lent.is none); small = small_left a.1 (rw c.in-Lent.is none) }
+    room_left a.1 (rw c.in-Lent.is none)
 
 pub returns-in-Data-clause-listed : goal.returns-in-Data-clause-listed
 returns-in-Data-clause-listed g c =

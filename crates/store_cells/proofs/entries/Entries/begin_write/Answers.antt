@@ -9,7 +9,7 @@ index_mut-requires g c =
     omega (
       arith,
       many s,
-      readable_within c.args.self.now.slots c.args.name.slot c.args.name.generation
+      readable_within c.args.self.now.slots _ _
           (alone_readable _ _ c.requires.free),
     )
 

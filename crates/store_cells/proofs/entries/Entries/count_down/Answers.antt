@@ -1,16 +1,11 @@
 -- One reference less names a slot's cell.
-use Rattle.store_cells.proofs.{arith, found_details, kept, length-set, refl, seen, wrote_details, ◌-◌, ◌∙◌}
+use Rattle.store_cells.proofs.{arith, found_details, kept, refl, seen, wrote_details, ◌-◌}
 use Rattle.store_cells.proofs.entries.Entries.count_down.Goals as goal
 
 pub overflow_sub-index_mut : goal.overflow_sub-index_mut
 overflow_sub-index_mut g c =
     let a = (found_details (kept c.self.view_is c.self.invariant) c.requires.within c.index_mut.ensures.value).1 in
     omega (arith, rw (seen a) at c.requires.some)
-
-pub invariant_of-self : goal.invariant_of-self
-invariant_of-self g c =
-    let v = c.self.invariant in
-    (v.0, v.1, length-set c.self.inside.details.items c.args.slot _ ∙ v.2, v.3)
 
 pub returns-clause-slots : goal.returns-clause-slots
 returns-clause-slots g c =

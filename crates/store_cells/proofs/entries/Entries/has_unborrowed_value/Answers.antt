@@ -12,12 +12,9 @@ pub returns-else-not-has_unborrowed_value : goal.returns-else-not-has_unborrowed
 returns-else-not-has_unborrowed_value g c =
     let found = rw c.deref.ensures.value at c.in-Some.ensures.lookup in
     let a = (found_in (kept c.self.view_is c.self.invariant) found.3.0 found.1).1 in
-    rw (
-      unborrowed_seen a c.args.name.generation,
-      ← c.has_unborrowed_value.ensures,
-      c.if-not-has_unborrowed_value.false,
-      c.is_at.ensures,
-    ) refl
+    let seen = unborrowed_seen a c.args.name.generation in
+    let own = c.has_unborrowed_value.ensures in
+    rw (seen, ← own, c.if-not-has_unborrowed_value.false, c.is_at.ensures) refl
 
 pub returns-in-None : goal.returns-in-None
 returns-in-None g c =

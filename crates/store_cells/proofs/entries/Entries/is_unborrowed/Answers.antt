@@ -1,12 +1,11 @@
 -- Whether no borrow stands at a cell.
-use Rattle.store_cells.proofs.{found, found_noted, kept, no_borrow, noted_busy, refl, seen, sym, write_seen, ◌∙◌}
+use Rattle.store_cells.proofs.{found, found_there, kept, no_borrow, refl, seen, write_seen}
 use Rattle.store_cells.proofs.entries.Entries.is_unborrowed.Goals as goal
 
 pub returns-then-is_at : goal.returns-then-is_at
 returns-then-is_at g c =
-    let on = sym c.is_at.ensures ∙ c.if-is_at.true in
-    let a = (found_noted (kept c.self.view_is c.self.invariant) c.args.slot on).2 in
-    rw (seen a) (sym (noted_busy a.at on _))
+    let a = (found_there (kept c.self.view_is c.self.invariant) c.requires).2 in
+    rw (seen a, write_seen a.at _, ← c.is_at.ensures, c.if-is_at.true) refl
 
 pub returns-in-Read : goal.returns-in-Read
 returns-in-Read g c =

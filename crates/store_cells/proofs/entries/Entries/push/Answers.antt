@@ -6,18 +6,8 @@ pub invariant_of-self : goal.invariant_of-self
 invariant_of-self g c =
     let s = kept c.self.view_is c.self.invariant in let roomy = s.holds.3 in
     let p = pushed s _ c.args.created_at c.requires.unborrowed c.requires.room in
-    rw (c.push_reserved.ensures.items, c.push_reserved-2.ensures.items) (
-      p.0,
-      p.1,
-      p.2,
-      record {
-        filled = p.3;
-        entries = omega (arith, c.push_reserved.ensures.capacity);
-        details = omega (arith, c.push_reserved-2.ensures.capacity);
-        borrows = roomy.borrows;
-        indexes = roomy.indexes;
-      },
-    )
+    rw (c.push_reserved.ensures.items, c.push_reserved-2.ensures.items)
+    (p.0, p.1, p.2, (let filled = p.3 in grind arith))
 
 pub returns-clause-pushed : goal.returns-clause-pushed
 returns-clause-pushed g c =

@@ -9,12 +9,12 @@ first-requires g c =
     let a = (found s c.requires c.index_mut.ensures.value).1 in
     (lent_used a.at (ap data_in c.in-Lent.is) (lent_listed a.at (ap data_in c.in-Lent.is) l.nobody)).within
 
-pub close-requires : goal.close-requires
-close-requires g c =
+pub close-requires-clause-used : goal.close-requires-clause-used
+close-requires-clause-used g c =
     let l = c.list_noted.ensures in let s = listed (kept c.self.view_is c.self.invariant) l.listed l.capacity in
     let a = (found s c.requires c.index_mut.ensures.value).1 in
-    let used = lent_used a.at (ap data_in c.in-Lent.is) (lent_listed a.at (ap data_in c.in-Lent.is) l.nobody) in
-    record { within = used.within; used = used.used }
+    (lent_used a.at (ap data_in c.in-Lent.is)
+    (lent_listed a.at (ap data_in c.in-Lent.is) l.nobody)).used
 
 pub returns-then-first-ticket-clause-known : goal.returns-then-first-ticket-clause-known
 returns-then-first-ticket-clause-known g c =

@@ -2,12 +2,6 @@
 use Rattle.store_cells.proofs.{ap, EntryList, found, kept, read_ended, sym, ◌∙◌}
 use Rattle.store_cells.proofs.entries.Entries.release_read.Goals as goal
 
-pub invariant_of-self : goal.invariant_of-self
-invariant_of-self g c =
-    let a = (found (kept c.self.view_is c.self.invariant) c.requires c.index.ensures).1 in
-    let reads = sym c.is_reader_at.ensures ∙ c.if-is_reader_at.true in
-    (read_ended a _ reads (sym c.is_unread.ensures ∙ c.if-is_unread.true)).1.holds
-
 pub returns-then-is_unread : goal.returns-then-is_unread
 returns-then-is_unread g c =
     let a = (found (kept c.self.view_is c.self.invariant) c.requires c.index.ensures).1 in

@@ -2,12 +2,6 @@
 use Rattle.store_cells.proofs.{eq-eqb, found, kept, noted_lent, refl, seen, sym, write_ended, writes_at, ◌∙◌}
 use Rattle.store_cells.proofs.entries.Entries.release_write.Goals as goal
 
-pub put_back-requires : goal.put_back-requires
-put_back-requires g c =
-    let a = (found (kept c.self.view_is c.self.invariant) c.requires c.index_mut.ensures.value).1 in
-    let is = writes_at c.self.inside.last c.args.slot c.args.ticket (sym c.is_writer_at.ensures ∙ c.if-is_writer_at.true) in
-    rw (noted_lent a.at is.0 is.1).1 refl
-
 pub invariant_of-self : goal.invariant_of-self
 invariant_of-self g c =
     let a = (found (kept c.self.view_is c.self.invariant) c.requires c.index_mut.ensures.value).1 in
