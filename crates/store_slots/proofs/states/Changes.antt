@@ -2,15 +2,15 @@
 use Rattle.store_slots.proofs.Common
 use Common.{ap, AreReferred, arith, bit, Bool, by_name, cases_eq, Cell, cell_in, cell_of, cell_under, cells_of}
 use Common.{change_entry, changed_there, cond, contains-insert_at, contains-insert_name, contains_own, Content}
-use Common.{content_at, content_in, content_of, Count, count_of, Empty, Entry, EntryList, eq-eqb, eqb-true, Err}
-use Common.{false, fill, get-insert_name, given_in, given_of, has_no_borrow, HasBegun, how_many, IfErr, IfSome, inl}
-use Common.{inr, is_live, is_name, is_reusable, is_shared, is_some, is_spent, IsReferred, IsSlotTable, IsWritten}
-use Common.{Kept, Kind, last_generation, le-ltb, length, length-set, List, Live, live_target, Location, location_of}
-use Common.{lt-ltb, Name, name_exact, name_test, name_total, NameMap, nat_cmp, nat_cmp_total, nat_eq, nat_lt}
-use Common.{nat_tests, ne_eqb, None, not, Ok, OnErr, OnOk, Option, passes, Ref, Refers, refers, refill, refl, Result}
-use Common.{Retirements, set_written, shared_target, slice_get, slice_get_within, SlotsState, SlotTable, Some, State}
-use Common.{state_of, sym, target_in, true, with_content, ℕ, ◌&&◌, ◌+◌, ◌-◌, ◌<◌, ◌||◌, ◌∙◌, ◌≡◌, ◌≢◌, ◌≤◌}
-use Rattle.store_slots.proofs.states.{States.get_cells, States.get_given, States.live_cell}
+use Common.{content_at, content_in, content_of, Count, count_of, Empty, Entry, EntryList, eq-eqb, false, fill}
+use Common.{get-insert_name, given_in, given_of, has_no_borrow, HasBegun, how_many, IfErr, IfSome, is_live, is_name}
+use Common.{is_reusable, is_shared, is_some, is_spent, IsReferred, IsSlotTable, IsWritten, Kept, Kind}
+use Common.{last_generation, le-ltb, length, length-set, List, Live, live_target, Location, location_of, lt-ltb, Name}
+use Common.{name_test, name_total, NameMap, nat_cmp, nat_cmp_total, nat_eq, nat_lt, nat_tests, ne_eqb, None, not}
+use Common.{OnErr, OnOk, Option, passes, refers, refill, refl, Result, Retirements, set_written, shared_target}
+use Common.{slice_get, slice_get_within, SlotsState, SlotTable, Some, State, state_of, sym, target_in, true}
+use Common.{with_content, ℕ, ◌&&◌, ◌+◌, ◌-◌, ◌<◌, ◌||◌, ◌∙◌, ◌≡◌, ◌≢◌, ◌≤◌}
+use Rattle.store_slots.proofs.states.States.{get_cells, get_given, live_cell, same_cells, same_names}
 use Rattle.std.specs.FinMap as map
 use Rattle.std.specs.FinSet as set
 use Rattle.store_cells.specs.declared.entry.Kind.TheVariants as kind
@@ -22,9 +22,6 @@ pub some_if : {A : Type 0} (test : Option A → Bool) (o : Option A) → test No
     → test o ≡ true → is_some o ≡ true
 some_if test o none h = grind arith
 
-pub nothing : {A : Type 0} (o : Option A) → is_some o ≡ false → o ≡ None
-nothing o h = grind arith
-
 -- ---- a slot that is written
 
 module _ {T : Type 0} {slots after : List (Entry T)} {i : ℕ} {t : Entry T}
@@ -35,10 +32,7 @@ module _ {T : Type 0} {slots after : List (Entry T)} {i : ℕ} {t : Entry T}
   -- what holds of the slot that is written, and of each other one, holds of all
   each_after : (P : ℕ → Option (Entry T) → Type 0) → P i (Some t)
       → ((k : ℕ) → k ≢ i → P k (slice_get slots k)) → (k : ℕ) → P k (slice_get after k)
-  each_after P own others k = elim (cases_eq k i) [
-    | inl e ↦ rw (e, w.at i, eq-eqb i i refl) own
-    | inr ne ↦ rw (w.at k, ne_eqb k i ne) (others k ne)
-  ]
+  each_after P own others k = grind (arith, cases_eq, w.at, eq-eqb, ne_eqb)
 
   -- nothing else is live in the slot
   module _ (alone : (g : ℕ) → nat_eq g t.generation ≡ false
@@ -46,42 +40,27 @@ module _ {T : Type 0} {slots after : List (Entry T)} {i : ℕ} {t : Entry T}
     get_written : (q : Name) → map.get (cells_of after) q
         ≡ cond (nat_eq q.slot i && nat_eq q.generation t.generation) (cell_of t.kept)
         (map.get (cells_of slots) q)
-    get_written q =
-        rw (get_cells after q, get_cells slots q, w.at q.slot) (grind (arith, nat_tests, alone q.generation))
+    get_written q = grind (arith, get_cells, w.at, nat_tests)
 
     pub cells_put : (c : Cell T) → cell_of t.kept ≡ Some c
         → cells_of after ≡ map.insert (cells_of slots) name c
-    cells_put c full = map.same_map name_total name_exact _ _ (λ q.
-        get_written q
-        ∙ (rw (← name_test q name, full) (sym (get-insert_name (cells_of slots) name c q))))
+    cells_put c full = grind (arith, same_cells, get_written, name_test, get-insert_name)
 
     pub cells_taken : cell_of t.kept ≡ None → cells_of after ≡ map.remove (cells_of slots) name
     unfolding is_name
-    cells_taken empty = map.same_map name_total name_exact _ _ (λ q.
-        get_written q
-        ∙ rw (← name_test q name, empty)
-        (sym (map.get-remove name_total (cells_of slots) name q)))
+    cells_taken empty =
+        grind (arith, same_cells, get_written, name_test, map.get-remove {X = Cell T} name_total)
 
   module _ (start : ℕ) where
     pub given_kept : ((g : ℕ) → given_in start (Some t) g ≡ given_in start (slice_get slots i) g)
         → given_of start after ≡ given_of start slots
-    given_kept same = set.same_set name_total name_exact _ _ (λ q.
-        rw (get_given start after q, get_given start slots q) (each_after
-        (λ k o. given_in start o q.generation ≡ given_in start (slice_get slots k) q.generation)
-        (same q.generation) (λ k other. refl) q.slot))
+    given_kept same = grind (arith, same_names, get_given, each_after)
 
     pub given_put : ((g : ℕ) → given_in start (Some t) g
         ≡ (nat_eq g t.generation || given_in start (slice_get slots i) g))
         → given_of start after ≡ set.insert (given_of start slots) name
-    given_put more = set.same_set name_total name_exact _ _ (λ q. rw (
-      get_given start after q,
-      contains-insert_name (given_of start slots) name q,
-      name_test q name,
-      get_given start slots q,
-    ) (each_after (λ k o. given_in start o q.generation
-        ≡ ((nat_eq k i && nat_eq q.generation t.generation)
-        || given_in start (slice_get slots k) q.generation))
-        (rw (eq-eqb i i refl) (more q.generation)) (λ k other. rw (ne_eqb k i other) refl) q.slot))
+    given_put more =
+        grind (arith, nat_tests, same_names, get_given, contains-insert_name, name_test, w.at)
 
   -- the counts of references are right after it, where they are for the slot that is written, and
   -- for others as many go uncounted as before and references came
@@ -105,22 +84,12 @@ module _ {T : Type 0} {slots after : List (Entry T)} {i : ℕ} {t : Entry T}
           let q : Name = record { slot = k; generation = e.generation } in
           omega (arith, others q other, w.count (refers q), was shared)
 
-  -- where the slot refers to nothing else than before, and its own count is as it was
-  pub referred_still : {less : Name → ℕ} → AreReferred less slots
-      → ((q : Name) → passes (refers q) (slice_get slots i) ≡ refers q t)
-      → IsReferred slots less i (Some t) → AreReferred less after
-  referred_still {less} r same own =
-      referred r (λ q other. ap (λ b. less q + bit b) (same q))
-      (λ shared. let e = own shared in let b = ap bit (same name) in omega arith)
-
   -- a slot whose count changes
   pub state_same : {e : Entry T} → slice_get slots i ≡ Some e → t.generation ≡ e.generation
       → t.kept ≡ e.kept → (start peak : ℕ) → state_of start peak after ≡ state_of start peak slots
   state_same there gen own start peak =
-      let same : cells_of after ≡ cells_of slots = map.same_map name_total name_exact _ _ (λ q.
-      rw (get_cells after q, get_cells slots q) (each_after
-      (λ k o. cell_in o q.generation ≡ cell_in (slice_get slots k) q.generation)
-      (rw (there, gen, own) refl) (λ k other. refl) q.slot)) in
+      let same : cells_of after ≡ cells_of slots =
+      same_cells _ _ (λ q. grind (arith, nat_tests, get_cells, w.at)) in
       rw (same, given_kept start (λ g. rw (there, gen) refl)) refl
 
 -- ---- what holds of the slots holds after a write
@@ -187,45 +156,33 @@ pub record IsHeld {T : Type 0} (slots : List (Entry T)) (n : Name) : Type 0 wher
   pub spot : IsKept slots n (Live kind content created)
   pub open spot use *
 
--- where it is a reference
-pub record HasReference {T : Type 0} (slots : List (Entry T)) (n m : Name) : Type 0 where
-  pub created : Location
-  pub spot : IsKept slots n (Refers m created)
-  pub open spot use *
-
 module _ {T : Type 0} where
   content_kept : (k : Kept T) → content_of (cell_of k) ≡ content_in k
   content_kept k = grind arith
 
   -- a cell that passes a test which nothing passes has one
+  entry_of : (slots : List (Entry T)) (n : Name) (test : Option (Cell T) → Bool) → test None ≡ false
+      → test (cell_under slots n) ≡ true → (e : Entry T) × (slice_get slots n.slot ≡ Some e)
+      × (e.generation ≡ n.generation) × (test (cell_of e.kept) ≡ true)
+  entry_of slots n test none h = grind (arith, nat_tests)
+
   pub found : (slots : List (Entry T)) (n : Name) (test : Option (Cell T) → Bool)
       → test None ≡ false → test (map.get (cells_of slots) n) ≡ true → IsFound slots n
-  found slots n test none h = at (slice_get slots n.slot) refl (rw (get_cells slots n) at h)
-    where
-      own : (e : Entry T) → slice_get slots n.slot ≡ Some e
-          → (b : Bool) → nat_eq n.generation e.generation ≡ b
-          → test (cond b (cell_of e.kept) None) ≡ true → IsFound slots n
-      own e there true same h =
-          let g = eqb-true n.generation e.generation same in
-          let cell : map.get (cells_of slots) n ≡ cell_of e.kept =
-          get_cells slots n ∙ rw (there, same) refl in
-          record {
-            kept = e.kept;
-            spot = record {
-              references = e.references;
-              there = there ∙ (λ i. Some (record e { generation = sym g i }));
-              within = slice_get_within slots n.slot _ there;
-              cell = cell;
-            };
-            live = sym (live_cell e.kept) ∙ some_if test (cell_of e.kept) none h;
-            holds = rw cell (content_kept e.kept);
-          }
-      own e there false other h = cc
-
-      at : (o : Option (Entry T)) → slice_get slots n.slot ≡ o
-          → test (cell_in o n.generation) ≡ true → IsFound slots n
-      at None there h = cc
-      at (Some e) there h = own e there _ refl h
+  found slots n test none h =
+      let it = entry_of slots n test none (rw (get_cells slots n) at h) in
+      let cell : map.get (cells_of slots) n ≡ cell_of it.0.kept =
+      get_cells slots n ∙ rw (it.1, eq-eqb n.generation it.0.generation (sym it.2)) refl in
+      record {
+        kept = it.0.kept;
+        spot = record {
+          references = it.0.references;
+          there = it.1 ∙ (λ i. Some (record it.0 { generation = it.2 i }));
+          within = slice_get_within slots n.slot _ it.1;
+          cell = cell;
+        };
+        live = sym (live_cell it.0.kept) ∙ some_if test (cell_of it.0.kept) none it.3;
+        holds = rw cell (content_kept it.0.kept);
+      }
 
   pub held : (slots : List (Entry T)) (n : Name)
       → is_some (content_of (map.get (cells_of slots) n)) ≡ true → IsHeld slots n
@@ -234,14 +191,6 @@ module _ {T : Type 0} where
       let holds = rw f.cell at h in
       let is : (kd : Kind) × (c : Content T) × (l : Location) × (f.kept ≡ Live kd c l) = grind arith in
       record { kind = is.0; content = is.1; created = is.2; spot = rw is.3 at f.spot }
-
-  pub has_reference : (slots : List (Entry T)) (n m : Name)
-      → target_in (map.get (cells_of slots) n) ≡ Some m → HasReference slots n m
-  has_reference slots n m h =
-      let f = found slots n (λ c. is_some (target_in c)) refl (ap is_some h) in
-      let refers = rw f.cell at h in
-      let is : (l : Location) × (f.kept ≡ Refers m l) = grind arith in
-      record { created = is.0; spot = rw is.1 at f.spot }
 
 -- something else is kept in it
 module _ {T : Type 0} {slots : List (Entry T)} {n : Name} {kept : Kept T} (f : IsKept slots n kept)
@@ -258,13 +207,10 @@ module _ {T : Type 0} {slots : List (Entry T)} {n : Name} {kept : Kept T} (f : I
   pub rekept_length : length rekept ≡ length slots
   rekept_length = rw (f.there, length-set) refl
 
-  -- a cell is put into the machine's map, or the name is taken out of it
+  -- a cell is put into the machine's map
   pub rekept_put : (c : Cell T) → cell_of (k kept) ≡ Some c
       → cells_of rekept ≡ map.insert (cells_of slots) n c
   rekept_put = cells_put rekept_written (λ g e. rw (f.there, e) refl)
-
-  pub rekept_taken : cell_of (k kept) ≡ None → cells_of rekept ≡ map.remove (cells_of slots) n
-  rekept_taken = cells_taken rekept_written (λ g e. rw (f.there, e) refl)
 
   pub rekept_state : (start peak : ℕ) {cells : NameMap (Cell T)} → cells_of rekept ≡ cells
       → state_of start peak rekept ≡ record (state_of start peak slots) { cells = cells }
@@ -289,9 +235,9 @@ module _ {T : Type 0} {slots : List (Entry T)} {n : Name} (f : IsHeld slots n)
       live_cells kind.Shared c d l = (_, refl, refl)
 
   pub referred_changed : {less : Name → ℕ} → AreReferred less slots → AreReferred less changed
-  referred_changed r = referred_still (rekept_written f.spot (with_content h)) r
-      (λ q. rw f.there (grind arith))
-      (λ shared. let own = rw f.there at (r.each n.slot) in own (grind arith))
+  referred_changed r = referred (rekept_written f.spot (with_content h)) r
+      (λ q other. rw f.there (grind arith))
+      (λ shared. let own = rw f.there at (r.each n.slot) in rw f.there (grind (arith, own)))
 
 module _ {T : Type 0} {slots : List (Entry T)} {n : Name} (f : IsFound slots n) where
   -- an end of a slot's cell takes its name out of the machine's map
@@ -299,7 +245,7 @@ module _ {T : Type 0} {slots : List (Entry T)} {n : Name} (f : IsFound slots n) 
   ended = rekept f.spot (λ k. Empty)
 
   pub cells_ended : cells_of ended ≡ map.remove (cells_of slots) n
-  cells_ended = rekept_taken f.spot (λ k. Empty) refl
+  cells_ended = cells_taken (rekept_written f.spot (λ k. Empty)) (λ g e. rw (f.there, e) refl) refl
 
 -- ---- what holds of the slots holds after these changes
 
@@ -398,10 +344,6 @@ pub record IsSeen {T : Type 0} (slots : List (Entry T)) (S : State T) (n : Name)
   pub open held use *
   pub seen : content_at S n ≡ Some content
 
-located : {T : Type 0} (k : Kept T) (l : Location) → is_live k ≡ true
-    → IfSome (location_of (cell_of k)) (λ c. l ≡ c) → location_of (cell_of k) ≡ Some l
-located k l live h = grind arith
-
 module _ {T : Type 0} {now : SlotsState T} {start peak spare : ℕ} (slots : List (Entry T))
     (view : record { state = state_of start peak slots; spare = spare } ≡ now) where
   pub cell_seen : (n : Name) → cell_under slots n ≡ map.get now.state.cells n
@@ -415,13 +357,12 @@ module _ {T : Type 0} {now : SlotsState T} {start peak spare : ℕ} (slots : Lis
   -- a shared value that a cell names is live where the slots tell of it
   pub live_seen : (c : Option (Cell T))
       → live_target now.state.cells c ≡ shared_target slots (target_in c)
-  live_seen (Some (Ref m l)) = rw (cell_seen m) refl
-  live_seen _ = refl
+  live_seen a0 = grind (arith, cell_seen)
 
   -- where the slots tell of no content the state sees none
   pub not_told : (n : Name) → false ≡ is_some (content_of (cell_under slots n))
       → content_at now.state n ≡ None
-  not_told n h = nothing _ (rw (cell_seen n) at (sym h))
+  not_told n h = let seen = cell_seen n in grind arith
 
 module _ {T : Type 0} {now : SlotsState T} {start peak spare : ℕ} {slots : List (Entry T)}
     (view : record { state = state_of start peak slots; spare = spare } ≡ now) where
@@ -431,7 +372,8 @@ module _ {T : Type 0} {now : SlotsState T} {start peak spare : ℕ} {slots : Lis
   pub created_in : {n : Name} → IsFound slots n → {l : Location}
       → IfSome (slice_get slots n.slot) (λ e. IfSome (location_of (cell_of e.kept)) (λ k. l ≡ k))
       → location_of (map.get now.state.cells n) ≡ Some l
-  created_in f {l} h = rw (← view, f.cell) (located f.kept l f.live (rw f.there at h))
+  created_in f {l} h = rw (← view, f.cell)
+      (let own = rw f.there at h in let live = f.live in grind arith)
 
   pub held_in : {n : Name} → is_some (content_at now.state n) ≡ true → IsSeen slots now.state n
   held_in {n} h =
@@ -460,11 +402,9 @@ changed_state r view f h is =
 -- what holds of a result's two ways
 pub either : {A E : Type 0} (r : Result A E) {P Q X : Type 0} → OnOk r P → OnErr r Q → (P → X)
     → (Q → X) → X
-either (Ok a) ok err f h = f ok
-either (Err e) ok err f h = h err
+either r ok err f h = grind arith
 
 -- what holds of both ways, where a refusal hands a value back
 pub returned : {T U : Type 0} (v : T) (r : Result U T) {P Q X : Type 0} → OnOk r P
     → IfErr r (λ back. (back ≡ v) × Q) → (P → X) → (Q → X) → X
-returned v (Ok a) ok err f h = f ok
-returned v (Err back) ok err f h = h err.1
+returned v r ok err f h = grind arith

@@ -1,16 +1,15 @@
 -- The counts of references where a cell comes or goes, and where a reference names another value.
 use Rattle.store_slots.proofs.Common
-use Common.{ap, AreReferred, arith, bit, Bool, by_name, Cell, cell_of, cell_under, CellName, cells_of, change_entry}
-use Common.{cond, cond_some, Count, count_less, count_more, Empty, Entry, eq-eqb, false, get-insert_apart, HasTargets}
-use Common.{how_many, IfSome, IfSome_then, is_err, is_live, is_name, is_named, is_shared, is_some, IsReferred}
-use Common.{IsSlotTable, IsUnborrowed, IsWritten, kept_data, length, length-set, List, Location, lt-ltb, many_some}
-use Common.{many_within, Name, name_apart, name_here, name_of_cell, named_by, named_gives, nat_cmp, nat_lt, ne_eqb}
-use Common.{None, OnErr, Option, option_map, passes, Ref, referring, refers, refers_to, refl, Result, set_written}
-use Common.{shared_target, slice_get, SlotData, SlotTable, Some, state_of, suc, sym, target_in, true, zero, [], ℕ}
-use Common.{◌+◌, ◌-◌, ◌<◌, ◌∙◌, ◌≡◌, ◌≢◌}
-use Rattle.store_slots.proofs.states.Changes.{ended, found, HasReference, IsFound, referred, rekept, rekept_length}
-use Rattle.store_slots.proofs.states.Changes.{rekept_put, rekept_state, rekept_written, slotted_still, state_same}
-use Rattle.store_slots.proofs.states.References.{count_of, has_shared, named_count, reference_to}
+use Common.{ap, AreReferred, arith, bit, Bool, Cell, cell_of, cell_under, CellName, cells_of, change_entry, cond}
+use Common.{Count, count_less, count_more, Entry, false, HasTargets, how_many, IfSome, IfSome_then, is_live, is_name}
+use Common.{is_shared, is_some, IsReferred, IsSlotTable, IsUnborrowed, IsWritten, Kept, kept_data, length, length-set}
+use Common.{List, live_target, Location, many_some, many_within, Name, name_here, name_of_cell, name_test, named_by}
+use Common.{named_gives, NameMap, nat_cmp, nat_tests, ne_eqb, None, Option, option_map, passes, refers, refers_to}
+use Common.{refl, set_written, shared_target, slice_get, SlotData, SlotsState, Some, state_of, sym, target_in, true}
+use Common.{[], ℕ, ◌+◌, ◌-◌, ◌<◌, ◌∙◌, ◌≡◌, ◌≢◌}
+use Rattle.store_slots.proofs.states.Changes.{found, found_in, IsFound, live_seen, referred, rekept, rekept_length}
+use Rattle.store_slots.proofs.states.Changes.{rekept_state, rekept_written, slotted_still, state_same}
+use Rattle.store_slots.proofs.states.References.{count_of, has_shared, named_count}
 use Rattle.store_slots.proofs.states.{States.get_cells, States.not_named}
 use Rattle.store_cells.specs.Data.{SlotData as slot}
 use Rattle.std.specs.FinMap as map
@@ -103,23 +102,8 @@ module _ {T : Type 0} where
   -- no reference names what isn't live
   none_refer : (slots : List (Entry T)) → HasTargets (cells_of slots) → (m : Name)
       → map.get (cells_of slots) m ≡ None → how_many (refers m) slots ≡ 0
-  none_refer slots targets m gone = at (how_many (refers m) slots) (named_count slots m)
-    where
-      at : (k : ℕ) → is_named (cells_of slots) m ≡ nat_lt 0 k → k ≡ 0
-      at zero named = refl
-      at (suc k) named =
-          let it = named_gives (cells_of slots) m (named ∙ lt-ltb 0 (suc k) (omega arith)) in
-          let no = rw gone at (targets it.0 m it.1 it.2) in cc
-
-  -- what isn't live is no cell, and refers to nothing
-  dead_refers : (q : Name) (o : Option (Entry T)) → passes (λ e. is_live e.kept) o ≡ false
-      → passes (refers q) o ≡ false
-  dead_refers q o dead = grind arith
-
-  new_fresh : (slots : List (Entry T)) (i g : ℕ)
-      → passes (λ e. is_live e.kept) (slice_get slots i) ≡ false
-      → map.get (cells_of slots) (record { slot = i; generation = g }) ≡ None
-  new_fresh slots i g dead = get_cells slots (record { slot = i; generation = g }) ∙ grind arith
+  none_refer slots targets m gone =
+      let it = named_gives (cells_of slots) m in grind (arith, nat_tests, named_count, targets)
 
   -- a content without borrows is a cell, which names what the content does
   pub unborrowed_cell : (d : SlotData T) (l : Location) → IsUnborrowed d
@@ -129,9 +113,17 @@ module _ {T : Type 0} where
   unborrowed_cell (slot.Reference m g) l free = (_, refl)
   unborrowed_cell _ l free = absurd free
 
-  data_refers : (d : SlotData T) (l : Location) (q : Name)
-      → refers_to q (cell_of (kept_data [] l d)) ≡ is_target (named_by d) q
-  data_refers d l q = grind arith
+  -- a shared cell is there still where another slot is written
+  pub still_shared : {slots after : List (Entry T)} {i : ℕ} {t : Entry T}
+      → IsWritten slots after i t
+      → passes (λ e. is_shared (cell_of e.kept)) (slice_get slots i) ≡ false
+      → (m : Name) → is_shared (map.get (cells_of slots) m) ≡ true
+      → is_shared (map.get (cells_of after) m) ≡ true
+  still_shared {slots} {after} {i} w plain m shared =
+      let t = has_shared slots m shared in
+      let is = t.shared in
+      let apart : m.slot ≢ i = λ z. let no = rw (← z, t.there) at plain in cc in
+      rw (get_cells after m, w.at m.slot, ne_eqb m.slot i apart, ← get_cells slots m) shared
 
   -- where it's written in a slot that had no cell, its target, if it has one, doesn't count it yet
   pub uncounted_made : {slots after : List (Entry T)} {i g : ℕ} (d : SlotData T)
@@ -142,28 +134,13 @@ module _ {T : Type 0} where
       → IfSome (named_by d) (λ m. is_shared (map.get (cells_of slots) m) ≡ true)
       → IsUncounted after (named_by d)
   uncounted_made {slots} {after} {i} {g} d l w dead r targets target = record {
-    counted = referred w r
-        (λ q other. rw (dead_refers q _ dead, data_refers d l q) (omega arith))
-        (λ shared. let n : Name = record { slot = i; generation = g } in rw (
-          dead_refers n _ dead,
-          none_refer slots targets n (new_fresh slots i g dead),
-          data_refers d l n,
-        ) (omega arith));
-    shared = IfSome_then (named_by d) target still;
+    counted = referred w r (λ q other. grind arith) (λ shared.
+        let n : Name = record { slot = i; generation = g } in
+        let none = none_refer slots targets n (get_cells slots n ∙ grind arith) in grind arith);
+    shared = IfSome_then (named_by d) target (still_shared w (grind arith));
   }
-    where
-      still : (m : Name) → is_shared (map.get (cells_of slots) m) ≡ true
-          → is_shared (map.get (cells_of after) m) ≡ true
-      still m shared =
-          let t = has_shared slots m shared in
-          let apart : m.slot ≢ i = λ z. let gone = rw (← z, t.there) at dead in cc in
-          rw (get_cells after m, w.at m.slot, ne_eqb m.slot i apart, ← get_cells slots m) shared
 
--- what a refusal says holds where there is one
-pub err_holds : {A E P : Type 0} (r : Result A E) → is_err r ≡ true → OnErr r P → P
-err_holds r h p = grind arith
-
--- ---- a cell goes
+-- ---- a cell goes, or names another value
 
 -- what a cell refers to is its target
 refers_target : {T : Type 0} (q : Name) (c : Option (Cell T))
@@ -173,34 +150,45 @@ refers_target q c = grind arith
 -- the slots once what a name refers to, if it's live and shared, counts the reference no more
 pub record IsForgotten {T : Type 0} (slots : List (Entry T)) (target gone : Option Name) : Type 0
   where
+    pub within : IfSome gone (λ m. m.slot < length slots)
     pub some : IfSome gone (λ m. IfSome (slice_get slots m.slot) (λ e. 0 < e.references))
     pub counted : AreReferred (λ q. bit (is_target target q)) (count_less slots gone)
 
-module _ {T : Type 0} (slots : List (Entry T)) (r : AreReferred (λ m. 0) slots) (n : Name) where
-  module _ (m : Name) (l : Location) (there : map.get (cells_of slots) n ≡ Some (Ref m l)) where
+-- its count may fall
+pub may_fall : {T : Type 0} {slots : List (Entry T)} {target : Option Name} (o : Option CellName)
+    → IsForgotten slots target (option_map name_of_cell o) → IfSome o (λ m. m.slot < length slots)
+    × IfSome o (λ m. IfSome (slice_get slots m.slot) (λ e. 0 < e.references))
+may_fall None f = (tt, tt)
+may_fall (Some m) f = (f.within, f.some)
+
+forgotten : {T : Type 0} (slots : List (Entry T)) → AreReferred (λ m. 0) slots → (n : Name)
+    → (target : Option Name) → target ≡ target_in (map.get (cells_of slots) n)
+    → IsForgotten slots target (shared_target slots target)
+forgotten slots r n None is = record { within = tt; some = tt; counted = r }
+forgotten {T} slots r n (Some m) is = by (is_shared (cell_under slots m)) refl
+  where
     -- a live target counts one reference at least; it counts one less, and just this one isn't
-    -- counted then
-    pub one_forgotten : is_shared (map.get (cells_of slots) m) ≡ true
-        → IsForgotten slots (Some m) (Some m)
-    one_forgotten shared =
-        let t = has_shared slots m shared in
-        let f = found slots n is_some refl (ap is_some there) in
-        let some = many_some (refers m) slots n.slot _ f.there
-        (ap (refers_to m) (sym f.cell ∙ there) ∙ name_here m) in
+    -- counted then; one that isn't live, or isn't shared, is counted nowhere
+    by : (b : Bool) → is_shared (cell_under slots m) ≡ b
+        → IsForgotten slots (Some m) (cond b (Some m) None)
+    by true shared =
+        let t = has_shared slots m (rw (get_cells slots m) shared) in
+        let f = found slots n (λ c. is_some (target_in c)) refl (ap is_some (sym is)) in
+        let names : refers_to m (cell_of f.kept) ≡ true =
+        grind (arith, refers_target, name_here, f.cell) in
+        let some = many_some (refers m) slots n.slot _ f.there names in
         let count = count_of r t in
         let own = ap bit (name_here m) in
         record {
+          within = t.within;
           some = rw t.there (omega arith);
           counted = referred
               (recounted_written slots m.slot (λ e. e.references - 1) _ t.there) r
               (λ q other. rw (t.there, not_named q m other) refl)
               (λ shared. rw t.there (omega arith));
         }
-
-    -- a target that isn't live, or isn't shared, is counted nowhere
-    none_forgotten : is_shared (map.get (cells_of slots) m) ≡ false
-        → IsForgotten slots (Some m) None
-    none_forgotten dead = record {
+    by false dead = record {
+      within = tt;
       some = tt;
       counted = record { each = λ k. at k (slice_get slots k) refl (r.each k) };
     }
@@ -210,87 +198,59 @@ module _ {T : Type 0} (slots : List (Entry T)) (r : AreReferred (λ m. 0) slots)
         at k None there was = tt
         at k (Some e) there was = λ shared.
             let q : Name = record { slot = k; generation = e.generation } in
-            let same = was shared in
-            let no = ap bit (name_apart q m (λ is. let own = rw (
-              ← is,
-              get_cells slots q,
-              there,
-              eq-eqb e.generation e.generation refl,
-            ) at dead in cc)) in omega arith
+            let same = was shared in grind (arith, nat_tests, name_test)
 
-  pub forgotten : (target : Option Name) → target ≡ target_in (map.get (cells_of slots) n)
-      → IsForgotten slots target (shared_target slots target)
-  forgotten None is = record { some = tt; counted = r }
-  forgotten (Some m) is =
-      let ref = reference_to _ m (sym is) in
-      by ref.0 ref.1 (is_shared (cell_under slots m)) (ap is_shared (get_cells slots m))
-    where
-      by : (l : Location) → map.get (cells_of slots) n ≡ Some (Ref m l) → (b : Bool)
-          → is_shared (map.get (cells_of slots) m) ≡ b
-          → IsForgotten slots (Some m) (cond b (Some m) None)
-      by l there true shared = one_forgotten m l there shared
-      by l there false dead = none_forgotten m l there dead
+-- a live cell that goes or names another value, once the slot of the shared value that it names
+-- counts it no more
+pub record Leaves {T : Type 0} (slots : List (Entry T)) (start peak spare : ℕ) (now : SlotsState T)
+    (n : Name) (named : Option Name) : Type 0 where
+  pub less : IsRecounted slots (count_less slots named)
+  pub view : record { state = state_of start peak (count_less slots named); spare = spare } ≡ now
+  pub cell : IsFound (count_less slots named) n
+  pub forgets : IsForgotten slots (target_in (cell_of cell.kept)) named
 
--- it is within the slots then, and its count may fall
-pub may_fall : {T : Type 0} {slots : List (Entry T)} (target : Option Name) (o : Option CellName)
-    → option_map name_of_cell o ≡ shared_target slots target
-    → IsForgotten slots target (option_map name_of_cell o)
-    → IfSome o (λ m. m.slot < length slots)
-    × IfSome o (λ m. IfSome (slice_get slots m.slot) (λ e. 0 < e.references))
-may_fall target None is f = (tt, tt)
-may_fall None (Some m) is f = cc
-may_fall {slots} (Some k) (Some m) is f =
-    let both = cond_some (is_shared (cell_under slots k)) k (name_of_cell m) (sym is) in
-    let at : is_shared (map.get (cells_of slots) k) ≡ true = rw (get_cells slots k) both.0 in
-    let t = has_shared slots k at in
-    let within = t.within in
-    (rw both.1 at within, f.some)
+forgets_of : {T : Type 0} {slots : List (Entry T)} {start peak spare : ℕ} {now : SlotsState T}
+    (n : Name) {named : Option Name}
+    → record { state = state_of start peak slots; spare = spare } ≡ now
+    → named ≡ live_target now.state.cells (map.get now.state.cells n) → AreReferred (λ m. 0) slots
+    → IsForgotten slots (target_in (map.get now.state.cells n)) named
+forgets_of {slots = slots} n view is r =
+    rw (is, live_seen slots view) (forgotten slots r n _ (rw (← view) refl))
 
--- the counts are right once the reference is gone
-pub referred_ended : {T : Type 0} {slots : List (Entry T)} {n : Name} (f : IsFound slots n)
-    {target : Option Name} → target ≡ target_in (map.get (cells_of slots) n)
-    → AreReferred (λ q. bit (is_target target q)) slots → AreReferred (λ m. 0) (ended f)
-referred_ended f is r =
-    referred (rekept_written f.spot (λ k. Empty)) r
-    (λ q other. let own = ap bit (refers_target q (cell_of f.kept)) in
-    rw (f.there, is, f.cell) (omega arith))
-    (λ shared. absurd cc)
+module _ {T : Type 0} {slots : List (Entry T)} {start peak spare : ℕ} {now : SlotsState T}
+    {n : Name} {named : Option Name} where
+  pub leaves : record { state = state_of start peak slots; spare = spare } ≡ now
+      → is_some (map.get now.state.cells n) ≡ true
+      → named ≡ live_target now.state.cells (map.get now.state.cells n)
+      → AreReferred (λ m. 0) slots → Leaves slots start peak spare now n named
+  leaves view there is r =
+      let less = counted_down slots named in
+      let same : record { state = state_of start peak (count_less slots named); spare = spare }
+      ≡ now = rw (less.state start peak) view in
+      let cell = found_in same there in
+      let was = sym (ap (λ (x : SlotsState T). map.get x.state.cells n) same) ∙ cell.cell in
+      record { less = less; view = same; cell = cell; forgets = rw was at (forgets_of n view is r) }
 
--- ---- a reference that names another shared value, and the counts of both
+  -- the slots once the cell's slot keeps something else
+  module _ (h : Leaves slots start peak spare now n named) (k : Kept T → Kept T) where
+    abbrev pub slots_left : List (Entry T)
+    slots_left = rekept h.cell.spot k
 
-module _ {T : Type 0} where
-  -- the reference names another cell
-  module _ {slots : List (Entry T)} {n old : Name} (f : HasReference slots n old) (new : Name) where
-    abbrev pub turned : List (Entry T)
-    turned = rekept f.spot (referring new)
+    pub left_length : length slots_left ≡ length slots
+    left_length = rekept_length h.cell.spot k ∙ h.less.long
 
-    turned_cells : cells_of turned ≡ map.insert (cells_of slots) n (Ref new f.created)
-    turned_cells = rekept_put f.spot (referring new) (Ref new f.created) refl
+    pub left_state : (f : NameMap (Cell T) → NameMap (Cell T))
+        → cells_of slots_left ≡ f (cells_of (count_less slots named))
+        → state_of start peak slots_left ≡ record now.state { cells = f now.state.cells }
+    left_state f is = rekept_state h.cell.spot k start peak is
+        ∙ ap (λ (x : SlotsState T). record x.state { cells = f x.state.cells }) h.view
 
-    pub turned_state : (start peak : ℕ) → state_of start peak turned
-        ≡ record (state_of start peak slots)
-        { cells = map.insert (cells_of slots) n (Ref new f.created) }
-    turned_state start peak = rekept_state f.spot (referring new) start peak turned_cells
-
-    -- where the old target counts it no more, the new one doesn't count it yet
-    pub turned_referred : AreReferred (λ q. bit (is_name q old)) slots
-        → AreReferred (λ q. bit (is_name q new)) turned
-    turned_referred r =
-        referred (rekept_written f.spot (referring new)) r (λ q other. rw f.there (omega arith))
-        (λ shared. absurd cc)
-
-    -- the new target is shared as before
-    pub turned_target : is_shared (map.get (cells_of slots) new) ≡ true
-        → is_shared (map.get (cells_of turned) new) ≡ true
-    turned_target shared =
-        let apart : new ≢ n = λ z. let no = rw (z, f.cell) at shared in cc in rw (
-          turned_cells,
-          get-insert_apart by_name (cells_of slots) n (Ref new f.created) new apart,
-        ) shared
-
-  -- what holds of the slots holds then
-  pub turned_slotted : {p : SlotTable T} → IsSlotTable p → {n old : Name}
-      (f : HasReference p.slots n old) (new : Name)
-      → IsSlotTable (record p { slots = turned f new })
-  turned_slotted s f new = slotted_still s (rekept_written f.spot (referring new)) f.there refl refl
-      (rekept_length f.spot (referring new))
+    -- what it names then isn't counted yet
+    pub left_counts : is_shared (cell_of (k h.cell.kept)) ≡ false
+        → AreReferred (λ q. bit (is_target (target_in (cell_of (k h.cell.kept))) q)) slots_left
+    left_counts plain =
+        referred (rekept_written h.cell.spot k) h.forgets.counted (λ q other. rw (
+          h.cell.there,
+          refers_target q (cell_of h.cell.kept),
+          refers_target q (cell_of (k h.cell.kept)),
+        ) (omega arith)) (λ shared. absurd cc)

@@ -1,20 +1,14 @@
 -- The end of one name, by the value that goes with it.
 use Rattle.store_slots.proofs.Common
-use Common.{arith, Bool, Borrow, borrowed_end, by_name, Cell, cells_after, changed_there, close, close_one, cond}
-use Common.{content_at, false, fill, first_hindrance, get-changed_here, get-remove_apart, get-remove_here}
-use Common.{has_no_borrow, Here, hindrance_to, is_named, is_some, is_unborrowed_value, IsLinked, Lent, List}
-use Common.{live_target, Location, Name, name_exact, name_total, NameMap, None, one_hindered, Option, Ref, refill}
-use Common.{refl, refusal_of, Some, State, target_in, true, unborrowed_value, Value, would_end, write_refusal, []}
-use Common.{◌∙◌, ◌∷◌, ◌≡◌, ◌≢◌}
+use Common.{arith, Borrow, by_name, Cell, cells_after, changed_there, close, close_one, cond, content_at, false, fill}
+use Common.{first_hindrance, get-changed_here, get-remove_apart, get-remove_here, has_no_borrow, Here, hindrance_to}
+use Common.{is_named, is_some, is_unborrowed_value, IsLinked, Lent, List, live_target, Location, Name, name_total}
+use Common.{NameMap, None, one_hindered, Option, Ref, refill, refl, refusal_of, Some, State, target_in, true}
+use Common.{unborrowed_value, Value, would_end, write_refusal, [], ◌∷◌, ◌≡◌, ◌≢◌}
+use Rattle.store_slots.proofs.states.{States.same_cells}
 use Rattle.std.specs.FinMap as map
 
 module _ {T : Type 0} where
-  -- what hinders the end of a name is what hinders that of the value that goes
-  pub borrowed_ending : (cells : NameMap (Cell T)) (named : Name → Bool) (n : Name)
-      (cell : Option (Cell T)) → map.get cells n ≡ cell
-      → borrowed_end cells named cell ≡ refusal_of cells (would_end named cell n)
-  borrowed_ending cells named n cell at = grind arith
-
   -- what hinders the end of a list is told by the cells
   pub hindrance_is : (S : State T) (names : List Name)
       → hindrance_to S names ≡ first_hindrance S.cells (cells_after S.cells names) names
@@ -37,8 +31,7 @@ module _ {T : Type 0} where
       (ending : d ≡ would_end (is_named (map.remove S.cells n)) (map.get S.cells n) n) where
     -- a borrow of that value hinders the end, and no other
     pub ending_hinders : hindrance_to S (n ∷ []) ≡ refusal_of S.cells d
-    ending_hinders = rw ending (one_hindered S n linked _ refl
-        ∙ borrowed_ending S.cells (is_named (map.remove S.cells n)) n _ refl)
+    ending_hinders = let all = one_hindered S n linked _ refl in grind arith
 
     -- a reference stays as it is when the value has gone, and then it goes
     pub reference_goes : {o : Option Name} → o ≡ target_in (map.get S.cells n) → is_some o ≡ true
@@ -50,8 +43,6 @@ module _ {T : Type 0} where
         let kept = get-remove_apart by_name S.cells ref.0 n apart in
         let gone = get-remove_here by_name S.cells ref.0 in
         let closed = close_one S.cells n linked _ ref.2 in
-        let goes = rw ref.2 at ending in
-        let names = rw ref.2 at is in
         record { there = grind arith; named = grind arith; alone = grind arith; closes = grind arith }
 
     -- a value ends by itself, and what is neither a value nor a reference changes nothing
@@ -59,19 +50,11 @@ module _ {T : Type 0} where
         → without S d ≡ close S (n ∷ [])
     value_closes h = let ends = close_one S.cells n linked _ refl in grind arith
 
-  -- what isn't such a value hands nothing back
-  pub none_to_take : (c : Option (Cell T)) → is_unborrowed_value c ≡ false
-      → None ≡ unborrowed_value c
-  none_to_take c h = grind arith
-
   -- an insertion at a key that is then removed changes nothing
   removed_again : (cells : NameMap (Cell T)) (n : Name) (c : Cell T)
       → map.remove (map.insert cells n c) n ≡ map.remove cells n
-  removed_again cells n c = map.same_map name_total name_exact _ _ (λ q. rw (
-    map.get-remove name_total (map.insert cells n c) n q,
-    map.get-insert name_total cells n c q,
-    map.get-remove name_total cells n q,
-  ) (grind arith))
+  removed_again cells n c = same_cells _ _ (λ q.
+      grind (arith, map.get-remove {X = Cell T} name_total, map.get-insert {X = Cell T} name_total))
 
   -- a value of its own without borrows ends by itself, and nothing hinders that; it can be lent, and
   -- then goes as it would have gone
@@ -91,25 +74,20 @@ module _ {T : Type 0} where
   free_ends S {n} linked free =
       let own : (v : T) × (l : Location) × (map.get S.cells n ≡ Some (Value (Here v []) l)) =
       grind arith in
-      let closes : record S { cells = map.remove S.cells n } ≡ close S (n ∷ []) =
-      rw (close_one S.cells n linked _ own.2) refl in
+      let ends = close_one S.cells n linked _ own.2 in
       record {
         goes = record {
           there = rw own.2 refl;
           named = rw own.2 refl;
           alone = rw own.2 refl;
-          closes = closes;
+          closes = rw ends refl;
         };
         hinders = one_hindered S n linked _ own.2;
         unborrowed = rw own.2 refl;
         value = λ v is. rw own.2 (let same = rw own.2 at is in cc);
         lent = λ w.
-            let cell = get-changed_here by_name S.cells n (refill (Lent w)) _ own.2 in (
-              rw cell refl,
-              rw cell refl,
-              rw (
-                changed_there by_name S.cells n (refill (Lent w)) _ own.2,
-                removed_again S.cells n (Value (Lent w) own.1),
-              ) closes,
-            );
+            let cell = get-changed_here by_name S.cells n (refill (Lent w)) _ own.2 in
+            let there = changed_there by_name S.cells n (refill (Lent w)) _ own.2 in
+            let again = removed_again S.cells n (Value (Lent w) own.1) in
+            (rw cell refl, rw cell refl, rw (there, again, ends) refl);
       }

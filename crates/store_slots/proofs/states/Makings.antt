@@ -2,13 +2,13 @@
 use Rattle.store_slots.proofs.Common
 use Common.{add_cell, ap, AreReferred, arith, cell_in, cell_of, cells_of, cond_same, contains-remove_at, Count}
 use Common.{count_more, count_of, Empty, Entry, false, free, given_in, HasTargets, how_many, IfSome, is_live}
-use Common.{is_reusable, is_shared, is_some, is_spent, IsNew, IsSlotTable, IsUnborrowed, IsWritten, Kept, kept_data}
-use Common.{last_generation, leb, length, length-append, length-set, List, Location, max, Name, named_by, nat_cmp}
-use Common.{nat_cmp_total, nat_eq, nat_lt, nat_tests, None, not, not_left, Option, passes, push_written, put_back}
-use Common.{refl, Retirements, set_written, slice_get, slice_get_past, slice_get_within, slice_set, SlotData}
-use Common.{SlotTable, Some, State, state_of, sym, true, [], ℕ, ◌&&◌, ◌++◌, ◌+◌, ◌<◌, ◌||◌, ◌∙◌, ◌∷◌, ◌≡◌, ◌≤◌}
+use Common.{is_shared, is_some, is_spent, IsNew, IsSlotTable, IsUnborrowed, IsWritten, kept_data, last_generation}
+use Common.{leb, length, length-append, length-set, List, Location, many_some, max, Name, named_by, nat_cmp}
+use Common.{nat_cmp_total, nat_eq, nat_lt, nat_tests, None, passes, push_written, refl, Retirements, set_written}
+use Common.{slice_get, slice_get_past, slice_get_within, slice_set, SlotData, SlotTable, Some, State, state_of, sym}
+use Common.{true, [], ℕ, ◌&&◌, ◌++◌, ◌+◌, ◌-◌, ◌<◌, ◌||◌, ◌∙◌, ◌∷◌, ◌≡◌, ◌≤◌}
 use Rattle.store_slots.proofs.states.Counting.{counted_more, counted_up, IsUncounted, unborrowed_cell, uncounted_made}
-use Rattle.store_slots.proofs.states.States.{free_are, len_cells, live_cell, new_first, new_next}
+use Rattle.store_slots.proofs.states.States.{free_are, free_seen, len_cells, live_cell, new_first, new_next}
 use Rattle.store_slots.proofs.states.{Changes.cells_put, Changes.given_put, Changes.slotted}
 use Rattle.std.specs.FinMap as map
 use Rattle.std.specs.FinSet as set
@@ -20,14 +20,6 @@ pub one_made : (r : Retirements) (made : ℕ) → r.retired ≤ made → count_o
       peak = max (count_of r made).peak ((count_of r made).usable + 1);
     }
 one_made r made few = grind arith
-
--- the entry of a free slot
-record IsFreeSlot {T : Type 0} (slots : List (Entry T)) (i : ℕ) : Type 0 where
-  last : ℕ
-  references : ℕ
-  there : slice_get slots i
-      ≡ Some (record { generation = last; kept = Empty; references = references })
-  spent : nat_lt last last_generation ≡ true
 
 module _ {T : Type 0} {p : SlotTable T} (s : IsSlotTable p) where
   -- the state for which the slots stand
@@ -48,49 +40,39 @@ module _ {T : Type 0} {p : SlotTable T} (s : IsSlotTable p) where
   -- ---- a slot that is free
 
   module _ (i : ℕ) (member : set.contains p.free i ≡ true) where
-    free_slot : IsFreeSlot p.slots i
-    free_slot = at (slice_get p.slots i) refl (sym (s.pooled i) ∙ member)
-      where
-        own : (k : Kept T) {g r : ℕ} → slice_get p.slots i
-            ≡ Some (record { generation = g; kept = k; references = r })
-            → (not (is_live k) && nat_lt g last_generation) ≡ true → IsFreeSlot p.slots i
-        own Empty {g} {r} there h = record { last = g; references = r; there = there; spent = h }
-        own _ there h = cc
-
-        at : (o : Option (Entry T)) → slice_get p.slots i ≡ o → is_reusable o ≡ true
-            → IsFreeSlot p.slots i
-        at None there h = cc
-        at (Some e) there h = own e.kept there h
+    -- its entry
+    free_slot : (e : Entry T) × (slice_get p.slots i ≡ Some e) × (e.kept ≡ Empty)
+        × (nat_lt e.generation last_generation ≡ true)
+    free_slot = let usable = sym (s.pooled i) ∙ member in grind arith
 
     pub taken_within : i < length p.slots
-    taken_within = slice_get_within p.slots i _ free_slot.there
+    taken_within = slice_get_within p.slots i _ free_slot.1
 
     -- one free slot less
     pub taken_less : set.len (set.remove p.free i) + 1 ≡ set.len p.free
     taken_less =
-        let more : set.len (set.insert (set.remove p.free i) i)
-        ≡ set.len (set.remove p.free i) + 1 =
-        set.len-insert nat_cmp_total (set.remove p.free i) i
-        ∙ rw (not_left p.free i member) refl in
-        sym more ∙ ap set.len (put_back p.free i member)
+        let own = free_slot in
+        let some = many_some is_spent p.slots i own.0 own.1 (rw own.2 own.3) in
+        let less = rw member at (set.len-remove nat_cmp_total p.free i) in
+        let stocked = s.stocked in omega arith
 
     -- a free slot is none of the live ones
     peak_stays : max p.counts.peak (many + 1) ≡ p.counts.peak
-    peak_stays =
-        let less = taken_less in let counted = s.counted in let few = s.few in omega arith
+    peak_stays = grind (arith, taken_less, s.counted, s.few)
 
 -- ---- a content more, without borrows, of which the target is shared
 
--- slots after it was put into one, under this name, and how many they are then; the target doesn't
--- count it yet
+-- slots after it was put into one, under this name, where the target doesn't count it yet; and once
+-- that does, with how many they are then
 pub record IsPut {T : Type 0} (S : State T) (d : SlotData T) (l : Location) (q : SlotTable T)
     (n : Name) (size : ℕ) : Type 0 where
   pub fits : IsNew S n
-  pub added : IfSome (cell_of (kept_data [] l d))
-      (λ c. state_of q.start q.counts.peak q.slots ≡ add_cell S n c)
-  pub long : length q.slots ≡ size
-  pub table : IsSlotTable q
   pub uncounted : IsUncounted q.slots (named_by d)
+  pub added : IfSome (cell_of (kept_data [] l d))
+      (λ c. state_of q.start q.counts.peak (count_more q.slots (named_by d)) ≡ add_cell S n c)
+  pub long : length (count_more q.slots (named_by d)) ≡ size
+  pub table : IsSlotTable (record q { slots = count_more q.slots (named_by d) })
+  pub referred : AreReferred (λ m. 0) (count_more q.slots (named_by d))
 
 module _ {T : Type 0} (d : SlotData T) (l : Location) where
   abbrev entry : ℕ → Entry T
@@ -120,12 +102,17 @@ module _ {T : Type 0} {p : SlotTable T} (s : IsSlotTable p) (r : AreReferred (λ
       let n = len_cells slots' in
       let same : counts.peak ≡ max p.counts.peak (map.len (cells_of slots')) = omega arith in
       let cells = cells_put w (λ h e. empty h) cell.0 cell.1 in
+      let given = given_put w p.start more in
+      let again = counted_up slots' (named_by d) in
+      let recounted = again.state p.start counts.peak in
+      let uncounted = uncounted_made d l w dead r (rw (← view) at linked) (rw (← view) at target) in
       record {
         fits = rw (← view) new;
-        added = rw (cell.1, ← view, same, cells, given_put w p.start more) refl;
-        long = long;
-        table = table;
-        uncounted = uncounted_made d l w dead r (rw (← view) at linked) (rw (← view) at target);
+        uncounted = uncounted;
+        added = rw (recounted, cell.1, ← view, same, cells, given) refl;
+        long = again.long ∙ long;
+        table = again.table table;
+        referred = counted_more _ uncounted;
       }
 
   -- in one that is used again
@@ -136,28 +123,31 @@ module _ {T : Type 0} {p : SlotTable T} (s : IsSlotTable p) (r : AreReferred (λ
   reuses {i} member {g} is =
       let own = free_slot s i member in
       let live = lives d l unborrowed in
-      let next : g ≡ own.last + 1 = rw own.there at is in
-      let since : p.start ≤ own.last = rw own.there at (s.begun i) in
-      let w = set_written p.slots i (entry d l g) _ own.there in
+      let next : g ≡ own.0.generation + 1 = rw own.1 at is in
+      let since : p.start ≤ own.0.generation = rw own.1 at (s.begun i) in
+      let w = set_written p.slots i (entry d l g) _ own.1 in
       let long : length (slice_set p.slots i (entry d l g)) ≡ length p.slots = length-set p.slots i _ in
       let less = taken_less s i member in
-      let some = rw (own.there, own.spent, live) at (w.count is_spent) in
+      let some = rw (own.1, own.2, own.3, live) at (w.count is_spent) in
       let stocked = s.stocked in let b = s.bounded in let r = s.roomy in
       is_put (set.remove p.free i) p.counts _ i g _ (sym (peak_stays s i member)) w
-      (λ h. rw own.there (cond_same _ None)) (rw own.there refl)
-      (λ h. rw own.there (grind (arith, nat_tests))) (rw next (new_next s i _ own.there own.spent)) long
+      (λ h. rw (own.1, own.2) (cond_same _ None)) (rw (own.1, own.2) refl)
+      (λ h. rw own.1 (grind (arith, nat_tests)))
+      (rw next (new_next s i _ own.1 (rw own.2 own.3))) long
       (slotted s w (set.remove p.free i) p.rooms p.counts
       (λ k. rw live (contains-remove_at p.free i k))
-      (rw (own.there, own.spent, live) (omega arith))
-      (rw (own.there, own.spent, live) (omega arith)) (omega arith) (omega arith) s.few (omega arith))
+      (rw (own.1, own.2, own.3, live) (omega arith))
+      (rw (own.1, own.2, own.3, live) (omega arith)) (omega arith) (omega arith) s.few
+      (omega arith))
 
   -- in a slot more
-  pub pushes : p.free ≡ set.empty → length p.slots < p.rooms
+  pub pushes : free S ≡ 0 → 0 < set.len p.free + (p.rooms - length p.slots)
       → IsPut S d l (record p { counts = raised s; slots = p.slots ++ entry d l p.start ∷ [] })
       (record { slot = length p.slots; generation = p.start }) (length p.slots + 1)
-  pushes none room =
+  pushes full room =
       let live = lives d l unborrowed in
-      let unused : set.len p.free ≡ 0 = ap set.len none ∙ set.len-empty nat_cmp in
+      let unused = free_seen s view ∙ full in
+      let none = set.empty_of_len p.free unused in
       let past : slice_get p.slots (length p.slots) ≡ None =
       slice_get_past p.slots (length p.slots) (omega arith) in
       let w = push_written p.slots (entry d l p.start) in
@@ -171,22 +161,3 @@ module _ {T : Type 0} {p : SlotTable T} (s : IsSlotTable p) (r : AreReferred (λ
       (λ k. rw (live, none, set.contains-empty nat_cmp k)
       (sym (cond_same (nat_eq k (length p.slots)) false))) (rw (past, live) refl)
       (rw (past, live) (omega arith)) (omega arith) (omega arith) (omega arith) (omega arith))
-
--- these slots once the target counts it
-pub record IsMore {T : Type 0} (S : State T) (d : SlotData T) (l : Location) (q : SlotTable T)
-    (n : Name) (size : ℕ) (now : List (Entry T)) : Type 0 where
-  pub added : IfSome (cell_of (kept_data [] l d)) (λ c. state_of q.start q.counts.peak now ≡ add_cell S n c)
-  pub long : length now ≡ size
-  pub table : IsSlotTable (record q { slots = now })
-  pub referred : AreReferred (λ m. 0) now
-
-pub counted_in : {T : Type 0} {S : State T} {d : SlotData T} {l : Location} {q : SlotTable T} {n : Name}
-    {size : ℕ} → IsPut S d l q n size → {mid now : List (Entry T)} {o : Option Name} → o ≡ named_by d
-    → mid ≡ q.slots → now ≡ count_more mid o → IsMore S d l q n size now
-counted_in {d = d} {q = q} put names is more =
-    let same = counted_up q.slots (named_by d) in rw (more, is, names) (record {
-      added = rw (same.state q.start q.counts.peak) put.added;
-      long = same.long ∙ put.long;
-      table = same.table put.table;
-      referred = counted_more _ put.uncounted;
-    })

@@ -1,10 +1,10 @@
 -- One slot more is packed, in the place of one that was packed in an earlier state.
 use Rattle.store_slots.proofs.Common
-use Common.{ap, append-nil, arith, BaseRow, Cell, cell_of, cells_of, drop, Entry, entry_rows, eq-eqb, Err}
-use Common.{get_bare_cell, IfSome, inl, inr, IsSlotTable, length, length-append, List, Location, nat_tests, None, Ok}
-use Common.{OnOk, Option, option_map, Ref, refl, Result, rows_from, Shared, slice_get, slice_get_cases, SlotTable}
-use Common.{Some, State, state_of, subst, suc, sym, take, unwrap_or, Value, zero, [], ℕ, ⊎_elim, ◌++◌, ◌+◌, ◌<◌, ◌∙◌}
-use Common.{◌∷◌, ◌≡◌, ◌≤◌}
+use Rattle.std.proofs.Common.{add-one}
+use Common.{ap, append-nil, arith, BaseRow, Cell, cell_of, cells_of, drop, Entry, eq-eqb, Err, get_bare_cell, IfSome}
+use Common.{inl, inr, IsSlotTable, length, length-append, List, Location, nat_tests, None, Ok, OnOk, Option}
+use Common.{option_map, refl, Result, Shared, slice_get, slice_get_cases, SlotTable, Some, State, state_of, subst}
+use Common.{suc, sym, take, unwrap_or, Value, zero, [], ℕ, ⊎_elim, ◌++◌, ◌+◌, ◌<◌, ◌∙◌, ◌∷◌, ◌≡◌, ◌≤◌}
 use Rattle.store_slots.proofs.states.{Rows.rows_more, States.get_cells, States.get_given}
 use Rattle.std.proofs.Common.{◌⊎◌}
 use Rattle.std.proofs.Math.Seq.{drop-append_seam, take-nil, take-suc}
@@ -12,15 +12,19 @@ use Rattle.std.proofs.lemmas.List.{length-take, length-take-le}
 use Rattle.std.proofs.lemmas.Option.{get_or_from_slice_get}
 use Rattle.generational_core.specs.Cells.{location_of}
 use Rattle.generational_core.specs.Plain.{bare_cell, plain}
-use Rattle.store_slots.specs.Packing.{ArePacked, ArePastOf, AreRenewed, IsOf, IsPacked, IsPastOf, IsSmall, Packs}
-use Rattle.store_slots.specs.Packing.{WasMadeIn}
+use Rattle.store_slots.specs.Packing.{ArePacked, ArePastOf, AreRenewed, IsOf, IsPastOf, IsSmall, Packs, WasMadeIn}
 use Rattle.store_rows.proofs.Packing.{unpack_grows, unpack_snoc, whole_snoc}
-use Rattle.store_rows.specs.Packed.{unpack, unpack_all, whole_of}
+use Rattle.store_rows.specs.Packed.{whole_of}
 use Rattle.store_rows.specs.Past.{ArePastSlots, IsPastSlot, WasMadeAt}
 use Rattle.store_rows.specs.declared.packed.PackedSlot.{PackedSlot}
 use Rattle.std.specs.FinMap as map
-use Rattle.std.specs.FinSet as set
 use Rattle.store_rows.specs.declared.packed.PackedSlot.TheVariants as packed
+
+-- an element that is within a list
+some_at : {X : Type 0} (xs : List X) (k : ℕ) → k < length xs → (x : X) × (slice_get xs k ≡ Some x)
+some_at [] k within = absurd (omega arith)
+some_at (x ∷ xs) zero within = (x, refl)
+some_at (x ∷ xs) (suc k) within = some_at xs k (omega arith)
 
 -- ---- one slot after the other
 
@@ -33,25 +37,27 @@ module _ {A : Type 0} (number k : ℕ) (es : List (Entry A)) (whole : List BaseR
   one_more e there before many p =
       let done = take k slots in
       let own = p.is.more in
-      let more : k + 1 ≡ suc k = omega arith in
-      let front : unpack_all number (whole ++ own) 0 done ≡ rows_from number 0 (take k es) =
-      unpack_grows number whole own 0 done (omega (arith, before.all)) ∙ before.rows in
-      let at : 0 + length done ≡ k = omega (arith, many) in
       let from : 0 + k ≡ k = omega arith in
+      let grows = unpack_grows number whole own 0 done (omega (arith, before.all)) in
       let left : drop (whole_of done) (whole ++ own) ≡ own =
-      ap (λ n. drop n (whole ++ own)) before.all ∙ drop-append_seam whole own in
-      let back : unpack number (drop (whole_of done) (whole ++ own)) (0 + length done) p.packed
-      ≡ entry_rows number (0 + k) e =
-      (λ i. unpack number (left i) (at i) p.packed) ∙ p.is.rows
-      ∙ ap (λ s. entry_rows number s e) (sym from) in
+      rw before.all (drop-append_seam whole own) in
       record {
-        all = ap whole_of p.here ∙ whole_snoc done p.packed
-            ∙ omega (arith, before.all, p.is.many, ap length p.is.grows, length-append whole own);
-        rows = (λ i. unpack_all number (p.is.grows i) 0 (p.here i))
-            ∙ unpack_snoc number (whole ++ own) 0 done p.packed
-            ∙ (λ i. front i ++ back i)
-            ∙ sym (rows_more number 0 k es e there)
-            ∙ ap (λ m. rows_from number 0 (take m es)) (sym more);
+        all = rw (p.here, whole_snoc)
+            (omega (arith, before.all, p.is.many, ap length p.is.grows, length-append whole own));
+        rows = rw (
+          p.is.grows,
+          p.here,
+          unpack_snoc,
+          grows,
+          before.rows,
+          left,
+          many,
+          from,
+          p.is.rows,
+          add-one,
+          rows_more number 0 k es e there,
+          from,
+        ) refl;
       }
 
   -- those so far are packed, and the others are as they were
@@ -61,77 +67,55 @@ module _ {A : Type 0} (number k : ℕ) (es : List (Entry A)) (whole : List BaseR
       → ArePacked number (take (k + 1) es) whole_after (take (k + 1) slots_after)
       × (k + 1 ≤ length slots_after)
       × ((i : ℕ) → k + 1 ≤ i → slice_get slots_after i ≡ slice_get old i)
-  packed_step old before long rest within packs = elim (slice_get_cases es k).1 [
-    | inl w ↦ (
-        let many = length-take-le k slots long in
-        let p : Packs number k w.0 whole slots whole_after slots_after = rw w.2 at packs in (
-          one_more w.0 w.2 before many p,
-          omega (
-            arith,
-            ap length p.here,
-            length-append (take k slots) (p.packed ∷ []),
-            many,
-            length-take (k + 1) slots_after,
-          ),
-          λ i after. p.rest i (omega arith) ∙ rest i (omega arith),
-        ))
-    | inr w ↦ absurd (omega (arith, w.0))
-  ]
+  packed_step old before long rest within packs =
+      let e = some_at es k within in
+      let many = length-take-le k slots long in
+      let p : Packs number k e.0 whole slots whole_after slots_after = rw e.1 at packs in
+      let here = ap length p.here in
+      let more = length-append (take k slots) (p.packed ∷ []) in (
+        one_more e.0 e.1 before many p,
+        omega (arith, here, many, more, length-take (k + 1) slots_after),
+        λ i after. p.rest i (omega arith) ∙ rest i (omega arith),
+      )
 
 -- ---- a slot
 
 module _ {A : Type 0} where
-  -- one that is small is packed without a whole row
-  small_packed : (number slot : ℕ) (e : Entry A) (whole : List BaseRow) (p : PackedSlot × Location)
-      → IsSmall slot p e → IsPacked number slot e whole whole p
-  small_packed number slot e whole p small = record {
-    more = [];
-    grows = sym (append-nil whole);
-    many = small.none;
-    rows = small.rows number [];
-  }
-
-  -- one that is as it was is packed already
+  -- one that is as it was is packed already, without a whole row
   pub stayed : (number k : ℕ) (es : List (Entry A)) (whole : List BaseRow)
-      (slots : List (PackedSlot × Location)) (p : PackedSlot) → k < length slots
+      (slots : List (PackedSlot × Location)) (p : PackedSlot) → k < length es → k < length slots
       → IfSome (slice_get slots k) (λ e. p ≡ e.0)
       → IfSome (slice_get es k) (λ e. IfSome (slice_get slots k) (λ s. IsPastOf e s))
       → IfSome (slice_get es k) (λ e. (l : Location) → IsPastOf e (p, l) → IsSmall k (p, l) e)
       → IfSome (slice_get es k) (λ e. Packs number k e whole slots whole slots)
-  stayed number k es whole slots p within is were small = elim (slice_get_cases slots k).1 [
-    | inl w ↦
-        let same : p ≡ w.0.0 = rw w.2 at is in
-        at w.0 w.2 (slice_get es k) (rw w.2 at were) (rw same at small)
-    | inr w ↦ absurd (omega (arith, w.0))
-  ]
-    where
-      next : (past : PackedSlot × Location) → slice_get slots k ≡ Some past
-          → take (k + 1) slots ≡ take k slots ++ past ∷ []
-      next past there =
-          let more : k + 1 ≡ suc k = omega arith in
-          ap (λ n. take n slots) more ∙ take-suc slots k past within
-          ∙ ap (λ p. take k slots ++ p ∷ []) (get_or_from_slice_get slots k past past there)
-
-      at : (past : PackedSlot × Location) → slice_get slots k ≡ Some past → (o : Option (Entry A))
-          → IfSome o (λ e. IsPastOf e past)
-          → IfSome o (λ e. (l : Location) → IsPastOf e (past.0, l) → IsSmall k (past.0, l) e)
-          → IfSome o (λ e. Packs number k e whole slots whole slots)
-      at past there None was stays = tt
-      at past there (Some e) was stays = record {
-        packed = past;
-        is = small_packed number k e whole past (stays past.1 was);
-        here = next past there;
+  stayed number k es whole slots p there within is were stays =
+      let e = some_at es k there in
+      let past = some_at slots k within in
+      let same : p ≡ past.0.0 = rw past.1 at is in
+      let was : IsPastOf e.0 past.0 = rw past.1 at (rw e.1 at were) in
+      let small : IsSmall k past.0 e.0 = (rw (e.1, same) at stays) past.0.1 was in
+      rw e.1 (record {
+        packed = past.0;
+        is = record {
+          more = [];
+          grows = sym (append-nil whole);
+          many = small.none;
+          rows = small.rows number [];
+        };
+        here = rw (
+          add-one,
+          take-suc slots k past.0 within,
+          get_or_from_slice_get slots k past.0 past.0 past.1,
+        ) refl;
         rest = λ i after. refl;
-      }
+      })
 
   -- a cell without its value was made where it was made
   made_bare : (c : Option (Cell A)) (l : Location)
       → ((b : Cell (Unit {0})) → option_map bare_cell c ≡ Some b → location_of (Some b) ≡ Some l)
       → IfSome (location_of c) (λ k. l ≡ k)
   made_bare None l made = tt
-  made_bare (Some (Value c k)) l made = (let same = made _ refl in cc)
-  made_bare (Some (Shared c k)) l made = (let same = made _ refl in cc)
-  made_bare (Some (Ref m k)) l made = (let same = made _ refl in cc)
+  made_bare (Some c) l made = let same = made _ refl in grind arith
 
   bare_made : (c : Option (Cell A)) (l : Location) → IfSome (location_of c) (λ k. l ≡ k)
       → (b : Cell (Unit {0})) → option_map bare_cell c ≡ Some b → location_of (Some b) ≡ Some l
@@ -143,16 +127,12 @@ module _ {A : Type 0} (slots : List (Entry A)) (S : State A) (are : cells_of slo
       → map.get (plain S).cells (record { slot = slot; generation = g })
       ≡ option_map bare_cell (cell_of e.kept)
   bare_in slot g e there same =
-      get_bare_cell S.cells (record { slot = slot; generation = g })
-      ∙ (λ i. option_map bare_cell (map.get (sym are i) (record { slot = slot; generation = same i })))
-      ∙ ap (option_map bare_cell) (get_cells slots (record { slot = slot; generation = e.generation })
-      ∙ rw (there, eq-eqb e.generation e.generation refl) refl)
+      rw (same, get_bare_cell, ← are, get_cells, there, eq-eqb e.generation e.generation refl) refl
 
   made_in : (slot g : ℕ) (e : Entry A) (l : Location) → slice_get slots slot ≡ Some e
       → WasMadeAt (plain S) (record { slot = slot; generation = g }) l
       → g ≡ e.generation → WasMadeIn e l
-  made_in slot g e l there was same =
-      made_bare (cell_of e.kept) l (λ b is. was.1 b (bare_in slot g e there same ∙ is))
+  made_in slot g e l there was same = grind (arith, made_bare, bare_in)
 
   pub past_of : (past : List (PackedSlot × Location)) → ArePastSlots (plain S) past → ArePastOf slots past
   past_of past all slot = elim (slice_get_cases slots slot).1 [
@@ -176,19 +156,11 @@ module _ {X : Type 0} where
   only_at : (k : ℕ) (xs ys : List X) (x : X) → k ≤ length xs → take (suc k) ys ≡ take k xs ++ x ∷ []
       → ((i : ℕ) → k < i → slice_get ys i ≡ slice_get xs i) → (i : ℕ)
       → (slice_get ys i ≡ slice_get xs i) ⊎ ((i ≡ k) × (slice_get ys i ≡ Some x))
-  only_at zero xs [] x within here rest i = absurd cc
-  only_at zero xs (y ∷ ys) x within here rest zero = inr (refl, cc)
-  only_at zero xs (y ∷ ys) x within here rest (suc i) = inl (rest (suc i) (omega arith))
-  only_at (suc k) [] ys x within here rest i = absurd (omega arith)
-  only_at (suc k) (z ∷ xs) [] x within here rest i =
-      let none = take-nil {A = X} (suc (suc k)) in absurd cc
-  only_at (suc k) (z ∷ xs) (y ∷ ys) x within here rest zero = inl cc
   only_at (suc k) (z ∷ xs) (y ∷ ys) x within here rest (suc i) =
       let front : take (suc k) ys ≡ take k xs ++ x ∷ [] = cc in
-      let behind : (j : ℕ) → k < j → slice_get ys j ≡ slice_get xs j =
-      λ j after. rest (suc j) (omega arith) in
-      ⊎_elim (λ same. inl same) (λ at. inr (ap suc at.0, at.1))
-      (only_at k xs ys x (omega arith) front behind i)
+      let rec = only_at k xs ys x (omega arith) front (λ j after. rest (suc j) (omega arith)) i in
+      grind arith
+  only_at k xs ys x within here rest i = grind (arith, rest i, take-nil)
 
 module _ {A : Type 0} (es : List (Entry A)) where
   -- a slot in few bytes tells of its cell, and so does one of which nothing is told
@@ -197,10 +169,8 @@ module _ {A : Type 0} (es : List (Entry A)) where
       → IfSome o (λ p. IfSome (slice_get es slot)
       (λ e. (k : Location) → WasMadeIn e k → IsSmall slot (p, k) e))
       → (e : Entry A) × (slice_get es slot ≡ Some e) × IsOf e (unwrap_or o (packed.Whole 0), l)
-  small_of slot o l within made small = elim (slice_get_cases es slot).1 [
-    | inl w ↦ (w.0, w.2, at w.0 o (rw w.2 at made) (rw w.2 at small))
-    | inr w ↦ absurd (omega (arith, w.0))
-  ]
+  small_of slot o l within made small =
+      let e = some_at es slot within in (e.0, e.1, at e.0 o (rw e.1 at made) (rw e.1 at small))
     where
       at : (e : Entry A) (o : Option PackedSlot) → WasMadeIn e l
           → IfSome o (λ p. (k : Location) → WasMadeIn e k → IsSmall slot (p, k) e)
@@ -231,14 +201,7 @@ module _ {A : Type 0} {p : SlotTable A} (s : IsSlotTable p) (S : State A)
   told_past : (slot g : ℕ) (e : Entry A) (l : Location) → slice_get p.slots slot ≡ Some e
       → (g ≡ e.generation) × WasMadeIn e l
       → WasMadeAt (plain S) (record { slot = slot; generation = g }) l
-  told_past slot g e l there of = (
-    ap (λ (S : State A). set.contains S.given (record { slot = slot; generation = g })) (sym seen)
-        ∙ get_given p.start p.slots (record { slot = slot; generation = g })
-        ∙ rw (there, of.0) (let begun = rw there at (s.begun slot) in grind (arith, nat_tests)),
-    λ b is.
-        bare_made (cell_of e.kept) l of.1 b (
-        sym (bare_in p.slots S (ap (λ (S : State A). S.cells) seen) slot g e there of.0) ∙ is),
-  )
+  told_past slot g e l there of = grind (arith, get_given, s.begun, nat_tests, bare_made, bare_in)
 
   pub renewed_past : (old slots : List (PackedSlot × Location)) → ArePastSlots (plain S) old
       → AreRenewed p.slots old slots → ArePastSlots (plain S) slots

@@ -5,7 +5,7 @@ use Common.{away_shared, bit, both_ways, Cell, cell_of, cell_under, cells_of, Em
 use Common.{false, HasTargets, how_many, is_name, is_named, is_ref, is_shared, is_some, IsDistinct, IsDistinct-head}
 use Common.{IsDistinct-tail, List, Location, lt-ltb, ltb-true, many_some, Name, name_here, name_total, named_from}
 use Common.{named_gives, nat_lt, nat_tests, None, Option, passes, Ref, refers, refers_among, refers_to, refl, Shared}
-use Common.{Some, some_of_many, sum_by-cons, sym, take_away, target_in, true, Value, without_view, [], ℕ, ⊎_elim, ◌+◌}
+use Common.{Some, some_of_many, sum_by-cons, sym, take_away, target_in, true, without_view, [], ℕ, ⊎_elim, ◌+◌, ◌<◌}
 use Common.{◌∙◌, ◌∷◌, ◌≡◌}
 use Rattle.store_slots.proofs.states.Changes.{cells_ended, ended, found, IsFound, rekept_written}
 use Rattle.store_slots.proofs.states.{States.get_cells}
@@ -53,23 +53,7 @@ module _ {T : Type 0} (slots : List (Entry T)) where
   same_away names same none =
       record { left = slots; cells = same; counts = λ m. omega (arith, none m) }
 
-  -- the slot of a Value or a Ref is left empty
-  one_away : (n : Name) (c : Cell T) → cell_under slots n ≡ Some c → is_shared (Some c) ≡ false
-      → IsAway slots (n ∷ [])
-  one_away n c at plain =
-      let there = get_cells slots n ∙ at in
-      let f = found slots n is_some refl (ap is_some there) in
-      record {
-        left = ended f;
-        cells = away_one (cells_of slots) n (ap is_shared there ∙ plain) ∙ sym (cells_ended f);
-        counts = λ m.
-            let count = (rekept_written f.spot (λ k. Empty)).count (refers m) in
-            let was = ap (λ o. bit (passes (refers m) o)) f.there in
-            let own = ap (λ c. bit (refers_to m c)) (sym f.cell ∙ get_cells slots n) in
-            omega (arith, count, was, own);
-      }
-
-  -- what is left where one name ends
+  -- what is left where one name ends: the slot of a Value or a Ref is empty then
   pub first_away : (n : Name) → IsAway slots (n ∷ [])
   first_away n = by (cell_under slots n) refl
     where
@@ -78,8 +62,18 @@ module _ {T : Type 0} (slots : List (Entry T)) where
           (λ m. rw at refl)
       by (Some (Shared c l)) at = same_away (n ∷ [])
           (away_shared (cells_of slots) n (ap is_shared (get_cells slots n ∙ at))) (λ m. rw at refl)
-      by (Some (Value c l)) at = one_away n (Value c l) at refl
-      by (Some (Ref m l)) at = one_away n (Ref m l) at refl
+      by _ at =
+          let there = get_cells slots n ∙ at in
+          let f = found slots n is_some refl (ap is_some there) in
+          record {
+            left = ended f;
+            cells = away_one (cells_of slots) n (ap is_shared there) ∙ sym (cells_ended f);
+            counts = λ m.
+                let count = (rekept_written f.spot (λ k. Empty)).count (refers m) in
+                let was = ap (λ o. bit (passes (refers m) o)) f.there in
+                let own = ap (λ c. bit (refers_to m c)) (sym f.cell ∙ get_cells slots n) in
+                omega (arith, count, was, own);
+          }
 
   -- other names keep their cells
   kept_away : {names : List Name} (a : IsAway slots names) (q : Name) → among names q ≡ false
@@ -114,12 +108,10 @@ all_away (n ∷ names) apart slots =
       left = rest.left;
       cells = rw (away_each (cells_of slots) n names, one.cells) rest.cells;
       counts = λ m.
-          let first = one.counts m in
-          let others = rest.counts m in
           let same = among_away slots one m names
           (apart_each n names (IsDistinct-head is_name n names apart)) in
           let both = sum_by-cons (λ q. bit (refers_to m (cell_under slots q))) n names in
-          omega arith;
+          omega (arith, one.counts m, rest.counts m);
     }
 
 -- some are left where fewer went than there were
@@ -137,12 +129,15 @@ module _ {T : Type 0} (slots : List (Entry T)) where
 
   -- without one reference to it a cell is named where it had two
   pub named_without : (n m : Name) (l : Location) → cell_under slots n ≡ Some (Ref m l)
-      → is_named (map.remove (cells_of slots) n) m ≡ nat_lt 1 (how_many (refers m) slots)
+      → (0 < how_many (refers m) slots)
+      × (is_named (map.remove (cells_of slots) n) m ≡ nat_lt 1 (how_many (refers m) slots))
   named_without n m l at =
       let a = first_away slots n in
       let plain = away_one (cells_of slots) n (ap is_shared (get_cells slots n ∙ at)) in
-      let one : refers_among slots (n ∷ []) m ≡ 1 = rw (at, name_here m) refl in
-      rw (← plain, a.cells, named_count a.left m) (rest_left _ 1 _ (omega (arith, a.counts m)))
+      let one : refers_among slots (n ∷ []) m ≡ 1 = rw (at, name_here m) refl in (
+        omega (arith, a.counts m),
+        rw (← plain, a.cells, named_count a.left m) (rest_left _ 1 _ (omega (arith, a.counts m))),
+      )
 
 -- ---- what references name
 

@@ -2,13 +2,12 @@
 -- back.
 use Rattle.store_slots.proofs.Common
 use Common.{all_slot_rows, ap, append-nil, append_assoc, AreApart, arith, bare_cell, bare_cells, bare_entry, by_name}
-use Common.{Cell, cell_of, cell_read, cell_rows, cells_of, contains_up_to, Entry, entry_rows, eq-eqb, eq_by_cmp}
-use Common.{find_bare, get_bare_cell, give_up_to, given_from, given_of, IsSlotTable, List, list_any, live_from}
-use Common.{lt-ltb, Name, name_cmp, name_exact, name_total, Names, nat_cmp, nat_cmp_total, ne_eqb, None, number_test}
-use Common.{Option, option_map, or-false, Plain, put, put_new, read_append, read_rows, refl, rows_from, slice_get}
-use Common.{slot_rows, slots_of, SlotTable, Some, State, state_of, suc, sym, T, take, with_cell, zero, [], ℕ, ◌++◌}
-use Common.{◌+◌, ◌<◌, ◌||◌, ◌∙◌, ◌∷◌, ◌≡◌}
-use Rattle.store_slots.proofs.states.States.{any_of, find_below, get_cells, get_last}
+use Common.{Cell, cell_of, cell_read, cell_rows, cells_of, contains_up_to, Entry, entry_rows, eq_by_cmp, find_bare}
+use Common.{get_bare_cell, give_up_to, given_from, given_of, IsSlotTable, List, list_any, live_from, lt-ltb, Name}
+use Common.{name_cmp, name_total, Names, nat_cmp, nat_cmp_total, nat_tests, number_test, Option, option_map, or-false}
+use Common.{Plain, put, put_new, read_append, read_rows, refl, rows_from, slice_get, slot_rows, slots_of, SlotTable}
+use Common.{Some, State, state_of, suc, sym, T, take, with_cell, zero, [], ℕ, ◌++◌, ◌+◌, ◌<◌, ◌||◌, ◌∙◌, ◌∷◌, ◌≡◌}
+use Rattle.store_slots.proofs.states.States.{any_of, find_below, get_cells, get_last, same_cells, same_names}
 use Rattle.std.proofs.Common.{map as list_map}
 use Rattle.std.specs.FinMap as map
 use Rattle.std.specs.FinSet as set
@@ -20,13 +19,9 @@ module _ {A : Type 0} where
       → rows_from number i (take (suc k) es)
       ≡ rows_from number i (take k es) ++ entry_rows number (i + k) e
   rows_more number i k [] e there = cc
-  rows_more number i zero (x ∷ es) e there =
-      let at : i ≡ i + 0 = omega arith in
-      let same : x ≡ e = cc in rw (append-nil (entry_rows number i x), same, ← at) refl
+  rows_more number i zero (x ∷ es) e there = grind (arith, append-nil)
   rows_more number i (suc k) (x ∷ es) e there =
-      let at : (i + 1) + k ≡ i + suc k = omega arith in
-      rw (rows_more number (i + 1) k es e there, at)
-      (sym (append_assoc (entry_rows number i x) (rows_from number (i + 1) (take k es)) _))
+      grind (arith, append_assoc, rows_more number (i + 1) k es e there)
 
   -- ---- the machine's slots
 
@@ -38,10 +33,9 @@ module _ {A : Type 0} where
       → map.find nat_cmp q (numbered i es) ≡ option_map (λ e. e.generation) (slice_get es k)
   unfolding numbered
   find_numbered i [] q k is = refl
-  find_numbered i (e ∷ es) q zero is = rw (number_test q i, eq-eqb q i (omega arith)) refl
+  find_numbered i (e ∷ es) q zero is = grind (arith, nat_tests, number_test)
   find_numbered i (e ∷ es) q (suc k) is =
-      rw (number_test q i, ne_eqb q i (λ same. omega arith))
-      (find_numbered (i + 1) es q k (omega arith))
+      grind (arith, nat_tests, number_test, find_numbered (i + 1) es q k)
 
   below_numbered : (x i : ℕ) (es : List (Entry A)) → x < i
       → T (map.Entries.below_all nat_cmp x (numbered i es))
@@ -62,15 +56,10 @@ module _ {A : Type 0} where
   unfolding numbered
   rows_numbered number slots i [] same = refl
   rows_numbered number slots i (e ∷ es) same =
-      let at : i ≡ i + 0 = omega arith in
-      let there : slice_get slots i ≡ Some e = ap (slice_get slots) at ∙ same 0 in
-      rw (
-        get_cells slots (record { slot = i; generation = e.generation }),
-        there,
-        eq-eqb e.generation e.generation refl,
-        rows_numbered number slots (i + 1) es
-            (λ k. let at : (i + 1) + k ≡ i + suc k = omega arith in rw at (same (suc k))),
-      ) refl
+      let there : slice_get slots i ≡ Some e = ap (slice_get slots) (omega arith) ∙ same 0 in
+      let rest = rows_numbered number slots (i + 1) es
+      (λ k. ap (slice_get slots) (omega arith) ∙ same (suc k)) in
+      grind (arith, nat_tests, get_cells)
 
   -- ---- reading back
 
@@ -100,11 +89,7 @@ module _ {A : Type 0} where
             cells = put P.cells (list_map bare_entry (with_cell n o (live_from (i + 1) es)));
             given = give_all (i + 1) es P.given;
           }
-      at rest P n None = rest P
-      at rest P n (Some c) =
-          read_append (cell_rows number n (Some c)) (rows_from number (i + 1) es) P
-          ∙ ap (λ Q. read_rows Q (rows_from number (i + 1) es)) (cell_read P number n c)
-          ∙ rest (record P { cells = map.insert P.cells n (bare_cell c) })
+      at rest P n o = grind (arith, read_append, cell_read, rest)
 
   live_apart : (i : ℕ) (es : List (Entry A))
       → AreApart name_cmp (list_map bare_entry (live_from i es))
@@ -120,12 +105,10 @@ module _ {A : Type 0} where
       ≡ bare_cells (cells_of slots)
   unfolding cells_of
   cells_read slots =
+      let bare = map.get-from_entries name_total (list_map bare_entry (live_from 0 slots)) in
+      let own = map.get-from_entries name_total (live_from 0 slots) in
       put_new by_name (list_map bare_entry (live_from 0 slots)) (live_apart 0 slots)
-      ∙ map.same_map name_total name_exact _ _ (λ q.
-      map.get-from_entries name_total (list_map bare_entry (live_from 0 slots)) q
-      ∙ find_bare q (live_from 0 slots)
-      ∙ sym (get_bare_cell (cells_of slots) q
-      ∙ ap (option_map bare_cell) (map.get-from_entries name_total (live_from 0 slots) q)))
+      ∙ same_cells _ _ (λ q. grind (arith, bare, own, find_bare, get_bare_cell))
 
   contains_given : (i : ℕ) (es : List (Entry A)) (given : Names) (q : Name)
       → set.contains (give_all i es given) q
@@ -133,20 +116,13 @@ module _ {A : Type 0} where
   unfolding give_all
   contains_given i [] given q = refl
   contains_given i (e ∷ es) given q =
-      rw (
-        contains_given (i + 1) es (give_up_to i e.generation given) q,
-        contains_up_to i e.generation given q,
-        any_of 1 i e es q,
-      ) (grind arith)
+      grind (arith, contains_up_to, any_of, contains_given (i + 1) es)
 
   given_read : (slots : List (Entry A)) → give_all 0 slots set.empty ≡ given_of 1 slots
   unfolding given_of
-  given_read slots = set.same_set name_total name_exact _ _ (λ q.
-      rw (
-        contains_given 0 slots set.empty q,
-        set.contains-empty name_cmp q,
-        set.contains-from_list name_total (given_from 1 0 slots) q,
-      ) (or-false _))
+  given_read slots =
+      let listed = set.contains-from_list name_total (given_from 1 0 slots) in
+      grind (arith, same_names, contains_given, set.contains-empty, listed, or-false)
 
 module _ {A : Type 0} {p : SlotTable A} (s : IsSlotTable p) {S : State A}
     (view : state_of p.start p.counts.peak p.slots ≡ S) where
@@ -161,9 +137,7 @@ module _ {A : Type 0} {p : SlotTable A} (s : IsSlotTable p) {S : State A}
 
   -- the rows stand in the order of the machine's slots
   pub rows_seen : (number : ℕ) → rows_from number 0 p.slots ≡ all_slot_rows number S
-  rows_seen number =
-      rw (← view, entries_are)
-      (sym (rows_numbered number p.slots 0 p.slots (λ k. ap (slice_get p.slots) (omega arith))))
+  rows_seen number = grind (arith, entries_are, rows_numbered)
 
   -- and are read back
   pub rows_back : (number : ℕ) (P : Plain) → S.start ≡ 1 → P.cells ≡ map.empty

@@ -1,17 +1,24 @@
 -- The state for which a store's slots stand: what is at a name, which names were given, and how
 -- many slots are live, free and retired.
 use Rattle.store_slots.proofs.Common
-use Common.{and_from, ap, arith, bit, Bool, by_number, Cell, cell_in, cell_of, cell_under, cells_of, cond, cond_same}
-use Common.{count_all, Entry, eq-eqb, eq_by_cmp, false, free, fresh, get-keep, get_lasts, given_from, given_in}
-use Common.{given_of, HasBegun, how_many, inl, inr, is_free, is_live, is_name, is_retired, is_some, is_spent, IsFresh}
-use Common.{IsLast, IsNew, IsSlotTable, Kept, last_generation, last_name, le-leb, leb, len_passing, length, List}
-use Common.{list_any, list_any-append, live_from, ltb, Name, name_cmp, name_test, name_total, names_up, nat_cmp}
-use Common.{nat_eq, nat_lt, nat_tests, ne_eqb, nil_from_length, None, not, one_last, Option, option_map, option_or}
-use Common.{or-false, passes, refl, retired, slice_get, slice_get_past, slots, slots_of, SlotTable, Some, State}
-use Common.{state_of, suc, sym, true, unwrap_or, with_cell, zero, [], ℕ, ◌&&◌, ◌+◌, ◌-◌, ◌<◌, ◌||◌, ◌∙◌, ◌∷◌, ◌≡◌}
-use Common.{◌≢◌, ◌≤◌}
+use Common.{ap, arith, Bool, by_number, Cell, cell_in, cell_of, cell_under, cells_of, cond, cond_same, count_all}
+use Common.{Entry, eq-eqb, eq_by_cmp, false, free, fresh, get-keep, get_lasts, given_from, given_in, given_of}
+use Common.{HasBegun, how_many, inl, inr, is_free, is_live, is_name, is_retired, is_some, is_spent, IsFresh, IsLast}
+use Common.{IsNew, IsSlotTable, Kept, last_generation, last_name, leb, len_passing, length, List, list_any}
+use Common.{list_any-append, live_from, ltb, Name, name_cmp, name_exact, name_test, name_total, NameMap, Names}
+use Common.{names_up, nat_cmp, nat_eq, nat_lt, nat_tests, ne_eqb, nil_from_length, None, not, one_last, Option}
+use Common.{option_map, option_or, refl, retired, slice_get, slice_get_past, slots, slots_of, SlotTable, Some, State}
+use Common.{state_of, suc, sym, true, with_cell, zero, [], ℕ, ◌&&◌, ◌+◌, ◌-◌, ◌<◌, ◌||◌, ◌∙◌, ◌∷◌, ◌≡◌, ◌≢◌, ◌≤◌}
 use Rattle.std.specs.FinMap as map
 use Rattle.std.specs.FinSet as set
+
+-- cells and names that are the same at each name
+pub same_cells : {T : Type 0} (a b : NameMap (Cell T))
+    → ((q : Name) → map.get a q ≡ map.get b q) → a ≡ b
+same_cells a b same = map.same_map name_total name_exact a b same
+
+pub same_names : (a b : Names) → ((q : Name) → set.contains a q ≡ set.contains b q) → a ≡ b
+same_names a b same = set.same_set name_total name_exact a b same
 
 -- names of two slots differ
 pub not_named : (q m : Name) → q.slot ≢ m.slot → is_name q m ≡ false
@@ -23,37 +30,28 @@ module _ {T : Type 0} where
       → map.find name_cmp n (with_cell here c rest)
       ≡ cond (is_name n here) (option_or c (map.find name_cmp n rest)) (map.find name_cmp n rest)
   unfolding is_name
-  find_with n here None rest = sym (cond_same _ _)
-  find_with n here (Some c) rest = refl
+  find_with n here c rest = grind (arith, cond_same)
 
   pub find_below : (i : ℕ) (slots : List (Entry T)) (n : Name) → n.slot < i
       → map.find name_cmp n (live_from i slots) ≡ None
   find_below i [] n h = refl
   find_below i (e ∷ slots) n h =
-      let here : Name = record { slot = i; generation = e.generation } in
-      find_with n here (cell_of e.kept) _
-      ∙ rw (not_named n here (λ same. omega arith)) (find_below (i + 1) slots n (omega arith))
+      grind (arith, find_with, not_named, find_below (i + 1) slots n)
 
   find_at : (i : ℕ) (slots : List (Entry T)) (n : Name) (k : ℕ) → n.slot ≡ i + k
       → map.find name_cmp n (live_from i slots) ≡ cell_in (slice_get slots k) n.generation
   find_at i [] n k is = refl
   find_at i (e ∷ slots) n (suc k) is =
-      let here : Name = record { slot = i; generation = e.generation } in
-      find_with n here (cell_of e.kept) _
-      ∙ rw (not_named n here (λ same. omega arith)) (find_at (i + 1) slots n k (omega arith))
+      grind (arith, find_with, not_named, find_at (i + 1) slots n k)
   find_at i (e ∷ slots) n zero is =
-      let here : Name = record { slot = i; generation = e.generation } in
-      find_with n here (cell_of e.kept) _
-      ∙ rw (name_test n here, eq-eqb n.slot i (omega arith), find_below (i + 1) slots n (omega arith))
-      (grind arith)
+      grind (arith, find_with, nat_tests, name_test, find_below (i + 1) slots n)
 
   -- what the machine's map has at a name
   pub get_cells : (slots : List (Entry T)) (n : Name)
       → map.get (cells_of slots) n ≡ cell_under slots n
   unfolding cells_of
   get_cells slots n =
-      map.get-from_entries name_total (live_from 0 slots) n
-      ∙ find_at 0 slots n n.slot (omega arith)
+      grind (arith, map.get-from_entries {X = Cell T} name_total, find_at 0 slots n n.slot)
 
   -- a slot has a live cell where the machine has one
   pub live_cell : (k : Kept T) → is_some (cell_of k) ≡ is_live k
@@ -68,29 +66,20 @@ module _ {T : Type 0} where
           → map.len (map.from_entries {R = name_cmp} (live_from i es))
           ≡ how_many (λ e. is_live e.kept) es
       from i [] = map.len-empty name_cmp (Cell T)
-      from i (e ∷ es) = rw (← live_cell e.kept) (at (from (i + 1) es) (find_below (i + 1) es
-          (record { slot = i; generation = e.generation }) (omega arith)) (cell_of e.kept))
-        where
-          at : map.len (map.from_entries {R = name_cmp} (live_from (i + 1) es))
-              ≡ how_many (λ e. is_live e.kept) es
-              → map.find name_cmp (record { slot = i; generation = e.generation })
-              (live_from (i + 1) es) ≡ None → (o : Option (Cell T))
-              → map.len (map.from_entries {R = name_cmp} (with_cell
-              (record { slot = i; generation = e.generation }) o (live_from (i + 1) es)))
-              ≡ bit (is_some o) + how_many (λ e. is_live e.kept) es
-          at e absent None = omega arith
-          at e absent (Some c) =
-              map.len-insert name_total (map.from_entries (live_from (i + 1) es)) _ _
-              ∙ rw (map.get-from_entries name_total (live_from (i + 1) es), absent) (omega arith)
+      from i (e ∷ es) =
+          let n : Name = record { slot = i; generation = e.generation } in
+          let rest = map.from_entries {R = name_cmp} (live_from (i + 1) es) in
+          let absent : map.get rest n ≡ None =
+          map.get-from_entries name_total _ n ∙ find_below (i + 1) es n (omega arith) in
+          let more = map.len-insert {X = Cell T} name_total rest n in
+          grind (arith, from (i + 1) es, more, live_cell e.kept)
 
 any_up : (q : Name) (slot from count : ℕ)
     → list_any (eq_by_cmp name_cmp q) (names_up slot from count)
     ≡ (nat_eq q.slot slot && (leb from q.generation && ltb q.generation (from + count)))
 unfolding is_name
 any_up q slot from zero = grind (arith, nat_tests)
-any_up q slot from (suc k) =
-    rw (name_test q (record { slot = slot; generation = from + k }), any_up q slot from k)
-    (grind (arith, nat_tests))
+any_up q slot from (suc k) = grind (arith, nat_tests, name_test, any_up q slot from k)
 
 up_to : (start last g : ℕ)
     → (leb start g && ltb g (start + (last + 1 - start))) ≡ (leb start g && leb g last)
@@ -101,34 +90,24 @@ module _ {T : Type 0} (start : ℕ) where
       → list_any (eq_by_cmp name_cmp q) (given_from start i (e ∷ slots))
       ≡ ((nat_eq q.slot i && given_in start (Some e) q.generation)
       || list_any (eq_by_cmp name_cmp q) (given_from start (i + 1) slots))
-  any_of i e slots q =
-      list_any-append (eq_by_cmp name_cmp q) (names_up i start (e.generation + 1 - start)) _
-      ∙ rw (any_up q i start (e.generation + 1 - start), up_to start e.generation q.generation) refl
+  any_of i e slots q = grind (arith, list_any-append, any_up, up_to)
 
   any_below : (i : ℕ) (slots : List (Entry T)) (q : Name) → q.slot < i
       → list_any (eq_by_cmp name_cmp q) (given_from start i slots) ≡ false
   any_below i [] q h = refl
-  any_below i (e ∷ slots) q h =
-      any_of i e slots q
-      ∙ rw (ne_eqb q.slot i (λ same. omega arith)) (any_below (i + 1) slots q (omega arith))
+  any_below i (e ∷ slots) q h = grind (arith, nat_tests, any_of, any_below (i + 1) slots q)
 
   any_at : (i : ℕ) (slots : List (Entry T)) (q : Name) (k : ℕ) → q.slot ≡ i + k
       → list_any (eq_by_cmp name_cmp q) (given_from start i slots)
       ≡ given_in start (slice_get slots k) q.generation
   any_at i [] q k is = refl
-  any_at i (e ∷ slots) q zero is =
-      any_of i e slots q
-      ∙ rw (eq-eqb q.slot i (omega arith), any_below (i + 1) slots q (omega arith)) (or-false _)
-  any_at i (e ∷ slots) q (suc k) is =
-      any_of i e slots q
-      ∙ rw (ne_eqb q.slot i (λ same. omega arith)) (any_at (i + 1) slots q k (omega arith))
+  any_at i (e ∷ slots) q zero is = grind (arith, nat_tests, any_of, any_below (i + 1) slots q)
+  any_at i (e ∷ slots) q (suc k) is = grind (arith, nat_tests, any_of, any_at (i + 1) slots q k)
 
   pub get_given : (slots : List (Entry T)) (q : Name)
       → set.contains (given_of start slots) q ≡ given_in start (slice_get slots q.slot) q.generation
   unfolding given_of
-  get_given slots q =
-      set.contains-from_list name_total (given_from start 0 slots) q
-      ∙ any_at 0 slots q q.slot (omega arith)
+  get_given slots q = grind (arith, set.contains-from_list name_total, any_at)
 
 module _ {T : Type 0} {p : SlotTable T} (s : IsSlotTable p) where
   abbrev here : State T
@@ -149,9 +128,7 @@ module _ {T : Type 0} {p : SlotTable T} (s : IsSlotTable p) where
 
   pub get_last : (k : ℕ)
       → map.get (slots_of here) k ≡ option_map (λ e. e.generation) (slice_get p.slots k)
-  get_last k =
-      one_last (set.items here.given) (set.items here.given) k (λ n h. h) (λ n h. h) _ _
-      (get_lasts (set.items here.given) k) (last_of k (slice_get p.slots k) refl)
+  get_last k = grind (arith, one_last, get_lasts, last_of)
 
   -- a test of the machine's slots that says of each what q says of its entry
   len_kept : (q : Entry T → Bool) (test : ℕ → Bool)
@@ -159,38 +136,24 @@ module _ {T : Type 0} {p : SlotTable T} (s : IsSlotTable p) where
       → map.len (map.retain_keys (slots_of here) test) ≡ how_many q p.slots
   len_kept q test same =
       len_passing q 0 p.slots _ (λ k h. absurd (omega arith))
-      (λ k. ap (map.contains_key (map.retain_keys (slots_of here) test)) (omega arith)
-      ∙ (ap is_some (get-keep by_number (slots_of here) test k
-      ∙ ap (λ o. cond (test k) o None) (get_last k)) ∙ at k (slice_get p.slots k) refl))
-    where
-      at : (k : ℕ) (o : Option (Entry T)) → slice_get p.slots k ≡ o
-          → is_some (cond (test k) (option_map (λ e. e.generation) o) None) ≡ passes q o
-      at k o there = grind (arith, same k)
+      (λ k. let at : 0 + k ≡ k = omega arith in
+      rw at (grind (arith, get-keep by_number (slots_of here) test k, get_last k, same k)))
 
   is_own : (k : ℕ) (e : Entry T) → slice_get p.slots k ≡ Some e
       → last_name here k ≡ record { slot = k; generation = e.generation }
-  is_own k e there =
-      let last : map.get (slots_of here) k ≡ Some e.generation = get_last k ∙ rw there refl in
-      λ i. record { slot = k; generation = unwrap_or (last i) 0 }
+  is_own k e there = grind (arith, get_last)
 
   live_is : (k : ℕ) (e : Entry T) → slice_get p.slots k ≡ Some e
       → is_some (map.get here.cells (last_name here k)) ≡ is_live e.kept
-  live_is k e there = rw (
-    is_own k e there,
-    get_cells p.slots (record { slot = k; generation = e.generation }),
-    there,
-    eq-eqb e.generation e.generation refl,
-  ) (live_cell e.kept)
+  live_is k e there = grind (arith, is_own, get_cells, eq-eqb, live_cell)
 
   free_is : (k : ℕ) (e : Entry T) → slice_get p.slots k ≡ Some e → is_free here k ≡ is_spent e
-  free_is k e there =
-      λ i. not (live_is k e there i) && nat_lt (is_own k e there i).generation last_generation
+  free_is k e there = grind (arith, live_is, is_own)
 
   slots_are : slots here ≡ length p.slots
   slots_are =
       len_passing (λ e. true) 0 p.slots _ (λ k h. absurd (omega arith))
-      (λ k. ap (map.contains_key (slots_of here)) (omega arith)
-      ∙ (ap is_some (get_last k) ∙ grind arith))
+      (λ k. let at : 0 + k ≡ k = omega arith in rw at (grind (arith, get_last k)))
       ∙ count_all p.slots
 
   pub free_are : set.len p.free ≡ free here
@@ -201,9 +164,8 @@ module _ {T : Type 0} {p : SlotTable T} (s : IsSlotTable p) where
   all_slots =
       let lost : retired here ≡ how_many
       (λ e. not (is_live e.kept) && not (nat_lt e.generation last_generation)) p.slots =
-      len_kept _ (is_retired here) (λ k e there. λ i. not (live_is k e there i)
-      && not (nat_lt (is_own k e there i).generation last_generation)) in
-      let counted = s.counted in let stocked = s.stocked in let all = parts p.slots in omega arith
+      len_kept _ (is_retired here) (λ k e there. grind (arith, live_is, is_own)) in
+      omega (arith, s.counted, s.stocked, parts p.slots)
     where
       parts : (es : List (Entry T)) → length es ≡ how_many (λ e. is_live e.kept) es
           + how_many is_spent es
@@ -247,9 +209,7 @@ module _ {T : Type 0} {p : SlotTable T} (s : IsSlotTable p) where
 
     -- a slot is made only where none is free
     pub bound_seen : slots S ≤ S.peak + retired S
-    bound_seen =
-        let few = s.few in let all = all_seen in let seen = slots_seen in
-        let most : p.counts.peak ≡ S.peak = ap (λ (X : State T). X.peak) view in omega arith
+    bound_seen = grind (arith, s.few, all_seen, slots_seen)
 
 module _ {T : Type 0} where
   pub new_state : (start : ℕ) (slots : List (Entry T)) → slots ≡ []
@@ -290,6 +250,4 @@ module _ {T : Type 0} where
         at : (xs : List (Entry T)) → HasBegun start (slice_get xs 0)
             → given_in start (slice_get xs 0) start ≡ false → length xs ≡ 0
         at [] b g = refl
-        at (e ∷ es) b g =
-            let given = and_from _ _ (le-leb start start (omega arith))
-            (le-leb start e.generation b) in absurd cc
+        at (e ∷ es) b g = grind (arith, nat_tests)

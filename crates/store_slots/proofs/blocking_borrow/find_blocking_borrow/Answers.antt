@@ -1,4 +1,4 @@
-use Rattle.store_slots.proofs.{refused_live}
+use Rattle.store_slots.proofs.{arith, refused_live}
 use Rattle.store_slots.proofs.blocking_borrow.find_blocking_borrow.Goals as goal
 
 pub borrow_mut_error-requires : goal.borrow_mut_error-requires
@@ -8,5 +8,4 @@ borrow_mut_error-requires g c =
 pub returns-in-Some : goal.returns-in-Some
 returns-in-Some g c =
     let s = refused_live (rw c.in-Some.is at c.find_blocking_value.ensures.borrowed) in
-    rw (rw c.in-Some.is at c.find_blocking_value.ensures.hindrance, s.holds)
-    (rw s.there at c.borrow_mut_error.ensures)
+    grind (arith, s.holds, s.there)

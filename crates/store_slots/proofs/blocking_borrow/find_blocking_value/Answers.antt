@@ -1,25 +1,15 @@
-use Rattle.store_slots.proofs.{all, and_parts, ap, arith, at_drop_all, Bool, cell_under, CellName, cells_of, eqb-true}
-use Rattle.store_slots.proofs.{first_hindered, IfSome, is_named, is_shared, length, length-map, Name, name_of_cell}
-use Rattle.store_slots.proofs.{None, Option, option_eq, passed_free, passed_spared, Some, stopped, sym, take_away}
-use Rattle.store_slots.proofs.{true, ◌&&◌, ◌∙◌, ◌≡◌, ◌≤◌}
+use Rattle.store_slots.proofs.{all, arith, at_drop_all, CellName, cells_of, first_hindered, is_named, length}
+use Rattle.store_slots.proofs.{length-map, lives, name_of_cell, nat_tests, None, passed, Some, stopped, sym}
+use Rattle.store_slots.proofs.{take_away, true, ◌∙◌, ◌≡◌, ◌≤◌}
 use Rattle.std.proofs.Common.{map as list_map}
 use Rattle.store_slots.proofs.blocking_borrow.find_blocking_value.Goals as goal
 
 abbrev none : CellName
 none = record { slot = 0; generation = 0 }
 
--- what is the same name as what was spared has what that has
-spared_same : (same : CellName → CellName → Bool)
-    → ((a b : CellName) → same a b ≡ true → name_of_cell a ≡ name_of_cell b)
-    → (lives : Name → Bool) (o : Option CellName) (v : CellName)
-    → IfSome o (λ k. lives (name_of_cell k) ≡ true) → option_eq same o (Some v) ≡ true
-    → lives (name_of_cell v) ≡ true
-spared_same same is lives None v known e = cc
-spared_same same is lives (Some k) v known e = ap lives (sym (is k v e)) ∙ known
-
 pub loop-name-preserved-in_default : goal.loop-name-preserved-in_default
 loop-name-preserved-in_default g c = (
-  passed_free _ _ _ _ none c.loop-name-test.true (rw c.in_default.is at c.borrowed_value.ensures)
+  passed _ _ _ _ none c.loop-name-test.true None (rw c.in_default.is at c.borrowed_value.ensures) tt
       ∙ c.loop-name.invariant.0,
   c.loop-name.invariant.1,
 )
@@ -28,29 +18,24 @@ pub loop-name-preserved-then-eq : goal.loop-name-preserved-then-eq
 loop-name-preserved-then-eq g c =
     let slots = c.args.entries.now.slots in
     let named = is_named (take_away (cells_of slots) (list_map name_of_cell c.args.names.now)) in
-    let lives = spared_same _ (λ a b e. let both = and_parts _ _ e in λ j. record {
-      slot = eqb-true a.slot b.slot both.0 j;
-      generation = eqb-true a.generation b.generation both.1 j;
-    }) (λ m. is_shared (cell_under slots m) && named m) c.loop-name.spared c.in-Some.value
-    c.loop-name.invariant.1 (sym c.eq.ensures ∙ c.if-eq.true) in (
-      passed_spared slots named _ _ none c.loop-name-test.true _
-          (rw c.in-Some.is at c.borrowed_value.ensures) lives
+    let spared : lives slots named (name_of_cell c.in-Some.value) ≡ true =
+    grind (arith, nat_tests) in (
+      passed _ _ _ _ none c.loop-name-test.true (Some _)
+          (rw c.in-Some.is at c.borrowed_value.ensures) spared
           ∙ c.loop-name.invariant.0,
       c.loop-name.invariant.1,
     )
 
 pub returns-then-not-lives_on-clause-hindrance : goal.returns-then-not-lives_on-clause-hindrance
-returns-then-not-lives_on-clause-hindrance g c =
-    rw (first_hindered _ _ c.requires.linked, ← c.loop-name.invariant.0)
-    (stopped _ _ _ _ none c.loop-name-test.true c.requires.linked.targets _
-    (rw c.in-Some.is at c.borrowed_value.ensures) (sym c.lives_on.ensures ∙ c.if-not-lives_on.true))
+returns-then-not-lives_on-clause-hindrance g c = grind (arith, first_hindered, stopped)
 
 pub loop-name-preserved : goal.loop-name-preserved
 loop-name-preserved g c =
-    let lives = sym c.lives_on.ensures ∙ c.if-not-lives_on.false in (
-      passed_spared _ _ _ _ none c.loop-name-test.true _ (rw c.in-Some.is at c.borrowed_value.ensures) lives
+    let spared = sym c.lives_on.ensures ∙ c.if-not-lives_on.false in (
+      passed _ _ _ _ none c.loop-name-test.true (Some _)
+          (rw c.in-Some.is at c.borrowed_value.ensures) spared
           ∙ c.loop-name.invariant.0,
-      lives,
+      spared,
     )
 
 pub returns-clause-hindrance : goal.returns-clause-hindrance

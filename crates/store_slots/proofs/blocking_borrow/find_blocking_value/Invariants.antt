@@ -1,5 +1,4 @@
-use Rattle.store_slots.proofs.{all, cell_under, cells_of, drop, IfSome, is_named, is_shared, name_of_cell, take_away}
-use Rattle.store_slots.proofs.{true, ◌&&◌, ◌≡◌}
+use Rattle.store_slots.proofs.{all, cells_of, drop, IfSome, is_named, lives, name_of_cell, take_away, true, ◌≡◌}
 use Rattle.std.proofs.Common.{map as list_map}
 use Rattle.store_slots.proofs.blocking_borrow.find_blocking_value.Given as goal
 
@@ -10,5 +9,4 @@ invariant-loop-name g l =
     let names = list_map name_of_cell l.names in
     let named = is_named (take_away (cells_of slots) names) in
     (all slots named (drop l.name-index names) ≡ all slots named names)
-    × IfSome l.spared (λ v. (is_shared (cell_under slots (name_of_cell v))
-    && named (name_of_cell v)) ≡ true)
+    × IfSome l.spared (λ v. lives slots named (name_of_cell v) ≡ true)

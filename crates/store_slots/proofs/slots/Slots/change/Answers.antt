@@ -5,8 +5,8 @@ pub change-requires : goal.change-requires
 change-requires g c =
     let f = free_reached c.self.view_is c.in-Some.ensures c.requires.free in record {
       within = f.within;
-      free = rw f.there f.free;
-      callable = λ value is. c.requires.callable value (rw (f.leads, f.seen) (rw f.there at is));
+      free = rw f.there f.so.1;
+      callable = λ value is. c.requires.callable value (rw (f.so.0, f.seen) (rw f.there at is));
     }
 
 pub unreachable-requires : goal.unreachable-requires
@@ -26,6 +26,6 @@ returns g c =
       done.0,
       done.1,
       done.2,
-      rw (f.leads, f.seen) (rw f.there at done.3),
-      rw f.leads (changed_state _ c.self.view_is f.place (λ d. Here done.1 []) done.4),
+      rw (f.so.0, f.seen) (rw f.there at done.3),
+      rw f.so.0 (changed_state _ c.self.view_is f.place (λ d. Here done.1 []) done.4),
     )

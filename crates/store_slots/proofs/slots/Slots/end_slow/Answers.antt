@@ -16,13 +16,13 @@ is_unborrowed-requires g c =
 pub returns-then-not-is_unborrowed-clause-known : goal.returns-then-not-is_unborrowed-clause-known
 returns-then-not-is_unborrowed-clause-known g c =
     let f = ending_in c.self.view_is c.requires (rw c.in-Some.is at c.would_end-ending.ensures) in
-    rw f.hinders (sym c.if-not-is_unborrowed.true ∙ rw f.there at c.is_unborrowed.ensures)
+    rw f.so (sym c.if-not-is_unborrowed.true ∙ rw f.there at c.is_unborrowed.ensures)
 
 pub returns-clause-known : goal.returns-clause-known
 returns-clause-known g c = elim c.match-ending.branch [
   | in-Some+else-not-is_unborrowed w ↦
       let f = ending_in c.self.view_is c.requires (rw w.in-Some.is at c.would_end-ending.ensures) in
-      rw f.hinders (sym w.if-not-is_unborrowed.false ∙ rw f.there at w.is_unborrowed.ensures)
+      rw f.so (sym w.if-not-is_unborrowed.false ∙ rw f.there at w.is_unborrowed.ensures)
   | in_default w ↦
       rw (ending_hinders c.args.self.now.state (name_of_cell c.args.name) c.requires _
       (rw w.in_default.is at c.would_end-ending.ensures)) refl

@@ -11,7 +11,7 @@ borrow_mut_error-requires g c = (ending_in c.self.view_is c.requires c.in-Some.e
 pub returns-in-Some : goal.returns-in-Some
 returns-in-Some g c =
     let f = ending_in c.self.view_is c.requires c.in-Some.ensures in
-    rw f.hinders (rw f.there at c.borrow_mut_error.ensures)
+    rw f.so (rw f.there at c.borrow_mut_error.ensures)
 
 pub returns-in-None : goal.returns-in-None
 returns-in-None g c = ending_hinders _ _ c.requires _ c.in-None.ensures

@@ -1,6 +1,6 @@
 -- A cell in a slot that is free, or in a new one.
-use Rattle.store_slots.proofs.{ap, arith, counted_in, err_holds, free, free_are, free_seen, may_rise, nat_cmp, reuses}
-use Rattle.store_slots.proofs.{state_is, sym, taken_less, taken_within, ◌∙◌}
+use Rattle.store_slots.proofs.{ap, arith, free, free_are, free_seen, length, may_rise, nat_cmp, reuses, state_is, sym}
+use Rattle.store_slots.proofs.{taken_less, taken_within, ◌∙◌}
 use Rattle.std.specs.FinSet as set
 use Rattle.store_slots.proofs.slots.Slots.make.Goals as goal
 
@@ -9,11 +9,9 @@ returns-then-is_err-clause-needed g c =
     let inv = c.self.invariant in
     let none = ap set.len c.in_default.ensures.none ∙ set.len-empty nat_cmp in
     let spare = ap (λ x. x.spare) c.self.view_is in
-    let same = ap set.len c.in_default.ensures.unchanged in
-    let full = err_holds c.reserve_one.result (sym c.is_err.ensures.value ∙ c.if-is_err.true)
-    c.reserve_one.ensures.needed in (
+    let same = ap set.len c.in_default.ensures.unchanged in (
       sym (free_seen inv.0 (state_is c.self.view_is)) ∙ none,
-      omega (arith, spare, same, full, c.take.ensures.rooms),
+      grind (arith, spare, same, c.take.ensures.rooms, c.reserve_one.ensures.needed),
     )
 
 pub extend-requires-clause-none : goal.extend-requires-clause-none
@@ -42,11 +40,12 @@ invariant_of-self-2 g c =
     let inv = c.self.invariant in
     let put = reuses inv.0 inv.2 (state_is c.self.view_is) c.requires.linked _ c.args.created_at
     c.requires.unborrowed c.requires.target c.in-Some.ensures.member c.refill-generation.ensures.generation in
-    let more = counted_in put c.target-target.ensures c.refill-generation.ensures.filled c.refer.ensures.slots in
-    rw (more.long, c.in-Some.ensures.taken, c.take.ensures.rooms) (
-      more.table,
+    let filled = c.refill-generation.ensures.filled in
+    let now = rw (filled, c.target-target.ensures) at c.refer.ensures.slots in
+    rw (now, put.long, c.in-Some.ensures.taken, c.take.ensures.rooms) (
+      put.table,
       rw (c.refer.ensures.rooms, c.refill-generation.ensures.rooms) inv.1,
-      more.referred,
+      put.referred,
       inv.3,
     )
 
@@ -55,12 +54,14 @@ returns-clause-ok g c =
     let inv = c.self.invariant in
     let put = reuses inv.0 inv.2 (state_is c.self.view_is) c.requires.linked _ c.args.created_at
     c.requires.unborrowed c.requires.target c.in-Some.ensures.member c.refill-generation.ensures.generation in
-    let more = counted_in put c.target-target.ensures c.refill-generation.ensures.filled c.refer.ensures.slots in
+    let filled = c.refill-generation.ensures.filled in
+    let now = rw (filled, c.target-target.ensures) at c.refer.ensures.slots in
+    let long = ap length now ∙ put.long in
     let spare = ap (λ x. x.spare) c.self.view_is in
     let less = taken_less inv.0 _ c.in-Some.ensures.member in
     let free = ap set.len c.in-Some.ensures.taken in
     record {
       fits = put.fits;
-      added = rw more.long more.added;
-      room = omega (arith, spare, less, free, more.long, c.take.ensures.rooms);
+      added = rw (now, put.long) put.added;
+      room = omega (arith, spare, less, free, long, c.take.ensures.rooms);
     }

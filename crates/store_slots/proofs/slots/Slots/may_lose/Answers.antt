@@ -8,7 +8,7 @@ is_unborrowed-requires g c = (ending_in c.self.view_is c.requires.linked c.in-So
 pub returns-in-Some : goal.returns-in-Some
 returns-in-Some g c =
     let f = ending_in c.self.view_is c.requires.linked c.in-Some.ensures in
-    rw f.hinders (rw f.there at c.is_unborrowed.ensures)
+    rw f.so (rw f.there at c.is_unborrowed.ensures)
 
 pub returns-in-None : goal.returns-in-None
 returns-in-None g c = rw (ending_hinders c.args.self.now.state (name_of_cell c.args.name)

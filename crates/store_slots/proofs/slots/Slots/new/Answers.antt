@@ -11,15 +11,12 @@ invariant_of-result g c =
       rw c.new.ensures (omega arith),
     )
 
-pub returns-clause-state : goal.returns-clause-state
-returns-clause-state g c =
+pub returns : goal.returns
+returns g c =
     let none = ap (λ s. s.slots) c.new-2.ensures in
     let unused : (count_of c.new.result (length c.new-2.result.slots)).peak ≡ 0 =
     rw (c.new.ensures, none) refl in
-    rw unused (new_state c.args.start _ none)
-
-pub returns-clause-spare : goal.returns-clause-spare
-returns-clause-spare g c =
-    let none : length c.new-2.result.slots ≡ 0 = ap (λ s. length s.slots) c.new-2.ensures in
-    let empty = ap set.len c.new-3.ensures.empty ∙ set.len-empty nat_cmp in
-    omega (arith, c.new-3.ensures.rooms)
+    let empty = ap set.len c.new-3.ensures.empty ∙ set.len-empty nat_cmp in record {
+      state = rw unused (new_state c.args.start _ none);
+      spare = omega (arith, c.new-3.ensures.rooms, ap length none);
+    }

@@ -1,8 +1,7 @@
-use Rattle.store_slots.proofs.{name_of_cell, own_reached}
+use Rattle.store_slots.proofs.{arith, cell_seen, name_of_cell}
 use Rattle.store_slots.proofs.slots.Slots.readable.Goals as goal
 
 pub returns-then-has_unborrowed_value : goal.returns-then-has_unborrowed_value
 returns-then-has_unborrowed_value g c =
-    let u = own_reached _ c.self.view_is (name_of_cell c.args.name) c.has_unborrowed_value.ensures
-    c.if-has_unborrowed_value.true in
-    (u.0, u.1, λ alone. u.2)
+    let seen = cell_seen _ c.self.view_is (name_of_cell c.args.name) in
+    (grind arith, grind arith, λ alone. grind arith)

@@ -1,5 +1,6 @@
 use Rattle.store_slots.proofs.{changed_state, held_told, Here, invariant_changed, name_of_cell, not_told, ok_then}
 use Rattle.store_slots.proofs.{returned, []}
+use Rattle.std.proofs.Common.{rules}
 use Rattle.store_slots.proofs.slots.Slots.release_write.Goals as goal
 
 pub invariant_of-self : goal.invariant_of-self
@@ -10,16 +11,14 @@ invariant_of-self g c =
     (λ e. invariant_changed _ f.held (λ d. Here c.args.value []) c.self.invariant e back.rooms)
     (λ e. rw e c.self.invariant)
 
-pub returns-then-holds-clause-known : goal.returns-then-holds-clause-known
-returns-then-holds-clause-known g c =
-    let f = held_told c.self.view_is c.if-holds.ensures in
-    rw f.seen (rw f.there at c.release_write.ensures.known)
-
-pub returns-then-holds-clause-ok : goal.returns-then-holds-clause-ok
-returns-then-holds-clause-ok g c =
-    let f = held_told c.self.view_is c.if-holds.ensures in
-    ok_then c.release_write.result (changed_state _ c.self.view_is f (λ d. Here c.args.value []))
-    c.release_write.ensures.ok
+pub returns-then-holds : goal.returns-then-holds
+returns-then-holds g c =
+    let f = held_told c.self.view_is c.if-holds.ensures in record {
+      known = rw f.seen (rw f.there at c.release_write.ensures.known);
+      ok = ok_then c.release_write.result
+          (changed_state _ c.self.view_is f (λ d. Here c.args.value [])) c.release_write.ensures.ok;
+      err = search rules;
+    }
 
 pub returns-clause-known : goal.returns-clause-known
 returns-clause-known g c =

@@ -4,7 +4,7 @@ use Rattle.store_slots.proofs.slots.Slots.replace.Goals as goal
 pub replace-requires : goal.replace-requires
 replace-requires g c =
     let f = free_reached c.self.view_is c.in-Some.ensures c.requires in
-    record { within = f.within; free = rw f.there f.free }
+    record { within = f.within; free = rw f.there f.so.1 }
 
 pub unreachable-requires : goal.unreachable-requires
 unreachable-requires g c =
@@ -19,7 +19,7 @@ invariant_of-self g c =
 pub returns : goal.returns
 returns g c =
     let f = free_reached c.self.view_is c.in-Some.ensures c.requires in record {
-      value = rw (f.leads, f.seen) (rw f.there at c.replace.ensures.value);
-      after = rw f.leads
+      value = rw (f.so.0, f.seen) (rw f.there at c.replace.ensures.value);
+      after = rw f.so.0
           (changed_state _ c.self.view_is f.place (λ d. Here c.args.value []) c.replace.ensures.after);
     }

@@ -1,11 +1,10 @@
 -- The end of a value of its own, which is lent for that and handed back.
-use Rattle.store_slots.proofs.{free_in, free_told, name_of_cell, none_to_take, unborrowed_told, ◌∙◌}
+use Rattle.store_slots.proofs.{arith, cell_seen, free_in, free_told, name_of_cell, ◌∙◌}
 use Rattle.store_slots.proofs.slots.Slots.take_value.Goals as goal
 
 pub returns-then-not-has_unborrowed_value-clause-value : goal.returns-then-not-has_unborrowed_value-clause-value
 returns-then-not-has_unborrowed_value-clause-value g c =
-    none_to_take _ (unborrowed_told _ c.self.view_is (name_of_cell c.args.name) c.has_unborrowed_value.ensures
-    c.if-not-has_unborrowed_value.true)
+    let seen = cell_seen _ c.self.view_is (name_of_cell c.args.name) in grind arith
 
 pub details-requires : goal.details-requires
 details-requires g c =
