@@ -10,15 +10,15 @@ pub use Rattle.std.proofs.Common.{Some, subst, sym, true, [], ℕ, ◌+◌, ◌<
 pub use Rattle.std.specs.Cmp.{IsEquivalence, nat_cmp_total, nat_eq_equiv}
 pub use Rattle.std.specs.{List.AllByRecursion, List.list_any, Ordering.nat_cmp}
 unfoldable pub use Rattle.std.specs.{List.IsDistinct}
-pub use Rattle.store_cells.specs.Entry.{cell_of, FoundBorrowed, has_no_borrow, less_read, readers_of}
+pub use Rattle.store_cells.specs.Entry.{cell_of, FoundBorrowed, less_read, readers_of}
 pub use Rattle.store_cells.specs.{Data.data_in, Data.SlotData, Entries.kept_data}
 pub use Rattle.store_parts.specs.OwnerRecords.{add_to_list_in, AreCounted, IsCounted, IsRefusal, permits}
 pub use Rattle.store_parts.specs.OwnerRecords.{record_of}
-pub use Rattle.store_parts.{proofs.lists.Queues.none_left, proofs.records.Places.reserved_room}
-pub use Rattle.store_parts.{specs.Borrows.AreBelow, specs.CellNames.name_of_cell}
+pub use Rattle.store_parts.{proofs.lists.Queues.none_left, specs.Borrows.AreBelow}
+pub use Rattle.store_parts.{specs.CellNames.name_of_cell}
 pub use Rattle.store_slots.specs.SlotRows.{all_slot_rows, ReadSlots}
-pub use SlotsState.{change_content, content_reached, HasEnded, IsMade, IsTurned, reached, refusal_to_write_at}
-pub use SlotsState.{SlotsState, with_records}
+pub use SlotsState.{change_content, HasEnded, IsMade, IsTurned, reached, refusal_to_write_at, SlotsState}
+pub use SlotsState.{with_records}
 pub use declared.error.StoreError.TheVariants.{OutOfMemory, UnknownOwner}
 pub use declared.{error.BorrowMutError.BorrowMutError, error.Location.Location, error.Refused.Refused}
 pub use declared.{error.StoreError.StoreError}
@@ -37,17 +37,15 @@ pub use specs.Machine.Answer.{BorrowRefused, Done, Flag, Made, Old, Owned, Reads
 pub use specs.State.{content_at, HasTargets, IsBoxed, IsSound, one_less, one_listed, one_more, Owners}
 pub use specs.State.{Ownership, State}
 pub use specs.{Answers.back_answer, Answers.end_answer, Answers.end_refused, Borrowing.BorrowRefusal}
-pub use specs.{Borrowing.can_write, Borrowing.Guard, Borrowing.read_refusal, Boxes.box_of, Boxes.has_same_id}
-pub use specs.{Boxes.name_in, Boxes.name_of, Cells.Cell.Ref, Cells.Cell.Shared, Cells.Cell.Value}
-pub use specs.{Cells.Content.Here, Cells.Content.Lent, Conditions.count_under, Conditions.fresh}
-pub use specs.{Conditions.IsBounded, Conditions.names_under, Ending.cells_after, Ending.close}
-pub use specs.{Ending.first_hindrance, Ending.hindrance_at, Names.among, Names.change_if, Names.Name}
-pub use specs.{Names.NameMap, Plain.bare_cells, Plain.Plain, Plain.plain, Rows.owner_rows, Rows.read_rows}
-pub use specs.{Rows.ReadBack, Rows.rows_of, Slots.free, Sound.IsBounded-prop, Sound.IsSound-prop}
-pub use specs.{Sound.SoundState, StepCalls.owner_of, StepCalls.tells_of_borrow, Steps.IsNew}
-pub use specs.{Steps.limit_tickets, Steps.Meets, Steps.no_names, declared.borrow.Borrow.Borrow}
-pub use specs.{declared.boxes.GenerationalBoxId.GenerationalBoxId}
+pub use specs.{Borrowing.Guard, Borrowing.read_refusal, Boxes.box_of, Boxes.has_same_id, Boxes.name_in}
+pub use specs.{Boxes.name_of, Cells.Cell.Ref, Cells.Cell.Shared, Cells.Cell.Value, Cells.Content.Here}
+pub use specs.{Cells.Content.Lent, Conditions.count_under, Conditions.fresh, Conditions.IsBounded}
+pub use specs.{Conditions.names_under, Ending.cells_after, Ending.close, Ending.first_hindrance}
+pub use specs.{Ending.hindrance_at, Names.among, Names.change_if, Names.Name, Names.NameMap, Plain.bare_cells}
+pub use specs.{Plain.Plain, Plain.plain, Rows.owner_rows, Rows.read_rows, Rows.ReadBack, Rows.rows_of}
+pub use specs.{Slots.free, Sound.IsBounded-prop, Sound.IsSound-prop, Sound.SoundState, StepCalls.owner_of}
+pub use specs.{StepCalls.tells_of_borrow, Steps.IsNew, Steps.limit_tickets, Steps.Meets, Steps.no_names}
+pub use specs.{declared.borrow.Borrow.Borrow, declared.boxes.GenerationalBoxId.GenerationalBoxId}
 pub use specs.{declared.boxes.GenerationalPointer.GenerationalPointer, declared.rows.BaseRow.BaseRow}
 unfoldable pub use specs.Borrowing.{reach, refusal_to_read, refusal_to_write}
-unfoldable pub use specs.{Ending.hindrance_to, Ending.sweep, Names.change, Names.is_name, Seeing.value_in}
-unfoldable pub use specs.{Steps.may_lack}
+unfoldable pub use specs.{Ending.hindrance_to, Ending.sweep, Names.change, Names.is_name, Steps.may_lack}

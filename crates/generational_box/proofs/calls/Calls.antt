@@ -1,14 +1,13 @@
 -- The calls on the cells of a store, as steps of the machine.
 use Rattle.generational_box.proofs.Common
-use Common.{act, Action, ap, AreBelow, arith, Bool, Borrow, BorrowMutError, BorrowRefusal, by_name, can_write}
-use Common.{cell_at, change, change_content, cond, Content, content_at, content_of, content_reached}
-use Common.{end_refused, Err, false, Flag, FoundBorrowed, GenerationalBoxId, GenerationalPointer, Guard}
-use Common.{has_no_borrow, has_reader, Here, inl, insert_there, is_some, IsBounded, IsBounded-prop, IsSound}
-use Common.{IsSound-prop, Lent, less_read, limit_tickets, List, list_any, Location, may_lack, Meets}
-use Common.{meets_kept, Name, name_in, name_of, nat_eq, nat_eq_equiv, nat_tests, no_names, None, none_left}
-use Common.{Option, Outcome, Owners, reach, reached, readers_of, refill, refl, refusal_to_write}
-use Common.{refusal_to_write_at, ReleaseReader, Some, SoundState, State, subst, sym, true, unless}
-use Common.{with_records, Write, write_at, [], ℕ, ◌∷◌, ◌≡◌}
+use Common.{act, Action, ap, AreBelow, arith, Bool, Borrow, BorrowMutError, BorrowRefusal, by_name, cell_at}
+use Common.{change, change_content, cond, Content, content_at, content_of, end_refused, Err, false, Flag}
+use Common.{FoundBorrowed, GenerationalBoxId, GenerationalPointer, Guard, has_reader, Here, inl, insert_there}
+use Common.{is_some, IsBounded, IsBounded-prop, IsSound, IsSound-prop, Lent, less_read, limit_tickets, List}
+use Common.{list_any, Location, may_lack, Meets, meets_kept, Name, name_in, nat_eq, nat_eq_equiv, nat_tests}
+use Common.{no_names, None, none_left, Option, Outcome, Owners, reach, reached, readers_of, refill, refl}
+use Common.{refusal_to_write, refusal_to_write_at, ReleaseReader, Some, SoundState, State, subst, sym, true}
+use Common.{unless, with_records, Write, write_at, [], ℕ, ◌∷◌, ◌≡◌}
 use Rattle.generational_core.specs.Machine.{Answer}
 use Rattle.generational_errors.specs.declared.error.Refused.{Refused}
 use Rattle.std.proofs.Common.{map as list_map}
@@ -78,12 +77,6 @@ module _ {T : Type 0} where
         → is_some (content_at S m) ≡ true
     unfolding reach
     reaches b m to = grind (arith, sound.targets)
-
-    -- without borrows, where the box may be written
-    pub free_there : (b : GenerationalPointer) → can_write S b ≡ true
-        → has_no_borrow (content_reached S (reached S (name_of b))) ≡ true
-    unfolding reach refusal_to_write
-    free_there b free = let there = led (name_of b) in grind (arith, nat_tests)
 
     -- the readers' tickets are below the next one
     pub readers_below : (m : Name) → AreBelow S.next (readers_of (content_at S m))

@@ -22,14 +22,13 @@ module _ {next : ℕ} {owners : Owners} (counted : AreCounted next owners) where
   pub counted_insert : (k : ℕ) (h : Ownership) → IsCounted next k (Some h)
       → AreCounted next (map.insert owners k h)
   counted_insert k h one = record {
-    each = λ q.
-        let is = map.get-insert nat_cmp_total owners k h q in
-        let same = key_same by_number q k in let c = counted.each q in grind arith;
+    each = λ q. let is = map.get-insert nat_cmp_total owners k h q in
+        grind (arith, key_same by_number q k, counted.each q);
   }
 
   pub counted_remove : (k : ℕ) → AreCounted next (map.remove owners k)
   counted_remove k = record {
-    each = λ q. let is = map.get-remove nat_cmp_total owners k q in let c = counted.each q in grind arith;
+    each = λ q. grind (arith, map.get-remove nat_cmp_total owners k q, counted.each q);
   }
 
   counted_changed : (k : ℕ) (f : Ownership → Ownership)

@@ -2,10 +2,6 @@ use Rattle.generational_box.proofs.{arith, guard_at, inl, inr, kept, may_lack, n
 use Rattle.generational_box.proofs.{no_names, reaches, Read, readers_below, Reads, refusal_to_read}
 use Rattle.generational_box.proofs.unsync.Store.begin_read.Goals as goal
 
-pub begin_read-requires-clause-there : goal.begin_read-requires-clause-there
-begin_read-requires-clause-there g c =
-    rw (← c.self.view_is) at (reaches _ c.args.self.now.sound c.args.pointer _ c.requires.to)
-
 pub begin_read-requires-clause-ascends : goal.begin_read-requires-clause-ascends
 begin_read-requires-clause-ascends g c = readers_below _ c.self.inside.sound _
 

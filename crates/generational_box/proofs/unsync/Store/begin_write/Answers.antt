@@ -8,11 +8,6 @@ returns-then-ticket g c =
     let there = reaches _ c.args.self.now.sound c.args.pointer _ c.requires.to in
     inl (no_names, tt, grind (arith, nat_tests))
 
-pub begin_write-value-requires : goal.begin_write-value-requires
-begin_write-value-requires g c =
-    let there = reaches _ c.args.self.now.sound c.args.pointer _ c.requires.to in
-    grind (arith, nat_tests)
-
 pub returns : goal.returns
 unfolding refusal_to_write
 returns g c = inl (no_names, tt, grind (arith, nat_tests))

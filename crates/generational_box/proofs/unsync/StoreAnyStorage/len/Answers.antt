@@ -4,15 +4,12 @@ use Rattle.generational_box.proofs.unsync.StoreAnyStorage.len.Goals as goal
 
 pub overflow_sub-result : goal.overflow_sub-result
 overflow_sub-result g c =
-    let all = slots_are _ c.self.inside.sound c.self.inside.bounded in
-    omega (arith, c.counts-counts.ensures)
+    omega (arith, c.counts-counts.ensures, slots_are _ c.self.inside.sound c.self.inside.bounded)
 
 pub overflow_sub-result-2 : goal.overflow_sub-result-2
 overflow_sub-result-2 g c =
-    let all = slots_are _ c.self.inside.sound c.self.inside.bounded in
-    omega (arith, c.counts-counts.ensures)
+    omega (arith, c.counts-counts.ensures, slots_are _ c.self.inside.sound c.self.inside.bounded)
 
 pub returns : goal.returns
-returns g c =
-    let all = slots_are _ c.self.inside.sound c.self.inside.bounded in
-    rw (← c.self.view_is) (omega (arith, c.counts-counts.ensures))
+returns g c = rw (← c.self.view_is)
+    (omega (arith, c.counts-counts.ensures, slots_are _ c.self.inside.sound c.self.inside.bounded))

@@ -1,5 +1,5 @@
-use Rattle.generational_box.proofs.{arith, close_nothing, End, end_answer, end_own, hindrance_to, inl, kept}
-use Rattle.generational_box.proofs.{nat_tests, no_names, sound_linked, state_is}
+use Rattle.generational_box.proofs.{arith, close_nothing, end_own, hindrance_to, inl, kept, nat_tests}
+use Rattle.generational_box.proofs.{no_names, sound_linked, state_is}
 use Rattle.generational_box.proofs.unsync.StoreAnyStorage.recycle.Goals as goal
 
 pub end-requires : goal.end-requires
@@ -15,6 +15,5 @@ returns-in-None g c =
     inl (no_names, tt, grind (arith, nat_tests))
 
 pub invariant_of-self-inside : goal.invariant_of-self-inside
-invariant_of-self-inside g c =
-    kept c.args.self.now (End c.args.pointer) (end_answer c.end.result)
+invariant_of-self-inside g c = kept c.args.self.now _ _
     (end_own _ (state_is c.self.view_is) c.args.pointer c.in-Some.ensures _ _ c.end.ensures)

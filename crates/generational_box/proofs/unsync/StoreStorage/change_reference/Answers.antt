@@ -1,5 +1,5 @@
-use Rattle.generational_box.proofs.{arith, end_answer, inl, kept, led, nat_tests, no_names, Point, pointed}
-use Rattle.generational_box.proofs.{reach, refusal_to_read, sound_linked, state_is}
+use Rattle.generational_box.proofs.{arith, inl, kept, nat_tests, no_names, pointed, reach}
+use Rattle.generational_box.proofs.{refusal_to_read, sound_linked, state_is}
 use Rattle.generational_box.proofs.unsync.StoreStorage.change_reference.Goals as goal
 
 pub returns-then-eq : goal.returns-then-eq
@@ -24,9 +24,6 @@ returns-in_default-own g c =
 pub point-requires-clause-linked : goal.point-requires-clause-linked
 point-requires-clause-linked g c = sound_linked _ c.self.inside.sound
 
-pub point-requires-clause-there : goal.point-requires-clause-there
-point-requires-clause-there g c = led _ c.self.inside.sound _ _ c.in-Ok.ensures.ok.0
-
 pub returns : goal.returns
 returns g c =
     pointed c.self.inside.slots.state (state_is c.self.view_is) c.args.pointer c.args.other c.if-eq.ensures
@@ -35,7 +32,7 @@ returns g c =
 
 pub invariant_of-self-inside : goal.invariant_of-self-inside
 invariant_of-self-inside g c =
-    kept c.args.self.now (Point c.args.pointer c.args.other) (end_answer c.point.result)
-    (pointed c.self.inside.slots.state (state_is c.self.view_is) c.args.pointer c.args.other c.if-eq.ensures
-    c.in-Some.ensures c.in-Ok.ensures.ok.0 c.in-Ok.ensures.ok.1 c.in-Some-own.ensures _ _
-    (c.point.ensures c.args.other))
+    kept c.args.self.now _ _ (pointed c.self.inside.slots.state (state_is c.self.view_is)
+    c.args.pointer
+    c.args.other c.if-eq.ensures c.in-Some.ensures c.in-Ok.ensures.ok.0 c.in-Ok.ensures.ok.1
+    c.in-Some-own.ensures _ _ (c.point.ensures c.args.other))

@@ -1,5 +1,5 @@
-use Rattle.generational_box.proofs.{arith, inr, kept, made_counted, Make, may_lack, nat_tests, option_copied}
-use Rattle.generational_box.proofs.{reserved_room, state_is, value_made, value_refused}
+use Rattle.generational_box.proofs.{arith, inr, kept, made_counted, may_lack, nat_tests, option_copied}
+use Rattle.generational_box.proofs.{state_is, value_made, value_refused}
 use Rattle.generational_box.proofs.unsync.StoreStorage.new.Goals as goal
 
 pub returns-in-Err-clause-step : goal.returns-in-Err-clause-step
@@ -10,9 +10,6 @@ returns-in-Err-clause-step g c =
 pub returns-in-Err-make-clause-step : goal.returns-in-Err-make-clause-step
 unfolding may_lack
 returns-in-Err-make-clause-step g c = inr (grind (arith, nat_tests))
-
-pub list-requires : goal.list-requires
-list-requires g c = reserved_room c.reserve.new.self (option_copied c.args.owner) _ c.in-Ok.ensures.ok
 
 pub invariant_of-self-2 : goal.invariant_of-self-2
 invariant_of-self-2 g c =
@@ -30,6 +27,6 @@ returns-clause-step g c =
 pub invariant_of-self-inside-2 : goal.invariant_of-self-inside-2
 invariant_of-self-inside-2 g c =
     let o = option_copied c.args.owner in
-    kept c.args.self.now (Make o c.args.value c.args.location) _ (value_made c.self.inside.slots
-    (state_is c.self.view_is) o c.in-Ok-make.ensures.ok c.in-Ok.ensures.known c.reserve.ensures.same
+    kept c.args.self.now _ _ (value_made c.self.inside.slots (state_is c.self.view_is) o
+    c.in-Ok-make.ensures.ok c.in-Ok.ensures.known c.reserve.ensures.same
     (c.list.ensures o c.in-Ok.ensures.ok))

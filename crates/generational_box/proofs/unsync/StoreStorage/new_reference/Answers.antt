@@ -1,7 +1,7 @@
 use Rattle.generational_box.proofs.{ap, arith, by_name, data_in, get-insert_here, inl, inr, kept}
 use Rattle.generational_box.proofs.{made_counted, may_lack, name_of_cell, nat_tests, no_names, option_copied}
-use Rattle.generational_box.proofs.{reach, Refer, reference_made, reference_refused, refusal_to_read}
-use Rattle.generational_box.proofs.{reserved_room, sound_linked, state_is, ◌≡◌}
+use Rattle.generational_box.proofs.{reach, reference_made, reference_refused, refusal_to_read, sound_linked}
+use Rattle.generational_box.proofs.{state_is, ◌≡◌}
 use Rattle.generational_box.proofs.unsync.StoreStorage.new_reference.Goals as goal
 
 pub returns-then-not-knows : goal.returns-then-not-knows
@@ -28,9 +28,6 @@ pub returns-in-Err-make : goal.returns-in-Err-make
 unfolding reach refusal_to_read may_lack
 returns-in-Err-make g c = inr (grind (arith, nat_tests))
 
-pub list-requires : goal.list-requires
-list-requires g c = reserved_room c.reserve.new.self (option_copied c.args.owner) _ c.in-Ok-reserve.ensures.ok
-
 pub invariant_of-self-2 : goal.invariant_of-self-2
 invariant_of-self-2 g c =
     let o = option_copied c.args.owner in
@@ -55,8 +52,10 @@ returns g c =
 
 pub invariant_of-self-inside-2 : goal.invariant_of-self-inside-2
 invariant_of-self-inside-2 g c =
-    let o = option_copied c.args.owner in
-    kept c.args.self.now (Refer o c.args.inner) _ (reference_made c.self.inside.slots
-    (state_is c.self.view_is) o c.args.inner c.in-Some.ensures c.in-Ok.ensures.ok
-    c.created_at-created_at.ensures (ap data_in c.reference_to-content.ensures) c.in-Ok-make.ensures.ok
-    c.in-Ok-reserve.ensures.known c.reserve.ensures.same (c.list.ensures o c.in-Ok-reserve.ensures.ok))
+    let o = option_copied c.args.owner in let known = c.in-Ok-reserve.ensures in
+    kept c.args.self.now _ _ (reference_made c.self.inside.slots (state_is c.self.view_is) o
+    c.args.inner
+    c.in-Some.ensures c.in-Ok.ensures.ok c.created_at-created_at.ensures
+    (ap data_in c.reference_to-content.ensures) c.in-Ok-make.ensures.ok known.known
+    c.reserve.ensures.same
+    (c.list.ensures o known.ok))
