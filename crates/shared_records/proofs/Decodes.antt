@@ -24,25 +24,28 @@ all_within_grow : (p q r s : ℕ) (xs : List Short) → p ≤ r → q ≤ s → 
 all_within_grow p q r s [] h k w = tt
 all_within_grow p q r s (x ∷ xs) h k w = (within_grows p q r s x h k w.0, all_within_grow p q r s xs h k w.1)
 
-within_snoc : (p q : ℕ) (xs : List Short) (x : Short) → AreWithin p q xs → IsWithin p q x
-    → AreWithin p q (xs ++ x ∷ [])
-within_snoc p q [] x w i = (i, tt)
-within_snoc p q (y ∷ ys) x w i = (w.0, within_snoc p q ys x w.1 i)
+within_both : (p q : ℕ) (xs ys : List Short) → AreWithin p q xs → AreWithin p q ys → AreWithin p q (xs ++ ys)
+within_both p q [] ys w v = v
+within_both p q (x ∷ xs) ys w v = (w.0, within_both p q xs ys w.1 v)
 
 pub within_at : (p q : ℕ) (xs : List Short) (i : ℕ) (d : Short) → i < length xs → AreWithin p q xs
     → IsWithin p q (get_or xs i d)
-within_at p q [] i d h w = absurd (omega arith)
-within_at p q (x ∷ xs) zero d h w = w.0
 within_at p q (x ∷ xs) (suc i) d h w = within_at p q xs i d (omega arith) w.1
+within_at p q xs i d h w = grind arith
 
--- one item more
+-- one item more, or some
 module _ (number : ℕ) (places : List Location) (long : List Step) where
+  decode_both : (r : Reached) (xs ys : List Short) → decode number places long r (xs ++ ys)
+      ≡ decode number places long r xs
+      ++ decode number places long (reached_by number places long r xs) ys
+  decode_both r [] ys = refl
+  decode_both r (x ∷ xs) ys = rw (decode_both (after number places long r x) xs ys) (simp append_assoc)
+
   pub decode_snoc : (r : Reached) (xs : List Short) (x : Short)
       → decode number places long r (xs ++ x ∷ [])
       ≡ decode number places long r xs
       ++ option_to_list (step_at number places long (reached_by number places long r xs) x)
-  decode_snoc r [] x = append-nil (option_to_list (step_at number places long r x))
-  decode_snoc r (y ∷ ys) x = rw (decode_snoc (after number places long r y) ys x) (simp append_assoc)
+  decode_snoc r xs x = rw (decode_both r xs (x ∷ []), append-nil) refl
 
   -- as many steps as items at most
   pub decode_length : (r : Reached) (xs : List Short)
@@ -51,11 +54,10 @@ module _ (number : ℕ) (places : List Location) (long : List Step) where
   decode_length r (x ∷ xs) =
       grind (arith, decode_length (after number places long r x) xs, length-append {A = Step})
 
-  pub reached_snoc : (r : Reached) (xs : List Short) (x : Short)
-      → reached_by number places long r (xs ++ x ∷ [])
-      ≡ after number places long (reached_by number places long r xs) x
-  reached_snoc r [] x = refl
-  reached_snoc r (y ∷ ys) x = reached_snoc (after number places long r y) ys x
+  pub reached_both : (r : Reached) (xs ys : List Short) → reached_by number places long r (xs ++ ys)
+      ≡ reached_by number places long (reached_by number places long r xs) ys
+  reached_both r [] ys = refl
+  reached_both r (x ∷ xs) ys = reached_both (after number places long r x) xs ys
 
 -- an item has the long step's number in two parts, and its name's slot
 pub long_is : (i : ℕ) → i / 4294967296 * 4294967296 + i % 4294967296 ≡ i
@@ -68,26 +70,16 @@ name_is n = grind arith
 -- names are no steps
 module _ (number : ℕ) (places : List Location) (long : List Step) (r : Reached) (xs : List Short) where
   names_within : (p q : ℕ) (all : Names) → AreWithin p q xs → AreWithin p q (xs ++ name_items all)
-  names_within p q names.None w = rw (append-nil xs) w
-  names_within p q (names.One n) w = within_snoc p q xs (name_item n) w tt
-  names_within p q (names.Two n m) w =
-      rw (append_assoc xs (name_item n ∷ []) (name_item m ∷ [])) at
-      (within_snoc p q (xs ++ name_item n ∷ []) (name_item m) (within_snoc p q xs (name_item n) w tt) tt)
+  names_within p q all w = within_both p q xs (name_items all) w (grind arith)
 
   names_kept : (all : Names)
       → decode number places long r (xs ++ name_items all) ≡ decode number places long r xs
-  names_kept names.None = rw (append-nil xs) refl
-  names_kept (names.One n) = rw (decode_snoc number places long r xs (name_item n), append-nil) refl
-  names_kept (names.Two n m) = rw (← append_assoc xs (name_item n ∷ []) (name_item m ∷ []))
-      (rw (decode_snoc, append-nil, decode_snoc, append-nil) refl)
+  names_kept all = grind (arith, decode_both, append-nil)
 
   names_reached : (all : Names)
       → reached_by number places long r (xs ++ name_items all)
       ≡ naming_all (reached_by number places long r xs) all
-  names_reached names.None = rw (append-nil xs) refl
-  names_reached (names.One n) = rw (reached_snoc number places long r xs (name_item n), name_is n) refl
-  names_reached (names.Two n m) = rw (← append_assoc xs (name_item n ∷ []) (name_item m ∷ []))
-      (rw (reached_snoc, name_is m, reached_snoc, name_is n) refl)
+  names_reached all = grind (arith, reached_both, name_is)
 
 -- where the tables grow
 module _ (number : ℕ) (places : List Location) (long : List Step) (more : List Location) (others : List Step) where
@@ -136,12 +128,12 @@ module _ (number : ℕ) (start : Reached) (long : List Step) {places wider : Lis
   grown_within one =
       let p = ap length table.is ∙ length-append places table.more in
       let q = ap length is_longer ∙ length-append long others in
-      rw is_more (within_snoc (length wider) (length longer) ys x
+      rw is_more (within_both (length wider) (length longer) ys (x ∷ [])
       (all_within_grow (length places) (length long) (length wider) (length longer) ys
-      (omega arith) (omega arith) named_within) one)
+      (omega arith) (omega arith) named_within) (one, tt))
 
   pub grown_reached : after number wider longer now x ≡ reached_by number wider longer start more
-  grown_reached = rw (is_more, reached_snoc number wider longer start ys x, ← kept_reached) refl
+  grown_reached = rw (is_more, reached_both number wider longer start ys (x ∷ []), ← kept_reached) refl
 
   pub grown_steps : (step : Step)
       → option_map lettered_step (step_at number wider longer now x) ≡ Some (lettered_step step)

@@ -1,7 +1,7 @@
 use Rattle.std.proofs.Common.{append_assoc, length, refl}
 use Rattle.std.proofs.lemmas.List.{take_more}
 use Rattle.shared_records.specs.declared.short.Short.TheVariants as short
-use Rattle.shared_records.proofs.Decodes.{within_at, decode_snoc, reached_snoc}
+use Rattle.shared_records.proofs.Decodes.{within_at, decode_snoc, reached_both}
 use Rattle.shared_records.proofs.short.decode_all.Goals as goal
 
 pub step_at-step-requires : goal.step_at-step-requires
@@ -18,5 +18,5 @@ loop-item-preserved c =
     let steps = c.loop-item.invariant.steps in
     let reached = c.loop-item.invariant.reached in record {
       steps = rw (c.in_ok-push_some.ensures, steps, one, decode_snoc, ← reached, ← told, append_assoc);
-      reached = rw (c.go_on-reached.ensures, one, reached_snoc, ← reached, told) refl;
+      reached = rw (c.go_on-reached.ensures, one, reached_both, ← reached, told) refl;
     }
