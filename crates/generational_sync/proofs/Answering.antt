@@ -1,15 +1,12 @@
 -- How a call that no borrow hinders is answered.
 use Rattle.generational_sync.proofs.Common
 use Common.{[], act, Action, and_parts, Answer, ap, arith, Bool, BorrowRefusal, Cell, cells_after, cond}
-use Common.{cond_gives, Content, Dropped, End, eqb-true, false, first_hindrance, GenerationalBoxId}
-use Common.{GenerationalPointer, Guard, hindrance_at, hindrance_of, hindrance_to, inl, inr, is_hindered}
-use Common.{is_some, knows_reader, last_ticket, leads_to, limit_tickets, List, Location, MayAnswer, Meets}
-use Common.{Name, name_in, name_of, NameMap, nat_eq, needs_owner, NewNames, None, NumbersExhausted, Option}
-use Common.{Outcome, OutOfMemory, own_cell, own_name, OwnerName, Ownership, ownership, Point, reach, Read}
-use Common.{recorded_as, Refer, refl, refusal_to_read, refusal_to_write, release_owner, ReleaseOwner}
-use Common.{SetValue, Some, State, StepCall, StoreError, subst, sym, takes_ticket, TakesTicket, true}
-use Common.{unless, value_at, value_behind, Write, write_refusal, ℕ, ◌&&◌, ◌∷◌, ◌≡◌}
-use Rattle.std.specs.FinMap as map
+use Common.{Dropped, End, eqb-true, false, first_hindrance, GenerationalBoxId, GenerationalPointer, Guard}
+use Common.{hindrance_at, hindrance_to, inl, inr, is_hindered, is_some, knows_reader, last_ticket, List}
+use Common.{Location, MayAnswer, Meets, Name, NameMap, nat_eq, NewNames, None, NumbersExhausted, Option}
+use Common.{Outcome, own_cell, own_name, OwnerName, Ownership, ownership, Point, reach, Read, recorded_as}
+use Common.{Refer, refl, refusal_to_read, refusal_to_write, release_owner, ReleaseOwner, SetValue, Some}
+use Common.{State, StepCall, subst, sym, takes_ticket, TakesTicket, true, unless, Write, ◌&&◌, ◌∷◌, ◌≡◌}
 use Rattle.generational_core.specs.Machine.Answer.{Refused as refuses}
 
 -- what hinders an end is a borrow
@@ -18,21 +15,14 @@ is_borrow (Some (Dropped l)) = false
 is_borrow _ = true
 
 module _ {T : Type 0} where
-  borrow_written : (c : Option (Content T)) → is_borrow (write_refusal c) ≡ true
-  borrow_written c = grind arith
-
   borrow_left : (cells left : NameMap (Cell T)) (n : Name)
       → is_borrow (hindrance_at cells left n) ≡ true
-  borrow_left cells left n = grind (arith, borrow_written)
-
-  borrow_of : (cells left : NameMap (Cell T)) (o : Option (Cell T)) (n : Name)
-      → is_borrow (hindrance_of cells left o n) ≡ true
-  borrow_of cells left o n = grind (arith, borrow_left)
+  borrow_left cells left n = grind arith
 
   borrow_among : (cells left : NameMap (Cell T)) (names : List Name)
       → is_borrow (first_hindrance cells left names) ≡ true
   borrow_among cells left [] = refl
-  borrow_among cells left (n ∷ names) = grind (arith, borrow_of, borrow_among cells left names)
+  borrow_among cells left (n ∷ names) = grind (arith, borrow_left, borrow_among cells left names)
 
   hindered_borrow : (S : State T) (names : List Name) → is_borrow (hindrance_to S names) ≡ true
   unfolding hindrance_to
@@ -52,14 +42,12 @@ module _ {T : Type 0} where
 
   own_here : (S : State T) (id : GenerationalBoxId) (c : Cell T)
       → own_cell S id ≡ Some c → id.store ≡ S.number
-  own_here S id c e = eqb-true _ _
-      (cond_gives (nat_eq id.store S.number) (map.get S.cells (name_in id)) c e).0
+  own_here S id c e = grind arith
 
   reach_here : (S : State T) (b : GenerationalPointer) (n : Name)
       → reach S b ≡ Some n → b.id.store ≡ S.number
   unfolding reach
-  reach_here S b n e = eqb-true _ _ (cond_gives (nat_eq b.id.store S.number)
-      (leads_to (map.get S.cells (name_of b)) (name_of b)) n e).0
+  reach_here S b n e = grind arith
 
   -- so are what may be read, and what may be written
   readable_here : (S : State T) (b : GenerationalPointer) → refusal_to_read S b ≡ None
@@ -73,7 +61,7 @@ module _ {T : Type 0} where
   writable_here S b free = grind (arith, reach_here)
 
   -- and a guard that is known
-  reader_here : (S : State T) (g : Guard) → knows_reader S g ≡ true → g.store ≡ S.number
+  pub reader_here : (S : State T) (g : Guard) → knows_reader S g ≡ true → g.store ≡ S.number
   reader_here S g known = eqb-true _ _ (and_parts (nat_eq g.store S.number) _ known).0
 
   -- ---- an outcome's answer grants or refuses the call as it may, and takes no ticket but one that
@@ -83,16 +71,12 @@ module _ {T : Type 0} where
   Fits S a out = (is_hindered a out.0 ≡ false → MayAnswer S.number a out.0)
       × (takes_ticket out.0 ≡ true → TakesTicket S.number a)
 
-  limited_fits : (S : State T) (a : Action T) (out : Outcome T) → Fits S a out
-      → is_hindered a (limit_tickets S out).0 ≡ false
-      → MayAnswer S.number a (limit_tickets S out).0
-  limited_fits S a out h = at (takes_ticket out.0 && nat_eq S.next last_ticket) refl
-    where
-      at : (b : Bool) → (takes_ticket out.0 && nat_eq S.next last_ticket) ≡ b
-          → let limited : Outcome T = cond b (refuses NumbersExhausted, S) out in
-          is_hindered a limited.0 ≡ false → MayAnswer S.number a limited.0
-      at true is free = h.1 (and_parts (takes_ticket out.0) _ is).0
-      at false is free = h.0 free
+  limited_fits : (S : State T) (a : Action T) (out : Outcome T) → Fits S a out → (b : Bool)
+      → (takes_ticket out.0 && nat_eq S.next last_ticket) ≡ b
+      → let limited : Outcome T = cond b (refuses NumbersExhausted, S) out in
+      is_hindered a limited.0 ≡ false → MayAnswer S.number a limited.0
+  limited_fits S a out h true is free = h.1 (and_parts (takes_ticket out.0) _ is).0
+  limited_fits S a out h false is free = h.0 free
 
   refer_fits : (S : State T) (o : Option OwnerName) (b : GenerationalPointer) (f : NewNames)
       → Fits S (Refer o b) (act S (Refer o b) f)
@@ -150,18 +134,5 @@ module _ {T : Type 0} where
       → MayAnswer S.number a answer
   answers_so S R a c answer asked (inl m) =
       subst (λ (o : Outcome T). is_hindered a o.0 ≡ false → MayAnswer S.number a o.0) (sym m.2)
-      (limited_fits S a _ (act_fits S a m.0 (ap is_some asked)))
+      (limited_fits S a _ (act_fits S a m.0 (ap is_some asked)) _ refl)
   answers_so S R a c answer asked (inr m) = λ free. subst (MayAnswer S.number a) (sym m.1) tt
-
-  -- ---- what of it the callers see
-
-  -- a guard that opens something is of the store
-  pub opened_own : (S : State T) (g : Guard) (v : T) → Some v ≡ value_behind S g
-      → g.store ≡ S.number
-  opened_own S g v e =
-      reader_here S g (cond_gives (knows_reader S g) (value_at S g.cell) v (sym e)).0
-
-  -- a call that needs neither a ticket nor an owner is refused for want of memory alone
-  pub lacks : (number : ℕ) (a : Action T) (e : StoreError) → (TakesTicket number a → ⊥)
-      → needs_owner a ≡ false → MayAnswer number a (refuses e) → e ≡ OutOfMemory
-  lacks number a e ticket owner may = grind arith

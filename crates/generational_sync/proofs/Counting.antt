@@ -2,26 +2,24 @@
 use Rattle.generational_sync.proofs.Common
 use Common.{[], act, act_leads, Action, after, and_parts, Answer, ap, arith, Birth, Borrows, borrows, Cell}
 use Common.{Change, Close, Content, content_at, Fill, fill, given_by, Guard, has_writer, Here, IsLawful}
-use Common.{knows_writer, leaves, length, Lent, Make, Meets, meets_each, Name, nat_eq, new_content}
-use Common.{NewNames, None, old_content, Option, Pair, Ref, refl, Shared, Some, State, Stay, sym, true}
-use Common.{true≢false, Turn, ℕ, ◌+◌, ◌≡◌, ◌≤◌}
+use Common.{knows_writer, leaves, length, Lent, Make, Meets, meets_each, Name, new_content, NewNames}
+use Common.{old_content, Option, Pair, Ref, refl, Shared, Some, State, Stay, sym, true, true≢false, Turn, ℕ}
+use Common.{◌+◌, ◌≡◌, ◌≤◌}
 use Rattle.std.specs.FinMap as map
 use Rattle.generational_sync.proofs.Weighing.{borrows_inserted}
 use Rattle.generational_sync.proofs.Standings.{comes_with, end_fewer, filled_borrows, refilled, swept_fewer}
 
 module _ {T : Type 0} where
   -- a writer that is known stands, and alone
+  written_at : (S : State T) (n : Name) (t : ℕ) (v : T) (c : Option (Content T))
+      → content_at S n ≡ c → has_writer c t ≡ true → borrows (fill S n (Here v [])) + 1 ≡ borrows S
+  written_at S n t v (Some (Lent w)) is h =
+      let weighs = filled_borrows S n (Here v []) (Lent w) is in omega arith
+  written_at S n t v c is h = absurd (true≢false (sym h))
+
   pub written_stand : (S : State T) (g : Guard) (v : T) → knows_writer S g ≡ true
       → borrows (fill S g.cell (Here v [])) + 1 ≡ borrows S
-  written_stand S g v known =
-      at (content_at S g.cell) refl (and_parts (nat_eq g.store S.number) _ known).1
-    where
-      at : (c : Option (Content T)) → content_at S g.cell ≡ c → has_writer c g.ticket ≡ true
-          → borrows (fill S g.cell (Here v [])) + 1 ≡ borrows S
-      at None is h = absurd (true≢false (sym h))
-      at (Some (Here u rs)) is h = absurd (true≢false (sym h))
-      at (Some (Lent w)) is h =
-          let weighs = filled_borrows S g.cell (Here v []) (Lent w) is in omega arith
+  written_stand S g v known = written_at S g.cell g.ticket v _ refl (and_parts _ _ known).1
 
   -- ---- what a change of cells adds
 

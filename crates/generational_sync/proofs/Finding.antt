@@ -2,8 +2,8 @@
 use Rattle.generational_sync.proofs.Common
 use Common.{[], ap, arith, Bool, Borrow, by_name, Cell, Content, content_at, content_of, eq_by_cmp}
 use Common.{first_name, has_reader, has_writer, is_some, IsSound, key_same, List, list_any, Name, name_cmp}
-use Common.{nat_eq, None, Option, passes_both, Plain, reader_cell, refl, Some, sym, tickets_of, true}
-use Common.{true≢false, writer_cell, ℕ, ◌∙◌, ◌∷◌, ◌≡◌}
+use Common.{nat_eq, Option, passes_both, Plain, reader_cell, Some, sym, tickets_of, true, true≢false}
+use Common.{writer_cell, ℕ, ◌∙◌, ◌∷◌, ◌≡◌}
 use Rattle.std.specs.Prelude.{map as list_map}
 use Rattle.std.specs.FinMap as map
 
@@ -26,28 +26,17 @@ found : (P : Plain) (m : Name) (t : ℕ) (has : Option (Content (Unit {0})) → 
     → first_name (λ n. has (content_at P n)) (map.keys P.cells) ≡ Some m
 found P m t has stands s h =
     let live : (o : Option (Cell (Unit {0}))) → has (content_of o) ≡ true → is_some o ≡ true =
-    λ o. elim o as (λ o. has (content_of o) ≡ true → is_some o ≡ true) [
-      | None ↦ λ e. cc (stands None e)
-      | Some c ↦ λ e. refl
-    ] in
+    λ o e. grind (arith, stands) in
     one_found (λ n. has (content_at P n)) m
     (λ n e. s.one_cell n m t (stands (content_at P n) e) (stands (content_at P m) h)) (map.keys P.cells)
     (passes_both (λ n. has (content_at P n)) (eq_by_cmp name_cmp m)
     (λ n e. ap (λ k. has (content_at P k)) (sym (key_same by_name m n e)) ∙ h) (map.keys P.cells)
     (sym (map.contains_key-keys P.cells m) ∙ live (map.get P.cells m) h))
 
-reader_stands : (t : ℕ) (c : Option (Content (Unit {0}))) → has_reader c t ≡ true
-    → list_any (nat_eq t) (tickets_of c) ≡ true
-reader_stands t c h = grind (arith, ticket_stands t)
-
-writer_stands : (t : ℕ) (c : Option (Content (Unit {0}))) → has_writer c t ≡ true
-    → list_any (nat_eq t) (tickets_of c) ≡ true
-writer_stands t c h = grind arith
-
 pub reader_found : (P : Plain) (m : Name) (t : ℕ) → IsSound P
     → has_reader (content_at P m) t ≡ true → reader_cell P t ≡ Some m
-reader_found P m t = found P m t (λ c. has_reader c t) (reader_stands t)
+reader_found P m t = found P m t (λ c. has_reader c t) (λ c h. grind (arith, ticket_stands t))
 
 pub writer_found : (P : Plain) (m : Name) (t : ℕ) → IsSound P
     → has_writer (content_at P m) t ≡ true → writer_cell P t ≡ Some m
-writer_found P m t = found P m t (λ c. has_writer c t) (writer_stands t)
+writer_found P m t = found P m t (λ c. has_writer c t) (λ c h. grind arith)

@@ -1,13 +1,13 @@
 -- The state without values takes the recorded step.
 use Rattle.generational_sync.proofs.Common
-use Common.{[], act, Action, action_of, add_cell, and_from, and_parts, Answer, ap, are_new, arith, Back}
-use Common.{Bool, box_of, CanRead, CanWrite, cond, content_at, Done, eqb-true, false, Flag}
-use Common.{GenerationalPointer, gives_new, Guard, guard_at, Here, id_of, IfSome, inl, inr, is_hindered}
-use Common.{is_known, is_ready, IsSound, knows_reader, knows_writer, LeakOwner, limit_tickets, Location}
-use Common.{Make, make, MakeShared, Meets, names_of_reply, nat_eq, NewNames, no_names, None, not, Option}
-use Common.{option_map, Outcome, OwnerName, Plain, plain, plain_answer, plain_call, plain_step, recorded_as}
-use Common.{recorded_reply, Ref, Refer, refl, Refused, ReleaseReader, ReleaseWriter, remove_reader, Shared}
-use Common.{Some, State, step_by, StepCall, StepReply, subst, sym, Takes, true, UnknownOwner, ◌∙◌, ◌≡◌}
+use Common.{[], act, Action, action_of, add_cell, and_from, and_parts, Answer, ap, are_new, arith, Bool}
+use Common.{box_of, CanRead, CanWrite, cond, false, GenerationalPointer, gives_new, Guard, guard_at, Here}
+use Common.{id_of, IfSome, inl, inr, is_hindered, is_known, is_ready, IsSound, knows_reader, knows_writer}
+use Common.{LeakOwner, limit_tickets, Location, Make, make, MakeShared, Meets, names_of_reply, nat_eq}
+use Common.{NewNames, no_names, None, not, Option, option_map, Outcome, OwnerName, Plain, plain}
+use Common.{plain_answer, plain_call, plain_step, recorded_as, recorded_reply, Ref, Refer, refl, Refused}
+use Common.{ReleaseReader, ReleaseWriter, Shared, Some, State, step_by, StepCall, StepReply, subst, sym}
+use Common.{Takes, true, UnknownOwner, ◌∙◌, ◌≡◌}
 use Rattle.generational_core.specs.declared.steps.StepCall.TheVariants as call
 use Rattle.shared_records.specs.declared.step.StepReply.TheVariants as reply
 use Rattle.generational_sync.proofs.Replying.{plain_reply, recorded_is}
@@ -130,29 +130,15 @@ module _ (tell : IsTold) (P : Plain) where
   -- ---- releases
 
   -- a release whose answer is recorded was of a guard that the state knew
-  known_by : (g : Guard) (b : Bool) (Q : Plain) (r : StepReply)
-      → let out : Outcome (Unit {0}) = cond b (Flag true, Q) (Flag false, P) in
-      recorded_of P (ReleaseReader g) out ≡ Some r → b ≡ true
-  known_by g b Q r h = grind arith
-
-  written_by : (g : Guard) (b : Bool) (Q : Plain) (r : StepReply)
-      → let out : Outcome (Unit {0}) = cond b (Done, Q) (Back tt, P) in
-      recorded_of P (ReleaseWriter g tt) out ≡ Some r → b ≡ true
-  written_by g b Q r h = grind arith
-
   own_guard : (g : Guard) → nat_eq g.store P.number ≡ true → guard_at P g.ticket g.cell ≡ g
-  own_guard g own = λ i. record {
-    store = sym (eqb-true g.store P.number own) i;
-    cell = g.cell;
-    ticket = g.ticket;
-  }
+  own_guard g own = grind arith
 
   reader_leads : (g : Guard) (new : NewNames) → IsSound P
       → Takes P (ReleaseReader g) (limit_tickets P (act P (ReleaseReader g) new)).0 new
       → Leads (call.ReleaseRead g.ticket) (ReleaseReader g) (act P (ReleaseReader g) new)
   reader_leads g new sound takes r h =
-      let parts = and_parts (nat_eq g.store P.number) _
-      (known_by g (knows_reader P g) (remove_reader P g.cell g.ticket (content_at P g.cell)) r h) in
+      let known : knows_reader P g ≡ true = grind arith in
+      let parts = and_parts (nat_eq g.store P.number) _ known in
       named (call.ReleaseRead g.ticket) (ReleaseReader g) new refl
       (ap (option_map (λ n. ReleaseReader (guard_at P g.ticket n)))
       (reader_found P g.cell g.ticket sound parts.1)
@@ -162,8 +148,8 @@ module _ (tell : IsTold) (P : Plain) where
       → Takes P (ReleaseWriter g tt) (limit_tickets P (act P (ReleaseWriter g tt) new)).0 new
       → Leads (call.ReleaseWrite g.ticket) (ReleaseWriter g tt) (act P (ReleaseWriter g tt) new)
   writer_leads g new sound takes r h =
-      let parts = and_parts (nat_eq g.store P.number) _
-      (written_by g (knows_writer P g) _ r h) in
+      let known : knows_writer P g ≡ true = grind arith in
+      let parts = and_parts (nat_eq g.store P.number) _ known in
       named (call.ReleaseWrite g.ticket) (ReleaseWriter g tt) new refl
       (ap (option_map (λ n. ReleaseWriter (guard_at P g.ticket n) tt))
       (writer_found P g.cell g.ticket sound parts.1)

@@ -4,9 +4,9 @@ use Rattle.generational_sync.proofs.Common
 use Common.{act, Action, Answer, ap, arith, Bool, BorrowError, BorrowMutError, BorrowRefused, Counts}
 use Common.{Dropped, end_refused, false, GenerationalPointer, inl, inr, is_hindered, is_ready, IsHindered}
 use Common.{IsKept, leaves, limit_tickets, Location, LogState, Meets, NewNames, not, OnTrue, Option}
-use Common.{Outcome, Read, read_refused, recorded_as, recorded_reply, refl, refusal_to_read, Refused}
-use Common.{shared, SharedState, Some, State, StepCall, StepReply, subst, sym, true, true≢false, WasRefused}
-use Common.{ℕ, ◌∙◌, ◌≡◌}
+use Common.{Outcome, Read, read_refused, recorded_as, recorded_reply, refusal_to_read, Refused, shared}
+use Common.{SharedState, Some, State, StepCall, StepReply, subst, sym, true, true≢false, WasRefused, ℕ, ◌∙◌}
+use Common.{◌≡◌}
 use Rattle.generational_errors.specs.declared.error.Refused.{Refused as IsRefused}
 use Rattle.shared_records.specs.declared.step.StepReply.TheVariants as reply
 use Rattle.generational_sync.proofs.Counting.{meets_fine}
@@ -47,18 +47,12 @@ module _ {T : Type 0} where
   granted_ready told S R a c answer asked (inr m) granted free =
       absurd (true≢false (sym (ap refuses m.1) ∙ granted))
 
-  dropped_told : (R : State T) (a : Action T) (answer : Answer T) (l : Location)
-      → Some (reply.Dropped l) ≡ recorded_reply R a answer
-      → (refuses answer ≡ false) × (is_hindered a answer ≡ false)
-  dropped_told R a answer l e = grind arith
-
   -- a call that is told of a value that is gone was ready too
   pub dropped_ready : AreTold T → (S R : State T) (a : Action T) (c : StepCall) (answer : Answer T)
       (l : Location) → recorded_as a ≡ Some c → Meets S a answer R
       → Some (reply.Dropped l) ≡ recorded_reply R a answer → is_ready S c ≡ true
   dropped_ready told S R a c answer l asked met replied =
-      let free = dropped_told R a answer l replied in
-      granted_ready told S R a c answer asked met free.0 free.1
+      granted_ready told S R a c answer asked met (grind arith) (grind arith)
 
   -- a read tells of no location but the box's own
   act_tells : (S : State T) (b : GenerationalPointer) (l : Location) (new : NewNames) (k : Location)
@@ -69,15 +63,8 @@ module _ {T : Type 0} where
   pub read_told : (S R : State T) (b : GenerationalPointer) (l : Location) (answer : Answer T)
       → Meets S (Read b l) answer R → (told : Location)
       → Some (reply.Dropped told) ≡ recorded_reply R (Read b l) answer → told ≡ b.created_at
-  read_told S R b l answer met told replied = at answer met replied
-    where
-      at : (answer : Answer T) → Meets S (Read b l) answer R
-          → Some (reply.Dropped told) ≡ recorded_reply R (Read b l) answer → told ≡ b.created_at
-      at (BorrowRefused (Dropped k)) (inl m) replied =
-          let same : told ≡ k = cc in
-          same ∙ act_tells S b l m.0 k (unlimited S R (act S (Read b l) m.0) _ m.2 refl)
-      at answer (inr m) replied = cc (ap (recorded_reply R (Read b l)) m.1)
-      at answer (inl m) replied = grind arith
+  read_told S R b l answer (inr m) told replied = cc (ap (recorded_reply R (Read b l)) m.1)
+  read_told S R b l answer (inl m) told replied = grind (arith, act_tells S b l m.0)
 
   pub left_as : (S R : State T) (a : Action T) (answer : Answer T) → Meets S a answer R
       → leaves answer ≡ true → R ≡ S
@@ -93,13 +80,9 @@ module _ {T : Type 0} where
   pub refused : {c : StepCall} {r : Option StepReply} (S R : State T) (a : Action T) (answer : Answer T)
       → recorded_as a ≡ Some c → Meets S a answer R → r ≡ recorded_reply R a answer
       → leaves answer ≡ true → WasRefused c r R
-  refused S R a answer asked met replied left = record {
-    action = a;
-    answer = answer;
-    asked = asked;
-    met = subst (λ s. Meets s a answer R) (sym (left_as S R a answer met left)) met;
-    replied = replied;
-  }
+  refused S R a answer asked met replied left =
+      let stays = subst (λ s. Meets s a answer R) (sym (left_as S R a answer met left)) met in
+      record { action = a; answer = answer; asked = asked; met = stays; replied = replied }
 
   -- and it was ready where it is now
   pub left_ready : (c : StepCall) (S R : State T) (a : Action T) (answer : Answer T) → Meets S a answer R
@@ -115,8 +98,7 @@ module _ {T : Type 0} where
       → after ≡ room → c ≡ d → false ≡ is_ready R c → raised ≡ counts
       → IsHindered old counts d (shared R after) raised
   hindered log room S R a answer base steps view met left is same stands count =
-      let stay = left_as S R a answer met left in
-      let now : R ≡ S = stay in
+      let now = left_as S R a answer met left in
       record {
         waits = (λ i. is_ready ((ap (λ (s : SharedState T). s.state) (sym view) ∙ sym now) i) (sym same i))
             ∙ sym stands;

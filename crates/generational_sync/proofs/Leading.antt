@@ -11,15 +11,14 @@ tests_letters : KeepsTest lettered
 tests_letters a b = refl
 
 -- no steps lead from a state to itself
-pub led_nowhere : (P Q : Plain) (steps : List Step) → P ≡ Q → steps ≡ [] → LeadsTo P steps Q
-led_nowhere P Q steps same none =
-    record {
-      end = P;
-      replays = ap (replay_from P) none;
-      letters = turned lettered P;
-      ended = is_alike lettered refl;
-      same = is_alike lettered (ap (turned lettered) same);
-    }
+pub led_nowhere : {P Q : Plain} {steps : List Step} → P ≡ Q → steps ≡ [] → LeadsTo P steps Q
+led_nowhere {P = P} same none = record {
+  end = P;
+  replays = ap (replay_from P) none;
+  letters = turned lettered P;
+  ended = is_alike lettered refl;
+  same = is_alike lettered (ap (turned lettered) same);
+}
 
 -- the same by other names
 pub led_as : {P R Q S : Plain} {steps others : List Step} → P ≡ R → steps ≡ others → Q ≡ S
@@ -66,11 +65,9 @@ led_on P S R before after y led more step =
     }
 
 -- the end is of the same store, with the same first generation
-pub same_number : (P Q : Plain) (steps : List Step) (led : LeadsTo P steps Q)
-    → Q.number ≡ led.end.number
-same_number P Q steps led =
-    sym (ap (λ (S : Plain). S.number) led.same.is) ∙ ap (λ (S : Plain). S.number) led.ended.is
+module _ {P Q : Plain} {steps : List Step} (led : LeadsTo P steps Q) where
+  pub same_number : Q.number ≡ led.end.number
+  same_number = ap (λ (S : Plain). S.number) (sym led.same.is ∙ led.ended.is)
 
-pub same_start : (P Q : Plain) (steps : List Step) (led : LeadsTo P steps Q) → Q.start ≡ led.end.start
-same_start P Q steps led =
-    sym (ap (λ (S : Plain). S.start) led.same.is) ∙ ap (λ (S : Plain). S.start) led.ended.is
+  pub same_start : Q.start ≡ led.end.start
+  same_start = ap (λ (S : Plain). S.start) (sym led.same.is ∙ led.ended.is)

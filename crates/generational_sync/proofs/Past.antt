@@ -3,8 +3,8 @@ use Rattle.generational_sync.proofs.Common
 use Common.{[], Action, Answer, ap, ArePast, arith, bare_cell, BaseRow, Borrow, borrow_rows, both_past}
 use Common.{Cell, cell_rows, Content, GenerationalBoxId, get_bare_cell, id_of, is_some, IsPast, IsSound}
 use Common.{List, Location, location_of, Meets, meets_ended, meets_given, meets_location, Name, None}
-use Common.{none-some, Option, option_map, owners_past, Plain, plain, reader_row, Ref, refl, rows_of}
-use Common.{Shared, slot_rows, slots_of, Some, State, sym, Value, WasMadeAt, ℕ, ◌∙◌, ◌∷◌, ◌≡◌}
+use Common.{Option, option_map, owners_past, Plain, plain, reader_row, Ref, refl, rows_of, Shared}
+use Common.{slot_rows, slots_of, Some, State, sym, Value, WasMadeAt, ℕ, ◌∙◌, ◌∷◌, ◌≡◌}
 use Rattle.std.specs.Prelude.{map as list_map}
 use Rattle.std.specs.FinMap as map
 use Rattle.generational_core.specs.declared.rows.BaseRow.TheVariants as row
@@ -14,15 +14,10 @@ use Rattle.generational_core.specs.declared.rows.BaseRow.TheVariants as row
 module _ (P Q : Plain) (a : Action (Unit {0})) (answer : Answer (Unit {0})) (sound : IsSound P)
     (met : Meets P a answer Q) where
   made_still : (n : Name) (l : Location) → WasMadeAt P n l → WasMadeAt Q n l
-  made_still n l was = (meets_given P Q a answer met n was.0, λ c is. at (map.get P.cells n) refl c is)
-    where
-      at : (before : Option (Cell (Unit {0}))) → map.get P.cells n ≡ before
-          → (c : Cell (Unit {0})) → map.get Q.cells n ≡ Some c → location_of (Some c) ≡ Some l
-      at None none c is =
-          absurd (none-some c (sym (meets_ended P Q a answer met n (was.0, none)).1 ∙ is))
-      at (Some b) some c is =
-          let stays = meets_location P Q a answer n sound met (ap is_some some) (ap is_some is) in
-          ap location_of (sym is) ∙ stays ∙ ap location_of some ∙ was.1 b some
+  made_still n l was =
+      let ended = meets_ended P Q a answer met n in
+      let stays = meets_location P Q a answer n sound met in
+      (meets_given P Q a answer met n was.0, λ c is. grind (arith, was))
 
   row_still : (r : BaseRow) → IsPast P r → IsPast Q r
   row_still (row.Value id l) was = made_still _ l was

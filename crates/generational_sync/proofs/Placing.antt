@@ -256,10 +256,6 @@ module _ {T : Type 0} (p : Location → Location) where
 
 -- ---- a recorded call, and a step, of a state without values
 
-mapped_twice : {A B C : Type 0} (f : A → B) (g : B → C) (o : Option A)
-    → option_map g (option_map f o) ≡ option_map (λ x. g (f x)) o
-mapped_twice f g o = grind arith
-
 module _ (p : Location → Location) where
   told : (r : Option BorrowRefusal) → tells_of_borrow (refusal p r) ≡ tells_of_borrow r
   told r = grind arith
@@ -309,8 +305,8 @@ module _ (p : Location → Location) where
 
     action_turned : (c : StepCall)
         → action_of (turned p P) (place_call p c) ≡ option_map (place_action p) (action_of P c)
-    action_turned (call.ReleaseRead k) = rw (cells_kept k).0 (sym (mapped_twice _ _ (reader_cell P k)))
-    action_turned (call.ReleaseWrite k) = rw (cells_kept k).1 (sym (mapped_twice _ _ (writer_cell P k)))
+    action_turned (call.ReleaseRead k) = rw (cells_kept k).0 (grind arith)
+    action_turned (call.ReleaseWrite k) = rw (cells_kept k).1 (grind arith)
     action_turned c = refl
 
   module _ (P : Plain) where

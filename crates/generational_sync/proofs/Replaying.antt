@@ -1,10 +1,9 @@
 -- What holds of each history that replays: its states are sound, and of the one store.
 use Rattle.generational_sync.proofs.Common
-use Common.{[], act, Action, action_of, and_parts, Answer, ap, arith, Bool, cond, false, gives_new, inl}
-use Common.{is_lawful, is_ready, is_recorded, IsSound, IsTaken, LeadsOver, limit_tickets, List, Meets}
-use Common.{names_of_reply, None, Option, Outcome, Plain, plain_step, recorded_reply, refl, replay_from}
-use Common.{replay_on, Some, Step, step_by, StepCall, StepReply, subst, sym, Takes, true, ℕ, ◌++◌, ◌∙◌, ◌∷◌}
-use Common.{◌≡◌}
+use Common.{[], act, Action, action_of, and_parts, Answer, ap, arith, cond_gives, gives_new, inl, is_lawful}
+use Common.{is_ready, is_recorded, IsSound, IsTaken, LeadsOver, limit_tickets, List, Meets, names_of_reply}
+use Common.{None, Option, Outcome, Plain, plain_step, recorded_reply, refl, replay_from, replay_on, Some}
+use Common.{Step, step_by, StepCall, StepReply, subst, Takes, true, ℕ, ◌++◌, ◌∙◌, ◌∷◌, ◌≡◌}
 use Rattle.generational_sync.proofs.Fitting.{are_from, gives_from}
 
 -- the names of a recorded reply are those that the call takes
@@ -14,43 +13,29 @@ takes_named : (P Q : Plain) (a : Action (Unit {0})) (answer : Answer (Unit {0}))
 takes_named P Q a answer r new h = grind (arith, are_from)
 
 -- a step that is lawful is taken
-taken_by : (P Q : Plain) (c : StepCall) (r : StepReply) (a : Action (Unit {0}))
-    → action_of P c ≡ Some a → step_by P c r (Some a) ≡ Some Q → IsTaken P c r Q
-taken_by P Q c r a asks e = at (is_lawful P c a r (recorded_reply out.1 a out.0)) refl e
-  where
-    out : Outcome (Unit {0})
-    out = limit_tickets P (act P a (names_of_reply r))
-
-    at : (b : Bool) → is_lawful P c a r (recorded_reply out.1 a out.0) ≡ b
-        → cond b (Some out.1) None ≡ Some Q → IsTaken P c r Q
-    at true is e =
-        let ready = and_parts (is_ready P c) _ is in
-        let gives = and_parts (gives_new P a r) _ ready.1 in
-        let same : out.1 ≡ Q = cc in
-        record {
-          action = a;
-          asked = asks;
-          ready = ready.0;
-          answer = out.0;
-          met = inl (
-            names_of_reply r,
-            takes_named P out.1 a out.0 r gives.0 gives.1,
-            λ i. (out.0, sym same i),
-          );
-          replied = ap (λ R. is_recorded (recorded_reply R a out.0) r) (sym same) ∙ gives.1;
-          named = gives_from P a r gives.0;
-        }
-    at false is e = absurd cc
+taken_by : (P Q : Plain) (c : StepCall) (r : StepReply) (o : Option (Action (Unit {0})))
+    → action_of P c ≡ o → step_by P c r o ≡ Some Q → IsTaken P c r Q
+taken_by P Q c r None asks e = absurd cc
+taken_by P Q c r (Some a) asks e =
+    let out : Outcome (Unit {0}) = limit_tickets P (act P a (names_of_reply r)) in
+    let lawful = cond_gives (is_lawful P c a r (recorded_reply out.1 a out.0)) (Some out.1) Q e in
+    let ready = and_parts (is_ready P c) _ lawful.0 in
+    let gives = and_parts (gives_new P a r) _ ready.1 in
+    let takes = takes_named P out.1 a out.0 r gives.0 gives.1 in
+    let same : Q ≡ out.1 = cc in record {
+      action = a;
+      asked = asks;
+      ready = ready.0;
+      answer = out.0;
+      met = inl (names_of_reply r, takes, λ i. (out.0, same i));
+      replied = rw same gives.1;
+      named = gives_from P a r gives.0;
+    }
 
 pub step_taken : (P Q : Plain) (c : StepCall) (r : StepReply)
     → plain_step P c r ≡ Some Q → IsTaken P c r Q
 unfolding plain_step
-step_taken P Q c r e = at (action_of P c) refl e
-  where
-    at : (o : Option (Action (Unit {0}))) → action_of P c ≡ o → step_by P c r o ≡ Some Q
-        → IsTaken P c r Q
-    at None asks e = absurd cc
-    at (Some a) asks e = taken_by P Q c r a asks e
+step_taken P Q c r e = taken_by P Q c r (action_of P c) refl e
 
 -- ---- a step within a history
 
@@ -85,45 +70,33 @@ abbrev Good : ℕ → ℕ → Plain → Type 0
 Good number start P = IsSound P × (P.number ≡ number) × (P.start ≡ start)
 
 -- what the laws of the machine say of states without values
-abbrev KeepsSound : Type 0
-KeepsSound = (P Q : Plain) (a : Action (Unit {0})) (answer : Answer (Unit {0}))
-    → IsSound P → Meets P a answer Q → IsSound Q
+abbrev Keeps : (Plain → Plain → Type 0) → Type 0
+Keeps Is = (P Q : Plain) (a : Action (Unit {0})) (answer : Answer (Unit {0}))
+    → Meets P a answer Q → Is P Q
 
-abbrev KeepsNumber : Type 0
-KeepsNumber = (P Q : Plain) (a : Action (Unit {0})) (answer : Answer (Unit {0}))
-    → Meets P a answer Q → Q.number ≡ P.number
-
-abbrev KeepsStart : Type 0
-KeepsStart = (P Q : Plain) (a : Action (Unit {0})) (answer : Answer (Unit {0}))
-    → Meets P a answer Q → Q.start ≡ P.start
-
-module _ (sound : KeepsSound) (numbered : KeepsNumber) (started : KeepsStart) where
+module _ (sound : Keeps (λ P Q. IsSound P → IsSound Q))
+    (numbered : Keeps (λ P Q. Q.number ≡ P.number)) (started : Keeps (λ P Q. Q.start ≡ P.start)) where
   step_good : (number start : ℕ) (P Q : Plain) (c : StepCall) (r : StepReply)
       → Good number start P → plain_step P c r ≡ Some Q → Good number start Q
   step_good number start P Q c r good e =
       let took = step_taken P Q c r e in (
-        sound P Q took.action took.answer good.0 took.met,
+        sound P Q took.action took.answer took.met good.0,
         numbered P Q took.action took.answer took.met ∙ good.1,
         started P Q took.action took.answer took.met ∙ good.2,
       )
 
-  replay_good : (number start : ℕ) (steps : List Step) (o : Option Plain) (Q : Plain)
-      → ((P : Plain) → o ≡ Some P → Good number start P) → replay_on steps o ≡ Some Q
-      → Good number start Q
-  replay_good number start [] o Q good e = good Q e
-  replay_good number start (x ∷ xs) None Q good e = absurd cc
-  replay_good number start (x ∷ xs) (Some P) Q good e =
-      replay_good number start xs (plain_step P x.call x.reply) Q
-      (λ R k. step_good number start P R x.call x.reply (good P refl) k) e
+  replay_good : (number start : ℕ) (steps : List Step) (P Q : Plain) → Good number start P
+      → replay_from P steps ≡ Some Q → Good number start Q
+  replay_good number start [] P Q good e =
+      let same : P ≡ Q = cc in subst (Good number start) same good
+  replay_good number start (x ∷ xs) P Q good e =
+      let it = led_by xs (plain_step P x.call x.reply) Q e in
+      let still = step_good number start P it.0 x.call x.reply good it.1 in
+      replay_good number start xs it.0 Q still it.2
 
-  -- a state to which a history replays from a sound one is sound, and of the same store
   pub replay_kept : (P : Plain) (steps : List Step) (Q : Plain) → IsSound P
       → replay_from P steps ≡ Some Q → Good P.number P.start Q
-  replay_kept P steps Q begins e =
-      replay_good P.number P.start steps (Some P) Q
-      (λ R k.
-      let same : P ≡ R = cc in
-      subst (Good P.number P.start) same (begins, refl, refl)) e
+  replay_kept P steps Q begins e = replay_good P.number P.start steps P Q (begins, refl, refl) e
 
 -- one lawful step more
 pub replay_more : (steps : List Step) (o : Option Plain) (P Q : Plain) (x : Step)

@@ -1,11 +1,10 @@
 -- How many borrows stand after a call.
 use Rattle.generational_sync.proofs.Common
-use Common.{[], among, ap, arith, Borrow, borrows, borrows_in, Cell, close, Content, content_at, content_of}
+use Common.{[], among, arith, Borrow, borrows, borrows_in, Cell, close, Content, content_at, content_of}
 use Common.{fill, Filling, filter, has_reader, Here, is_named, is_shared, Leave, length, length-append}
-use Common.{length-map, Lent, List, list_any, Name, NameMap, nat_eq, new_content, next_borrow, None, not}
-use Common.{old_content, Option, Reader, Ref, refill, refl, remove_reader, Shared, Some, State, sweep, sym}
-use Common.{take_away, tickets_of, true, true≢false, Value, without, Writer, ℕ, ◌++◌, ◌+◌, ◌||◌, ◌∷◌, ◌≡◌}
-use Common.{◌≤◌}
+use Common.{length-map, List, list_any, Name, NameMap, nat_eq, new_content, next_borrow, None, not}
+use Common.{old_content, Option, Reader, refill, refl, remove_reader, Some, State, sweep, sym, take_away}
+use Common.{tickets_of, true, true≢false, without, Writer, ℕ, ◌++◌, ◌+◌, ◌||◌, ◌∷◌, ◌≡◌, ◌≤◌}
 use Rattle.std.specs.FinMap as map
 use Rattle.generational_sync.proofs.Weighing.{borrows_changed, borrows_retained}
 
@@ -41,15 +40,7 @@ module _ {T : Type 0} where
       at : (o : Option (Cell T)) → map.get S.cells m ≡ o → content_of o ≡ Some old
           → borrows (fill S m c) + size old ≡ borrows S + size c
       at None is h = absurd cc
-      at (Some (Value d l)) is h =
-          let weighs = borrows_changed S.cells m (refill c) (Value d l) is in
-          let same : size d ≡ size old = ap (λ o. length (tickets_of o)) h in
-          omega arith
-      at (Some (Shared d l)) is h =
-          let weighs = borrows_changed S.cells m (refill c) (Shared d l) is in
-          let same : size d ≡ size old = ap (λ o. length (tickets_of o)) h in
-          omega arith
-      at (Some (Ref k l)) is h = absurd cc
+      at (Some x) is h = let weighs = borrows_changed S.cells m (refill c) x is in grind arith
 
   -- how a content's size changes that is filled anew
   pub refilled : (S : State T) (k : Filling T)
@@ -75,18 +66,14 @@ module _ {T : Type 0} where
       borrows_retained cells (λ n. is_shared (map.get cells n) || not (among names n))
 
   pub end_fewer : (S : State T) (names : List Name) → borrows (close S names) ≤ borrows S
-  end_fewer S names =
-      let first = without_fewer S.cells names in
-      let second = swept_fewer (take_away S.cells names) in
-      omega arith
+  end_fewer S names = grind (arith, without_fewer, swept_fewer)
 
   pub without_stand : (S : State T) (n : Name) (t : ℕ) (c : Option (Content T)) → content_at S n ≡ c
       → has_reader c t ≡ true → borrows (remove_reader S n t c) + 1 ≤ borrows S
-  without_stand S n t None is h = absurd (true≢false (sym h))
-  without_stand S n t (Some (Lent w)) is h = absurd (true≢false (sym h))
   without_stand S n t (Some (Here v rs)) is h =
       let left = filter (λ (r : Borrow). not (nat_eq r.ticket t)) rs in
       let weighs = filled_borrows S n (Here v left) (Here v rs) is in
       let less = shorter t rs h in
       let one = size_here v rs in let two = size_here v left in
       omega arith
+  without_stand S n t c is h = absurd (true≢false (sym h))

@@ -1,20 +1,15 @@
 -- Bases: what their rows leave as it was, and what they count of the steps that were trimmed.
 use Rattle.generational_sync.proofs.Common
-use Common.{[], all_kinds, all_trimmed, ap, arith, BaseRow, BaseState, counts_of, IsCheckpoint, length}
-use Common.{List, LogState, Plain, plain, plain_of, read_row, read_rows, refl, rows_of, shared, SharedState}
-use Common.{State, Step, subst, TrimmedSteps, Trims, ℕ, ◌+◌, ◌<◌, ◌^◌, ◌∙◌, ◌∷◌, ◌≡◌}
-
-row_keeps : (P : Plain) (r : BaseRow)
-    → ((read_row P r).number ≡ P.number) × ((read_row P r).start ≡ P.start)
-row_keeps P r = grind arith
+use Common.{[], all_kinds, all_trimmed, arith, BaseRow, BaseState, counts_of, IsCheckpoint, length, List}
+use Common.{LogState, Plain, plain, plain_of, read_row, read_rows, refl, rows_of, shared, SharedState}
+use Common.{State, Step, TrimmedSteps, Trims, ℕ, ◌+◌, ◌<◌, ◌^◌, ◌∷◌, ◌≡◌}
 
 -- rows tell nothing of the number, nor of the first generation
 rows_keep : (rows : List BaseRow) (P : Plain)
     → ((read_rows P rows).number ≡ P.number) × ((read_rows P rows).start ≡ P.start)
 rows_keep [] P = (refl, refl)
 rows_keep (r ∷ rows) P =
-    let rest = rows_keep rows (read_row P r) in let one = row_keeps P r in
-    (rest.0 ∙ one.0, rest.1 ∙ one.1)
+    let rest = rows_keep rows (read_row P r) in grind arith
 
 pub told_number : (base : BaseState) → (plain_of base).number ≡ base.number
 told_number base = (rows_keep base.rows _).0
@@ -26,13 +21,7 @@ module _ (base : BaseState) (steps : List Step) (t : TrimmedSteps)
     (counts : t ≡ counts_of base steps) where
   pub trimmed_within : all_trimmed base + length steps < 2 ^ 64
       → t.made + t.lent + t.changed + t.refused < 2 ^ 64
-  trimmed_within within = let all = all_kinds steps in omega (
-    arith,
-    ap (λ (t : TrimmedSteps). t.made) counts,
-    ap (λ (t : TrimmedSteps). t.lent) counts,
-    ap (λ (t : TrimmedSteps). t.changed) counts,
-    ap (λ (t : TrimmedSteps). t.refused) counts,
-  )
+  trimmed_within within = rw counts (let all = all_kinds steps in omega arith)
 
   pub trims_of : {number next peak : ℕ} {rows : List BaseRow} (new : BaseState)
       → new ≡ record {
@@ -53,11 +42,4 @@ pub checkpoint_seen : {T : Type 0} {S : State T} {old : SharedState T} (log afte
     → after.bases.base.rows ≡ rows_of S → Trims log.bases.base log.steps after.bases.base
     → trimmed ≡ all_trimmed after.bases.base → IsCheckpoint old (shared S after) trimmed
 checkpoint_seen {S = S} log after {trimmed = trimmed} view none told rows trims counted =
-    subst (λ o. IsCheckpoint o (shared S after) trimmed) view (record {
-      state = refl;
-      history = none;
-      told = told;
-      rows = rows;
-      trims = trims;
-      counted = counted;
-    })
+    rw (← view) (assumption)

@@ -1,16 +1,10 @@
 -- The borrows of finite maps of cells, added up.
 use Rattle.generational_sync.proofs.Common
-use Common.{[], and_from, and_parts, ap, arith, Bool, borrows_in, borrows_of, Cell, change, change_if, cond}
-use Common.{Equal, Greater, is_eq, is_lt, Less, List, Name, name_cmp, name_exact, name_total}
-use Common.{NameMap, None, Option, Ordering, refl, Some, sym, true, ℕ, ◌+◌, ◌∙◌, ◌∷◌, ◌≡◌, ◌≤◌}
+use Common.{[], ap, arith, Bool, borrows_in, borrows_of, Cell, change, change_if, cond, Equal, Less, List}
+use Common.{Name, name_cmp, name_exact, name_total, NameMap, None, Option, refl, Some, sym, true, ℕ, ◌+◌}
+use Common.{◌∙◌, ◌∷◌, ◌≡◌, ◌≤◌}
 use Rattle.std.specs.Prelude.{T as IsTrue}
 use Rattle.std.specs.FinMap as map
-
-less : (r : Ordering) → is_lt r ≡ true → r ≡ Less
-less r h = grind arith
-
-is_true : (b : Bool) → IsTrue b → b ≡ true
-is_true b h = grind arith
 
 module _ {T : Type 0} where
   -- the borrows at a cell that may be there
@@ -22,37 +16,20 @@ module _ {T : Type 0} where
   below_less : (x y : Name) (es : List (Name × Cell T)) → name_cmp x y ≡ Less
       → map.Entries.below_all name_cmp y es ≡ true → map.Entries.below_all name_cmp x es ≡ true
   below_less x y [] p h = refl
-  below_less x y (e ∷ es) p h =
-      let q = and_parts (is_lt (name_cmp y e.0)) _ h in
-      and_from _ _ (ap is_lt (name_total.trans x y e.0 p (less _ q.0))) (below_less x y es p q.1)
+  below_less x y (e ∷ es) p h = grind (arith, below_less x y es p, name_total.trans x y e.0 p)
 
   find_below : (n : Name) (es : List (Name × Cell T))
       → map.Entries.below_all name_cmp n es ≡ true → map.find name_cmp n es ≡ None
   find_below n [] h = refl
-  find_below n (e ∷ es) h =
-      let q = and_parts (is_lt (name_cmp n e.0)) _ h in
-      ap (λ r. cond (is_eq r) (Some e.1) (map.find name_cmp n es)) (less _ q.0)
-      ∙ find_below n es q.1
+  find_below n (e ∷ es) h = grind (arith, find_below n es)
 
   put_weighs : (k : Name) (v : Cell T) (es : List (Name × Cell T))
-      → map.is_sorted name_cmp es ≡ true
+      → IsTrue (map.is_sorted name_cmp es)
       → borrows_in (map.put name_cmp k v es) + borrows_there (map.find name_cmp k es)
       ≡ borrows_in es + borrows_of v
   put_weighs k v [] h = omega arith
   put_weighs k v (e ∷ es) h =
-      let q = and_parts (map.Entries.below_all name_cmp e.0 es) _ h in
-      let rest = put_weighs k v es q.1 in
-      elim (name_cmp k e.0) as (λ r. name_cmp k e.0 ≡ r
-      → borrows_in (map.Entries.by_order r
-      ((k, v) ∷ e ∷ es) ((e.0, v) ∷ es) (e ∷ map.put name_cmp k v es))
-      + borrows_there (cond (is_eq r) (Some e.1) (map.find name_cmp k es))
-      ≡ borrows_of e.1 + borrows_in es + borrows_of v) [
-        | Less ↦ λ p.
-            let none = ap borrows_there (find_below k es (below_less k e.0 es p q.0)) in
-            omega arith
-        | Equal ↦ λ p. omega arith
-        | Greater ↦ λ p. omega arith
-      ] refl
+      grind (arith, put_weighs k v es, find_below k es, below_less k e.0 es)
 
   kept_weighs : (p : Name → Bool) (es : List (Name × Cell T))
       → borrows_in (map.Entries.where_key name_cmp p es) ≤ borrows_in es
@@ -90,7 +67,7 @@ module _ {T : Type 0} where
   borrows_inserted m k v =
       let put = ap borrows_in (map.entries-insert name_total m k v) in
       let got = ap borrows_there (map.get-entries m k) in
-      let weighs = put_weighs k v (map.entries m) (is_true _ (map.entries_sorted m)) in
+      let weighs = put_weighs k v (map.entries m) (map.entries_sorted m) in
       omega arith
 
   pub borrows_changed : (m : NameMap (Cell T)) (k : Name) (f : Cell T → Cell T) (x : Cell T)

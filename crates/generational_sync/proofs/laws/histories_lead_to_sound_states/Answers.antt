@@ -6,8 +6,8 @@ use Rattle.generational_sync.proofs.laws.histories_lead_to_sound_states.Goals as
 
 pub returns : goal.returns
 returns c =
-    let good = replay_kept c.steps_are_sound.ensures.step c.steps_keep_the_store.ensures.number
-    c.steps_keep_the_store.ensures.start in record {
+    let good = replay_kept (λ P Q a answer met s. c.steps_are_sound.ensures.step P Q a answer s met)
+    c.steps_keep_the_store.ensures.number c.steps_keep_the_store.ensures.start in record {
       start = λ number. c.steps_are_sound.ensures.fresh number 1 0;
       sound = λ P steps Q begins e. (good P steps Q begins e).0;
       number = λ P steps Q begins e. (good P steps Q begins e).1;

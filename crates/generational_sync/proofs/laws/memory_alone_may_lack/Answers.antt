@@ -1,5 +1,6 @@
-use Rattle.generational_sync.proofs.Answering.{lacks}
+use Rattle.generational_sync.proofs.Common
+use Common.{arith}
 use Rattle.generational_sync.proofs.laws.memory_alone_may_lack.Goals as goal
 
 pub returns : goal.returns
-returns g c = lacks
+returns g c number a e ticket owner may = grind arith

@@ -1,7 +1,6 @@
 use Rattle.generational_sync.proofs.Common
-use Common.{ap, IsSettled, Read, Some, subst, sym, ◌∙◌}
+use Common.{ap, Read, Some, sym, ◌∙◌}
 use Rattle.generational_core.specs.declared.steps.StepCall.TheVariants as call
-use Rattle.shared_records.specs.declared.step.StepReply.TheVariants as reply
 use Rattle.generational_sync.proofs.Granting.{dropped_ready}
 use Rattle.generational_sync.proofs.state.settle_refused_read.Goals as goal
 
@@ -19,7 +18,4 @@ returns-in-Dropped-clause-settled g c =
     let state = c.args.store.now.state in
     let told = sym (c.in-Some.is ∙ ap Some c.in-Dropped.is)
     ∙ c.read_refusal-reply.ensures.reply state (Read c.args.asked c.args.at) in
-    subst (λ r. IsSettled g.row.NUMBER c.args.log.now c.args.tally.now
-    (call.Read c.args.asked c.args.at) r state c.settle.new.log c.settle.new.tally)
-    (ap (λ l. Some (reply.Dropped l)) (sym (c.requires.own c.in-Dropped.field-0 told)) ∙ told)
-    c.settle.ensures
+    rw (← told, c.requires.own c.in-Dropped.field-0 told) c.settle.ensures

@@ -1,46 +1,42 @@
 use Rattle.generational_sync.proofs.Common
-use Common.{ap, Done, End, end_refused, refl}
+use Common.{ap, End, end_refused, refl}
 use Rattle.generational_core.specs.declared.steps.StepCall.TheVariants as call
 use Rattle.generational_sync.proofs.Granting.{end_leaves, granted_ready, left_kept, left_ready}
-use Rattle.generational_sync.proofs.Keeping.{recorded}
+use Rattle.generational_sync.proofs.Keeping.{recorded_kept, recorded_step}
 use Rattle.generational_sync.proofs.state.SyncState.end_at_once.Goals as goal
 
 pub invariant_of-self-in-Ok : goal.invariant_of-self-in-Ok
 invariant_of-self-in-Ok g c =
-    (recorded c.self.invariant (assumption c.reserve.ensures) c.self.view_is (ap (λ b. End b)
-    c.pointer-pointer.ensures) refl (granted_ready c.calls_are_ready_where_no_borrow_is_told.ensures.answer
-    c.self.inside.store.state c.recycle.new.self.state (End c.pointer-pointer.result) (call.ManuallyDrop
-    c.pointer-pointer.result) Done refl c.in-Ok.ensures refl refl) c.in-Ok.ensures refl refl
-    c.settle.ensures).0
+    recorded_kept c.self.invariant (assumption) c.self.view_is (ap (λ b. End b)
+    c.pointer-pointer.ensures) refl (granted_ready (assumption) _ _ (End c.pointer-pointer.result) _
+    _ refl c.in-Ok.ensures refl refl) c.in-Ok.ensures refl c.settle.ensures
 
 pub invariant_of-self-then-not-settle_refused : goal.invariant_of-self-then-not-settle_refused
 invariant_of-self-then-not-settle_refused g c =
-    left_kept c.self.inside.store.state c.recycle.new.self.state (End c.pointer-pointer.result) (end_refused
-    c.in-Err.refused) c.self.invariant (assumption c.reserve.ensures) c.in-Err.ensures (end_leaves
-    g.row.T.Denot c.in-Err.refused) c.if-not-settle_refused.ensures.left.0
+    left_kept _ _ (End c.pointer-pointer.result) (end_refused c.in-Err.refused) c.self.invariant
+    (assumption) c.in-Err.ensures (end_leaves _ c.in-Err.refused)
+    c.if-not-settle_refused.ensures.left.0
 
 pub invariant_of-self-in-Err : goal.invariant_of-self-in-Err
 invariant_of-self-in-Err g c =
-    (recorded c.self.invariant (assumption c.reserve.ensures) c.self.view_is (ap (λ b. End b)
-    c.pointer-pointer.ensures) refl (left_ready (call.ManuallyDrop c.pointer-pointer.result)
-    c.self.inside.store.state c.recycle.new.self.state (End c.pointer-pointer.result) (end_refused
-    c.in-Err.refused) c.in-Err.ensures (end_leaves g.row.T.Denot c.in-Err.refused)
-    c.if-not-settle_refused.ensures.ready) c.in-Err.ensures (c.end_refusal-reply.ensures.reply
-    c.recycle.new.self.state (End c.pointer-pointer.result)) refl c.if-not-settle_refused.ensures.settled).0
+    recorded_kept c.self.invariant (assumption) c.self.view_is (ap (λ b. End b)
+    c.pointer-pointer.ensures) refl (left_ready (call.ManuallyDrop c.pointer-pointer.result) _ _
+    (End c.pointer-pointer.result) (end_refused c.in-Err.refused) c.in-Err.ensures (end_leaves _
+    c.in-Err.refused) c.if-not-settle_refused.ensures.ready) c.in-Err.ensures
+    (c.end_refusal-reply.ensures.reply c.recycle.new.self.state (End c.pointer-pointer.result))
+    c.if-not-settle_refused.ensures.settled
 
 pub returns-in-Ok-clause-step : goal.returns-in-Ok-clause-step
 returns-in-Ok-clause-step g c =
-    (recorded c.self.invariant (assumption c.reserve.ensures) c.self.view_is (ap (λ b. End b)
-    c.pointer-pointer.ensures) refl (granted_ready c.calls_are_ready_where_no_borrow_is_told.ensures.answer
-    c.self.inside.store.state c.recycle.new.self.state (End c.pointer-pointer.result) (call.ManuallyDrop
-    c.pointer-pointer.result) Done refl c.in-Ok.ensures refl refl) c.in-Ok.ensures refl refl
-    c.settle.ensures).1
+    recorded_step c.self.invariant (assumption) c.self.view_is (ap (λ b. End b)
+    c.pointer-pointer.ensures) refl (granted_ready (assumption) _ _ (End c.pointer-pointer.result) _
+    _ refl c.in-Ok.ensures refl refl) c.in-Ok.ensures refl c.settle.ensures refl
 
 pub returns-else-not-settle_refused-clause-step : goal.returns-else-not-settle_refused-clause-step
 returns-else-not-settle_refused-clause-step g c =
-    (recorded c.self.invariant (assumption c.reserve.ensures) c.self.view_is (ap (λ b. End b)
-    c.pointer-pointer.ensures) refl (left_ready (call.ManuallyDrop c.pointer-pointer.result)
-    c.self.inside.store.state c.recycle.new.self.state (End c.pointer-pointer.result) (end_refused
-    c.in-Err.refused) c.in-Err.ensures (end_leaves g.row.T.Denot c.in-Err.refused)
-    c.if-not-settle_refused.ensures.ready) c.in-Err.ensures (c.end_refusal-reply.ensures.reply
-    c.recycle.new.self.state (End c.pointer-pointer.result)) refl c.if-not-settle_refused.ensures.settled).1
+    recorded_step c.self.invariant (assumption) c.self.view_is (ap (λ b. End b)
+    c.pointer-pointer.ensures) refl (left_ready (call.ManuallyDrop c.pointer-pointer.result) _ _
+    (End c.pointer-pointer.result) (end_refused c.in-Err.refused) c.in-Err.ensures (end_leaves _
+    c.in-Err.refused) c.if-not-settle_refused.ensures.ready) c.in-Err.ensures
+    (c.end_refusal-reply.ensures.reply c.recycle.new.self.state (End c.pointer-pointer.result))
+    c.if-not-settle_refused.ensures.settled refl

@@ -1,43 +1,40 @@
 use Rattle.generational_sync.proofs.Common
-use Common.{ap, Made, MakeShared, Ok, option_copied, option_map, refl, shared_by, Some, sym, ◌∙◌}
+use Common.{ap, Made, MakeShared, Ok, option_copied, option_map, refl, Some, sym, ◌∙◌}
 use Rattle.shared_records.specs.declared.step.StepReply.TheVariants as reply
-use Rattle.generational_sync.proofs.Keeping.{recorded, shared_ready}
+use Rattle.generational_sync.proofs.Keeping.{recorded_kept, recorded_step, shared_ready}
 use Rattle.generational_sync.proofs.Making.{shared_named}
 use Rattle.generational_sync.proofs.state.SyncState.make_shared.Goals as goal
 
 pub shared_cell-requires : goal.shared_cell-requires
 shared_cell-requires g c =
-    shared_named c.self.inside.store.state c.new_rc.new.self.state (option_copied c.args.owner) c.args.value
-    c.args.location (Ok c.in-Ok.pointer) c.in-Ok.ensures.step
+    shared_named _ _ (option_copied c.args.owner) c.args.value c.args.location (Ok c.in-Ok.pointer)
+    c.in-Ok.ensures.step
 
 pub invariant_of-self-in-Ok : goal.invariant_of-self-in-Ok
 invariant_of-self-in-Ok g c =
-    (recorded c.self.invariant (assumption c.reserve.ensures) c.self.view_is refl c.requires (shared_ready
-    c.self.inside.store.state (option_copied c.args.owner) c.args.value c.args.location (shared_by c.args.id
-    c.args.location) c.requires) c.in-Ok.ensures.step (ap (option_map (λ id. reply.MadeShared id
-    c.in-Ok.pointer)) c.shared_cell.ensures) (ap Made (sym c.box_at.ensures)) c.settle.ensures).0
+    recorded_kept c.self.invariant (assumption) c.self.view_is refl c.requires (shared_ready _
+    (option_copied c.args.owner) c.args.value c.args.location _ c.requires) c.in-Ok.ensures.step (ap
+    (option_map (λ id. reply.MadeShared id c.in-Ok.pointer)) c.shared_cell.ensures) c.settle.ensures
 
 pub invariant_of-self-in-Err : goal.invariant_of-self-in-Err
 invariant_of-self-in-Err g c =
-    (recorded c.self.invariant (assumption c.reserve.ensures) c.self.view_is refl (c.requires ∙ ap Some (sym
-    c.making_shared-call.ensures)) (shared_ready c.self.inside.store.state (option_copied c.args.owner)
-    c.args.value c.args.location c.making_shared-call.result (c.requires ∙ ap Some (sym
-    c.making_shared-call.ensures))) c.in-Err.ensures.step (c.store_reply-reply.ensures.reply
-    c.new_rc.new.self.state (MakeShared (option_copied c.args.owner) c.args.value c.args.location)) refl
-    c.settle_any.ensures).0
+    recorded_kept c.self.invariant (assumption) c.self.view_is refl (c.requires ∙ ap Some (sym
+    c.making_shared-call.ensures)) (shared_ready _ (option_copied c.args.owner) c.args.value
+    c.args.location _ (c.requires ∙ ap Some (sym c.making_shared-call.ensures)))
+    c.in-Err.ensures.step (c.store_reply-reply.ensures.reply c.new_rc.new.self.state (MakeShared
+    (option_copied c.args.owner) c.args.value c.args.location)) c.settle_any.ensures
 
 pub returns-in-Ok-clause-step : goal.returns-in-Ok-clause-step
 returns-in-Ok-clause-step g c =
-    (recorded c.self.invariant (assumption c.reserve.ensures) c.self.view_is refl c.requires (shared_ready
-    c.self.inside.store.state (option_copied c.args.owner) c.args.value c.args.location (shared_by c.args.id
-    c.args.location) c.requires) c.in-Ok.ensures.step (ap (option_map (λ id. reply.MadeShared id
-    c.in-Ok.pointer)) c.shared_cell.ensures) (ap Made (sym c.box_at.ensures)) c.settle.ensures).1
+    recorded_step c.self.invariant (assumption) c.self.view_is refl c.requires (shared_ready _
+    (option_copied c.args.owner) c.args.value c.args.location _ c.requires) c.in-Ok.ensures.step (ap
+    (option_map (λ id. reply.MadeShared id c.in-Ok.pointer)) c.shared_cell.ensures) c.settle.ensures
+    (ap Made (sym c.box_at.ensures))
 
 pub returns-in-Err-clause-step : goal.returns-in-Err-clause-step
 returns-in-Err-clause-step g c =
-    (recorded c.self.invariant (assumption c.reserve.ensures) c.self.view_is refl (c.requires ∙ ap Some (sym
-    c.making_shared-call.ensures)) (shared_ready c.self.inside.store.state (option_copied c.args.owner)
-    c.args.value c.args.location c.making_shared-call.result (c.requires ∙ ap Some (sym
-    c.making_shared-call.ensures))) c.in-Err.ensures.step (c.store_reply-reply.ensures.reply
-    c.new_rc.new.self.state (MakeShared (option_copied c.args.owner) c.args.value c.args.location)) refl
-    c.settle_any.ensures).1
+    recorded_step c.self.invariant (assumption) c.self.view_is refl (c.requires ∙ ap Some (sym
+    c.making_shared-call.ensures)) (shared_ready _ (option_copied c.args.owner) c.args.value
+    c.args.location _ (c.requires ∙ ap Some (sym c.making_shared-call.ensures)))
+    c.in-Err.ensures.step (c.store_reply-reply.ensures.reply c.new_rc.new.self.state (MakeShared
+    (option_copied c.args.owner) c.args.value c.args.location)) c.settle_any.ensures refl

@@ -1,26 +1,26 @@
 use Rattle.generational_sync.proofs.Common
 use Common.{ap, NewOwner, refl, Some}
 use Rattle.shared_records.specs.declared.step.StepReply.TheVariants as reply
-use Rattle.generational_sync.proofs.Keeping.{recorded}
+use Rattle.generational_sync.proofs.Keeping.{recorded_kept, recorded_step}
 use Rattle.generational_sync.proofs.state.SyncState.owner.Goals as goal
 
 pub invariant_of-self-in-Ok : goal.invariant_of-self-in-Ok
 invariant_of-self-in-Ok g c =
-    (recorded c.self.invariant (assumption c.reserve.ensures) c.self.view_is refl refl refl c.in-Ok.ensures
-    (ap (λ o. Some (reply.Owner o)) c.id.ensures) refl c.settle.ensures).0
+    recorded_kept c.self.invariant (assumption) c.self.view_is refl refl refl c.in-Ok.ensures (ap (λ
+    o. Some (reply.Owner o)) c.id.ensures) c.settle.ensures
 
 pub invariant_of-self-in-Err : goal.invariant_of-self-in-Err
 invariant_of-self-in-Err g c =
-    (recorded c.self.invariant (assumption c.reserve.ensures) c.self.view_is refl refl refl c.in-Err.ensures
-    (c.store_reply-reply.ensures.reply c.owner.new.self.state NewOwner) refl c.settle_any.ensures).0
+    recorded_kept c.self.invariant (assumption) c.self.view_is refl refl refl c.in-Err.ensures
+    (c.store_reply-reply.ensures.reply c.owner.new.self.state NewOwner) c.settle_any.ensures
 
 pub returns-in-Ok : goal.returns-in-Ok
 returns-in-Ok g c =
-    assumption ((recorded c.self.invariant (assumption c.reserve.ensures) c.self.view_is refl refl refl
-    c.in-Ok.ensures (ap (λ o. Some (reply.Owner o)) c.id.ensures) refl c.settle.ensures).1)
+    assumption (recorded_step c.self.invariant (assumption) c.self.view_is refl refl refl
+    c.in-Ok.ensures (ap (λ o. Some (reply.Owner o)) c.id.ensures) c.settle.ensures refl)
 
 pub returns-in-Err : goal.returns-in-Err
 returns-in-Err g c =
-    assumption ((recorded c.self.invariant (assumption c.reserve.ensures) c.self.view_is refl refl refl
-    c.in-Err.ensures (c.store_reply-reply.ensures.reply c.owner.new.self.state NewOwner) refl
-    c.settle_any.ensures).1)
+    assumption (recorded_step c.self.invariant (assumption) c.self.view_is refl refl refl
+    c.in-Err.ensures (c.store_reply-reply.ensures.reply c.owner.new.self.state NewOwner)
+    c.settle_any.ensures refl)

@@ -1,76 +1,64 @@
 use Rattle.generational_sync.proofs.Common
-use Common.{ap, arith, Read, read_refused, Reads, refl, rules, Some}
+use Common.{ap, arith, Read, read_refused, refl, rules, Some}
 use Rattle.generational_core.specs.declared.steps.StepCall.TheVariants as call
 use Rattle.shared_records.specs.declared.step.StepReply.TheVariants as reply
 use Rattle.generational_sync.proofs.Granting.{granted_ready, hindered, left_kept, left_ready, read_leaves}
 use Rattle.generational_sync.proofs.Granting.{read_told, refused}
-use Rattle.generational_sync.proofs.Keeping.{recorded}
+use Rattle.generational_sync.proofs.Keeping.{recorded_kept, recorded_step}
 use Rattle.generational_sync.proofs.state.SyncState.read_at_once.Goals as goal
 
 pub invariant_of-self-in-Ok : goal.invariant_of-self-in-Ok
 invariant_of-self-in-Ok g c =
-    (recorded c.self.invariant (assumption c.reserve.ensures) c.self.view_is (ap (λ b. Read b
-    c.args.location) c.pointer-pointer.ensures) refl (granted_ready
-    c.calls_are_ready_where_no_borrow_is_told.ensures.answer c.self.inside.store.state
-    c.begin_read.new.store.state (Read c.pointer-pointer.result c.args.location) (call.Read
-    c.pointer-pointer.result c.args.location) (Reads c.in-Ok.guard) refl c.in-Ok.ensures refl refl)
-    c.in-Ok.ensures (ap (λ t. Some (reply.Reader t)) c.ticket.ensures) refl c.settle.ensures).0
+    recorded_kept c.self.invariant (assumption) c.self.view_is (ap (λ b. Read b c.args.location)
+    c.pointer-pointer.ensures) refl (granted_ready (assumption) _ _ (Read c.pointer-pointer.result
+    c.args.location) _ _ refl c.in-Ok.ensures refl refl) c.in-Ok.ensures (ap (λ t. Some
+    (reply.Reader t)) c.ticket.ensures) c.settle.ensures
 
 pub invariant_of-self-then-not-settle_refused_read : goal.invariant_of-self-then-not-settle_refused_read
 invariant_of-self-then-not-settle_refused_read g c =
-    left_kept c.self.inside.store.state c.begin_read.new.store.state (Read c.pointer-pointer.result
-    c.args.location) (read_refused c.in-Err.refused) c.self.invariant (assumption c.reserve.ensures)
-    c.in-Err.ensures (read_leaves g.row.T.Denot c.in-Err.refused)
+    left_kept _ _ (Read c.pointer-pointer.result c.args.location) (read_refused c.in-Err.refused)
+    c.self.invariant (assumption) c.in-Err.ensures (read_leaves _ c.in-Err.refused)
     c.if-not-settle_refused_read.ensures.left.0
 
 pub invariant_of-self-in-Err : goal.invariant_of-self-in-Err
 invariant_of-self-in-Err g c =
-    (recorded c.self.invariant (assumption c.reserve.ensures) c.self.view_is (ap (λ b. Read b
-    c.args.location) c.pointer-pointer.ensures) refl (left_ready (call.Read c.pointer-pointer.result
-    c.args.location) c.self.inside.store.state c.begin_read.new.store.state (Read c.pointer-pointer.result
-    c.args.location) (read_refused c.in-Err.refused) c.in-Err.ensures (read_leaves g.row.T.Denot
-    c.in-Err.refused) (c.if-not-settle_refused_read.ensures.ready (refused c.self.inside.store.state
-    c.begin_read.new.store.state (Read c.pointer-pointer.result c.args.location) (read_refused
-    c.in-Err.refused) refl c.in-Err.ensures refl (read_leaves g.row.T.Denot c.in-Err.refused))))
-    c.in-Err.ensures refl refl c.if-not-settle_refused_read.ensures.settled).0
+    recorded_kept c.self.invariant (assumption) c.self.view_is (ap (λ b. Read b c.args.location)
+    c.pointer-pointer.ensures) refl (left_ready (call.Read c.pointer-pointer.result c.args.location)
+    _ _ (Read c.pointer-pointer.result c.args.location) (read_refused c.in-Err.refused)
+    c.in-Err.ensures (read_leaves _ c.in-Err.refused) (c.if-not-settle_refused_read.ensures.ready
+    (refused _ _ (Read c.pointer-pointer.result c.args.location) (read_refused c.in-Err.refused)
+    refl c.in-Err.ensures refl (read_leaves _ c.in-Err.refused)))) c.in-Err.ensures refl
+    c.if-not-settle_refused_read.ensures.settled
 
 pub returns-in-Ok-clause-step : goal.returns-in-Ok-clause-step
 returns-in-Ok-clause-step g c =
-    (recorded c.self.invariant (assumption c.reserve.ensures) c.self.view_is (ap (λ b. Read b
-    c.args.location) c.pointer-pointer.ensures) refl (granted_ready
-    c.calls_are_ready_where_no_borrow_is_told.ensures.answer c.self.inside.store.state
-    c.begin_read.new.store.state (Read c.pointer-pointer.result c.args.location) (call.Read
-    c.pointer-pointer.result c.args.location) (Reads c.in-Ok.guard) refl c.in-Ok.ensures refl refl)
-    c.in-Ok.ensures (ap (λ t. Some (reply.Reader t)) c.ticket.ensures) refl c.settle.ensures).1
+    recorded_step c.self.invariant (assumption) c.self.view_is (ap (λ b. Read b c.args.location)
+    c.pointer-pointer.ensures) refl (granted_ready (assumption) _ _ (Read c.pointer-pointer.result
+    c.args.location) _ _ refl c.in-Ok.ensures refl refl) c.in-Ok.ensures (ap (λ t. Some
+    (reply.Reader t)) c.ticket.ensures) c.settle.ensures refl
 
 pub returns-else-not-settle_refused_read-clause-step : goal.returns-else-not-settle_refused_read-clause-step
 returns-else-not-settle_refused_read-clause-step g c =
-    (recorded c.self.invariant (assumption c.reserve.ensures) c.self.view_is (ap (λ b. Read b
-    c.args.location) c.pointer-pointer.ensures) refl (left_ready (call.Read c.pointer-pointer.result
-    c.args.location) c.self.inside.store.state c.begin_read.new.store.state (Read c.pointer-pointer.result
-    c.args.location) (read_refused c.in-Err.refused) c.in-Err.ensures (read_leaves g.row.T.Denot
-    c.in-Err.refused) (c.if-not-settle_refused_read.ensures.ready (refused c.self.inside.store.state
-    c.begin_read.new.store.state (Read c.pointer-pointer.result c.args.location) (read_refused
-    c.in-Err.refused) refl c.in-Err.ensures refl (read_leaves g.row.T.Denot c.in-Err.refused))))
-    c.in-Err.ensures refl refl c.if-not-settle_refused_read.ensures.settled).1
+    recorded_step c.self.invariant (assumption) c.self.view_is (ap (λ b. Read b c.args.location)
+    c.pointer-pointer.ensures) refl (left_ready (call.Read c.pointer-pointer.result c.args.location)
+    _ _ (Read c.pointer-pointer.result c.args.location) (read_refused c.in-Err.refused)
+    c.in-Err.ensures (read_leaves _ c.in-Err.refused) (c.if-not-settle_refused_read.ensures.ready
+    (refused _ _ (Read c.pointer-pointer.result c.args.location) (read_refused c.in-Err.refused)
+    refl c.in-Err.ensures refl (read_leaves _ c.in-Err.refused)))) c.in-Err.ensures refl
+    c.if-not-settle_refused_read.ensures.settled refl
 
 pub returns-then-not-settle_refused_read-clause-none : goal.returns-then-not-settle_refused_read-clause-none
 returns-then-not-settle_refused_read-clause-none g c =
-    hindered c.self.inside.log c.reserve.new.self c.self.inside.store.state c.begin_read.new.store.state
-    (Read c.pointer-pointer.result c.args.location) (read_refused c.in-Err.refused) c.reserve.ensures.bases
-    c.reserve.ensures.steps c.self.view_is c.in-Err.ensures (read_leaves g.row.T.Denot c.in-Err.refused)
+    hindered c.self.inside.log c.reserve.new.self _ _ (Read c.pointer-pointer.result
+    c.args.location) (read_refused c.in-Err.refused) c.reserve.ensures.bases c.reserve.ensures.steps
+    c.self.view_is c.in-Err.ensures (read_leaves _ c.in-Err.refused)
     c.if-not-settle_refused_read.ensures.left.0 (ap (λ b. call.Read b c.args.location)
-    c.pointer-pointer.ensures) (c.if-not-settle_refused_read.ensures.ready (refused
-    c.self.inside.store.state c.begin_read.new.store.state (Read c.pointer-pointer.result c.args.location)
-    (read_refused c.in-Err.refused) refl c.in-Err.ensures refl (read_leaves g.row.T.Denot
-    c.in-Err.refused))) c.if-not-settle_refused_read.ensures.left.1
+    c.pointer-pointer.ensures) (c.if-not-settle_refused_read.ensures.ready (refused _ _ (Read
+    c.pointer-pointer.result c.args.location) (read_refused c.in-Err.refused) refl c.in-Err.ensures
+    refl (read_leaves _ c.in-Err.refused))) c.if-not-settle_refused_read.ensures.left.1
 
 pub settle_refused_read-requires : goal.settle_refused_read-requires
-settle_refused_read-requires g c = (
-  omega arith,
-  (
-    search rules,
-    read_told c.self.inside.store.state c.begin_read.new.store.state
-        c.pointer-pointer.result c.args.location (read_refused c.in-Err.refused) c.in-Err.ensures,
-  ),
-)
+settle_refused_read-requires g c =
+    let told = read_told c.self.inside.store.state c.begin_read.new.store.state
+    c.pointer-pointer.result c.args.location (read_refused c.in-Err.refused) c.in-Err.ensures in
+    (omega arith, (search rules, told))

@@ -1,31 +1,32 @@
 use Rattle.generational_sync.proofs.Common
 use Common.{ap, Made, option_copied, Refer, referred_by, refl, Some, sym, ◌∙◌}
-use Rattle.generational_sync.proofs.Keeping.{ready_as, recorded}
+use Rattle.generational_sync.proofs.Keeping.{ready_as, recorded_kept, recorded_step}
 use Rattle.generational_sync.proofs.state.SyncState.refer.Goals as goal
 
 pub invariant_of-self-in-Ok : goal.invariant_of-self-in-Ok
 invariant_of-self-in-Ok g c =
-    (recorded c.self.invariant (assumption c.reserve.ensures) c.self.view_is refl c.requires.call (ready_as
-    {c = referred_by c.args.id c.args.asked} c.self.view_is refl c.requires.ready) c.in-Ok.ensures refl (ap
-    Made (sym c.box_at.ensures)) c.settle.ensures).0
+    recorded_kept c.self.invariant (assumption) c.self.view_is refl c.requires.call (ready_as {c =
+    referred_by c.args.id c.args.asked} c.self.view_is refl c.requires.ready) c.in-Ok.ensures refl
+    c.settle.ensures
 
 pub invariant_of-self-in-Err : goal.invariant_of-self-in-Err
 invariant_of-self-in-Err g c =
-    (recorded c.self.invariant (assumption c.reserve.ensures) c.self.view_is refl (c.requires.call ∙ ap Some
-    (sym c.making_reference-call.ensures)) (ready_as c.self.view_is c.making_reference-call.ensures
-    c.requires.ready) c.in-Err.ensures (c.read_refusal-reply.ensures.reply c.new_reference.new.self.state
-    (Refer (option_copied c.args.owner) c.args.asked)) refl c.settle_any.ensures).0
+    recorded_kept c.self.invariant (assumption) c.self.view_is refl (c.requires.call ∙ ap Some (sym
+    c.making_reference-call.ensures)) (ready_as c.self.view_is c.making_reference-call.ensures
+    c.requires.ready) c.in-Err.ensures (c.read_refusal-reply.ensures.reply
+    c.new_reference.new.self.state (Refer (option_copied c.args.owner) c.args.asked))
+    c.settle_any.ensures
 
 pub returns-in-Ok : goal.returns-in-Ok
 returns-in-Ok g c =
-    assumption ((recorded c.self.invariant (assumption c.reserve.ensures) c.self.view_is refl
-    c.requires.call (ready_as {c = referred_by c.args.id c.args.asked} c.self.view_is refl c.requires.ready)
-    c.in-Ok.ensures refl (ap Made (sym c.box_at.ensures)) c.settle.ensures).1)
+    assumption (recorded_step c.self.invariant (assumption) c.self.view_is refl c.requires.call
+    (ready_as {c = referred_by c.args.id c.args.asked} c.self.view_is refl c.requires.ready)
+    c.in-Ok.ensures refl c.settle.ensures (ap Made (sym c.box_at.ensures)))
 
 pub returns-in-Err : goal.returns-in-Err
 returns-in-Err g c =
-    assumption ((recorded c.self.invariant (assumption c.reserve.ensures) c.self.view_is refl
-    (c.requires.call ∙ ap Some (sym c.making_reference-call.ensures)) (ready_as c.self.view_is
-    c.making_reference-call.ensures c.requires.ready) c.in-Err.ensures (c.read_refusal-reply.ensures.reply
-    c.new_reference.new.self.state (Refer (option_copied c.args.owner) c.args.asked)) refl
-    c.settle_any.ensures).1)
+    assumption (recorded_step c.self.invariant (assumption) c.self.view_is refl (c.requires.call ∙
+    ap Some (sym c.making_reference-call.ensures)) (ready_as c.self.view_is
+    c.making_reference-call.ensures c.requires.ready) c.in-Err.ensures
+    (c.read_refusal-reply.ensures.reply c.new_reference.new.self.state (Refer (option_copied
+    c.args.owner) c.args.asked)) c.settle_any.ensures refl)

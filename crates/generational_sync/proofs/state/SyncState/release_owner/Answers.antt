@@ -1,31 +1,31 @@
 use Rattle.generational_sync.proofs.Common
 use Common.{ap, refl, ReleaseOwner, Some, sym}
 use Rattle.generational_core.specs.declared.steps.StepCall.TheVariants as call
-use Rattle.generational_sync.proofs.Keeping.{ready_as, recorded}
+use Rattle.generational_sync.proofs.Keeping.{ready_as, recorded_kept, recorded_step}
 use Rattle.generational_sync.proofs.state.SyncState.release_owner.Goals as goal
 
 pub invariant_of-self-in-Ok : goal.invariant_of-self-in-Ok
 invariant_of-self-in-Ok g c =
-    (recorded c.self.invariant (assumption c.reserve.ensures) c.self.view_is refl (ap (λ o. Some
+    recorded_kept c.self.invariant (assumption) c.self.view_is refl (ap (λ o. Some
     (call.ReleaseOwner o)) (sym c.id-id.ensures)) (ready_as c.self.view_is (ap call.ReleaseOwner
-    c.id-id.ensures) c.requires) c.in-Ok.ensures.step refl refl c.settle.ensures).0
+    c.id-id.ensures) c.requires) c.in-Ok.ensures.step refl c.settle.ensures
 
 pub invariant_of-self-in-Err : goal.invariant_of-self-in-Err
 invariant_of-self-in-Err g c =
-    (recorded c.self.invariant (assumption c.reserve.ensures) c.self.view_is refl (ap (λ o. Some
+    recorded_kept c.self.invariant (assumption) c.self.view_is refl (ap (λ o. Some
     (call.ReleaseOwner o)) (sym c.id-id.ensures)) (ready_as c.self.view_is (ap call.ReleaseOwner
     c.id-id.ensures) c.requires) c.in-Err.ensures.step (c.end_refusal-reply.ensures.reply
-    c.release_owner.new.self.state (ReleaseOwner c.args.owner)) refl c.settle_any.ensures).0
+    c.release_owner.new.self.state (ReleaseOwner c.args.owner)) c.settle_any.ensures
 
 pub returns-in-Ok-clause-step : goal.returns-in-Ok-clause-step
 returns-in-Ok-clause-step g c =
-    (recorded c.self.invariant (assumption c.reserve.ensures) c.self.view_is refl (ap (λ o. Some
+    recorded_step c.self.invariant (assumption) c.self.view_is refl (ap (λ o. Some
     (call.ReleaseOwner o)) (sym c.id-id.ensures)) (ready_as c.self.view_is (ap call.ReleaseOwner
-    c.id-id.ensures) c.requires) c.in-Ok.ensures.step refl refl c.settle.ensures).1
+    c.id-id.ensures) c.requires) c.in-Ok.ensures.step refl c.settle.ensures refl
 
 pub returns-in-Err-clause-step : goal.returns-in-Err-clause-step
 returns-in-Err-clause-step g c =
-    (recorded c.self.invariant (assumption c.reserve.ensures) c.self.view_is refl (ap (λ o. Some
+    recorded_step c.self.invariant (assumption) c.self.view_is refl (ap (λ o. Some
     (call.ReleaseOwner o)) (sym c.id-id.ensures)) (ready_as c.self.view_is (ap call.ReleaseOwner
     c.id-id.ensures) c.requires) c.in-Err.ensures.step (c.end_refusal-reply.ensures.reply
-    c.release_owner.new.self.state (ReleaseOwner c.args.owner)) refl c.settle_any.ensures).1
+    c.release_owner.new.self.state (ReleaseOwner c.args.owner)) c.settle_any.ensures refl

@@ -12,6 +12,6 @@ invariant_of-self g c =
 
 pub returns : goal.returns
 returns g c =
-    assumption ((end_recorded c.self.invariant c.self.view_is refl (ap (λ t. Some (call.ReleaseRead t)) (sym
-    c.ticket.ensures)) refl c.release_read-known.ensures (c.flag_reply-reply.ensures.reply
+    assumption ((end_recorded c.self.invariant c.self.view_is refl (ap (λ t. Some (call.ReleaseRead
+    t)) (sym c.ticket.ensures)) refl c.release_read-known.ensures (c.flag_reply-reply.ensures.reply
     c.release_read-known.new.self.state (ReleaseReader c.args.guard)) c.settle_end.ensures).1)

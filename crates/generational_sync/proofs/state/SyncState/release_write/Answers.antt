@@ -13,7 +13,7 @@ invariant_of-self g c =
 
 pub returns : goal.returns
 returns g c =
-    assumption ((end_recorded c.self.invariant c.self.view_is refl (ap (λ t. Some (call.ReleaseWrite t))
-    (sym c.ticket.ensures)) refl c.release_write-released.ensures (c.back_reply-reply.ensures.reply
-    c.release_write-released.new.self.state (ReleaseWriter c.args.guard.guard c.args.guard.value))
-    c.settle_end.ensures).1)
+    assumption ((end_recorded c.self.invariant c.self.view_is refl (ap (λ t. Some (call.ReleaseWrite
+    t)) (sym c.ticket.ensures)) refl c.release_write-released.ensures
+    (c.back_reply-reply.ensures.reply c.release_write-released.new.self.state (ReleaseWriter
+    c.args.guard.guard c.args.guard.value)) c.settle_end.ensures).1)

@@ -1,36 +1,37 @@
 use Rattle.generational_sync.proofs.Common
 use Common.{ap, refl, SetValue}
 use Rattle.generational_core.specs.declared.steps.StepCall.TheVariants as call
-use Rattle.generational_sync.proofs.Keeping.{ready_as, recorded}
+use Rattle.generational_sync.proofs.Keeping.{ready_as, recorded_kept, recorded_step}
 use Rattle.generational_sync.proofs.state.SyncState.set.Goals as goal
 
 pub invariant_of-self-in-Ok : goal.invariant_of-self-in-Ok
 invariant_of-self-in-Ok g c =
-    (recorded c.self.invariant (assumption c.reserve.ensures) c.self.view_is (ap (λ b. SetValue b
-    c.args.value) c.pointer-pointer.ensures) refl (ready_as c.self.view_is (ap call.Set
-    c.pointer-pointer.ensures) c.requires) c.in-Ok.ensures.step.1 refl refl c.settle.ensures).0
+    recorded_kept c.self.invariant (assumption) c.self.view_is (ap (λ b. SetValue b c.args.value)
+    c.pointer-pointer.ensures) refl (ready_as c.self.view_is (ap call.Set c.pointer-pointer.ensures)
+    c.requires) c.in-Ok.ensures.step.1 refl c.settle.ensures
 
 pub invariant_of-self-in-Err : goal.invariant_of-self-in-Err
 invariant_of-self-in-Err g c =
-    (recorded c.self.invariant (assumption c.reserve.ensures) c.self.view_is (ap (λ b. SetValue b
-    c.args.value) c.pointer-pointer.ensures) refl (ready_as c.self.view_is (ap call.Set
-    c.pointer-pointer.ensures) c.requires) c.in-Err.ensures.step.1 (c.end_refusal-reply.ensures.reply
-    c.set_value.new.store.state (SetValue c.pointer-pointer.result c.args.value)) refl
-    c.settle_any.ensures).0
+    recorded_kept c.self.invariant (assumption) c.self.view_is (ap (λ b. SetValue b c.args.value)
+    c.pointer-pointer.ensures) refl (ready_as c.self.view_is (ap call.Set c.pointer-pointer.ensures)
+    c.requires) c.in-Err.ensures.step.1 (c.end_refusal-reply.ensures.reply
+    c.set_value.new.store.state (SetValue c.pointer-pointer.result c.args.value))
+    c.settle_any.ensures
 
 pub returns-in-Ok-clause-step : goal.returns-in-Ok-clause-step
 returns-in-Ok-clause-step g c = (
   c.in-Ok.ensures.step.0,
-  (recorded c.self.invariant (assumption c.reserve.ensures) c.self.view_is (ap (λ b. SetValue b c.args.value) c.pointer-pointer.ensures) refl
-      (ready_as c.self.view_is (ap call.Set c.pointer-pointer.ensures) c.requires) c.in-Ok.ensures.step.1
-      refl refl c.settle.ensures).1,
+  (recorded_step c.self.invariant (assumption) c.self.view_is (ap (λ b. SetValue b c.args.value)
+      c.pointer-pointer.ensures) refl (ready_as c.self.view_is (ap call.Set
+      c.pointer-pointer.ensures) c.requires) c.in-Ok.ensures.step.1 refl c.settle.ensures refl),
 )
 
 pub returns-in-Err-clause-step : goal.returns-in-Err-clause-step
 returns-in-Err-clause-step g c = (
   c.in-Err.ensures.step.0,
-  (recorded c.self.invariant (assumption c.reserve.ensures) c.self.view_is (ap (λ b. SetValue b c.args.value) c.pointer-pointer.ensures) refl
-      (ready_as c.self.view_is (ap call.Set c.pointer-pointer.ensures) c.requires) c.in-Err.ensures.step.1
-      (c.end_refusal-reply.ensures.reply c.set_value.new.store.state
-      (SetValue c.pointer-pointer.result c.args.value)) refl c.settle_any.ensures).1,
+  (recorded_step c.self.invariant (assumption) c.self.view_is (ap (λ b. SetValue b c.args.value)
+      c.pointer-pointer.ensures) refl (ready_as c.self.view_is (ap call.Set
+      c.pointer-pointer.ensures) c.requires) c.in-Err.ensures.step.1
+      (c.end_refusal-reply.ensures.reply c.set_value.new.store.state (SetValue
+      c.pointer-pointer.result c.args.value)) c.settle_any.ensures refl),
 )

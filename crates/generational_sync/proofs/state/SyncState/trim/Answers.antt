@@ -1,15 +1,14 @@
 -- The base after a checkpoint tells the state, and counts the steps that were trimmed.
 use Rattle.generational_sync.proofs.Common
-use Common.{all_trimmed, ap, ArePast, arith, Bases, BaseState, counts_of, LogState, plain, ReadBack, rules}
-use Common.{shared, subst, sym, ◌∙◌}
+use Common.{all_trimmed, ap, arith, Bases, BaseState, counts_of, IsKept, LogState, plain, plain_of}
+use Common.{ReadBack, rules, shared, subst, sym, ◌∙◌, ◌≡◌}
 use Rattle.generational_sync.proofs.Keeping.{rebased, taken_kept}
 use Rattle.generational_sync.proofs.Trimming.{checkpoint_seen, trimmed_within, trims_of}
 use Rattle.generational_sync.proofs.state.SyncState.trim.Goals as goal
+use Rattle.generational_sync.proofs.state.SyncState.trim.Goals.{In_ok-outdated}
 
 pub pack_rows-requires : goal.pack_rows-requires
-pack_rows-requires g c =
-    subst (ArePast (plain c.self.inside.store.state)) (sym c.take_past-past.ensures.past)
-    c.self.invariant.past
+pack_rows-requires g c = rw c.take_past-past.ensures.past c.self.invariant.past
 
 pub of-base-requires : goal.of-base-requires
 of-base-requires g c =
@@ -26,41 +25,35 @@ rebase-requires g c =
     )
 
 -- the base tells the state, and the history goes on from it
-
-pub invariant_of-self-2 : goal.invariant_of-self-2
-invariant_of-self-2 g c =
+tells : (g : _) (c : In_ok-outdated g)
+    → (plain_of c.rebase.new.self.bases.base ≡ plain c.self.inside.store.state)
+    × IsKept g.row.NUMBER c.self.inside.store.state c.rebase.new.self
+tells g c =
     let bases = c.in_ok-outdated.ensures.bases in
     let base = ap (λ (b : Bases). b.base) bases ∙ c.of-base.ensures in
-    (rebased c.histories_lead_to_sound_states.ensures.number
-    c.histories_lead_to_sound_states.ensures.generation g.row.NUMBER c.self.inside.store.state
-    c.take_past-past.new.self c.rebase.new.self
-    (taken_kept c.self.invariant c.take_past-past.ensures.left)
+    rebased (taken_kept c.self.invariant c.take_past-past.ensures.left)
+    c.histories_lead_to_sound_states.ensures.number
+    c.histories_lead_to_sound_states.ensures.generation
     (ap (λ (b : Bases). b.past) bases) (ap (λ (b : BaseState). b.rows) base ∙ c.in-Ok.ensures.rows)
     (ap (λ (b : BaseState). b.number) base) (ap (λ (b : BaseState). b.next) base
     ∙ omega (arith, c.tickets_left-next.ensures.count, c.tickets_left-next.ensures.bounded))
     (ap (λ (b : BaseState). b.peak) base ∙ c.peak_live.ensures)
     (subst (ReadBack c.self.inside.store.state) (sym (ap (λ (b : BaseState). b.rows) base))
-    c.in-Ok.ensures.back) c.in_ok-outdated.ensures.steps c.in_ok-outdated.ensures.standing).1
+    c.in-Ok.ensures.back) c.in_ok-outdated.ensures.steps c.in_ok-outdated.ensures.standing
+
+pub invariant_of-self-2 : goal.invariant_of-self-2
+invariant_of-self-2 g c = (tells g c).1
 
 pub returns-clause-ok : goal.returns-clause-ok
 returns-clause-ok g c =
-    let bases = c.in_ok-outdated.ensures.bases in
-    let base = ap (λ (b : Bases). b.base) bases ∙ c.of-base.ensures in
+    let base = ap (λ (b : Bases). b.base) c.in_ok-outdated.ensures.bases ∙ c.of-base.ensures in
     let taken = c.take_past-past.new.self in
-    let told = (rebased c.histories_lead_to_sound_states.ensures.number
-    c.histories_lead_to_sound_states.ensures.generation g.row.NUMBER c.self.inside.store.state
-    taken c.rebase.new.self
-    (taken_kept c.self.invariant c.take_past-past.ensures.left)
-    (ap (λ (b : Bases). b.past) bases) (ap (λ (b : BaseState). b.rows) base ∙ c.in-Ok.ensures.rows)
-    (ap (λ (b : BaseState). b.number) base) (ap (λ (b : BaseState). b.next) base
-    ∙ omega (arith, c.tickets_left-next.ensures.count, c.tickets_left-next.ensures.bounded))
-    (ap (λ (b : BaseState). b.peak) base ∙ c.peak_live.ensures)
-    (subst (ReadBack c.self.inside.store.state) (sym (ap (λ (b : BaseState). b.rows) base))
-    c.in-Ok.ensures.back) c.in_ok-outdated.ensures.steps c.in_ok-outdated.ensures.standing).0 in
     checkpoint_seen taken c.rebase.new.self
     (ap (shared c.self.inside.store.state) c.take_past-past.ensures.left ∙ c.self.view_is)
-    c.in_ok-outdated.ensures.steps told (ap (λ (b : BaseState). b.rows) base ∙ c.in-Ok.ensures.rows)
+    c.in_ok-outdated.ensures.steps (tells g c).0
+    (ap (λ (b : BaseState). b.rows) base ∙ c.in-Ok.ensures.rows)
     (trims_of taken.bases.base taken.steps c.in-Some.steps (c.in-Some.ensures.counts
     ∙ ap (λ (l : LogState). counts_of l.bases.base l.steps) (sym c.take_past-past.ensures.left))
     c.rebase.new.self.bases.base base)
-    (c.trimmed-trimmed.ensures ∙ ap all_trimmed (sym (ap (λ (b : Bases). b.base) bases)))
+    (c.trimmed-trimmed.ensures
+    ∙ ap all_trimmed (sym (ap (λ (b : Bases). b.base) c.in_ok-outdated.ensures.bases)))

@@ -1,13 +1,11 @@
 use Rattle.generational_sync.proofs.Common
-use Common.{BorrowRefused, Dropped, Meets, SetValue, subst, sym, ◌∙◌}
+use Common.{sym, ◌∙◌}
 use Rattle.generational_sync.proofs.Making.{set_drops}
 use Rattle.generational_sync.proofs.state.borrowing.set_value.Goals as goal
 
 pub returns-clause-step : goal.returns-clause-step
 returns-clause-step g c = (
   c.args.value,
-  subst (λ l. Meets c.args.store.now.state (SetValue c.args.asked c.args.value)
-      (BorrowRefused (Dropped l)) c.args.store.now.state) (sym c.new-error.ensures)
-      (set_drops c.args.store.now.state c.args.asked c.args.value c.requires
+  rw c.new-error.ensures (set_drops c.args.store.now.state c.args.asked c.args.value c.requires
       (sym c.can_write.ensures ∙ c.if-can_write.false)),
 )

@@ -3,14 +3,5 @@ use Common.{refl}
 use Rattle.generational_sync.proofs.together.Together.run.Goals as goal
 
 pub returns : goal.returns
-returns g c = (
-  _,
-  _,
-  record {
-    shown = _;
-    shows = refl;
-    left = _;
-    met = c.f-answer.ensures;
-    leaves = refl;
-  },
-)
+returns g c =
+    (_, _, record { shown = _; shows = refl; left = _; met = c.f-answer.ensures; leaves = refl })
