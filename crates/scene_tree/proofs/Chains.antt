@@ -1,10 +1,9 @@
 -- Chains of children in the links, after each write, and as a child comes or goes.
-use Rattle.scene_tree.proofs.Common.{after_put, ap, arith, before_put, cases_eq, chain, changed, count_at, first_of}
-use Rattle.scene_tree.proofs.Common.{head_or, IsChain, IsHeld, last_of, last_or, length, Link, List, Node, node_in}
-use Rattle.scene_tree.proofs.Common.{None, none-some, noted, Option, refl, same_Some, slice_get, slice_index_or}
-use Rattle.scene_tree.proofs.Common.{slice_set, slot_in, Some, subst, suc, sym, tie_of, zero, ℕ, [], ⊎_elim, ◌++◌, ◌+◌}
-use Rattle.scene_tree.proofs.Common.{◌<◌, ◌∙◌, ◌∷◌, ◌≡◌, ◌≢◌, ◌≤◌}
-use Rattle.scene_tree.proofs.Counting.{count_both, count_here, count_more}
+use Rattle.scene_tree.proofs.Common.{after_put, arith, before_put, chain, changed, cond, count_at, first_of, head_or}
+use Rattle.scene_tree.proofs.Common.{inl, IsChain, IsHeld, last_of, last_or, length, Link, List, nat_eq, Node, None}
+use Rattle.scene_tree.proofs.Common.{none-some, Option, option_map, refl, slice_get, slice_index_or, slice_set, slot_in}
+use Rattle.scene_tree.proofs.Common.{Some, suc, sym, tie_of, zero, ℕ, [], ◌++◌, ◌+◌, ◌<◌, ◌∙◌, ◌∷◌, ◌≡◌, ◌≢◌, ◌≤◌, ◌⊎◌}
+use Rattle.scene_tree.proofs.Counting.{count_here, count_more}
 
 module _ {T : Type 0} where
   -- ---- one link is changed
@@ -55,70 +54,77 @@ module _ {T : Type 0} where
       → tie_of (slice_get links s) ≡ Some tie → (l : Link T) × (slice_get links s ≡ Some l)
   tied_within links s tie is = grind arith
 
-  -- ---- a child, or the first, is put after another, or the last before it
+  -- a slot has its link, or the changed one
+  changed_get : (links : List (Link T)) (slot : ℕ) (f : Link T → Link T) (s : ℕ)
+      → slice_get (changed links slot f) s
+      ≡ cond (nat_eq s slot) (option_map f (slice_get links s)) (slice_get links s)
+  changed_get [] slot f s = grind arith
+  changed_get (l ∷ links) slot f s = grind (arith, changed_get links)
 
-  -- what neither an end nor a neighbour is stays
-  pub after_kept : {X : Type 0} (part : Option (Link T) → X)
-      → ((l : Link T) (next : Option ℕ) → part (Some (record l { first = next })) ≡ part (Some l))
-      → ((l : Link T) (next : Option ℕ) → part (Some (record l { after = next })) ≡ part (Some l))
-      → (links : List (Link T)) (up : ℕ) (at next : Option ℕ) (s : ℕ)
-      → part (slice_get (after_put links up at next) s) ≡ part (slice_get links s)
-  after_kept part ends ties links up None next s = changed_kept part links up _ (λ l. ends l next) s
-  after_kept part ends ties links up (Some at) next s = changed_kept part links at _ (λ l. ties l next) s
-
-  pub before_kept : {X : Type 0} (part : Option (Link T) → X)
-      → ((l : Link T) (next : Option ℕ) → part (Some (record l { last = next })) ≡ part (Some l))
-      → ((l : Link T) (next : Option ℕ) → part (Some (record l { before = next })) ≡ part (Some l))
-      → (links : List (Link T)) (up : ℕ) (at next : Option ℕ) (s : ℕ)
-      → part (slice_get (before_put links up at next) s) ≡ part (slice_get links s)
-  before_kept part ends ties links up None next s = changed_kept part links up _ (λ l. ends l next) s
-  before_kept part ends ties links up (Some at) next s = changed_kept part links at _ (λ l. ties l next) s
+  -- ---- a child, or the first, is put after another, and one, or the last, before another
 
   pub after_length : (links : List (Link T)) (up : ℕ) (at next : Option ℕ)
       → length (after_put links up at next) ≡ length links
   after_length links up at next = grind (arith, changed_length)
 
-  pub before_length : (links : List (Link T)) (up : ℕ) (at next : Option ℕ)
-      → length (before_put links up at next) ≡ length links
-  before_length links up at next = grind (arith, changed_length)
+  module _ (links : List (Link T)) (up : ℕ) (at by next previous : Option ℕ) where
+    abbrev half : List (Link T)
+    half = after_put links up at next
 
-  -- ties stay but for the neighbour's, and ends but for the slot's
-  pub after_ties : (links : List (Link T)) (up : ℕ) (at next : Option ℕ) (s : ℕ) → at ≢ Some s
-      → tie_of (slice_get (after_put links up at next) s) ≡ tie_of (slice_get links s)
-  after_ties links up None next s ne = changed_kept tie_of links up _ (λ l. refl) s
-  after_ties links up (Some at) next s ne = ap tie_of (changed_apart links at _ s (λ is. ne (ap Some (sym is))))
+    abbrev pub beside : List (Link T)
+    beside = before_put half up by previous
 
-  pub before_ties : (links : List (Link T)) (up : ℕ) (at next : Option ℕ) (s : ℕ) → at ≢ Some s
-      → tie_of (slice_get (before_put links up at next) s) ≡ tie_of (slice_get links s)
-  before_ties links up None next s ne = changed_kept tie_of links up _ (λ l. refl) s
-  before_ties links up (Some at) next s ne = ap tie_of (changed_apart links at _ s (λ is. ne (ap Some (sym is))))
+    pub beside_length : length beside ≡ length links
+    beside_length = grind (arith, changed_length)
 
-  pub after_first : (links : List (Link T)) (up : ℕ) (at next : Option ℕ) (s : ℕ) → s ≢ up
-      → first_of (slice_get (after_put links up at next) s) ≡ first_of (slice_get links s)
-  after_first links up None next s ne = ap first_of (changed_apart links up _ s ne)
-  after_first links up (Some at) next s ne = changed_kept first_of links at _ (λ l. refl) s
+    -- what neither an end nor a neighbour is stays
+    pub beside_kept : {X : Type 0} (part : Option (Link T) → X)
+        → ((l : Link T) (f e b a : Option ℕ)
+        → part (Some (record l { first = f; last = e; before = b; after = a })) ≡ part (Some l))
+        → (s : ℕ) → part (slice_get beside s) ≡ part (slice_get links s)
+    beside_kept p free s = below by ∙ above at
+      where
+        above : (o : Option ℕ) → p (slice_get (after_put links up o next) s) ≡ p (slice_get links s)
+        above None = changed_kept p links up _ (λ l. free l next l.last l.before l.after) s
+        above (Some i) = changed_kept p links i _ (λ l. free l l.first l.last l.before next) s
 
-  pub before_last : (links : List (Link T)) (up : ℕ) (at next : Option ℕ) (s : ℕ) → s ≢ up
-      → last_of (slice_get (before_put links up at next) s) ≡ last_of (slice_get links s)
-  before_last links up None next s ne = ap last_of (changed_apart links up _ s ne)
-  before_last links up (Some at) next s ne = changed_kept last_of links at _ (λ l. refl) s
+        below : (o : Option ℕ)
+            → p (slice_get (before_put half up o previous) s) ≡ p (slice_get half s)
+        below None = changed_kept p half up _ (λ l. free l l.first previous l.before l.after) s
+        below (Some i) = changed_kept p half i _ (λ l. free l l.first l.last previous l.after) s
 
-  pub after_last : (links : List (Link T)) (up : ℕ) (at next : Option ℕ) (s : ℕ)
-      → last_of (slice_get (after_put links up at next) s) ≡ last_of (slice_get links s)
-  after_last = after_kept last_of (λ l next. refl) (λ l next. refl)
+    -- ties stay but for the neighbours', and ends but for the slot's
+    beside_ties : (s : ℕ) → at ≢ Some s → by ≢ Some s
+        → tie_of (slice_get beside s) ≡ tie_of (slice_get links s)
+    beside_ties s ne other = grind (arith, changed_get)
 
-  pub before_first : (links : List (Link T)) (up : ℕ) (at next : Option ℕ) (s : ℕ)
-      → first_of (slice_get (before_put links up at next) s) ≡ first_of (slice_get links s)
-  before_first = before_kept first_of (λ l next. refl) (λ l next. refl)
+    beside_first : (s : ℕ) → s ≢ up → first_of (slice_get beside s) ≡ first_of (slice_get links s)
+    beside_first s ne = grind (arith, changed_get)
 
-  -- the noted nodes stay
-  pub noted_joined : (links : List (Link T)) (up top : ℕ) (a b c d : Option ℕ) (s : ℕ)
-      → noted (before_put (after_put links up a b) top c d) s ≡ noted links s
-  noted_joined links up top a b c d s =
-      before_kept node_in (λ l next. refl) (λ l next. refl) (after_put links up a b) top c d s
-      ∙ after_kept node_in (λ l next. refl) (λ l next. refl) links up a b s
+    beside_last : (s : ℕ) → s ≢ up → last_of (slice_get beside s) ≡ last_of (slice_get links s)
+    beside_last s ne = grind (arith, changed_get)
 
-  -- ---- lists in a row
+    -- an end is put where there is no neighbour
+    abbrev unless : Option ℕ → Option ℕ → Option ℕ → Option ℕ
+    unless None new old = new
+    unless (Some i) new old = old
+
+    module _ (l : Link T) (there : slice_get links up ≡ Some l) where
+      first_put : first_of (slice_get beside up) ≡ unless at next (first_of (slice_get links up))
+      first_put = grind (arith, changed_get)
+
+      last_put : last_of (slice_get beside up) ≡ unless by previous (last_of (slice_get links up))
+      last_put = grind (arith, changed_get)
+
+    module _ (s : ℕ) (n : Node T) (b a : Option ℕ)
+        (tie : tie_of (slice_get links s) ≡ Some (n, b, a)) where
+      after_tie : at ≡ Some s → by ≢ Some s → tie_of (slice_get beside s) ≡ Some (n, b, next)
+      after_tie is ne = grind (arith, changed_get)
+
+      before_tie : at ≢ Some s → by ≡ Some s → tie_of (slice_get beside s) ≡ Some (n, previous, a)
+      before_tie ne is = grind (arith, changed_get)
+
+  -- ---- the slots of the first and of the last node
 
   pub head_both : (xs ys : List (Node T)) (other : Option ℕ)
       → head_or (xs ++ ys) other ≡ head_or xs (head_or ys other)
@@ -129,17 +135,23 @@ module _ {T : Type 0} where
   last_both other [] ys = refl
   last_both other (x ∷ xs) ys = last_both (Some (slot_in x)) xs ys
 
-  -- a slot that isn't in a list isn't its last, nor its first
-  pub last_apart : (other : Option ℕ) (xs : List (Node T)) (s : ℕ) → count_at s xs ≡ 0 → other ≢ Some s
-      → last_or other xs ≢ Some s
-  last_apart other [] s none ne = ne
-  last_apart other (x ∷ xs) s none ne = last_apart (Some (slot_in x)) xs s
-      (let more = count_more s x xs in omega (arith, none, more))
-      (λ is. let here = count_here s x xs (same_Some (slot_in x) s is) in omega (arith, none, here))
+  -- they are counted
+  last_from : (s : ℕ) (other : Option ℕ) (xs : List (Node T)) → last_or other xs ≡ Some s
+      → (other ≡ Some s) ⊎ (0 < count_at s xs)
+  last_from s other [] is = inl is
+  last_from s other (x ∷ xs) is =
+      grind (arith, last_from s (Some (slot_in x)) xs is, count_here s x xs, count_more s x xs)
 
-  pub head_apart : (xs : List (Node T)) (s : ℕ) → count_at s xs ≡ 0 → head_or xs None ≢ Some s
-  head_apart [] s none is = none-some s is
-  head_apart (x ∷ xs) s none is = grind (arith, count_here s x xs (same_Some (slot_in x) s is))
+  pub last_counted : (s : ℕ) (xs : List (Node T)) → last_or None xs ≡ Some s → 0 < count_at s xs
+  last_counted s xs is = grind (arith, last_from s None xs is)
+
+  pub head_counted : (s : ℕ) (xs : List (Node T)) → head_or xs None ≡ Some s → 0 < count_at s xs
+  head_counted s [] is = absurd (none-some s is)
+  head_counted s (x ∷ xs) is = grind (arith, count_here s x xs)
+
+  last_some : (s : ℕ) (xs : List (Node T)) → last_or (Some s) xs ≢ None
+  last_some s [] is = none-some s (sym is)
+  last_some s (x ∷ xs) is = last_some (slot_in x) xs is
 
   module _ (links : List (Link T)) where
     -- ---- chains
@@ -172,15 +184,6 @@ module _ {T : Type 0} where
     chain_short (suc n) at = grind (arith, chain_short n)
 
 module _ {T : Type 0} where
-  -- the front of the children of a slot, before another, and their back, behind one
-  pub record IsFront (links : List (Link T)) (up : ℕ) (xs : List (Node T)) (after : Option ℕ) : Type 0 where
-    pub first : first_of (slice_get links up) ≡ head_or xs after
-    pub chain : IsChain links None xs after
-
-  pub record IsBack (links : List (Link T)) (up : ℕ) (before : Option ℕ) (ys : List (Node T)) : Type 0 where
-    pub last : last_of (slice_get links up) ≡ last_or before ys
-    pub chain : IsChain links before ys None
-
   -- two links have the same ties at the slots of a list
   abbrev HasTies : List (Link T) → List (Link T) → List (Node T) → Type 0
   HasTies old new xs = (s : ℕ) → 0 < count_at s xs
@@ -201,191 +204,97 @@ module _ {T : Type 0} where
       → IsHeld old slot xs → IsHeld new slot xs
   held_kept old new slot xs same first last held = grind (arith, chain_kept old new None None xs same held.chain)
 
-  -- a list of children is its front and its back
-  pub front_of : (links : List (Link T)) (up : ℕ) (xs ys : List (Node T)) → IsHeld links up (xs ++ ys)
-      → IsFront links up xs (head_or ys None)
-  front_of links up xs ys held = grind (arith, head_both xs ys None, chain_split links None None xs ys held.chain)
+  -- ---- children of a slot that are linked anew: some between two parts in place of others
 
-  pub back_of : (links : List (Link T)) (up : ℕ) (xs ys : List (Node T)) → IsHeld links up (xs ++ ys)
-      → IsBack links up (last_or None xs) ys
-  back_of links up xs ys held = grind (arith, last_both None xs ys, chain_split links None None xs ys held.chain)
+  abbrev pub relinked : List (Link T) → ℕ → List (Node T) → List (Node T) → List (Node T)
+      → List (Link T)
+  relinked links up xs ns ys =
+      beside links up (last_or None xs) (head_or ys None) (head_or ns (head_or ys None))
+      (last_or (last_or None xs) ns)
 
-  pub held_of : (links : List (Link T)) (up : ℕ) (xs ys : List (Node T))
-      → IsFront links up xs (head_or ys None) → IsBack links up (last_or None xs) ys
-      → IsHeld links up (xs ++ ys)
-  held_of links up xs ys front back = grind (arith, head_both, last_both, chain_join)
+  module _ (links : List (Link T)) (up : ℕ) (l : Link T) (there : slice_get links up ≡ Some l)
+      (xs ns ys : List (Node T))
+      (once : (s : ℕ) → count_at s xs + (count_at s ns + count_at s ys) ≤ 1) where
+    abbrev next : Option ℕ
+    next = head_or ns (head_or ys None)
 
-  -- ---- another comes after the front
+    abbrev previous : Option ℕ
+    previous = last_or (last_or None xs) ns
 
-  chain_after : (links : List (Link T)) (up : ℕ) (before after next at : Option ℕ) (xs : List (Node T))
-      → ((s : ℕ) → count_at s xs ≤ 1) → IsChain links before xs after
-      → IsChain (after_put links up (last_or at xs) next) before xs next
-  chain_after links up before after next at [] once is = grind arith
-  chain_after links up before after next at (x ∷ []) once is = grind (arith, tied_within, changed_here)
-  chain_after links up before after next at (x ∷ y ∷ ys) once is = (
-    after_ties links up (last_or (Some (slot_in y)) ys) next (slot_in x)
-        (last_apart (Some (slot_in y)) ys (slot_in x)
-        (grind (arith, count_here (slot_in x) x (y ∷ ys) refl, count_more (slot_in x) y ys, once (slot_in x)))
-        (λ same. let there = count_here (slot_in x) y ys (same_Some (slot_in y) (slot_in x) same) in
-        grind (arith, count_here (slot_in x) x (y ∷ ys) refl, once (slot_in x))))
-        ∙ is.0,
-    chain_after links up (Some (slot_in x)) after next (Some (slot_in x)) (y ∷ ys)
-        (λ s. let more = count_more s x (y ∷ ys) in let le = once s in omega (arith, more, le)) is.1,
-  )
+    abbrev new : List (Link T)
+    new = relinked links up xs ns ys
 
-  pub front_put : (links : List (Link T)) (up : ℕ) (after next : Option ℕ) (l : Link T) (xs : List (Node T))
-      → slice_get links up ≡ Some l → ((s : ℕ) → count_at s xs ≤ 1) → IsFront links up xs after
-      → IsFront (after_put links up (last_or None xs) next) up xs next
-  front_put links up after next l [] there once front = grind (arith, changed_here)
-  front_put links up after next l (x ∷ xs) there once front = record {
-    first = first (last_or (Some (slot_in x)) xs) (last_is (slot_in x) xs);
-    chain = chain_after links up None after next None (x ∷ xs) once front.chain;
-  }
-    where
-      last_is : (s : ℕ) (zs : List (Node T)) → last_or (Some s) zs ≢ None
-      last_is s [] is = none-some s (sym is)
-      last_is s (z ∷ zs) is = last_is (slot_in z) zs is
+    ties : (s : ℕ) → last_or None xs ≢ Some s → head_or ys None ≢ Some s
+        → tie_of (slice_get new s) ≡ tie_of (slice_get links s)
+    ties = beside_ties links up _ _ _ _
 
-      first : (at : Option ℕ) → at ≢ None
-          → first_of (slice_get (after_put links up at next) up) ≡ head_or (x ∷ xs) next
-      first None some = absurd (some refl)
-      first (Some at) some =
-          changed_kept first_of links at (λ l. record l { after = next }) (λ l. refl) up ∙ front.first
+    -- what stands in one part stands in no other
+    behind : (s : ℕ) → 0 < count_at s ns + count_at s ys → last_or None xs ≢ Some s
+    behind s lt is = grind (arith, last_counted s xs is, once s)
 
-  pub back_after : (links : List (Link T)) (up : ℕ) (at next before : Option ℕ) (ys : List (Node T))
-      → ((s : ℕ) → 0 < count_at s ys → at ≢ Some s) → IsBack links up before ys
-      → IsBack (after_put links up at next) up before ys
-  back_after links up at next before ys apart back = grind (arith, after_last, chain_kept, after_ties)
+    ahead : (s : ℕ) → 0 < count_at s xs + count_at s ns → head_or ys None ≢ Some s
+    ahead s lt is = grind (arith, head_counted s ys is, once s)
 
-  -- ---- another comes before the back
+    front : (before after : Option ℕ) (zs : List (Node T)) → last_or None zs ≡ last_or None xs
+        → ((s : ℕ) → count_at s zs ≤ count_at s xs) → IsChain links before zs after
+        → IsChain new before zs next
+    front before after [] is le lies = tt
+    front before after (z ∷ []) is le lies = (
+      after_tie links up _ _ _ _ (slot_in z) z before after lies.0 (sym is)
+          (ahead (slot_in z) (grind (arith, count_here (slot_in z) z [], le (slot_in z)))),
+      tt,
+    )
+    front before after (z ∷ y ∷ zs) is le lies =
+        let here = count_here (slot_in z) z (y ∷ zs) refl in
+        let more = le (slot_in z) in (
+          ties (slot_in z)
+              (λ e. grind (arith, once (slot_in z), last_counted (slot_in z) (y ∷ zs) (is ∙ e)))
+              (ahead (slot_in z) (omega (arith, here, more))) ∙ lies.0,
+          front (Some (slot_in z)) after (y ∷ zs) is
+              (λ s. grind (arith, le s, count_more s z (y ∷ zs))) lies.1,
+        )
 
-  pub back_put : (links : List (Link T)) (up : ℕ) (before next : Option ℕ) (l : Link T) (ys : List (Node T))
-      → slice_get links up ≡ Some l → ((s : ℕ) → count_at s ys ≤ 1) → IsBack links up before ys
-      → IsBack (before_put links up (head_or ys None) next) up next ys
-  back_put links up before next l [] there once back = grind (arith, changed_here)
-  back_put links up before next l (y ∷ ys) there once back = record {
-    last = changed_kept last_of links (slot_in y) (λ l. record l { before = next }) (λ l. refl) up ∙ back.last;
-    chain = (
-      grind (arith, tied_within links (slot_in y) (y, before, head_or ys None) back.chain.0, changed_here),
-      chain_kept links (before_put links up (Some (slot_in y)) next) (Some (slot_in y)) None ys
-          (λ s lt. before_ties links up (Some (slot_in y)) next s (λ is.
-          let here = count_here s y ys (same_Some (slot_in y) s is) in
-          let le = once s in omega (arith, here, le, lt))) back.chain.1,
-    );
-  }
+    middle : (before after : Option ℕ) → IsChain links before ns after → IsChain new before ns after
+    middle before after = chain_kept links new before after ns
+        (λ s lt. ties s (behind s (omega (arith, lt))) (ahead s (omega (arith, lt))))
 
-  pub front_before : (links : List (Link T)) (up : ℕ) (at next after : Option ℕ) (xs : List (Node T))
-      → ((s : ℕ) → 0 < count_at s xs → at ≢ Some s) → IsFront links up xs after
-      → IsFront (before_put links up at next) up xs after
-  front_before links up at next after xs apart front = grind (arith, before_first, chain_kept, before_ties)
+    back : (before : Option ℕ) (zs : List (Node T)) → head_or zs None ≡ head_or ys None
+        → ((s : ℕ) → count_at s zs ≤ count_at s ys) → IsChain links before zs None
+        → IsChain new previous zs None
+    back before [] is le lies = tt
+    back before (y ∷ zs) is le lies = (
+      before_tie links up _ _ _ _ (slot_in y) y before (head_or zs None) lies.0
+          (behind (slot_in y) (grind (arith, count_here (slot_in y) y zs, le (slot_in y))))
+          (sym is),
+      chain_kept links new (Some (slot_in y)) None zs
+          (λ s lt. ties s (behind s (grind (arith, le s, count_more s y zs)))
+          (λ e. grind (arith, count_here s y zs, le s, once s))) lies.1,
+    )
 
-  -- ---- the links of a slot's children on both sides of a spot
+    pub relinked_here : (ms : List (Node T)) → IsHeld links up (xs ++ (ms ++ ys))
+        → IsChain links (last_or None xs) ns (head_or ys None) → IsHeld new up (xs ++ (ns ++ ys))
+    relinked_here ms held lies =
+        let parts = chain_split links None None xs (ms ++ ys) held.chain in
+        let rest = chain_split links (last_or None xs) None ms ys parts.1 in
+        let first = first_put links up (last_or None xs) (head_or ys None) next previous l there in
+        let last = last_put links up (last_or None xs) (head_or ys None) next previous l there in
+        record {
+          first = grind (arith, held.first, last_some, head_both);
+          last = grind (arith, held.last, last_both);
+          chain = chain_join new None None xs (ns ++ ys)
+              (rw head_both (front None (head_or (ms ++ ys) None) xs refl (λ s. omega arith)
+              parts.0))
+              (chain_join new (last_or None xs) None ns ys
+              (middle (last_or None xs) (head_or ys None) lies)
+              (back (last_or (last_or None xs) ms) ys refl (λ s. omega arith) rest.1));
+        }
 
-  -- what stands on one side isn't on the other, where each slot is counted once
-  module _ (xs ys : List (Node T)) (once : (s : ℕ) → count_at s xs + count_at s ys ≤ 1) where
-    behind : (s : ℕ) → 0 < count_at s ys → last_or None xs ≢ Some s
-    behind s lt = last_apart None xs s (let le = once s in omega (arith, le, lt)) (λ is. none-some s is)
-
-    ahead : (s : ℕ) → 0 < count_at s xs → head_or ys None ≢ Some s
-    ahead s lt = head_apart ys s (let le = once s in omega (arith, le, lt))
-
-  -- both sides are linked anew to what is to come between them
-  abbrev pub joined : List (Link T) → ℕ → List (Node T) → List (Node T) → Option ℕ → Option ℕ → List (Link T)
-  joined links up xs ys next previous =
-      before_put (after_put links up (last_or None xs) next) up (head_or ys None) previous
-
-  module _ (links : List (Link T)) (up : ℕ) (l : Link T) (xs ys : List (Node T))
-      (there : slice_get links up ≡ Some l) (once : (s : ℕ) → count_at s xs + count_at s ys ≤ 1)
-      (next previous : Option ℕ) where
-    abbrev half : List (Link T)
-    half = after_put links up (last_or None xs) next
-
-    still : (m : Link T) × (slice_get half up ≡ Some m)
-    still = at (last_or None xs)
-      where
-        more : (slot : ℕ) (f : Link T → Link T) → (m : Link T) × (slice_get (changed links slot f) up ≡ Some m)
-        more slot f = ⊎_elim
-            (λ is. (
-              f l,
-              subst (λ i. slice_get (changed links i f) up ≡ Some (f l)) is
-                  (changed_here links up f l there),
-            ))
-            (λ ne. (l, changed_apart links slot f up ne ∙ there)) (cases_eq up slot)
-
-        at : (o : Option ℕ) → (m : Link T) × (slice_get (after_put links up o next) up ≡ Some m)
-        at None = more up (λ l. record l { first = next })
-        at (Some s) = more s (λ l. record l { after = next })
-
-    pub joined_front : (after : Option ℕ) → IsFront links up xs after
-        → IsFront (joined links up xs ys next previous) up xs next
-    joined_front after front =
-        front_before half up (head_or ys None) previous next xs (ahead xs ys once)
-        (front_put links up after next l xs there (λ s. let le = once s in omega (arith, le)) front)
-
-    pub joined_back : (before : Option ℕ) → IsBack links up before ys
-        → IsBack (joined links up xs ys next previous) up previous ys
-    joined_back before back =
-        back_put half up before previous still.0 ys still.1 (λ s. let le = once s in omega (arith, le))
-        (back_after links up (last_or None xs) next before ys (behind xs ys once) back)
-
-    -- what stands on neither side is left
-    pub joined_ties : (s : ℕ) → count_at s xs ≡ 0 → count_at s ys ≡ 0
-        → tie_of (slice_get (joined links up xs ys next previous) s) ≡ tie_of (slice_get links s)
-    joined_ties s none free =
-        before_ties half up (head_or ys None) previous s (head_apart ys s free)
-        ∙ after_ties links up (last_or None xs) next s (last_apart None xs s none (λ is. none-some s is))
-
-    pub joined_held : (slot : ℕ) (zs : List (Node T)) → slot ≢ up
+    -- and those of another slot stay
+    pub relinked_apart : (slot : ℕ) (zs : List (Node T)) → slot ≢ up
         → ((s : ℕ) → 0 < count_at s zs → (count_at s xs ≡ 0) × (count_at s ys ≡ 0))
-        → IsHeld links slot zs → IsHeld (joined links up xs ys next previous) slot zs
-    joined_held slot zs other apart held = held_kept links (joined links up xs ys next previous) slot zs
-        (λ s lt. let none = apart s lt in joined_ties s none.0 none.1)
-        (before_first half up (head_or ys None) previous slot
-        ∙ after_first links up (last_or None xs) next slot other)
-        (before_last half up (head_or ys None) previous slot other
-        ∙ after_last links up (last_or None xs) next slot) held
-
-  -- ---- a child more, and a child less
-
-  module _ (links : List (Link T)) (up : ℕ) (l : Link T) (xs ys : List (Node T)) (c : Node T)
-      (there : slice_get links up ≡ Some l) (once : (s : ℕ) → count_at s (xs ++ c ∷ ys) ≤ 1) where
-    few : (s : ℕ) → count_at s xs + count_at s ys ≤ 1
-    few s =
-        let both = count_both s xs (c ∷ ys) in grind (arith, count_more s c ys, once s)
-
-    none : (count_at (slot_in c) xs ≡ 0) × (count_at (slot_in c) ys ≡ 0)
-    none =
-        let both = count_both (slot_in c) xs (c ∷ ys) in
-        grind (arith, count_here (slot_in c) c ys refl, once (slot_in c))
-
-    abbrev more : List (Link T)
-    more = joined links up xs ys (Some (slot_in c)) (Some (slot_in c))
-
-    abbrev less : List (Link T)
-    less = joined links up xs ys (head_or ys None) (last_or None xs)
-
-    pub linked_in : tie_of (slice_get links (slot_in c)) ≡ Some (c, last_or None xs, head_or ys None)
-        → IsHeld links up (xs ++ ys) → IsHeld more up (xs ++ c ∷ ys)
-    linked_in tie held =
-        let back = joined_back links up l xs ys there few (Some (slot_in c)) (Some (slot_in c))
-        (last_or None xs) (back_of links up xs ys held) in
-        held_of more up xs (c ∷ ys)
-        (joined_front links up l xs ys there few (Some (slot_in c)) (Some (slot_in c))
-        (head_or ys None) (front_of links up xs ys held))
-        (record {
-          last = back.last;
-          chain = (
-            joined_ties links up l xs ys there few (Some (slot_in c)) (Some (slot_in c))
-                (slot_in c) none.0 none.1 ∙ tie,
-            back.chain,
-          );
-        })
-
-    pub linked_out : IsHeld links up (xs ++ c ∷ ys) → IsHeld less up (xs ++ ys)
-    linked_out held =
-        let back = back_of links up xs (c ∷ ys) held in
-        held_of less up xs ys
-        (joined_front links up l xs ys there few (head_or ys None) (last_or None xs)
-        (Some (slot_in c)) (front_of links up xs (c ∷ ys) held))
-        (joined_back links up l xs ys there few (head_or ys None) (last_or None xs)
-        (Some (slot_in c)) (record { last = back.last; chain = back.chain.1 }))
+        → IsHeld links slot zs → IsHeld new slot zs
+    relinked_apart slot zs other apart held = held_kept links new slot zs
+        (λ s lt. let none = apart s lt in ties s
+        (λ is. let some = last_counted s xs is in omega (arith, none, some))
+        (λ is. let some = head_counted s ys is in omega (arith, none, some)))
+        (beside_first links up _ _ _ _ slot other) (beside_last links up _ _ _ _ slot other) held

@@ -1,11 +1,15 @@
 -- How many nodes of a list live at a slot.
-use Rattle.scene_tree.proofs.Common
-use Common.{AllByRecursion, alone, and_parts, ap, arith, cases_Bool, cases_eq, cond, count_at, eqb-true, eqb_tells}
-use Common.{false, Family, family_at, get_or, get_pushed, inl, inr, insert, is_same, IsCleared, IsDistinct, IsSame}
-use Common.{length, List, map, nat_eq, Node, none-some, placed, refl, same_Some, slice_get, slot_in, Some, Spot, subst}
-use Common.{suc, sum_by-append, sum_by-cons, sum_by-take-drop, sum_by-take-le, sym, take, take_more, times, true}
-use Common.{without, zero, ℕ, [], ⊎_elim, ◌++◌, ◌+◌, ◌<◌, ◌∙◌, ◌∷◌, ◌≡◌, ◌≢◌, ◌≤◌, ◌⊎◌}
+use Rattle.scene_tree.proofs.Common.{AllByRecursion, alone, and_parts, ap, arith, cases_Bool, cases_eq, cond, count_at}
+use Rattle.scene_tree.proofs.Common.{eqb-true, eqb_tells, false, Family, family_at, get_or, get_pushed, insert, is_same}
+use Rattle.scene_tree.proofs.Common.{IsCleared, IsDistinct, IsSame, length, List, map, nat_eq, Node, none-some, placed}
+use Rattle.scene_tree.proofs.Common.{refl, same_Some, slice_get, slot_in, Some, Spot, subst, suc, sum_by-append}
+use Rattle.scene_tree.proofs.Common.{sum_by-cons, sum_by-take-drop, sum_by-take-le, take, take_more, times, true}
+use Rattle.scene_tree.proofs.Common.{without, zero, ℕ, [], ⊎_elim, ◌++◌, ◌+◌, ◌<◌, ◌∙◌, ◌∷◌, ◌≡◌, ◌≢◌, ◌≤◌}
 use Rattle.scene_tree.specs.declared.spot.Spot.TheVariants as spot
+
+-- something holds of each item of a list
+abbrev pub Each : {X : Type 0} → (X → Type 0) → List X → Type 0
+Each {X} P xs = (i : ℕ) (x : X) → slice_get xs i ≡ Some x → P x
 
 module _ {T : Type 0} where
   -- with a node more before the others
@@ -25,6 +29,10 @@ module _ {T : Type 0} where
       → count_at s (xs ++ ys) ≡ count_at s xs + count_at s ys
   count_both s xs ys = sum_by-append (λ n. cond (nat_eq (slot_in n) s) 1 0) xs ys
 
+  pub count_parts : (s : ℕ) (xs ms ys : List (Node T))
+      → count_at s (xs ++ (ms ++ ys)) ≡ count_at s xs + (count_at s ms + count_at s ys)
+  count_parts s xs ms ys = grind (arith, count_both s xs (ms ++ ys), count_both s ms ys)
+
   count_inserted : (s : ℕ) (xs : List (Node T)) (i : ℕ) (c : Node T)
       → count_at s (insert xs i c) ≡ count_at s (c ∷ xs)
   count_inserted s xs i c = search (arith, sum_by-cons, sum_by-take-drop, count_both)
@@ -32,34 +40,24 @@ module _ {T : Type 0} where
   -- with a node more at a spot, it is counted as with one more before the others
   pub count_placed : (s : ℕ) (at : Spot T) (xs : List (Node T)) (c : Node T)
       → count_at s (placed at c xs) ≡ count_at s (c ∷ xs)
-  count_placed s (spot.FirstOf up) xs c = search arith
-  count_placed s (spot.LastOf up) xs c = search (arith, sum_by-cons, count_both)
-  count_placed s (spot.Before by) xs c = search (arith, count_inserted)
-  count_placed s (spot.After by) xs c = search (arith, count_inserted)
+  count_placed s at xs c =
+      grind (arith, count_inserted s xs, count_both s xs (c ∷ []), count_both s (c ∷ []) xs)
 
-  -- what stands in such a list is the node, or stood there before
-  inserted_from : (xs : List (Node T)) (i k : ℕ) (c x : Node T) → slice_get (insert xs i c) k ≡ Some x
-      → ((j : ℕ) × (slice_get xs j ≡ Some x)) ⊎ (c ≡ x)
-  inserted_from xs zero zero c x at = inr (same_Some c x at)
-  inserted_from xs zero (suc k) c x at = inl (k, at)
-  inserted_from [] (suc i) zero c x at = inr (same_Some c x at)
-  inserted_from [] (suc i) (suc k) c x at = absurd (none-some x at)
-  inserted_from (y ∷ xs) (suc i) zero c x at = inl (0, at)
-  inserted_from (y ∷ xs) (suc i) (suc k) c x at =
-      ⊎_elim (λ old. inl (suc old.0, old.1)) inr (inserted_from xs i k c x at)
+  -- what holds of the node and of each of the others holds of each in such a list
+  inserted_each : (P : Node T → Type 0) (xs : List (Node T)) (i : ℕ) (c : Node T) → P c → Each P xs
+      → Each P (insert xs i c)
+  inserted_each P xs zero c here each k x at = grind arith
+  inserted_each P [] (suc i) c here each k x at = grind arith
+  inserted_each P (y ∷ xs) (suc i) c here each zero x at = each 0 x at
+  inserted_each P (y ∷ xs) (suc i) c here each (suc k) x at =
+      inserted_each P xs i c here (λ j. each (suc j)) k x at
 
-  pub placed_from : (at : Spot T) (xs : List (Node T)) (k : ℕ) (c x : Node T)
-      → slice_get (placed at c xs) k ≡ Some x
-      → ((j : ℕ) × (slice_get xs j ≡ Some x)) ⊎ (c ≡ x)
-  placed_from to xs k c x at = grind (arith, inserted_from, get_pushed)
+  pub placed_each : (P : Node T → Type 0) (at : Spot T) (xs : List (Node T)) (c : Node T) → P c
+      → Each P xs → Each P (placed at c xs)
+  placed_each P to xs c here each k x at = grind (arith, inserted_each P, get_pushed)
 
   pub count_take : (s : ℕ) (xs : List (Node T)) (n : ℕ) → count_at s (take n xs) ≤ count_at s xs
   count_take s xs n = sum_by-take-le (λ m. cond (nat_eq (slot_in m) s) 1 0) xs n
-
-  -- of the first nodes, with the next one
-  count_next : (s : ℕ) (xs : List (Node T)) (i : ℕ) (d : Node T) → i < length xs
-      → count_at s (take (i + 1) xs) ≡ count_at s (take i xs) + count_at s (get_or xs i d ∷ [])
-  count_next s xs i d lt = grind (arith, take_more xs i d lt, count_both s (take i xs) (get_or xs i d ∷ []))
 
   -- what is counted stands there, and what stands there is counted
   pub counted : (s : ℕ) (xs : List (Node T)) → 0 < count_at s xs
@@ -89,10 +87,9 @@ module _ {T : Type 0} where
       apart : (ys : List (Node T)) → count_at (slot_in x) ys ≡ 0
           → AllByRecursion (λ s. nat_eq (slot_in x) s ≡ false) (map slot_in ys)
       apart [] e = tt
-      apart (y ∷ ys) e = ⊎_elim
-          (λ yes. let here = count_here (slot_in x) y ys (sym yes.1) in absurd (omega (arith, here, e)))
-          (λ no. (no.0, apart ys (let more = count_more (slot_in x) y ys in omega (arith, e, more))))
-          (eqb_tells (slot_in x) (slot_in y))
+      apart (y ∷ ys) e =
+          let more = count_more (slot_in x) y ys in
+          grind (arith, apart ys, eqb_tells (slot_in x) (slot_in y), count_here (slot_in x) y ys)
 
   -- ---- a list without a node
 
@@ -155,27 +152,18 @@ module _ {T : Type 0} where
       let rest = none_without s n at xs (λ k. alike (suc k)) in
       grind (arith, count_apart s x (without n xs), alike 0 x refl, cases_Bool (is_same x n))
 
-  -- one node more of a list is left alone
-  clear_next : (old here new : List (Family T)) (nodes : List (Node T)) (i slot : ℕ) (d : Node T)
-      → i < length nodes → slot ≡ slot_in (get_or nodes i d) → IsCleared old here (take i nodes)
-      → family_at new slot ≡ alone → ((s : ℕ) → s ≢ slot → family_at new s ≡ family_at here s)
-      → IsCleared old new (take (i + 1) nodes)
-  clear_next old here new nodes i slot d lt is c cleared others = record {
-    cleared = λ s some. ⊎_elim (λ same. ap (family_at new) same ∙ cleared)
-        (λ ne. others s ne ∙ c.cleared s (let less = apart s ne in omega (arith, some, less)))
-        (cases_eq s slot);
-    others = λ s none. ⊎_elim
-        (λ same. grind (arith, count_next s nodes i d lt, count_here s (get_or nodes i d) [] (sym (same ∙ is)), none))
-        (λ ne. others s ne ∙ c.others s (sym (apart s ne) ∙ none)) (cases_eq s slot);
-  }
-    where
-      apart : (s : ℕ) → s ≢ slot → count_at s (take (i + 1) nodes) ≡ count_at s (take i nodes)
-      apart s ne = grind (arith, count_next s nodes i d lt, count_apart s (get_or nodes i d) [])
-
-  -- the same where the list is read elsewhere
+  -- one node more of a list, which is read elsewhere, is left alone
   pub clear_more : (old here new : List (Family T)) (nodes items : List (Node T)) (i slot : ℕ)
       (d : Node T) → items ≡ nodes → i < length items → slot ≡ slot_in (get_or items i d)
       → IsCleared old here (take i nodes) → family_at new slot ≡ alone
       → ((s : ℕ) → s ≢ slot → family_at new s ≡ family_at here s)
       → IsCleared old new (take (i + 1) nodes)
-  clear_more old here new nodes items i slot d same lt is c = grind (arith, clear_next)
+  clear_more old here new nodes items i slot d same lt is c cleared others = record {
+    cleared = λ s some. grind (arith, next s, c.cleared s, others s, cases_eq s slot);
+    others = λ s none. grind (arith, next s, c.others s, others s, cases_eq s slot);
+  }
+    where
+      next : (s : ℕ) → count_at s (take (i + 1) nodes)
+          ≡ count_at s (take i nodes) + cond (nat_eq slot s) 1 0
+      next s = let both = count_both s (take i nodes) (get_or nodes i d ∷ []) in
+          grind (arith, take_more nodes i d)

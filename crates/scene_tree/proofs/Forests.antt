@@ -1,20 +1,18 @@
 -- Forests: the ways from parent to parent, and what a change leaves of them.
-use Rattle.scene_tree.proofs.Common
-use Common.{above, AllByRecursion, alone, ap, arith, cases_eq, cases_lt, children_at, count_at, eq-eqb, eqb-true}
-use Common.{eqb_tells, false, Family, family_at, inl, inr, is_same, IsAttached, IsCleared, IsDetached, IsDistinct}
-use Common.{IsForest, IsRooted, IsUnder, length, length-le_from_distinct_below, List, list_any, nat_eq, Node, None}
-use Common.{none-some, Option, or_cases, or_left, or_right, parent_at, refl, same_Some, slice_get, slot_in, slot_of}
-use Common.{Some, Spot, subst, suc, sym, true, zero, ℕ, [], ⊎_elim, ◌+◌, ◌<◌, ◌∙◌, ◌∷◌, ◌≡◌, ◌≢◌, ◌≤◌, ◌⊎◌}
+use Rattle.scene_tree.proofs.Common.{above, alone, ap, arith, cases_eq, cases_lt, children_at, count_at, eq-eqb, Family}
+use Rattle.scene_tree.proofs.Common.{family_at, get_or-eq_default, inl, inr, is_same, IsAttached, IsCleared, IsDetached}
+use Rattle.scene_tree.proofs.Common.{IsForest, IsRooted, IsUnder, le-length_from_below, length, List, list_any, nat_eq}
+use Rattle.scene_tree.proofs.Common.{Node, None, Option, or_left, or_right, parent_at, refl, slice_get, slot_in}
+use Rattle.scene_tree.proofs.Common.{slot_of, Some, Spot, subst, suc, sym, true, zero, ℕ, [], ⊎_elim, ◌+◌, ◌<◌, ◌∙◌}
+use Rattle.scene_tree.proofs.Common.{◌∷◌, ◌≡◌, ◌≢◌, ◌≤◌, ◌⊎◌}
 use Rattle.scene_tree.proofs.Counting.{count_apart, count_here, count_placed, count_without, counts, none_without}
 
 module _ {T : Type 0} (fs : List (Family T)) where
   -- there is one way to a root
   pub rooted_once : (d e s : ℕ) → IsRooted fs d s → IsRooted fs e s → d ≡ e
   rooted_once zero zero s a b = refl
-  rooted_once zero (suc e) s a b = absurd (none-some b.0 (sym a ∙ b.1))
-  rooted_once (suc d) zero s a b = absurd (none-some a.0 (sym b ∙ a.1))
-  rooted_once (suc d) (suc e) s a b = ap suc (rooted_once d e a.0 a.2
-      (subst (IsRooted fs e) (same_Some b.0 a.0 (sym b.1 ∙ a.1)) b.2))
+  rooted_once (suc d) (suc e) s a b = grind (arith, rooted_once d e a.0 a.2)
+  rooted_once d e s a b = grind arith
 
   -- a slot is as far from a root as what it is under, and so many steps more
   pub rooted_under : (top d e s : ℕ) → IsUnder fs top e s → IsRooted fs d top
@@ -51,57 +49,6 @@ module _ {T : Type 0} (fs : List (Family T)) where
   pub root_under : (top steps s : ℕ) → above fs s ≡ None → IsUnder fs top steps s → s ≡ top
   root_under top steps s root under = grind arith
 
-  -- ---- no way is longer than there are slots
-
-  slots_on : (d s : ℕ) → IsRooted fs d s → List ℕ
-  slots_on zero s r = s ∷ []
-  slots_on (suc d) s r = s ∷ slots_on d r.0 r.2
-
-  length_on : (d s : ℕ) (r : IsRooted fs d s) → length (slots_on d s r) ≡ suc d
-  unfolding slots_on
-  length_on zero s r = refl
-  length_on (suc d) s r = ap suc (length_on d r.0 r.2)
-
-  module _ (n : ℕ) (within : (s up : ℕ) → above fs s ≡ Some up → up < n) where
-    -- what stands on a way is within the slots, and no further from a root
-    on : (d s : ℕ) (r : IsRooted fs d s) → s < n → (q : ℕ)
-        → list_any (nat_eq q) (slots_on d s r) ≡ true
-        → (q < n) × ((e : ℕ) × (e ≤ d) × IsRooted fs e q)
-    unfolding slots_on
-    on zero s r lt q any = grind arith
-    on (suc d) s r lt q any = ⊎_elim
-        (λ yes. let is = eqb-true q s yes in (
-          subst (λ i. i < n) (sym is) lt,
-          (suc d, omega arith, subst (IsRooted fs (suc d)) (sym is) r),
-        ))
-        (λ rest. let far = on d r.0 r.2 (within s r.0 r.1) q rest in
-        let le = far.1.1 in (far.0, (far.1.0, omega (arith, le), far.1.2))) (or_cases _ _ any)
-
-    distinct_on : (d s : ℕ) (r : IsRooted fs d s) → IsDistinct nat_eq (slots_on d s r)
-    unfolding slots_on IsDistinct
-    distinct_on zero s r = (tt, tt)
-    distinct_on (suc d) s r = (each (slots_on d r.0 r.2) other, distinct_on d r.0 r.2)
-      where
-        other : (q : ℕ) → list_any (nat_eq q) (slots_on d r.0 r.2) ≡ true → q ≢ s
-        other q any is =
-            let far = on d r.0 r.2 (within s r.0 r.1) q any in
-            let le = far.1.1 in
-            let same = rooted_once far.1.0 (suc d) s (subst (IsRooted fs far.1.0) is far.1.2) r in
-            omega (arith, le, same)
-
-        each : (qs : List ℕ) → ((q : ℕ) → list_any (nat_eq q) qs ≡ true → q ≢ s)
-            → AllByRecursion (λ q. nat_eq s q ≡ false) qs
-        each [] apart = tt
-        each (q ∷ qs) apart = (
-          ⊎_elim (λ yes. absurd (apart q (or_left _ _ (eq-eqb q q refl)) (sym yes.1)))
-              (λ no. no.0) (eqb_tells s q),
-          each qs (λ p any. apart p (or_right _ _ any)),
-        )
-
-    pub depth_within : (d s : ℕ) → IsRooted fs d s → s < n → d < n
-    depth_within d s r lt =
-        grind (arith, length-le_from_distinct_below, distinct_on d s r, on, length_on d s r)
-
 pub slot_cases : (o : Option ℕ) (up : ℕ) → (o ≡ Some up) ⊎ (o ≢ Some up)
 slot_cases o up = grind arith
 
@@ -110,6 +57,13 @@ module _ {T : Type 0} (fs : List (Family T)) where
   pub above_parent : (s up : ℕ) → above fs s ≡ Some up
       → (p : Node T) × (parent_at fs s ≡ Some p) × (slot_in p ≡ up)
   above_parent s up is = grind arith
+
+  -- a slot past the others is alone
+  pub past : (s : ℕ) → length fs ≤ s → family_at fs s ≡ alone
+  past s le = get_or-eq_default fs alone le
+
+  pub slot_within : (s up : ℕ) → above fs s ≡ Some up → s < length fs
+  slot_within s up is = grind (arith, past, cases_lt s (length fs))
 
   module _ (f : IsForest fs) where
     -- a child has its slot's node as its parent
@@ -123,19 +77,64 @@ module _ {T : Type 0} (fs : List (Family T)) where
     under_alone top zero s none under = under
     under_alone top (suc e) s none under = grind (arith, under_alone top e under.0 none under.2)
 
+    -- ---- no way is longer than there are slots
+
+    pub above_within : (s up : ℕ) → above fs s ≡ Some up → up < length fs
+    above_within s up is = grind (arith, past up, f.once s up is, cases_lt up (length fs))
+
+    -- of the first slots how many steps a root is above each
+    depths : ℕ → List ℕ
+    depths zero = []
+    depths (suc k) = (f.rooted k).0 ∷ depths k
+
+    depths_length : (k : ℕ) → length (depths k) ≡ k
+    unfolding depths
+    depths_length zero = refl
+    depths_length (suc k) = grind (arith, depths_length k)
+
+    depths_has : (k s d : ℕ) → s < k → IsRooted fs d s → list_any (nat_eq d) (depths k) ≡ true
+    unfolding depths
+    depths_has zero s d lt r = absurd (omega arith)
+    depths_has (suc k) s d lt r = ⊎_elim (λ less. or_right _ _ (depths_has k s d less r))
+        (λ le. or_left _ _ (eq-eqb d (f.rooted k).0 (rooted_once fs d (f.rooted k).0 k
+        (subst (IsRooted fs d) {x = s} (omega (arith, lt, le)) r) (f.rooted k).1))) (cases_lt s k)
+
+    -- each number of steps below one is that of a slot
+    steps_of : (d s q : ℕ) → IsRooted fs d s → s < length fs → q ≤ d
+        → (i : ℕ) × (i < length fs) × IsRooted fs q i
+    steps_of zero s q r lt le = let is : 0 ≡ q = omega (arith, le) in
+        (s, lt, subst (λ e. IsRooted fs e s) is r)
+    steps_of (suc d) s q r lt le = ⊎_elim
+        (λ less. steps_of d r.0 q r.2 (above_within s r.0 r.1) (omega (arith, less)))
+        (λ more. let is : suc d ≡ q = omega (arith, le, more) in
+        (s, lt, subst (λ e. IsRooted fs e s) is r))
+        (cases_lt q (suc d))
+
+    pub depth_within : (d s : ℕ) → IsRooted fs d s → s < length fs → d < length fs
+    depth_within d s r lt =
+        let long = le-length_from_below (depths (length fs)) (suc d) (λ q le.
+        let at = steps_of d s q r lt (omega (arith, le)) in depths_has (length fs) at.0 q at.1 at.2)
+        in
+        let same = depths_length (length fs) in omega (arith, long, same)
+
 module _ {T : Type 0} (fs gs : List (Family T)) where
+  -- where each slot has the parent that it had, or a way to a root, each has a way
+  ways : ((s : ℕ) → (above gs s ≡ above fs s) ⊎ ((e : ℕ) × IsRooted gs e s)) → (d s : ℕ)
+      → IsRooted fs d s → (e : ℕ) × IsRooted gs e s
+  ways new zero s r = ⊎_elim (λ same. (0, same ∙ r)) (λ way. way) (new s)
+  ways new (suc d) s r =
+      ⊎_elim (λ same. let up = ways new d r.0 r.2 in (suc up.0, (r.0, same ∙ r.1, up.1)))
+      (λ way. way) (new s)
+
   -- ---- the same families
 
   pub same_forest : IsForest fs → ((s : ℕ) → family_at gs s ≡ family_at fs s) → IsForest gs
   same_forest f same = record {
     once = λ s up is. grind arith;
     only = λ s other ne. grind arith;
-    rooted = λ s. let r = f.rooted s in (r.0, rooted r.0 s r.1);
+    rooted = λ s. let r = f.rooted s in
+        ways (λ i. inl (ap (λ x. slot_of x.parent) (same i))) r.0 s r.1;
   }
-    where
-      rooted : (d s : ℕ) → IsRooted fs d s → IsRooted gs d s
-      rooted zero s r = ap (λ x. slot_of x.parent) (same s) ∙ r
-      rooted (suc d) s r = (r.0, ap (λ x. slot_of x.parent) (same s) ∙ r.1, rooted d r.0 r.2)
 
   -- ---- a node that was made a child of another
 
@@ -152,18 +151,8 @@ module _ {T : Type 0} (fs gs : List (Family T)) where
         grind (arith, far d r.0 (λ e under. off (suc e) (step_under fs (slot_in child) e s r.0 r.1 under)) r.2, same_above)
 
     at_child : (s : ℕ) → s ≡ slot_in child → (e : ℕ) × IsRooted gs e s
-    at_child s is =
-        let up = f.rooted (slot_in parent) in (
-          suc up.0,
-          (slot_in parent, ap (above gs) is ∙ ap slot_of new.here, far up.0 (slot_in parent) apart up.1),
-        )
-
-    rooted : (d s : ℕ) → IsRooted fs d s → (e : ℕ) × IsRooted gs e s
-    rooted zero s r = ⊎_elim (at_child s) (λ ne. (0, same_above s ne ∙ r)) (cases_eq s (slot_in child))
-    rooted (suc d) s r =
-        let up = rooted d r.0 r.2 in
-        ⊎_elim (at_child s) (λ ne. (suc up.0, (r.0, same_above s ne ∙ r.1, up.1)))
-        (cases_eq s (slot_in child))
+    at_child s is = let up = f.rooted (slot_in parent) in
+        (suc up.0, (slot_in parent, grind (arith, new.here), far up.0 (slot_in parent) apart up.1))
 
     -- how often a node stands in a list
     more : (s : ℕ) → count_at s (children_at gs (slot_in parent))
@@ -174,18 +163,16 @@ module _ {T : Type 0} (fs gs : List (Family T)) where
     kept s up ne = grind (arith, more s, count_apart, cases_eq up (slot_in parent))
 
     none : (s up : ℕ) → s ≡ slot_in child → count_at s (children_at fs up) ≡ 0
-    none s up is = f.only s up (λ some. none-some up (sym root ∙ (ap (above fs) (sym is) ∙ some)))
-
-    up_is : (s up : ℕ) → s ≡ slot_in child → above gs s ≡ Some up → up ≡ slot_in parent
-    up_is s up is some = grind arith
+    none s up is = grind (arith, f.only s up)
 
     pub attached : IsForest gs
     attached = record {
       once = λ s up is.
           let here = count_here s child (children_at fs (slot_in parent)) in
-          grind (arith, none s, more s, kept s up, up_is s up, cases_eq s (slot_in child));
+          grind (arith, none s, more s, kept s up, cases_eq s (slot_in child));
       only = λ s other ne. grind (arith, none s other, kept s other, cases_eq s (slot_in child));
-      rooted = λ s. let r = f.rooted s in rooted r.0 s r.1;
+      rooted = λ s. let r = f.rooted s in ways (λ i. ⊎_elim (λ is. inr (at_child i is))
+          (λ ne. inl (same_above i ne)) (cases_eq i (slot_in child))) r.0 s r.1;
     }
 
   -- ---- a node that was taken out of its parent's children
@@ -203,18 +190,13 @@ module _ {T : Type 0} (fs gs : List (Family T)) where
     gone : (s up : ℕ) → s ≡ slot_in child → count_at s (children_at gs up) ≡ 0
     gone s up at = grind (arith, none_without, alike, slot_cases)
 
-    left_rooted : (d s : ℕ) → IsRooted fs d s → (e : ℕ) × IsRooted gs e s
-    left_rooted zero s r = grind arith
-    left_rooted (suc d) s r =
-        let up = left_rooted d r.0 r.2 in
-        ⊎_elim (λ is. (0, ap (above gs) is ∙ ap slot_of new.here))
-        (λ ne. (suc up.0, (r.0, left_above s ne ∙ r.1, up.1))) (cases_eq s (slot_in child))
-
     pub detached : IsForest gs
     detached = record {
       once = λ s up is. grind (arith, left s up, cases_eq s (slot_in child));
       only = λ s other ne. grind (arith, gone s other, left s other, cases_eq s (slot_in child));
-      rooted = λ s. let r = f.rooted s in left_rooted r.0 s r.1;
+      rooted = λ s. let r = f.rooted s in ways (λ i. ⊎_elim
+          (λ is. inr (0, ap (above gs) is ∙ ap slot_of new.here)) (λ ne. inl (left_above i ne))
+          (cases_eq i (slot_in child))) r.0 s r.1;
     }
 
   -- ---- nodes that were left alone, with all that are below them and none above
@@ -222,32 +204,14 @@ module _ {T : Type 0} (fs gs : List (Family T)) where
   module _ (f : IsForest fs) (list : List (Node T)) (c : IsCleared fs gs list)
       (down : (s up : ℕ) → above fs s ≡ Some up → 0 < count_at up list → 0 < count_at s list)
       (upward : (s up : ℕ) → above fs s ≡ Some up → 0 < count_at s list → 0 < count_at up list) where
-    -- a slot is of the list, or is not
-    listed : (s : ℕ) → (0 < count_at s list) ⊎ (count_at s list ≡ 0)
-    listed s = ⊎_elim (λ lt. inl lt) (λ le. inr (omega (arith, le))) (cases_lt 0 (count_at s list))
-
-    out : (s : ℕ) → count_at s list ≡ 0 → above gs s ≡ above fs s
-    out s none = ap (λ x. slot_of x.parent) (c.others s none)
-
-    within : (s : ℕ) → 0 < count_at s list → above gs s ≡ None
-    within s lt = ap (λ x. slot_of x.parent) (c.cleared s lt)
-
-    cleared_rooted : (d s : ℕ) → IsRooted fs d s → (e : ℕ) × IsRooted gs e s
-    cleared_rooted zero s r = ⊎_elim (λ lt. (0, within s lt)) (λ no. (0, out s no ∙ r)) (listed s)
-    cleared_rooted (suc d) s r =
-        let up = cleared_rooted d r.0 r.2 in
-        ⊎_elim (λ lt. (0, within s lt)) (λ no. (suc up.0, (r.0, out s no ∙ r.1, up.1))) (listed s)
-
-    zero_lt : {n : ℕ} → 0 < n → n ≡ 0 → ⊥
-    zero_lt lt is = omega (arith, lt, is)
-
     pub cleared : IsForest gs
     cleared = record {
-      once = λ s up is. grind arith;
-      only = λ s other ne. ⊎_elim
-          (λ lt. ap (λ x. count_at s x.children) (c.cleared other lt))
-          (λ none. ap (λ x. count_at s x.children) (c.others other none) ∙ f.only s other
-          (λ was. ⊎_elim (λ lt. zero_lt (upward s other was lt) none) (λ no. ne (out s no ∙ was)) (listed s)))
-          (listed other);
-      rooted = λ s. let r = f.rooted s in cleared_rooted r.0 s r.1;
+      once = λ s up is. let out = cases_lt 0 (count_at s list) in
+          grind (arith, c.cleared s, c.others s, c.cleared up, c.others up, down s up);
+      only = λ s other ne. let out = cases_lt 0 (count_at s list) in
+          let off = cases_lt 0 (count_at other list) in let old = f.only s other in
+          grind (arith, c.cleared other, c.others other, upward s other, c.others s);
+      rooted = λ s. let r = f.rooted s in ways (λ i. ⊎_elim
+          (λ lt. inr (0, grind (arith, c.cleared i lt))) (λ le. inl (grind (arith, c.others i)))
+          (cases_lt 0 (count_at i list))) r.0 s r.1;
     }

@@ -1,12 +1,12 @@
 -- Lists of a node and the nodes below it, level by level.
-use Rattle.scene_tree.proofs.Common.{above, alone, ap, arith, cases_eq, cases_lt, children_at, count_at, eqb-true}
-use Rattle.scene_tree.proofs.Common.{families, Family, family_at, family_in, flat_map, flat_map_more, get_or}
-use Rattle.scene_tree.proofs.Common.{get_or-eq_default, IsForest, IsInLevels, IsRooted, IsUnder, length, length-append}
-use Rattle.scene_tree.proofs.Common.{length-le_from_distinct_below, length-map, Link, List, list_any, map, nat_eq, Node}
-use Rattle.scene_tree.proofs.Common.{None, or_cases, slot_in, Some, suc, sym, take, take-append-le, take_all, take_more}
-use Rattle.scene_tree.proofs.Common.{true, true≢false, zero, ℕ, [], ⊎_elim, ◌++◌, ◌+◌, ◌<◌, ◌∙◌, ◌∷◌, ◌≡◌, ◌≤◌}
+use Rattle.scene_tree.proofs.Common.{above, ap, arith, cases_eq, cases_lt, children_at, count_at, eqb-true, families}
+use Rattle.scene_tree.proofs.Common.{Family, family_in, flat_map, flat_map_more, get_or, IsForest, IsInLevels, IsRooted}
+use Rattle.scene_tree.proofs.Common.{IsUnder, length, length-append, length-le_from_distinct_below, length-map, Link}
+use Rattle.scene_tree.proofs.Common.{List, list_any, map, nat_eq, Node, None, slot_in, Some, suc, sym, take}
+use Rattle.scene_tree.proofs.Common.{take-append-le, take_all, take_more, true, true≢false, zero, ℕ, [], ⊎_elim, ◌++◌}
+use Rattle.scene_tree.proofs.Common.{◌+◌, ◌<◌, ◌∙◌, ◌∷◌, ◌≡◌, ◌≤◌}
 use Rattle.scene_tree.proofs.Counting.{count_apart, count_both, count_here, count_more, count_take, distinct}
-use Rattle.scene_tree.proofs.Forests.{depth_within, no_cycle}
+use Rattle.scene_tree.proofs.Forests.{depth_within, no_cycle, slot_within}
 
 -- nodes at different slots are no more than there are slots
 pub short : {T : Type 0} (list : List (Node T)) (n : ℕ) → ((s : ℕ) → count_at s list ≤ 1)
@@ -19,21 +19,12 @@ short {T} list n once within =
     found : (q : ℕ) (xs : List (Node T)) → list_any (nat_eq q) (map slot_in xs) ≡ true
         → 0 < count_at q xs
     found q [] any = absurd (true≢false (sym any))
-    found q (x ∷ xs) any = ⊎_elim
-        (λ yes. let one = count_here q x xs (sym (eqb-true q (slot_in x) yes)) in omega (arith, one))
-        (λ rest. let more = count_more q x xs in let lt = found q xs rest in omega (arith, more, lt))
-        (or_cases _ _ any)
+    found q (x ∷ xs) any =
+        grind (arith, count_here q x xs, count_more q x xs, found q xs, eqb-true q (slot_in x))
 
 module _ {T : Type 0} (fs : List (Family T)) where
   abbrev pub all_children : List (Node T) → List (Node T)
   all_children list = flat_map (λ n. children_at fs (slot_in n)) list
-
-  -- a slot past the others is alone
-  pub past : (s : ℕ) → length fs ≤ s → family_at fs s ≡ alone
-  past s le = get_or-eq_default fs alone le
-
-  pub slot_within : (s up : ℕ) → above fs s ≡ Some up → s < length fs
-  slot_within s up is = grind (arith, past, cases_lt s (length fs))
 
   module _ (top : Node T) where
     -- the children of the first nodes of a list are listed
@@ -45,9 +36,6 @@ module _ {T : Type 0} (fs : List (Family T)) where
     IsUnderTop s = (e : ℕ) × IsUnder fs (slot_in top) e s
 
   module _ (f : IsForest fs) where
-    pub above_within : (s up : ℕ) → above fs s ≡ Some up → up < length fs
-    above_within s up is = grind (arith, past up, f.once s up is, cases_lt up (length fs))
-
     -- how many children of the nodes of a list live at a slot
     pub children_none : (s : ℕ) → above fs s ≡ None → (list : List (Node T))
         → count_at s (all_children list) ≡ 0
@@ -127,10 +115,8 @@ module _ {T : Type 0} (fs : List (Family T)) where
 pub rooted_within : {T : Type 0} (links : List (Link T)) → IsForest (families links) → (s : ℕ) → s < length links
     → (n : ℕ) × (0 + n < length links) × IsRooted (families links) n s
 rooted_within links f s lt =
-    let len = length-map links (family_in links) in
     let r = f.rooted s in
-    let far = depth_within (families links) _ (above_within (families links) f) r.0 s r.1 (omega (arith, lt, len)) in
-    (r.0, omega (arith, far, len), r.1)
+    (r.0, grind (arith, length-map, depth_within (families links) f r.0 s r.1), r.1)
 
 -- links of one length have families of one
 pub same_length : {T : Type 0} (xs ys : List (Link T)) → length xs ≡ length ys

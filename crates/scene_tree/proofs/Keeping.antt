@@ -1,16 +1,17 @@
 -- A tree's store and families after each of its calls.
-use Rattle.scene_tree.proofs.{Counting.counted, Counting.placed_from, Counting.same_id, Linked.among, Noting.noted_left}
+use Rattle.scene_tree.proofs.{Linked.among, Noting.noted_left}
 use Rattle.scene_tree.proofs.Common
-use Common.{above, alone, ap, AreNoted, arith, Bool, cases_Bool, cases_lt, children_at, children_of, cond, count_at}
-use Common.{families, Family, family_at, family_in, family_of, filter, fresh, fresh_simple, GenerationalPointer}
-use Common.{is_same, is_some, IsAmong, IsAttached, IsCleared, IsDetached, IsKept, IsLinked, IsLiveIn, IsOpened, IsOther}
-use Common.{IsSimple, IsSound, IsSpotIn, IsUnder, length, length-map, Link, List, Location, Made, made, made_new}
-use Common.{made_simple, Make, Meets, nat_cmp, no_slots, Node, NodeIsUnchanged, None, none-some, Ok, Old, Option}
-use Common.{others_left, parent_at, parent_for, parent_of, placed, pointer_in, reach_apart, refl, same_value}
+use Common.{above, alone, ap, AreNoted, arith, Bool, cases_lt, children_at, children_of, count_at, families, Family}
+use Common.{family_at, family_in, family_of, filter, fresh, fresh_simple, GenerationalPointer, is_same, is_some}
+use Common.{IsAmong, IsAttached, IsCleared, IsDetached, IsKept, IsLinked, IsLiveIn, IsOpened, IsOther, IsSimple}
+use Common.{IsSound, IsSpotIn, IsUnder, length, length-map, Link, List, Location, Made, made, made_new, made_simple}
+use Common.{Make, Meets, nat_cmp, no_slots, Node, NodeIsUnchanged, None, none-some, Ok, Old, Option, others_left}
+use Common.{parent_at, parent_for, parent_of, placed, pointer_in, reach_apart, refl, same_Some, same_value}
 use Common.{seen_reached, seen_store, set_seen, sets, SetValue, simple_still, slice_get, slot_in, slot_of, slots, Some}
-use Common.{Spot, State, subst, suc, sym, TreeState, true, value_in, value_of, zero, ℕ, [], ⊎_elim, ◌<◌, ◌∙◌, ◌∷◌, ◌≡◌}
-use Common.{◌≢◌, ◌≤◌}
-use Rattle.scene_tree.proofs.Forests.{above_parent, attached, cleared, detached, parent_is, same_forest, under_alone}
+use Common.{Spot, State, suc, sym, TreeState, true, value_in, value_of, zero, ℕ, [], ⊎_elim, ◌<◌, ◌∙◌, ◌∷◌, ◌≡◌, ◌≢◌}
+use Rattle.scene_tree.proofs.Counting.{counted, Each, placed_each, same_id}
+use Rattle.scene_tree.proofs.Forests.{above_parent, attached, cleared, detached, parent_is, same_forest, slot_cases}
+use Rattle.scene_tree.proofs.Forests.{under_alone}
 use Rattle.scene_tree.proofs.Stores.{live_within, made_beside, made_slots, one_live, same_slots}
 use Rattle.scene_tree.proofs.Trees.{has_parent, left_with, live_children, live_family, live_parent}
 use Rattle.std.specs.FinMap as map
@@ -23,22 +24,13 @@ no_item : {X : Type 0} (xs : List X) → ((x : X) (rest : List X) → xs ≢ x �
 no_item [] never = refl
 no_item (x ∷ xs) never = absurd (never x xs refl)
 
--- what a filter leaves stood there before
-filtered_from : {X : Type 0} (test : X → Bool) (xs : List X) (k : ℕ) (x : X)
-    → slice_get (filter test xs) k ≡ Some x → (i : ℕ) × (slice_get xs i ≡ Some x)
-filtered_from test [] k x at = absurd (none-some x at)
-filtered_from test (y ∷ xs) k x at = ⊎_elim
-    (λ yes. passes (λ i. filtered_from test xs i x) k
-    (ap (λ b. slice_get (cond b (y ∷ filter test xs) (filter test xs)) k) (sym yes) ∙ at))
-    (λ other. let rest = filtered_from test xs k x
-    (ap (λ b. slice_get (cond b (y ∷ filter test xs) (filter test xs)) k) (sym other) ∙ at) in
-    (suc rest.0, rest.1)) (cases_Bool (test y))
-  where
-    passes : ((i : ℕ) → slice_get (filter test xs) i ≡ Some x → (j : ℕ) × (slice_get xs j ≡ Some x))
-        → (i : ℕ) → slice_get (y ∷ filter test xs) i ≡ Some x
-        → (j : ℕ) × (slice_get (y ∷ xs) j ≡ Some x)
-    passes rest zero at = (0, at)
-    passes rest (suc i) at = let old = rest i at in (suc old.0, old.1)
+-- what holds of each item holds of each that a filter leaves
+filtered : {X : Type 0} (P : X → Type 0) (test : X → Bool) (xs : List X) → Each P xs
+    → Each P (filter test xs)
+filtered P test [] each k x at = each k x at
+filtered P test (y ∷ xs) each zero x at =
+    grind (arith, filtered P test xs (λ i. each (suc i)) zero, each 0)
+filtered P test (y ∷ xs) each (suc k) x at = grind (arith, filtered P test xs (λ i. each (suc i)))
 
 module _ {T : Type 0} where
   pub fresh_kept : (number start next : ℕ) → IsKept (fresh {T = T} number start next) []
@@ -104,7 +96,11 @@ module _ {T : Type 0} where
         → IsLiveIn S child → above fs (slot_in child) ≡ None
         → ((e : ℕ) → IsUnder fs (slot_in child) e (slot_in parent) → ⊥)
         → IsAttached fs parent spot child gs → IsKept S gs
-    kept_attached gs parent child spot live lives root apart new = grind (arith, attached, placed_from)
+    kept_attached gs parent child spot live lives root apart new =
+        grind (arith, attached, each)
+      where
+        each : (s : ℕ) → Each (IsLiveIn S) (placed spot child (children_at fs s))
+        each s = placed_each (IsLiveIn S) spot (children_at fs s) child lives (k.children s)
 
     -- a node that was taken out of its parent's children
     pub alike : IsSound S → (child : Node T) → IsLiveIn S child → (s i : ℕ) (x : Node T)
@@ -116,9 +112,8 @@ module _ {T : Type 0} where
         → parent_of (record { state = S; families = fs }) by ≡ Some up
         → IsAmong (children_at fs (slot_in up)) by
     sibling_in sound by up is =
-        let has = has_parent sound k by up is in
-        let one = k.forest.once (slot_in by) (slot_in up) (ap slot_of has.1) in
-        among by (children_at fs (slot_in up)) (omega (arith, one)) (alike sound by has.0 (slot_in up))
+        let has = has_parent sound k by up is in among by (children_at fs (slot_in up))
+        (grind (arith, k.forest.once (slot_in by) (slot_in up))) (alike sound by has.0 (slot_in up))
 
     -- a sibling that a spot names is among the children of its parent
     pub spot_in : IsSound S → (at : Spot T) (up : Node T)
@@ -128,7 +123,12 @@ module _ {T : Type 0} where
 
     pub kept_detached : IsSound S → (gs : List (Family T)) (child : Node T) → IsLiveIn S child
         → IsDetached fs child gs → IsKept S gs
-    kept_detached sound gs child live new = grind (arith, detached, alike, filtered_from)
+    kept_detached sound gs child live new = grind (arith, detached, alike, each)
+      where
+        each : (s : ℕ) → Each (IsLiveIn S) (children_at gs s)
+        each s = ⊎_elim (λ is. rw (new.lost s is)
+            (filtered (IsLiveIn S) _ (children_at fs s) (k.children s)))
+            (λ ne. rw (new.others s ne) (k.children s)) (slot_cases (above fs (slot_in child)) s)
 
     -- nodes that were left alone, with all that are below them and none above, and whose values ended
     module _ (R : State T) (gs : List (Family T)) (list : List (Node T)) (c : IsCleared fs gs list)
@@ -151,7 +151,9 @@ module _ {T : Type 0} where
   -- both: a new child
   module _ {S R : State T} {fs : List (Family T)} (k : IsKept S fs) (sound : IsSound S) (v : T) (l : Location)
       (parent child : Node T) (spot : Spot T) (m : Meets S (Make None v l) (Made (pointer_in child)) R)
-      (live : IsLiveIn S parent) (gs hs : List (Family T)) (o : IsOpened fs (slot_in child) gs)
+      (live : IsLiveIn S parent)
+      (is : parent_for (record { state = S; families = fs }) spot ≡ Some parent)
+      (gs hs : List (Family T)) (o : IsOpened fs (slot_in child) gs)
       (a : IsAttached gs parent spot child hs) where
     apart : (n : Node T) → IsLiveIn S n → slot_in n ≢ slot_in child
     apart = made_beside sound k.simple v l (pointer_in child) m
@@ -179,31 +181,26 @@ module _ {T : Type 0} where
     abbrev new : TreeState T
     new = record { state = R; families = hs }
 
-    pub added_child : family_of new child ≡ record { parent = Some parent; children = [] }
-    added_child = grind (arith, live_family, shown, apart, lone_child)
+    pub added_child : family_of new child ≡ record { parent = parent_for old spot; children = [] }
+    added_child = rw is (grind (arith, live_family, shown, apart, lone_child))
 
-    pub added_parent : (value_of new parent ≡ value_of old parent) × (family_of new parent ≡ record {
-      parent = parent_of old parent;
-      children = placed spot child (children_of old parent);
-    })
-    added_parent = (
-      left parent live,
-      live_family new parent (ap is_some (left parent live) ∙ live) ∙ λ i. record {
-        parent = (a.parents (slot_in parent) (apart parent live)
-            ∙ (ap (λ x. x.parent) (o.same (slot_in parent)) ∙ sym (live_parent sound k parent live))) i;
-        children = (a.listed ∙ ap (placed spot child) (ap (λ x. x.children) (o.same (slot_in parent))
-            ∙ sym (live_children sound k parent live))) i;
-      },
-    )
-
-    pub added_others : (n : Node T) → IsOther child n → IsOther parent n → NodeIsUnchanged old n new
-    added_others n other beside = left_with old new n (others_left _ _ m (pointer_in child) (pointer_in n)
-        (made_new _ _ _ _ m).0 (same_value _ _ _ _ sound m _ tt) other)
-        (λ lives. λ i. record {
-          parent = (a.parents (slot_in n) (apart n lives) ∙ ap (λ x. x.parent) (o.same (slot_in n))) i;
-          children = (a.others (slot_in n) (λ is. beside (one_live S parent n sound k.simple live lives (sym is)))
-              ∙ ap (λ x. x.children) (o.same (slot_in n))) i;
+    pub added_parent : (up : Node T) → parent_for old spot ≡ Some up
+        → (value_of new up ≡ value_of old up) × (family_of new up ≡ record {
+          parent = parent_of old up;
+          children = placed spot child (children_of old up);
         })
+    added_parent up some =
+        grind (arith, same_Some, live_parent, live_children, left, live_family, apart)
+
+    pub added_others : (n : Node T) → IsOther child n
+        → ((up : Node T) → parent_for old spot ≡ Some up → IsOther up n) → NodeIsUnchanged old n new
+    added_others n other beside = left_with old new n
+        (others_left _ _ m (pointer_in child) (pointer_in n) (made_new _ _ _ _ m).0
+        (same_value _ _ _ _ sound m _ tt) other)
+        (λ lives. let off = one_live S parent n sound k.simple live lives in
+        let to = beside parent is in
+        let same = o.same (slot_in n) in
+        grind (arith, a.parents (slot_in n) (apart n lives), a.others (slot_in n)))
 
   module _ {S : State T} (links : List (Link T)) (sound : IsSound S) (k : IsKept S (families links)) where
     -- a live node's slot has links
@@ -213,18 +210,10 @@ module _ {T : Type 0} where
     -- a new node's has, or is the next one, and has no parent
     module _ {R : State T} (v : T) (l : Location) (b : GenerationalPointer)
         (m : Meets S (Make None v l) (Made b) R) where
-      pub next_slot : b.id.slot ≤ length links
-      next_slot = grind (arith, length-map links (family_in links), made_slots sound k.simple v l b m)
-
       pub next_root : above (families links) b.id.slot ≡ None
       next_root = ap (λ f. slot_of f.parent) (lone k b.id.slot (made_beside sound k.simple v l b m))
 
 -- links that stayed are kept as they were
-pub kept_links : {T : Type 0} {S : State T} {here new : List (Link T)} → here ≡ new
-    → IsKept S (families here) × IsLinked here × AreNoted S here
-    → IsKept S (families new) × IsLinked new × AreNoted S new
-kept_links {S = S} same = subst (λ links. IsKept S (families links) × IsLinked links × AreNoted S links) same
-
 module _ {T : Type 0} {S R : State T} (sound : IsSound S) (node : Node T) (v old : T)
     (m : Meets S (SetValue (pointer_in node) v) (Old old) R) where
   pub set_still : {links : List (Link T)} → IsKept S (families links) × IsLinked links × AreNoted S links

@@ -1,11 +1,11 @@
 -- A tree in which a node was moved, was made a root, or was removed with all below it.
 use Rattle.scene_tree.proofs.{Counting.same_without, Linked.among, Stores.one_live}
-use Rattle.scene_tree.proofs.Common
-use Common.{above, ap, arith, CanMove, cases_eq, cases_lt, children_at, children_of, count_at, Family, family_of}
-use Common.{HasLost, IfOk, is_live, is_some, IsAmong, IsAttached, IsBelow, IsCut, IsDetached, IsKept, IsLiveIn, IsOther}
-use Common.{IsSound, IsSpotIn, IsUnder, length, List, named, Node, NodeIsUnchanged, None, OnOk, parent_at, parent_for}
-use Common.{parent_of, placed, refl, Result, same_Some, slot_in, slot_of, Some, Spot, State, subst, suc, sym, times}
-use Common.{TreeState, true, value_of, without, zero, ℕ, ⊎_elim, ◌<◌, ◌∙◌, ◌≡◌, ◌≢◌}
+use Rattle.scene_tree.proofs.Common.{above, ap, arith, CanMove, cases_eq, cases_lt, children_at, children_of, count_at}
+use Rattle.scene_tree.proofs.Common.{Family, family_of, HasLost, IfOk, is_live, is_some, IsAmong, IsAttached, IsBelow}
+use Rattle.scene_tree.proofs.Common.{IsCut, IsDetached, IsKept, IsLiveIn, IsOther, IsSound, IsSpotIn, IsUnder, length}
+use Rattle.scene_tree.proofs.Common.{List, named, Node, NodeIsUnchanged, parent_at, parent_for, parent_of, placed, refl}
+use Rattle.scene_tree.proofs.Common.{Result, same_Some, slot_in, slot_of, Some, Spot, State, subst, suc, sym, times}
+use Rattle.scene_tree.proofs.Common.{TreeState, true, value_of, without, zero, ℕ, ◌<◌, ◌∙◌, ◌≡◌, ◌≢◌}
 use Rattle.scene_tree.proofs.Forests.{above_parent, no_cycle, slot_cases, under_up}
 use Rattle.scene_tree.proofs.Gathering.{all_listed, listed_below, part_whole}
 use Rattle.scene_tree.proofs.Keeping.{alike, kept_attached, kept_cleared, kept_detached}
@@ -21,14 +21,6 @@ module _ {T : Type 0} {S : State T} {fs gs : List (Family T)} (sound : IsSound S
   abbrev freed : TreeState T
   freed = record { state = S; families = gs }
 
-  pub freed_root : parent_of freed node ≡ None
-  freed_root = ap (λ f. f.parent) (live_family freed node live) ∙ d.here
-
-  -- the parent, which is live, loses the child
-  pub freed_lost : (up : Node T) → parent_of tree node ≡ Some up
-      → children_of freed up ≡ without node (children_of tree up)
-  freed_lost up is = grind arith
-
   -- each other node has the parent that it had, and each but its parent the children
   parents_left : (n : Node T) → IsOther node n → IsLiveIn S n → parent_at gs (slot_in n) ≡ parent_at fs (slot_in n)
   parents_left n other lives = grind (arith, one_live)
@@ -40,9 +32,6 @@ module _ {T : Type 0} {S : State T} {fs gs : List (Family T)} (sound : IsSound S
       beside p.0 (live_parent sound k node live ∙ p.1)
       (one_live S p.0 n sound k.simple (k.parents (slot_in node) p.0 p.1) lives p.2))
 
-  pub freed_parents : (n : Node T) → IsOther node n → parent_of freed n ≡ parent_of tree n
-  freed_parents n other = part_with (λ f. f.parent) tree freed n refl (parents_left n other)
-
   pub freed_others : (n : Node T) → ((up : Node T) → parent_of tree node ≡ Some up → IsOther up n)
       → children_of freed n ≡ children_of tree n
   freed_others n beside = part_with (λ f. f.children) tree freed n refl (children_left n beside)
@@ -53,16 +42,17 @@ module _ {T : Type 0} {S : State T} {fs gs : List (Family T)} (sound : IsSound S
   sibling_left by up is apart =
       let has = has_parent sound k by up is in
       let left = kept_detached k sound gs node live d in
-      let parent = parents_left by (λ same. apart (0, sym same)) has.0 ∙ has.1 in
-      let one = left.forest.once (slot_in by) (slot_in up) (ap slot_of parent) in
-      among by (children_at gs (slot_in up)) (omega (arith, one)) (alike left sound by has.0 (slot_in up))
+      let parent = parents_left by (λ same. apart (0, sym same)) has.0 in
+      among by (children_at gs (slot_in up))
+      (grind (arith, left.forest.once (slot_in by) (slot_in up)))
+      (alike left sound by has.0 (slot_in up))
 
   pub spot_left : (at : Spot T) (up : Node T) → parent_for tree at ≡ Some up
       → (IsBelow tree node (named at) → ⊥) → IsSpotIn (children_at gs (slot_in up)) at
   spot_left to up is apart = grind (arith, sibling_left)
 
   module _ {hs : List (Family T)} (parent : Node T) (at : Spot T) (may : CanMove tree node parent)
-      (a : IsAttached gs parent at node hs) where
+      (is : parent_for tree at ≡ Some parent) (a : IsAttached gs parent at node hs) where
     abbrev moved : TreeState T
     moved = record { state = S; families = hs }
 
@@ -79,48 +69,40 @@ module _ {T : Type 0} {S : State T} {fs gs : List (Family T)} (sound : IsSound S
         (λ e under. may.apart (e, below e parent may.parent (under_before e (slot_in parent) under))) a
 
     -- the node is at its spot, and was taken out from where it stood
-    pub moved_placed : children_of moved parent ≡ placed at node (without node (children_of tree parent))
-    moved_placed = grind (arith, live_family, same_without, slot_cases, live_children)
+    pub moved_placed : (up : Node T) → parent_for tree at ≡ Some up
+        → children_of moved up ≡ placed at node (without node (children_of tree up))
+    moved_placed up some = rw (same_Some up parent (sym some ∙ is))
+        (grind (arith, live_family, same_without, slot_cases, live_children))
 
     -- a live node other than the parent has another slot
     not_parent : (n : Node T) → IsOther parent n → IsLiveIn S n → slot_in n ≢ slot_in parent
     not_parent n other lives is = other (one_live S parent n sound k.simple may.parent lives (sym is))
 
-    pub moved_lost : (up : Node T) → parent_of tree node ≡ Some up → IsOther parent up
-        → children_of moved up ≡ without node (children_of tree up)
-    moved_lost up is other = grind (arith, has_parent, part_with, not_parent, freed_lost)
-
-    pub moved_others : (n : Node T) → IsOther parent n
-        → ((up : Node T) → parent_of tree node ≡ Some up → IsOther up n) → children_of moved n ≡ children_of tree n
-    moved_others n other beside = grind (arith, not_parent n other, freed_others n beside)
-
-    -- each other node has the parent that it had
-    pub moved_parents : (n : Node T) → IsOther node n → parent_of moved n ≡ parent_of tree n
-    moved_parents n other = grind (arith, part_with, one_live, freed_parents)
+    pub moved_others : (n : Node T) → ((to : Node T) → parent_for tree at ≡ Some to → IsOther to n)
+        → ((up : Node T) → parent_of tree node ≡ Some up → IsOther up n)
+        → children_of moved n ≡ children_of tree n
+    moved_others n other beside =
+        grind (arith, not_parent n (other parent is), freed_others n beside)
 
 -- what may be put beside a sibling may become a child of its parent
 pub move_within : {T : Type 0} (t : TreeState T) (node : Node T) (at : Spot T) (up : Node T)
     → CanMove t node (named at) → is_live t up ≡ true → parent_for t at ≡ Some up → CanMove t node up
-move_within t node (spot.FirstOf parent) up may live is = subst (CanMove t node) (same_Some parent up is) may
-move_within t node (spot.LastOf parent) up may live is = subst (CanMove t node) (same_Some parent up is) may
-move_within t node (spot.Before sibling) up may live is = record {
-  node = may.node;
-  parent = live;
-  apart = λ below. may.apart (suc below.0, (up, is, below.1));
-}
-move_within t node (spot.After sibling) up may live is = record {
-  node = may.node;
-  parent = live;
-  apart = λ below. may.apart (suc below.0, (up, is, below.1));
-}
+move_within {T} t node at up may live is =
+    record { node = may.node; parent = live; apart = λ below. may.apart (lower at is below) }
+  where
+    lower : (by : Spot T) → parent_for t by ≡ Some up → IsBelow t node up
+        → IsBelow t node (named by)
+    lower (spot.FirstOf parent) is below =
+        subst (IsBelow t node) (sym (same_Some parent up is)) below
+    lower (spot.LastOf parent) is below =
+        subst (IsBelow t node) (sym (same_Some parent up is)) below
+    lower (spot.Before sibling) is below = (suc below.0, (up, is, below.1))
+    lower (spot.After sibling) is below = (suc below.0, (up, is, below.1))
 
 -- what follows of a value from two facts on it
 pub ok_both : {X E : Type 0} {P Q R : X → Type 0} (r : Result X E) → ((x : X) → P x → Q x → R x)
     → IfOk r P → IfOk r Q → IfOk r R
 ok_both r f p q = grind arith
-
-pub ok_always : {X E P : Type 0} (r : Result X E) → P → OnOk r P
-ok_always r p = grind arith
 
 module _ {T : Type 0} {S R : State T} {fs hs : List (Family T)} (sound : IsSound S) (k : IsKept S fs)
     (node : Node T) (live : IsLiveIn S node) (list : List (Node T)) (cut : IsCut fs node list hs)
@@ -151,14 +133,13 @@ module _ {T : Type 0} {S R : State T} {fs hs : List (Family T)} (sound : IsSound
       (cut.long ∙ (left.whole ∙ sym lost.same))
 
   not_node : (s : ℕ) → count_at s list ≡ 0 → s ≢ slot_in node
-  not_node s none is = let lt = listed 0 s is in omega (arith, lt, none)
+  not_node s none = grind (arith, listed 0 s)
 
   -- the parent, which isn't listed, loses the one child
   parent_free : (up : ℕ) → above fs (slot_in node) ≡ Some up → count_at up list ≡ 0
-  parent_free up is = ⊎_elim
-      (λ lt. let r = k.forest.rooted (slot_in node) in let u = under up lt in
-      absurd (no_cycle fs r.0 (slot_in node) up u.0 r.1 is u.1))
-      (λ le. omega (arith, le)) (cases_lt 0 (count_at up list))
+  parent_free up is =
+      let r = k.forest.rooted (slot_in node) in
+      grind (arith, no_cycle fs r.0 (slot_in node) up, under up, cases_lt 0 (count_at up list))
 
   abbrev old : TreeState T
   old = record { state = S; families = fs }

@@ -1,68 +1,74 @@
 -- Which node is noted at each slot, after each write to the links.
 use Rattle.scene_tree.proofs.{Gathering.same_length, Stores.one_live}
-use Rattle.scene_tree.proofs.Chains.{changed_apart, changed_here, changed_kept, changed_length, held_kept, link_there}
-use Rattle.scene_tree.proofs.Common.{above, ap, AreNoted, arith, changed, children_at, count_at, families, family_in}
-use Rattle.scene_tree.proofs.Common.{first_of, HasLost, is_some, IsForest, IsHeld, IsLinked, IsLiveIn, IsOpened, IsSame}
-use Rattle.scene_tree.proofs.Common.{IsSimple, IsSound, last_of, length, length-map, Link, List, Location, Made, Make}
-use Rattle.scene_tree.proofs.Common.{Meets, Node, None, none-some, noted, pointer_in, refl, same_value, slot_in, Some}
-use Rattle.scene_tree.proofs.Common.{State, sym, tie_of, ℕ, [], ◌++◌, ◌<◌, ◌∙◌, ◌∷◌, ◌≡◌, ◌≢◌}
-use Rattle.scene_tree.proofs.Linked.{family_like, linked_like, upper}
+use Rattle.scene_tree.proofs.Common.{above, ap, AreNoted, arith, changed, children_at, families, HasLost, inl, IsForest}
+use Rattle.scene_tree.proofs.Common.{IsHeld, IsLinked, IsLiveIn, IsOpened, IsSame, IsSimple, IsSound, length}
+use Rattle.scene_tree.proofs.Common.{length-append, length-map, Link, List, Location, Made, Make, Meets, Node, node_in}
+use Rattle.scene_tree.proofs.Common.{None, none-some, noted, pointer_in, refl, same_value, slot_in, Some, State, sym, ℕ}
+use Rattle.scene_tree.proofs.Common.{[], ◌++◌, ◌<◌, ◌∙◌, ◌∷◌, ◌≡◌, ◌≢◌, ◌≤◌}
+use Rattle.scene_tree.proofs.Chains.{changed_apart, changed_here, changed_kept, changed_length, link_there}
+use Rattle.scene_tree.proofs.Linked.{changed_held, family_like, linked_like, opened_is, opened_linked, upper}
 
 module _ {T : Type 0} where
-  -- ---- one write
+  -- ---- a slot that is opened
 
-  pub noted_here : (links : List (Link T)) (slot : ℕ) (f : Link T → Link T) (n : Node T)
-      → slot < length links → ((l : Link T) → (f l).node ≡ n) → noted (changed links slot f) slot ≡ Some n
-  noted_here links slot f n lt is = grind (arith, link_there links slot lt, changed_here)
+  -- what an opening of a node's slot leaves
+  pub record HasOpened (links : List (Link T)) (node : Node T) (new : List (Link T)) : Type 0 where
+    pub linked : IsLinked new
+    pub opened : IsOpened (families links) (slot_in node) (families new)
+    pub longer : length links ≤ length new
+    pub others : (s : ℕ) → s ≢ slot_in node → noted new s ≡ noted links s
+    pub noted : noted new (slot_in node) ≡ Some node
 
   -- with a link more at the end
-  pub noted_last : (links : List (Link T)) (l : Link T) (s : ℕ) → s ≡ length links
+  noted_last : (links : List (Link T)) (l : Link T) (s : ℕ) → s ≡ length links
       → noted (links ++ l ∷ []) s ≡ Some l.node
-  noted_last links l s is = ap (noted (links ++ l ∷ [])) is ∙ at links
-    where
-      at : (ls : List (Link T)) → noted (ls ++ l ∷ []) (length ls) ≡ Some l.node
-      at [] = refl
-      at (x ∷ ls) = at ls
+  noted_last [] l s is = grind arith
+  noted_last (x ∷ links) l s is = grind (arith, noted_last links)
 
-  pub noted_before : (links : List (Link T)) (l : Link T) (s : ℕ) → s ≢ length links
+  noted_before : (links : List (Link T)) (l : Link T) (s : ℕ) → s ≢ length links
       → noted (links ++ l ∷ []) s ≡ noted links s
   noted_before [] l s ne = grind arith
   noted_before (x ∷ links) l s ne = grind (arith, noted_before links)
 
+  pub opened_last : (links : List (Link T)) → IsLinked links → (node : Node T) (l : Link T)
+      → l.node ≡ node → l.parent ≡ None → l.first ≡ None → l.last ≡ None
+      → slot_in node ≡ length links → HasOpened links node (links ++ l ∷ [])
+  opened_last links linked node l of root first last at = record {
+    linked = opened_linked links linked l root first last;
+    opened = opened_is links linked l root first last (slot_in node) at;
+    longer = grind (arith, length-append links (l ∷ []));
+    others = λ s ne. noted_before links l s (λ end. ne (end ∙ sym at));
+    noted = noted_last links l (slot_in node) at ∙ ap Some of;
+  }
+
   -- ---- a node that is noted at a slot that no list has
 
-  module _ (links : List (Link T)) (linked : IsLinked links) (f : IsForest (families links)) (node : Node T)
-      (root : above (families links) (slot_in node) ≡ None) where
-    abbrev put_node : Link T → Link T
-    put_node l = record l { node = node }
+  abbrev renoted : List (Link T) → Node T → List (Link T)
+  renoted links node = changed links (slot_in node) (λ l. record l { node = node })
 
-    abbrev renoted : List (Link T)
-    renoted = changed links (slot_in node) put_node
+  pub opened_old : (links : List (Link T)) → IsLinked links → IsForest (families links)
+      → (node : Node T) → above (families links) (slot_in node) ≡ None → slot_in node < length links
+      → HasOpened links node (renoted links node)
+  opened_old links linked f node root lt = record {
+    linked = linked_like links (renoted links node) (omega (arith, long)) held;
+    opened = record {
+      same = λ s. family_like links (renoted links node) s (omega (arith, long)) (held s)
+          (changed_kept upper links (slot_in node) _ (λ l. refl) s);
+      old = λ _. same_length (renoted links node) links long;
+      next = λ is. grind (arith, length-map);
+    };
+    longer = omega (arith, long);
+    noted = let l = link_there links (slot_in node) lt in
+        ap node_in (changed_here links (slot_in node) _ l.0 l.1);
+    others = λ s ne. ap node_in (changed_apart links (slot_in node) _ s ne);
+  }
+    where
+      held : (s : ℕ) → IsHeld (renoted links node) s (children_at (families links) s)
+      held = changed_held links linked (slot_in node) _ (λ l. refl) (λ l. refl)
+          (λ s. inl (f.only (slot_in node) s (λ is. none-some s (sym root ∙ is))))
 
-    unlisted : (up : ℕ) → count_at (slot_in node) (children_at (families links) up) ≡ 0
-    unlisted up = f.only (slot_in node) up (λ is. none-some up (sym root ∙ is))
-
-    renoted_held : (s : ℕ) → IsHeld renoted s (children_at (families links) s)
-    renoted_held s = held_kept links renoted s (children_at (families links) s)
-        (λ i some. ap tie_of (changed_apart links (slot_in node) put_node i (λ is.
-        let none = ap (λ k. count_at k (children_at (families links) s)) is ∙ unlisted s in
-        omega (arith, some, none))))
-        (changed_kept first_of links (slot_in node) put_node (λ l. refl) s)
-        (changed_kept last_of links (slot_in node) put_node (λ l. refl) s) (linked s)
-
-    long : length renoted ≡ length links
-    long = changed_length links (slot_in node) put_node
-
-    pub renoted_linked : IsLinked renoted
-    renoted_linked = linked_like links renoted (omega (arith, long)) renoted_held
-
-    pub renoted_opened : slot_in node < length links → IsOpened (families links) (slot_in node) (families renoted)
-    renoted_opened lt = record {
-      same = λ s. family_like links renoted s (omega (arith, long)) (renoted_held s)
-          (changed_kept upper links (slot_in node) put_node (λ l. refl) s);
-      old = λ _. same_length renoted links long;
-      next = λ is. let old = length-map links (family_in links) in absurd (omega (arith, is, lt, old));
-    }
+      long : length (renoted links node) ≡ length links
+      long = changed_length links (slot_in node) _
 
   -- ---- the live nodes
 
@@ -89,8 +95,7 @@ module _ {T : Type 0} where
         → ((s : ℕ) → s ≢ slot_in child → noted new s ≡ noted old s) → AreNoted R new
     noted_made s sound simple v l child m lives here others = noted_put child here others
         (λ n now same. one_live R child n sound simple lives now (sym same))
-        (λ n now ne. ap is_some (sym (same_value S R (Make None v l) (Made (pointer_in child)) s m
-        (pointer_in n) tt (λ is. ne (sym (ap (λ x. x.slot) is))))) ∙ now)
+        (λ n now ne. grind (arith, same_value S R (Make None v l) (Made (pointer_in child)) s m))
 
     -- and after the ends of nodes
     pub noted_lost : {list : List (Node T)} → HasLost S list R → ((s : ℕ) → noted new s ≡ noted old s)

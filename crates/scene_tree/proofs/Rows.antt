@@ -1,13 +1,15 @@
 -- Rows of an outline: what follows each, and that they are those of the tree.
-use Rattle.scene_tree.proofs.{Chains.back_of, Chains.chain_is, Counting.count_apart, Forests.depth_within}
-use Rattle.scene_tree.proofs.{Forests.parent_is, Forests.rooted_under, Gathering.above_within, Gathering.slot_within}
-use Rattle.scene_tree.proofs.{Linked.between, Linked.children_short, Trees.get_both, Trees.live_children}
 use Rattle.scene_tree.proofs.Common
-use Common.{above, after_tied, ap, arith, behind, cases_eq, chain, children_at, count_at, families, Family, family_in}
-use Common.{first_of, head_or, IsChain, IsForest, IsHeld, IsKept, IsLinked, IsLiveIn, IsPlaced, IsSound, IsUnder}
-use Common.{length, length-append, length-map, Link, List, Node, None, none-some, Option, outline_of, refl, rows}
-use Common.{rows_at, slice_get, slice_get-get_or, slice_get_within, slice_index_or, slot_in, Some, State, subst, suc}
-use Common.{sym, tie_of, TreeState, waiting, zero, ℕ, [], ⊎_elim, ◌++◌, ◌+◌, ◌-◌, ◌<◌, ◌∙◌, ◌∷◌, ◌≡◌, ◌≢◌, ◌≤◌}
+use Common.{above, after_tied, ap, arith, behind, cases_eq, chain, children_at, count_at, families, Family, first_of}
+use Common.{head_or, IsChain, IsForest, IsHeld, IsKept, IsLinked, IsLiveIn, IsPlaced, IsSound, IsUnder, length}
+use Common.{length-append, length-map, Link, List, Node, None, none-some, Option, outline_of, refl, rows, rows_at}
+use Common.{slice_get, slice_get-get_or, slice_get_within, slice_index_or, slot_in, Some, State, subst, suc, sym}
+use Common.{tie_of, TreeState, waiting, zero, ℕ, [], ⊎_elim, ◌++◌, ◌+◌, ◌-◌, ◌<◌, ◌∙◌, ◌∷◌, ◌≡◌, ◌≢◌, ◌≤◌}
+use Rattle.scene_tree.proofs.Chains.{chain_is, chain_split}
+use Rattle.scene_tree.proofs.Counting.{count_apart}
+use Rattle.scene_tree.proofs.Forests.{above_within, depth_within, parent_is, rooted_under, slot_within}
+use Rattle.scene_tree.proofs.Linked.{between, children_short, get_behind}
+use Rattle.scene_tree.proofs.Trees.{both_each, live_children}
 
 pub one_deeper : (d : ℕ) → d + 1 ≡ suc d
 one_deeper d = omega arith
@@ -21,11 +23,6 @@ module _ {T : Type 0} where
       (λ ne. let rest = parted s cs (subst (λ n. 0 < n) (count_apart s c cs ne) lt) in
       (c ∷ rest.0, rest.1, rest.2, ap (λ xs. c ∷ xs) rest.3, rest.4))
       (cases_eq (slot_in c) s)
-
-  get_behind : (xs ys : List (Node T)) (k : ℕ) (y : Node T) → slice_get ys k ≡ Some y
-      → (j : ℕ) × (slice_get (xs ++ ys) j ≡ Some y)
-  get_behind [] ys k y at = (k, at)
-  get_behind (x ∷ xs) ys k y at = let rest = get_behind xs ys k y at in (suc rest.0, rest.1)
 
   module _ (links : List (Link T)) (linked : IsLinked links) (f : IsForest (families links)) where
     abbrev fs : List (Family T)
@@ -44,11 +41,11 @@ module _ {T : Type 0} where
       part = parted s (children_at fs up) (omega (arith, one))
 
       after_is : after_at s ≡ head_or part.2 None
-      after_is = ap after_at (sym part.4) ∙ ap after_tied (between links up linked part.0 part.1 part.2 part.3)
+      after_is = grind (arith, between links up linked part.0 part.1 part.2 part.3, part)
 
       lies : IsChain links (Some (slot_in part.1)) part.2 None
-      lies = (back_of links up part.0 (part.1 ∷ part.2)
-          (subst (λ cs. IsHeld links up cs) part.3 (linked up))).chain.1
+      lies = (chain_split links None None part.0 (part.1 ∷ part.2)
+          (subst (λ cs. IsHeld links up cs) part.3 (linked up)).chain).1.1
 
       short : length part.2 ≤ length links
       short = grind (arith, children_short links up, length-append part.0 (part.1 ∷ part.2))
@@ -87,12 +84,8 @@ module _ {T : Type 0} where
         × (above fs (slot_in l.node) ≡ Some up) × (slot_in l.node < length links)
     next_sibling d s up at l is next there =
         let row = head_row d up at l _ (part s up is).2 (short s up is) (lies s up is) (over s up is)
-        (sym (after_is s up is) ∙ next) there in (
-          row.0 ∙ (ap (λ zs. rows_at (suc d) zs ++ behind links d (Some up)) (sym (left_is s up is))
-              ∙ ap (λ o. rows_at (suc d) (chain links (length links) (after_at s)) ++ behind links d o) (sym is)),
-          row.1,
-          row.2,
-        )
+        (sym (after_is s up is) ∙ next) there in
+        let left = left_is s up is in grind (arith, behind)
 
     -- where no sibling follows, what follows the parent does
     pub no_sibling : (d s : ℕ) → after_at s ≡ None
@@ -138,13 +131,7 @@ module _ {T : Type 0} (links : List (Link T)) where
   placed_short f d s placed =
       let r = f.rooted placed.0 in
       let far = rooted_under (families links) placed.0 r.0 d s placed.1 r.1 in
-      let more = far.1 in
-      let long = length-map links (family_in links) in
-      let lt = placed.2 in
-      let within : s < length (families links) = omega (arith, lt, long) in
-      let deep = depth_within (families links) (length (families links)) (above_within (families links) f)
-      far.0 s far.2 within in
-      omega (arith, more, deep, long)
+      grind (arith, length-map, depth_within (families links) f far.0 s far.2)
 
   module _ (linked : IsLinked links) (f : IsForest (families links)) where
     -- both cases of a row behind, as the links are read
@@ -204,11 +191,10 @@ module _ {T : Type 0} {S : State T} {fs : List (Family T)} (sound : IsSound S) (
   rows_outline (suc limit) [] lives = refl
   rows_outline (suc limit) (r ∷ list) lives =
       ap (λ rest. r ∷ rest) (rows_outline limit (rows_at (r.0 + 1) (children_at fs (slot_in r.1)) ++ list)
-      (λ i x at. ⊎_elim
-      (λ child. k.children (slot_in r.1) child.0 x.1
-      (get_row (r.0 + 1) (children_at fs (slot_in r.1)) child.0 x child.1))
-      (λ old. lives (suc old.0) x old.1)
-      (get_both (rows_at (r.0 + 1) (children_at fs (slot_in r.1))) list i x at))
+      (both_each (λ x. IsLiveIn S x.1) (rows_at (r.0 + 1) (children_at fs (slot_in r.1))) list
+      (λ i x at. k.children (slot_in r.1) i x.1
+      (get_row (r.0 + 1) (children_at fs (slot_in r.1)) i x at))
+      (λ i. lives (suc i)))
       ∙ ap (λ cs. outline_of tree limit (rows_at (r.0 + 1) cs ++ list))
       (sym (live_children sound k r.1 (lives 0 r refl))))
 

@@ -1,13 +1,14 @@
 -- What a tree shows of its nodes.
-use Rattle.scene_tree.proofs.{Forests.above_parent, Stores.one_live, Stores.same_shown}
-use Rattle.scene_tree.proofs.Common
-use Common.{alone, ap, arith, Bool, cases_Bool, children_at, children_of, cond, count_at, false, Family, family_at}
-use Common.{family_of, flat_map, inl, inr, is_live, is_same, is_some, IsInLevels, IsKept, IsLiveIn, IsRooted}
-use Common.{IsRootedIn, IsSound, IsStepsBelow, IsSubtree, IsTree, IsUnder, length, List, Node, NodeIsUnchanged, None}
-use Common.{Option, parent_at, parent_of, pointer_in, refl, slice_get, slot_in, slot_of, Some, State, subst, suc, sym}
-use Common.{times, TreeState, true, true≢false, value_in, value_of, zero, ℕ, [], ⊎_elim, ◌++◌, ◌<◌, ◌∙◌, ◌∷◌, ◌≡◌, ◌⊎◌}
-use Rattle.scene_tree.proofs.Counting.{is_id, same_id, times_at, times_none}
+use Rattle.scene_tree.proofs.Common.{alone, ap, arith, Bool, cases_Bool, children_at, children_of, cond, count_at}
+use Rattle.scene_tree.proofs.Common.{false, Family, family_at, family_of, flat_map, is_live, is_some, IsInLevels}
+use Rattle.scene_tree.proofs.Common.{IsKept, IsLiveIn, IsRooted, IsRootedIn, IsSound, IsStepsBelow, IsSubtree, IsTree}
+use Rattle.scene_tree.proofs.Common.{IsUnder, List, Node, NodeIsUnchanged, None, Option, parent_at, parent_of}
+use Rattle.scene_tree.proofs.Common.{pointer_in, refl, slot_in, Some, State, suc, times, TreeState, true, true≢false}
+use Rattle.scene_tree.proofs.Common.{value_in, value_of, zero, ℕ, [], ⊎_elim, ◌++◌, ◌∙◌, ◌∷◌, ◌≡◌}
+use Rattle.scene_tree.proofs.Counting.{Each, is_id, same_id, times_at, times_none}
+use Rattle.scene_tree.proofs.Forests.{above_parent}
 use Rattle.scene_tree.proofs.Gathering.{all_listed, listed_below, listed_once, part_whole}
+use Rattle.scene_tree.proofs.Stores.{one_live, same_shown}
 
 module _ {T : Type 0} where
   -- a live node has the family of its slot, and one that is gone is alone
@@ -41,18 +42,18 @@ told_live n same is live = cc
 pub missing : {X : Type 0} (x : Option X) → is_some x ≡ false → x ≡ None
 missing o none = grind (arith, true≢false)
 
--- what stands in two lists in a row stands in one of them
-pub get_both : {X : Type 0} (xs ys : List X) (i : ℕ) (x : X) → slice_get (xs ++ ys) i ≡ Some x
-    → ((j : ℕ) × (slice_get xs j ≡ Some x)) ⊎ ((j : ℕ) × (slice_get ys j ≡ Some x))
-get_both [] ys i x at = inr (i, at)
-get_both (z ∷ xs) ys zero x at = inl (0, at)
-get_both (z ∷ xs) ys (suc i) x at =
-    ⊎_elim (λ old. inl (suc old.0, old.1)) inr (get_both xs ys i x at)
+-- what holds of each item of two lists holds of each in a row, and so of the lists of items
+pub both_each : {X : Type 0} (P : X → Type 0) (xs ys : List X) → Each P xs → Each P ys
+    → Each P (xs ++ ys)
+both_each P [] ys each more i x at = more i x at
+both_each P (z ∷ xs) ys each more zero x at = each 0 x at
+both_each P (z ∷ xs) ys each more (suc i) x at = both_each P xs ys (λ j. each (suc j)) more i x at
 
-get_flat : {X Y : Type 0} (f : X → List Y) (xs : List X) (i : ℕ) (y : Y)
-    → slice_get (flat_map f xs) i ≡ Some y → (x : X) × (j : ℕ) × (slice_get (f x) j ≡ Some y)
-get_flat f [] i y at = grind arith
-get_flat f (x ∷ xs) i y at = grind (arith, get_flat f xs, get_both)
+flat_each : {X Y : Type 0} (P : Y → Type 0) (f : X → List Y) → ((x : X) → Each P (f x))
+    → (xs : List X) → Each P (flat_map f xs)
+flat_each P f each [] i y at = grind arith
+flat_each P f each (x ∷ xs) i y at =
+    both_each P (f x) (flat_map f xs) (each x) (flat_each P f each xs) i y at
 
 module _ {T : Type 0} where
   -- what is below a live node is live
@@ -61,7 +62,7 @@ module _ {T : Type 0} where
   below_live t top n e live same = grind (arith, same_shown)
 
   abbrev pub AreLive : State T → List (Node T) → Type 0
-  AreLive S list = (i : ℕ) (c : Node T) → slice_get list i ≡ Some c → IsLiveIn S c
+  AreLive S list = Each (IsLiveIn S) list
 
   module _ {S : State T} {fs : List (Family T)} (sound : IsSound S) (k : IsKept S fs) where
     abbrev tree : TreeState T
@@ -73,10 +74,8 @@ module _ {T : Type 0} where
 
     pub times_gone : (n : Node T) → is_some (value_in S (pointer_in n)) ≡ false → (list : List (Node T))
         → AreLive S list → times n list ≡ 0
-    times_gone n gone list lives = times_none n list (λ i x at. ⊎_elim
-        (λ same. absurd (true≢false (sym (lives i x at)
-        ∙ (ap is_some (same_shown S x n (is_id x n same)) ∙ gone))))
-        (λ other. other) (cases_Bool (is_same x n)))
+    times_gone n gone list lives =
+        times_none n list (λ i x at. grind (arith, lives i x at, same_shown S x n, is_id x n))
 
     pub live_children : (n : Node T) → IsLiveIn S n → children_of tree n ≡ children_at fs (slot_in n)
     live_children n live = ap (λ f. f.children) (live_family tree n live)
@@ -99,10 +98,8 @@ module _ {T : Type 0} where
     kept_tree = record {
       once = λ n up is.
           let at = has_parent n up is in
-          let live = k.parents (slot_in n) up at.1 in
-          ap (times n) (live_children up live)
-          ∙ (times_live n at.0 (children_at fs (slot_in up)) (k.children (slot_in up))
-          ∙ k.forest.once (slot_in n) (slot_in up) (ap slot_of at.1));
+          let same = times_live n at.0 (children_at fs (slot_in up)) (k.children (slot_in up)) in
+          grind (arith, live_children up, k.parents (slot_in n) up, k.forest.once (slot_in n));
       only = λ n other apart. ⊎_elim
           (λ live. ap (times n) (live_children other live) ∙ ⊎_elim
           (λ lives. times_live n lives (children_at fs (slot_in other)) (k.children (slot_in other))
@@ -134,7 +131,9 @@ module _ {T : Type 0} where
 
       module _ (list : List (Node T)) (level : IsInLevels fs top list) where
         pub list_live : AreLive S list
-        list_live i c at = grind (arith, get_flat)
+        list_live = rw level (both_each (IsLiveIn S) (top ∷ []) _ (λ i c at. grind arith)
+            (flat_each (IsLiveIn S) (λ n. children_at fs (slot_in n)) (λ n. k.children (slot_in n))
+            list))
 
         flat_same : (xs : List (Node T)) → AreLive S xs
             → flat_map (λ n. children_at fs (slot_in n)) xs ≡ flat_map (children_of tree) xs
@@ -142,27 +141,22 @@ module _ {T : Type 0} where
         flat_same (x ∷ xs) lives = grind (arith, flat_same xs (λ i. lives (suc i)), live_children x (lives 0 x refl))
 
         pub subtree : IsSubtree tree top list
-        subtree = record {
-          levels = level ∙ ap (λ rest. top ∷ rest) (flat_same list list_live);
-          below = λ n. (
-            λ some. ⊎_elim
-                (λ lives. let under = listed_below fs k.forest top list (length list)
-                (part_whole fs k.forest top list level) (slot_in n)
-                (subst (λ c. 0 < c) (times_live n lives list list_live) some) in
-                (under.0, under_below under.0 n lives under.1))
-                (λ gone. absurd (zero_less some (times_gone n gone list list_live)))
-                (cases_Bool (is_live tree n)),
-            λ below. let at = below_under below.0 n below.1 in
-                subst (λ c. 0 < c) (sym (times_live n at.0 list list_live))
-                (all_listed fs k.forest top list level below.0 (slot_in n) at.1),
-          );
-          once = λ n. ⊎_elim
-              (λ lives. let same = times_live n lives list list_live in
-              let one = listed_once fs k.forest top list (length list)
-              (part_whole fs k.forest top list level) (slot_in n) in omega (arith, same, one))
-              (λ gone. let none = times_gone n gone list list_live in omega (arith, none))
-              (cases_Bool (is_live tree n));
-        }
-          where
-            zero_less : {n : ℕ} → 0 < n → n ≡ 0 → ⊥
-            zero_less lt is = omega (arith, lt, is)
+        subtree =
+            let whole = part_whole fs k.forest top list level in record {
+              levels = level ∙ ap (λ rest. top ∷ rest) (flat_same list list_live);
+              below = λ n. (
+                λ some. ⊎_elim
+                    (λ lives. let under = listed_below fs k.forest top list _ whole (slot_in n)
+                    (grind (arith, times_live n lives list list_live)) in
+                    (under.0, under_below under.0 n lives under.1))
+                    (λ gone. absurd (grind (arith, times_gone n gone list list_live)))
+                    (cases_Bool (is_live tree n)),
+                λ below. let at = below_under below.0 n below.1 in
+                    rw (times_live n at.0 list list_live)
+                    (all_listed fs k.forest top list level below.0 (slot_in n) at.1),
+              );
+              once = λ n. ⊎_elim (λ lives. rw (times_live n lives list list_live)
+                  (listed_once fs k.forest top list _ whole (slot_in n)))
+                  (λ gone. rw (times_gone n gone list list_live) (omega arith))
+                  (cases_Bool (is_live tree n));
+            }

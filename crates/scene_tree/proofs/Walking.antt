@@ -1,13 +1,14 @@
 -- Walks: from parent to parent up to a root, and over the nodes of all slots.
-use Rattle.scene_tree.proofs.{Gathering.above_within, Linked.parent_from, Linked.upper, Trees.live_parent}
-use Rattle.scene_tree.proofs.Common
-use Common.{and_from, and_parts, ap, AreAll, AreAncestors, AreNoted, AreRoots, arith, Bool, cases_Bool, cond, false}
-use Common.{families, Family, is_met, is_same, is_some, IsForest, IsKept, IsLiveIn, IsRooted, IsSame, IsSound, IsWithin}
-use Common.{length, Link, List, met, Node, node_in, None, none-some, not, noted, Option, parent_at, parent_of}
-use Common.{pointer_in, refl, same_id_sees, slice_get, slot_in, slot_of, Some, State, subst, suc, sym, times, TreeState}
-use Common.{true, true≢false, value_in, way_up, zero, ℕ, [], ⊎_elim, ◌+◌, ◌<◌, ◌∙◌, ◌∷◌, ◌≡◌, ◌≤◌}
+use Rattle.scene_tree.proofs.Common.{ap, AreAll, AreAncestors, AreNoted, AreRoots, arith, Bool, cond, false, families}
+use Rattle.scene_tree.proofs.Common.{Family, is_met, is_same, IsForest, IsKept, IsLiveIn, IsRooted, IsSame, IsSound}
+use Rattle.scene_tree.proofs.Common.{IsWithin, length, Link, List, met, Node, node_in, None, none-some, noted, Option}
+use Rattle.scene_tree.proofs.Common.{parent_at, parent_of, pointer_in, refl, same_id_sees, slice_get, slot_in, slot_of}
+use Rattle.scene_tree.proofs.Common.{Some, State, subst, suc, times, TreeState, true, value_in, way_up, zero, ℕ, []}
+use Rattle.scene_tree.proofs.Common.{◌&&◌, ◌+◌, ◌<◌, ◌∙◌, ◌∷◌, ◌≡◌, ◌≤◌}
 use Rattle.scene_tree.proofs.Counting.{is_id, same_id, same_slot, times_apart, times_more}
-use Rattle.scene_tree.proofs.Forests.{above_parent, depth_within, rooted_up}
+use Rattle.scene_tree.proofs.Forests.{above_parent, above_within, depth_within, rooted_up}
+use Rattle.scene_tree.proofs.Linked.{parent_from, upper}
+use Rattle.scene_tree.proofs.Trees.{live_parent}
 
 module _ {T : Type 0} (fs : List (Family T)) where
   way_none : (n : ℕ) → way_up fs n None ≡ []
@@ -16,20 +17,17 @@ module _ {T : Type 0} (fs : List (Family T)) where
   -- enough steps are enough
   way_enough : (n m d : ℕ) (node : Node T) → IsRooted fs d (slot_in node) → d ≤ n → d ≤ m
       → way_up fs n (parent_at fs (slot_in node)) ≡ way_up fs m (parent_at fs (slot_in node))
-  way_enough zero m d node r lt more = grind (arith, way_none)
-  way_enough (suc n) zero d node r lt more = grind (arith, way_none)
-  way_enough (suc n) (suc m) zero node r lt more = grind arith
   way_enough (suc n) (suc m) (suc d) node r lt more =
       let up = above_parent fs (slot_in node) r.0 r.1 in grind (arith, way_enough n m d up.0)
+  way_enough n m d node r lt more = grind (arith, way_none)
 
   module _ (f : IsForest fs) where
     -- the first node of a way is met, and then those above it
-    pub way_next : (node : Node T) → slot_in node < length fs
-        → way_up fs (length fs) (Some node)
+    pub way_next : (node : Node T) → slot_in node < length fs → way_up fs (length fs) (Some node)
         ≡ node ∷ way_up fs (length fs) (parent_at fs (slot_in node))
     way_next node lt =
         let r = f.rooted (slot_in node) in
-        let deep = depth_within fs (length fs) (above_within fs f) r.0 (slot_in node) r.1 lt in by (length fs) r deep
+        let deep = depth_within fs f r.0 (slot_in node) r.1 lt in by (length fs) r deep
       where
         by : (n : ℕ) (r : (d : ℕ) × IsRooted fs d (slot_in node)) → r.0 < n
             → way_up fs n (Some node) ≡ node ∷ way_up fs n (parent_at fs (slot_in node))
@@ -52,9 +50,8 @@ module _ {T : Type 0} {S : State T} {fs : List (Family T)} (sound : IsSound S) (
   way_ancestors : (n d : ℕ) (node : Node T) → IsLiveIn S node → IsRooted fs d (slot_in node) → d ≤ n
       → (o : Option (Node T)) → parent_at fs (slot_in node) ≡ o
       → AreAncestors tree node (way_up fs n o)
-  way_ancestors zero d node live r le None is = live_parent sound k node live ∙ is
+  way_ancestors n d node live r le None is = rw (way_none fs n) (live_parent sound k node live ∙ is)
   way_ancestors zero d node live r le (Some up) is = grind arith
-  way_ancestors (suc n) d node live r le None is = live_parent sound k node live ∙ is
   way_ancestors (suc n) d node live r le (Some up) is =
       let less = rooted_up fs d (slot_in node) (slot_in up) (ap slot_of is) r in
       let one = less.1 in (
@@ -67,8 +64,7 @@ module _ {T : Type 0} {S : State T} {fs : List (Family T)} (sound : IsSound S) (
       → AreAncestors tree node (way_up fs (length fs) (parent_at fs (slot_in node)))
   ancestors_of node live lt =
       let r = k.forest.rooted (slot_in node) in
-      let deep = depth_within fs (length fs) (above_within fs k.forest) r.0 (slot_in node) r.1 lt in
-      grind (arith, way_ancestors)
+      grind (arith, way_ancestors, depth_within fs k.forest r.0 (slot_in node) r.1 lt)
 
 module _ {T : Type 0} (S : State T) (roots : Bool) where
   -- what is noted from a slot on is of its slot
@@ -88,52 +84,27 @@ module _ {T : Type 0} (S : State T) (roots : Bool) where
       let here = placed 0 l.node refl in
       grind (arith, times_apart n l.node (met S roots links), same_slot l.node n)
 
-  met_once : (links : List (Link T)) (k : ℕ) → ArePlaced links k → (n : Node T)
-      → times n (met S roots links) ≤ 1
-  met_once [] k placed n = omega arith
-  met_once (l ∷ links) k placed n =
-      let rest = met_once links (suc k) (placed_rest l links k placed) n in
-      let below = met_below links (suc k) (placed_rest l links k placed) n in
-      let here = placed 0 l.node refl in
+  -- how many times a node is met whose slot has a link, or none
+  abbrev met_at : Node T → Option (Link T) → ℕ
+  met_at n None = 0
+  met_at n (Some l) = cond (is_met S roots l && is_same l.node n) 1 0
+
+  met_times : (links : List (Link T)) (k i : ℕ) → ArePlaced links k → (n : Node T)
+      → slot_in n ≡ k + i → times n (met S roots links) ≡ met_at n (slice_get links i)
+  met_times [] k i placed n at = refl
+  met_times (l ∷ links) k zero placed n at =
+      let rest = met_below links (suc k) (placed_rest l links k placed) n (omega (arith, at)) in
       let more = times_more n l.node (met S roots links) in
+      grind (arith, times_apart n l.node (met S roots links))
+  met_times (l ∷ links) k (suc i) placed n at =
+      let here = placed 0 l.node refl in
+      let rest = met_times links (suc k) i (placed_rest l links k placed) n (omega (arith, at)) in
       grind (arith, times_apart n l.node (met S roots links), same_slot l.node n)
 
-  met_has : (links : List (Link T)) (i : ℕ) (l : Link T) → slice_get links i ≡ Some l
-      → is_met S roots l ≡ true → (n : Node T) → is_same l.node n ≡ true → 0 < times n (met S roots links)
-  met_has [] i l at passes n same = absurd (none-some l at)
-  met_has (x ∷ links) zero l at passes n same = grind (arith, times_more n x.node (met S roots links))
-  met_has (x ∷ links) (suc i) l at passes n same =
-      let rest = met_has links i l at passes n same in
-      grind (arith, times_more n x.node (met S roots links), times_apart n x.node (met S roots links))
-
-  -- a node that is met is that of a link
-  record IsOfLink (links : List (Link T)) (n : Node T) : Type 0 where
-    pub place : ℕ
-    pub link : Link T
-    pub there : slice_get links place ≡ Some link
-    pub meets : is_met S roots link ≡ true
-    pub same : is_same link.node n ≡ true
-
-  one_on : (l : Link T) (links : List (Link T)) (n : Node T) → IsOfLink links n → IsOfLink (l ∷ links) n
-  one_on l links n is = record {
-    place = suc is.place;
-    link = is.link;
-    there = is.there;
-    meets = is.meets;
-    same = is.same;
-  }
-
-  met_from : (links : List (Link T)) (n : Node T) → 0 < times n (met S roots links) → IsOfLink links n
-  met_from [] n lt = absurd (omega (arith, lt))
-  met_from (l ∷ links) n lt = ⊎_elim
-      (λ yes. let here = subst (λ b. 0 < times n (cond b (l.node ∷ met S roots links) (met S roots links))) yes lt in
-      ⊎_elim (λ same. record { place = 0; link = l; there = refl; meets = yes; same = same })
-      (λ other. one_on l links n (met_from links n
-      (subst (λ k. 0 < k) (times_apart n l.node (met S roots links) other) here)))
-      (cases_Bool (is_same l.node n)))
-      (λ no. one_on l links n (met_from links n
-      (subst (λ b. 0 < times n (cond b (l.node ∷ met S roots links) (met S roots links))) no lt)))
-      (cases_Bool (is_met S roots l))
+  met_some : (n : Node T) (o : Option (Link T)) → 0 < met_at n o
+      → (l : Link T) × (o ≡ Some l) × (is_met S roots l ≡ true) × (is_same l.node n ≡ true)
+  met_some n None lt = absurd (omega (arith, lt))
+  met_some n (Some l) lt = (l, refl, grind arith, grind arith)
 
 module _ {T : Type 0} {S : State T} (sound : IsSound S) (links : List (Link T)) (k : IsKept S (families links))
     (a : AreNoted S links) where
@@ -143,54 +114,53 @@ module _ {T : Type 0} {S : State T} (sound : IsSound S) (links : List (Link T)) 
   placed : (i : ℕ) (h : Node T) → noted links i ≡ Some h → slot_in h ≡ 0 + i
   placed i h is = let at = a.placed i h is in omega (arith, at)
 
-  -- what is met is live
-  met_live : (roots : Bool) (n : Node T) → IsOfLink S roots links n → IsLiveIn S n
-  met_live roots n of = grind (arith, same_id_sees, is_id, and_parts)
+  met_is : (roots : Bool) (n : Node T)
+      → times n (met S roots links) ≡ met_at S roots n (slice_get links (slot_in n))
+  met_is roots n = met_times S roots links 0 (slot_in n) placed n (omega arith)
+
+  -- a node is met where its slot's link is of it, and is met
+  from_link : (roots : Bool) (n : Node T) → 0 < times n (met S roots links) → (l : Link T)
+      × (slice_get links (slot_in n) ≡ Some l) × (is_met S roots l ≡ true)
+      × (is_same l.node n ≡ true)
+  from_link roots n some =
+      met_some S roots n (slice_get links (slot_in n)) (subst (λ k. 0 < k) (met_is roots n) some)
 
   -- a live node has a link
-  record HasLink (n : Node T) : Type 0 where
-    pub link : Link T
-    pub there : slice_get links (slot_in n) ≡ Some link
-    pub same : IsSame link.node n
-
-  has_link : (n : Node T) → IsLiveIn S n → HasLink n
-  has_link n live = grind arith
-
-  link_live : (n : Node T) → IsLiveIn S n → (of : HasLink n)
-      → is_some (value_in S (pointer_in of.link.node)) ≡ true
-  link_live n live of = ap is_some (same_id_sees S (pointer_in of.link.node) (pointer_in n) of.same) ∙ live
+  has_link : (n : Node T) → IsLiveIn S n → (l : Link T) × (slice_get links (slot_in n) ≡ Some l)
+      × IsSame l.node n
+  has_link n live = let h = a.live n live in at (slice_get links (slot_in n)) h.1 h.2
+    where
+      at : {h : Node T} (o : Option (Link T)) → node_in o ≡ Some h → IsSame h n
+          → (l : Link T) × (o ≡ Some l) × IsSame l.node n
+      at None is same = absurd (none-some _ is)
+      at (Some l) is same = (l, refl, grind arith)
 
   -- its parent is the link's
   link_parent : (n : Node T) → IsLiveIn S n → (l : Link T) → slice_get links (slot_in n) ≡ Some l
       → parent_of met_tree n ≡ l.parent
   link_parent n live l there = live_parent sound k n live ∙ (parent_from links (slot_in n) ∙ ap upper there)
 
+  sees : (l : Link T) (n : Node T) → IsSame l.node n
+      → value_in S (pointer_in l.node) ≡ value_in S (pointer_in n)
+  sees l n = same_id_sees S (pointer_in l.node) (pointer_in n)
+
   pub all_met : AreAll met_tree (met S false links)
   all_met = record {
     live = λ n. (
-      λ some. met_live false n (met_from S false links n some),
-      λ live. let of = has_link n live in met_has S false links (slot_in n) of.link of.there
-          (and_from _ _ (link_live n live of) refl) n (same_id of.link.node n of.same),
+      λ some. let l = from_link false n some in grind (arith, sees l.0 n, is_id l.0.node n),
+      λ live. let l = has_link n live in
+          grind (arith, met_is false n, sees l.0 n, same_id l.0.node n),
     );
-    once = met_once S false links 0 placed;
+    once = λ n. grind (arith, met_is false n);
   }
-
-  no_parent : (o : Option (Node T)) → not (is_some o) ≡ true → o ≡ None
-  no_parent o none = grind (arith, true≢false)
 
   pub roots_met : AreRoots met_tree (met S true links)
   roots_met = record {
     roots = λ n. (
-      λ some. let of = met_from S true links n some in
-          let live = met_live true n of in
-          let slot = sym (same_slot of.link.node n of.same) ∙ a.placed of.place of.link.node (ap node_in of.there) in (
-            live,
-            link_parent n live of.link (ap (slice_get links) slot ∙ of.there)
-                ∙ no_parent of.link.parent (and_parts _ _ of.meets).1,
-          ),
-      λ root. let of = has_link n root.0 in met_has S true links (slot_in n) of.link of.there
-          (and_from _ _ (link_live n root.0 of) (ap (λ o. not (is_some o))
-          (sym (link_parent n root.0 of.link of.there) ∙ root.1))) n (same_id of.link.node n of.same),
+      λ some. let l = from_link true n some in
+          grind (arith, sees l.0 n, is_id l.0.node n, link_parent n),
+      λ root. let l = has_link n root.0 in
+          grind (arith, met_is true n, link_parent n root.0 l.0, sees l.0 n, same_id l.0.node n),
     );
-    once = met_once S true links 0 placed;
+    once = λ n. grind (arith, met_is true n);
   }

@@ -1,6 +1,5 @@
-use Rattle.scene_tree.proofs.{ap, arith, bared_alone, bared_linked, bared_others, changed_kept, changed_length}
-use Rattle.scene_tree.proofs.{clear_more, count_at, counts, families, family_at, get_or, IsLinked, length, List, Node}
-use Rattle.scene_tree.proofs.{node_in, noted, refl, slice_get-get_or, slot_in, subst, sym, ℕ, ◌<◌, ◌∙◌, ◌≡◌}
+use Rattle.scene_tree.proofs.{arith, bared_by, clear_more, count_at, counts, get_or, IsBared, length, List, Node, noted}
+use Rattle.scene_tree.proofs.{slice_get-get_or, slot_in, subst, sym, ℕ, ◌<◌, ◌∙◌, ◌≡◌}
 use Rattle.scene_tree.proofs.links.clear_all.Goals as goal
 
 -- what is read of a list is counted there
@@ -21,15 +20,13 @@ loop-node-preserved g c =
     let was = c.loop-node.invariant in
     let first = c.requires.within c.slot.result (read_counts _ _ c.loop-node.node-index _ _
     c.deref-node-items.ensures.value c.loop-node-test.true c.slot.ensures) in
-    let lt : c.slot.result < length links = omega (arith, first, was.length) in record {
-      linked = subst IsLinked (sym c.clear.ensures) (bared_linked links was.linked c.slot.result lt);
-      length = ap length c.clear.ensures ∙ (changed_length links c.slot.result _ ∙ was.length);
+    let lt : c.slot.result < length links = omega (arith, first, was.length) in
+    let left : IsBared links c.slot.result c.clear.new.links.items =
+    rw c.clear.ensures (bared_by links was.linked c.slot.result lt) in record {
+      linked = left.linked;
+      length = left.long ∙ was.length;
       cleared = clear_more _ _ _ c.args.nodes.now.items c.deref-node-items.result.now c.loop-node.node-index
           c.slot.result _ c.deref-node-items.ensures.value c.loop-node-test.true c.slot.ensures was.cleared
-          (ap (λ ls. family_at (families ls) c.slot.result) c.clear.ensures
-          ∙ bared_alone links was.linked c.slot.result lt)
-          (λ s ne. ap (λ ls. family_at (families ls) s) c.clear.ensures
-          ∙ bared_others links was.linked c.slot.result lt s ne);
-      noted = λ s. ap (λ ls. noted ls s) c.clear.ensures
-          ∙ (changed_kept node_in links c.slot.result _ (λ l. refl) s ∙ was.noted s);
+          left.alone left.others;
+      noted = λ s. left.noted s ∙ was.noted s;
     }

@@ -1,22 +1,14 @@
 use Rattle.scene_tree.proofs.{above, added_child, added_others, added_parent, ap, arith, families, family_in, is_some}
-use Rattle.scene_tree.proofs.{IsLinked, kept_added, kept_opened, length, length-map, live_slot, made, made_count}
-use Rattle.scene_tree.proofs.{made_new, made_simple, meets_given, next_root, next_slot, Node, None, noted, noted_made}
-use Rattle.scene_tree.proofs.{Ok, opened_alone, opened_within, pointer_of, rules, same_Some, slot_in, slot_of, spot_in}
-use Rattle.scene_tree.proofs.{subst, sym, ◌∙◌}
+use Rattle.scene_tree.proofs.{kept_added, kept_opened, length, length-map, live_slot, made, made_count, made_new}
+use Rattle.scene_tree.proofs.{made_simple, meets_given, next_root, Node, None, noted, noted_made, Ok, opened_alone}
+use Rattle.scene_tree.proofs.{opened_within, pointer_of, rules, slot_in, slot_of, spot_in, ◌∙◌}
 use Rattle.scene_tree.proofs.tree.SceneTree.add_at.Goals as goal
 
-pub open_slot-requires : goal.open_slot-requires
-open_slot-requires g c =
-    let sound = g.met.S.AnyStorage.sound in
-    let same = c.reserve_one.ensures.same in
-    let step = c.in-Ok-leak.ensures.step in record {
-      room = search rules;
-      linked = subst IsLinked (sym same) c.self.invariant.1;
-      forest = rw same c.self.invariant.0.forest;
-      within = rw same (next_slot _ (sound _) c.self.invariant.0 _ _ (pointer_of c.in-Ok-leak.raw) step);
-      root = ap (λ ls. above (families ls) (pointer_of c.in-Ok-leak.raw).id.slot) same
-          ∙ next_root _ (sound _) c.self.invariant.0 _ _ (pointer_of c.in-Ok-leak.raw) step;
-    }
+pub open_slot-requires-clause-root : goal.open_slot-requires-clause-root
+open_slot-requires-clause-root g c =
+    let b = pointer_of c.in-Ok-leak.raw in
+    ap (λ ls. above (families ls) b.id.slot) c.reserve_one.ensures.same ∙ next_root _
+    (g.met.S.AnyStorage.sound _) c.self.invariant.0 _ _ b c.in-Ok-leak.ensures.step
 
 pub attach-requires : goal.attach-requires
 attach-requires g c =
@@ -43,8 +35,9 @@ invariant_of-self-2 g c =
     let child : Node _ = record { raw = c.in-Ok-leak.raw } in
     let step = c.in-Ok-leak.ensures.step in
     let same = c.reserve_one.ensures.same in
-    let live = rw (← c.self.view_is) at c.in-Ok.ensures.live in (
-      kept_added c.self.invariant.0 (sound _) _ _ c.in-Ok.parent child c.args.spot step live _ _
+    let live = rw (← c.self.view_is) at c.in-Ok.ensures.live in
+    let is = rw (← c.self.view_is) at c.in-Ok.ensures.parent in (
+      kept_added c.self.invariant.0 (sound _) _ _ c.in-Ok.parent child c.args.spot step live is _ _
           (rw same at c.open_slot.ensures.opened) c.attach.ensures.attached,
       c.attach.ensures.linked,
       noted_made c.self.invariant.2 (sound _) (sound _) (made_simple (sound _) c.self.invariant.0.simple _ _
@@ -63,22 +56,13 @@ returns g c =
     let live = rw (← c.self.view_is) at c.in-Ok.ensures.live in
     let is = rw (← c.self.view_is) at c.in-Ok.ensures.parent in
     let opened = rw c.reserve_one.ensures.same at c.open_slot.ensures.opened in
-    rw (← c.self.view_is) (record {
-      shown = made None _ _ (Ok c.in-Ok-leak.raw) step;
-      below =
-          rw is (added_child k (sound _) _ _ parent child c.args.spot step live _ _ opened c.attach.ensures.attached);
-      placed = λ up some. rw (← same_Some parent up (sym is ∙ some)) (added_parent k (sound _) _ _ parent child
-          c.args.spot step live _ _ opened c.attach.ensures.attached);
-      count = made_count (sound _) k.simple _ _ (pointer_of c.in-Ok-leak.raw) step;
-      others = λ f other beside. added_others k (sound _) _ _ parent child c.args.spot step live _ _ opened
-          c.attach.ensures.attached f other (beside parent is);
-      new = search rules;
-      made = (made_new _ _ _ _ step).2;
-      here = search rules;
-      kept = λ f. meets_given _ _ _ _ step _;
-      stale = search rules;
-      root = search rules;
-      short = search rules;
-      back = search rules;
-      refused = search rules;
-    })
+    let put = c.attach.ensures.attached in
+    let shown = made None _ _ (Ok c.in-Ok-leak.raw) step in
+    let below = added_child k (sound _) _ _ parent child c.args.spot step live is _ _ opened put in
+    let placed = added_parent k (sound _) _ _ parent child c.args.spot step live is _ _ opened put
+    in
+    let others = added_others k (sound _) _ _ parent child c.args.spot step live is _ _ opened put
+    in
+    let count = made_count (sound _) k.simple _ _ (pointer_of c.in-Ok-leak.raw) step in
+    let made = made_new _ _ _ _ step in
+    let kept = meets_given _ _ _ _ step in rw (← c.self.view_is) (search rules)

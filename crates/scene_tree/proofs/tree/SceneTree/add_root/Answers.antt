@@ -1,21 +1,13 @@
-use Rattle.scene_tree.proofs.{above, ap, families, given_other, is_some, IsLinked, kept_opened, left_with, live_family}
-use Rattle.scene_tree.proofs.{made, made_count, made_new, made_simple, meets_given, next_root, next_slot, None, noted}
-use Rattle.scene_tree.proofs.{noted_made, Ok, opened_alone, others_left, pointer_in, pointer_of, rules, same_value}
-use Rattle.scene_tree.proofs.{slot_in, subst, sym, ◌∙◌}
+use Rattle.scene_tree.proofs.{above, ap, families, given_other, is_some, kept_opened, left_with, live_family, made}
+use Rattle.scene_tree.proofs.{made_count, made_new, made_simple, meets_given, next_root, None, noted, noted_made, Ok}
+use Rattle.scene_tree.proofs.{opened_alone, others_left, pointer_in, pointer_of, rules, same_value, slot_in, ◌∙◌}
 use Rattle.scene_tree.proofs.tree.SceneTree.add_root.Goals as goal
 
-pub open_slot-requires : goal.open_slot-requires
-open_slot-requires g c =
-    let sound = g.met.S.AnyStorage.sound in
-    let same = c.reserve_one.ensures.same in
-    let step = c.in_ok-raw.ensures.step in record {
-      room = search rules;
-      linked = subst IsLinked (sym same) c.self.invariant.1;
-      forest = rw same c.self.invariant.0.forest;
-      within = rw same (next_slot _ (sound _) c.self.invariant.0 _ _ (pointer_of c.in_ok-raw.raw) step);
-      root = ap (λ ls. above (families ls) (pointer_of c.in_ok-raw.raw).id.slot) same
-          ∙ next_root _ (sound _) c.self.invariant.0 _ _ (pointer_of c.in_ok-raw.raw) step;
-    }
+pub open_slot-requires-clause-root : goal.open_slot-requires-clause-root
+open_slot-requires-clause-root g c =
+    let b = pointer_of c.in_ok-raw.raw in
+    ap (λ ls. above (families ls) b.id.slot) c.reserve_one.ensures.same ∙ next_root _
+    (g.met.S.AnyStorage.sound _) c.self.invariant.0 _ _ b c.in_ok-raw.ensures.step
 
 pub invariant_of-self-2 : goal.invariant_of-self-2
 invariant_of-self-2 g c =

@@ -1,11 +1,8 @@
 use Rattle.scene_tree.proofs.{ancestors_of, arith, family_in, length-map, live_slot, next_within, told_live}
 use Rattle.scene_tree.proofs.tree.SceneTree.ancestors.Goals as goal
 
-pub new-requires : goal.new-requires
-new-requires g c = record {
-  forest = c.self.invariant.0.forest;
-  within = rw c.parent_at.ensures (next_within _ c.self.invariant.0.forest c.slot.result);
-}
+pub new-requires-clause-within : goal.new-requires-clause-within
+new-requires-clause-within g c = grind (arith, next_within)
 
 pub returns-clause-ancestors : goal.returns-clause-ancestors
 returns-clause-ancestors g c =

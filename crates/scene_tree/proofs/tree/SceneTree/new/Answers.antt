@@ -1,5 +1,5 @@
-use Rattle.scene_tree.proofs.{ap, fresh_kept, fresh_sees, is_some, IsKept, none_noted, pointer_in, refl, subst, sym}
-use Rattle.scene_tree.proofs.{true≢false, value_in, [], ◌∙◌}
+use Rattle.scene_tree.proofs.{ap, arith, fresh_kept, fresh_sees, is_some, IsKept, none_noted, pointer_in, refl, subst}
+use Rattle.scene_tree.proofs.{sym, true≢false, value_in, [], ◌∙◌}
 use Rattle.scene_tree.proofs.tree.SceneTree.new.Goals as goal
 
 pub invariant_of-result : goal.invariant_of-result
@@ -12,5 +12,4 @@ invariant_of-result g c =
     )
 
 pub returns-clause-none : goal.returns-clause-none
-returns-clause-none g c n =
-    ap (λ S. value_in S (pointer_in n)) c.requires ∙ fresh_sees _ _ _ (pointer_in n)
+returns-clause-none g c n = grind (arith, fresh_sees)

@@ -1,12 +1,9 @@
-use Rattle.scene_tree.proofs.{alike, cut_others, cut_parent, kept_cut, kept_links, list_live, live_slot, noted_lost}
-use Rattle.scene_tree.proofs.{rules, subtree, sym, told_live}
+use Rattle.scene_tree.proofs.{alike, cut_others, cut_parent, kept_cut, list_live, noted_lost, rules, subtree, told_live}
 use Rattle.scene_tree.proofs.tree.SceneTree.remove_subtree.Goals as goal
 
-pub cut-requires : goal.cut-requires
-cut-requires g c =
-    let live = told_live c.args.node c.self.view_is c.is_alive.ensures c.if-not-is_alive.false in
-    let within = live_slot _ (g.met.S.AnyStorage.sound _) c.self.invariant.0 c.args.node live in
-    let same = alike c.self.invariant.0 (g.met.S.AnyStorage.sound _) c.args.node live in search rules
+pub cut-requires-clause-alike : goal.cut-requires-clause-alike
+cut-requires-clause-alike g c = alike c.self.invariant.0 (g.met.S.AnyStorage.sound _) c.args.node
+    (told_live c.args.node c.self.view_is c.is_alive.ensures c.if-not-is_alive.false)
 
 pub end_all-requires : goal.end_all-requires
 end_all-requires g c =
@@ -15,9 +12,6 @@ end_all-requires g c =
     let level = c.in-Ok.ensures.cut.level in
     let lives = list_live (sound _) c.self.invariant.0 c.args.node live _ level in
     let once = (subtree (sound _) c.self.invariant.0 c.args.node live _ level).once in search rules
-
-pub invariant_of-self : goal.invariant_of-self
-invariant_of-self g c = kept_links (sym c.in-Err.ensures.refused) c.self.invariant
 
 pub invariant_of-self-2 : goal.invariant_of-self-2
 invariant_of-self-2 g c = (

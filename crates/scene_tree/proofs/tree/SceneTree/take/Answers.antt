@@ -1,12 +1,10 @@
-use Rattle.scene_tree.proofs.{alike, ap, arith, cases_lt, cut_others, cut_parent, kept_cut, kept_links, length}
-use Rattle.scene_tree.proofs.{list_live, live_slot, noted_lost, rules, slice_get, subtree, sym, told_live, ⊎_elim}
+use Rattle.scene_tree.proofs.{alike, ap, arith, cases_lt, cut_others, cut_parent, kept_cut, length, list_live}
+use Rattle.scene_tree.proofs.{noted_lost, rules, slice_get, subtree, told_live, ⊎_elim}
 use Rattle.scene_tree.proofs.tree.SceneTree.take.Goals as goal
 
-pub cut-requires : goal.cut-requires
-cut-requires g c =
-    let live = told_live c.args.node c.self.view_is c.is_alive.ensures c.if-not-is_alive.false in
-    let within = live_slot _ (g.met.S.AnyStorage.sound _) c.self.invariant.0 c.args.node live in
-    let same = alike c.self.invariant.0 (g.met.S.AnyStorage.sound _) c.args.node live in search rules
+pub cut-requires-clause-alike : goal.cut-requires-clause-alike
+cut-requires-clause-alike g c = alike c.self.invariant.0 (g.met.S.AnyStorage.sound _) c.args.node
+    (told_live c.args.node c.self.view_is c.is_alive.ensures c.if-not-is_alive.false)
 
 pub take_first-requires : goal.take_first-requires
 take_first-requires g c =
@@ -16,9 +14,6 @@ take_first-requires g c =
     let some = ap length level in
     let lives = list_live (sound _) c.self.invariant.0 c.args.node live _ level in
     let once = (subtree (sound _) c.self.invariant.0 c.args.node live _ level).once in search (rules, arith)
-
-pub invariant_of-self : goal.invariant_of-self
-invariant_of-self g c = kept_links (sym c.in-Err.ensures.refused) c.self.invariant
 
 pub invariant_of-self-2 : goal.invariant_of-self-2
 invariant_of-self-2 g c = (

@@ -3,9 +3,7 @@ use Rattle.scene_tree.proofs.{true≢false, under_at, under_below, ◌∙◌}
 use Rattle.scene_tree.proofs.tree.SceneTree.test_move.Goals as goal
 
 pub returns-then-not-is_alive-2-clause-cycle : goal.returns-then-not-is_alive-2-clause-cycle
-returns-then-not-is_alive-2-clause-cycle g c live below = absurd (true≢false
-    (sym (below_live c.args.self.now c.args.node c.args.parent below.0 live below.1)
-    ∙ (sym c.is_alive-2.ensures ∙ c.if-not-is_alive-2.true)))
+returns-then-not-is_alive-2-clause-cycle g c live below = grind (arith, true≢false, below_live)
 
 pub is_under-requires-clause-within : goal.is_under-requires-clause-within
 is_under-requires-clause-within g c =
