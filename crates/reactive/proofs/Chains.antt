@@ -72,9 +72,6 @@ module _ {T R : Type 0} {plan : R → Plan T} {G : Graph T} {now : ℕ} {nodes :
   pub begins : (k : Key) → GoesOn G now nodes k (Some 0)
   begins k = inr (λ n at v has. (s.walks k n at v has, tt))
 
-  pub leaves_nothing : Leaves G now nodes nodes
-  leaves_nothing = record { known = λ k v h. h; stand = λ since a le mean h. h; same = λ k. inl refl }
-
 module _ {T R : Type 0} {plan : R → Plan T} {G : Graph T} {now : ℕ} {start : Key} {old new : Table T R}
     {path : List Frame} {top : Frame} {step : Step} (o : IsOnTheWay plan G now old start path top)
     (a : IsAdvanced plan G now old top.key step new) where

@@ -1,7 +1,7 @@
 -- What holds of a table when nodes are made, set or ended.
 use Rattle.reactive.proofs.Common.{AllMean, arith, Asked, Graph, graph_of, inl, inr, IsPut, IsReset, IsSound}
-use Rattle.reactive.proofs.Common.{IsWalk, Key, List, Means, Node, None, Plan, plan_at, refl, Some, Stands}
-use Rattle.reactive.proofs.Common.{Stop, sym, Table, ℕ, [], ⊎_elim, ◌<◌, ◌∙◌, ◌≡◌, ◌≤◌, ◌⊎◌}
+use Rattle.reactive.proofs.Common.{IsWalk, Key, List, Means, Node, None, Plan, plan_at, Some, Stands, Stop}
+use Rattle.reactive.proofs.Common.{sym, Table, ℕ, [], ◌<◌, ◌≡◌, ◌≤◌, ◌⊎◌}
 use Rattle.reactive.proofs.Keys.{key_cases}
 use Rattle.reactive.proofs.Meanings.{grown_all, stopped}
 use Rattle.reactive.proofs.Tables.{none_stops, stand_all}
@@ -17,10 +17,7 @@ module _ {T R : Type 0} {plan : R → Plan T} {G : Graph T} {now : ℕ} (next : 
     → (since ≡ now → AllMean G answers) → AllMean (graph_of plan new) answers) where
   stands : (since : ℕ) → since ≤ now → (a : Asked T) → (since ≡ now → Means G a.key a.value)
       → Stands old since a → Stands new since a
-  stands since le a mean h m there low = ⊎_elim (λ was. h m was low)
-      (λ reset. let changed = reset.0.changed in
-      absurd (never since a le mean reset.1 (omega (arith, low, changed))))
-      (each a.key m there)
+  stands since le a mean h m there low = grind arith
 
   walk : (k : Key) (n : Node T R) → new k ≡ Some n → (v : T) → n.value ≡ Some v
       → (old k ≡ Some n) ⊎ (IsReset plan next n × New k) → IsWalk (graph_of plan new) next new k n v
@@ -43,21 +40,14 @@ module _ {T R : Type 0} {plan : R → Plan T} {G : Graph T} {now : ℕ} (next : 
   }
 
   changed_sound : IsSound plan (graph_of plan new) next new
-  changed_sound = record {
-    same = λ k. refl;
-    walks = λ k n at v value. walk k n at v value (each k n at);
-    checked = λ k n at. grind (arith, each k n at, s.checked k n);
-    changed = λ k n at. grind (arith, each k n at, s.changed k n);
-  }
+  changed_sound = grind (arith, walk)
 
 module _ {T R : Type 0} {plan : R → Plan T} {G : Graph T} {now : ℕ} {old : Table T R} (new : Table T R)
     (s : IsSound plan G now old) where
   module _ (k : Key) (n : Node T R) (put : IsPut old k n new) where
     each_put : (next : ℕ) (New : Key → Type 0) → IsReset plan next n → New k → (j : Key) (m : Node T R)
         → new j ≡ Some m → (old j ≡ Some m) ⊎ (IsReset plan next m × New j)
-    each_put next New reset is_new j m there = ⊎_elim
-        (λ same. let e : n ≡ m = cc (put.here) in inr (rw (← e) reset, rw same is_new))
-        (λ other. inl (sym (put.others j other) ∙ there)) (key_cases j k)
+    each_put next New reset is_new j m there = grind (arith, key_cases)
 
     -- a node was set, in a later revision
     pub set_sound : (next : ℕ) → now < next → IsReset plan next n → IsSound plan (graph_of plan new) next new

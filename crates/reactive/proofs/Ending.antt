@@ -1,8 +1,7 @@
 -- What holds of a table when some of its nodes have ended.
+use Rattle.reactive.proofs.{Keys.key_cases, Meanings.same}
 use Rattle.reactive.proofs.Common.{arith, get_or, HasLost, IsAmong, Key, length, List, None, Table, take}
 use Rattle.reactive.proofs.Common.{take_more, ℕ, [], ◌++◌, ◌+◌, ◌<◌, ◌∷◌, ◌≡◌, ◌≢◌, ◌⊎◌}
-use Rattle.reactive.proofs.Keys.{key_cases}
-use Rattle.reactive.proofs.Meanings.{same}
 
 among_last : (xs : List Key) (x k : Key) → IsAmong k (xs ++ x ∷ []) → IsAmong k xs ⊎ (x ≡ k)
 among_last [] x k e = grind arith
@@ -15,11 +14,7 @@ among_first (y ∷ xs) x k e = grind (arith, among_first xs x k)
 module _ {T R : Type 0} where
   lost_last : (old mid new : Table T R) (xs : List Key) (x : Key) → HasLost old xs mid
       → new x ≡ None → ((j : Key) → j ≢ x → new j ≡ mid j) → HasLost old (xs ++ x ∷ []) new
-  lost_last old mid new xs x lost none same = record {
-    ended = λ k among. grind (arith, key_cases k x, same k, lost.ended k, among_last xs x k among);
-    others = λ k other. grind (arith, key_cases k x, same k, lost.others k, among_first xs x k);
-    left = λ k. grind (arith, key_cases k x, same k, lost.left k);
-  }
+  lost_last old mid new xs x lost none same = grind (arith, key_cases, among_last, among_first)
 
   pub lost_more : (old mid new : Table T R) (keys : List Key) (i : ℕ) (d : Key) → i < length keys
       → HasLost old (take i keys) mid → new (get_or keys i d) ≡ None

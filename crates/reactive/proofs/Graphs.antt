@@ -1,21 +1,18 @@
 -- What calls leave of a graph that is kept.
+use Rattle.reactive.proofs.{Keys.key_cases, Meanings.same}
 use Rattle.reactive.proofs.Common
-use Common.{arith, Blames, Bor, Err, Fault, fresh_sees, fresh_simple, Give, GraphState, HasKind, HasLost}
-use Common.{HasPlan, IfErr, IfOk, IfSome, IsAmong, IsFresh, IsKept, IsPut, IsReset, IsResetTo, IsSimple}
-use Common.{IsSound, Key, kind_by, kind_by_rule, kind_in, kinds_of, known_by, List, Means, Node, nodes_in}
-use Common.{None, Ok, OnErr, OnOk, Option, option_copied, Plan, plan_at, plan_by, plans_in, pointer_in}
-use Common.{Refreshed, Result, shown_in, Some, Source, State, subst, sym, Table, ℕ, ◌<◌, ◌≡◌}
+use Common.{arith, Blames, Bor, Err, Fault, fresh_sees, fresh_simple, Give, GraphState, HasLost, IfErr, IfOk}
+use Common.{IfSome, IsFresh, IsKept, IsPut, IsReset, IsResetTo, IsSimple, IsSound, Key, kind_by_rule, kind_in}
+use Common.{kinds_of, List, Means, Node, nodes_in, None, Ok, OnErr, OnOk, Option, option_copied, Plan}
+use Common.{plan_by, plans_in, pointer_in, Refreshed, Result, shown_in, Some, State, sym, Table, ◌<◌, ◌≡◌}
 use Rattle.reactive.proofs.Changing.{ended_sound, made_sound, set_sound}
-use Rattle.reactive.proofs.Keys.{key_cases}
-use Rattle.reactive.proofs.Meanings.{same}
 use Rattle.reactive.proofs.Tables.{known_means, known_shows, shown_known}
 
 module _ {T R : Type 0} where
   -- a node that was put where one of its kind was leaves what each key is
   pub put_kinds : (old new : Table T R) (k : Key) (n m : Node T R) → old k ≡ Some n
       → kind_by_rule m.rule ≡ kind_by_rule n.rule → IsPut old k m new → kinds_of new ≡ kinds_of old
-  put_kinds old new k n m is same put = λ i j.
-      (let at : kinds_of new j ≡ kinds_of old j = grind (arith, key_cases j k, put.others j) in at) i
+  put_kinds old new k n m is same put = grind (arith, key_cases)
 
   -- from one graph to another a node was put in the place of a key's, in a later revision
   abbrev pub IsRenewed : GraphState T R → Key → Option R → Option T → GraphState T R → Type 0
@@ -34,18 +31,12 @@ module _ {T R : Type 0} where
     sound = grind (arith, fresh_stops S fresh);
   }
 
-  -- a source with a value is known
-  pub source_known : (plan : R → Plan T) (now : ℕ) (o : Option (Node T R)) (v : T) → kind_by o ≡ Source
-      → plan_at plan o ≡ Give v → known_by now o ≡ Some v
-  source_known plan now o v kind is = grind arith
-
 module _ {T R : Type 0} {plan : R → Plan T} where
   -- ---- a graph that is as it was
 
   pub kept_same : (old new : GraphState T R) → IsKept plan old
       → (new.state ≡ old.state) × (new.revision ≡ old.revision) → IsKept plan new
-  kept_same old new kept (state, revision) =
-      subst (IsKept plan) (λ i. record { state = sym state i; revision = sym revision i }) kept
+  kept_same old new kept left = grind arith
 
   -- ---- a node that was made, or not
 
@@ -80,8 +71,7 @@ module _ {T R : Type 0} {plan : R → Plan T} where
     pub refreshed_blames : kinds_of (nodes_in new.state) ≡ kind_in old → (k : Key)
         (r : Result (Unit {0}) Fault) → Refreshed (plans_in plan old) old.revision (nodes_in new.state) k r
         → IfErr r (Blames (plans_in plan old) (kind_in old) k)
-    refreshed_blames is k (Ok u) h = tt
-    refreshed_blames is k (Err f) h = rw is at h
+    refreshed_blames is k r h = grind arith
 
   pub peek_means : (now : GraphState T R) → IsKept plan now → (k : Key) (o : Option (Bor T))
       → option_copied o ≡ shown_in now k → IfSome o (λ v. Means (plans_in plan now) k v.now)
@@ -106,28 +96,4 @@ module _ {T R : Type 0} {plan : R → Plan T} where
       → OnOk r (HasLost (nodes_in old.state) gone (nodes_in new.state))
       → OnErr r ((new.state ≡ old.state) × (new.revision ≡ old.revision))
       → IsKept plan old → IsSimple new.state → OnOk r (old.revision < new.revision) → IsKept plan new
-  kept_lost (Ok u) old new gone lost refused kept simple later =
-      record { simple = simple; sound = ended_sound (nodes_in new.state) kept.sound new.revision later lost.left }
-  kept_lost (Err e) old new gone lost refused kept simple later = kept_same old new kept refused
-
-module _ {T R E : Type 0} (r : Result (Unit {0}) E) where
-  -- a node that was set has this plan and is of this kind
-  module _ (old new : GraphState T R) (k : Key) (rule : Option R) (value : Option T)
-      (put : OnOk r (IsRenewed old k rule value new)) where
-    pub reset_kind : OnOk r (HasKind old k (kind_by_rule rule) new)
-    reset_kind = grind arith
-
-    pub reset_plan : (plan : R → Plan T) → OnOk r (HasPlan plan old k (plan_by plan rule value) new)
-    reset_plan plan = grind arith
-
-  -- nodes that have ended are gone, and the others are as they were: so is what is told of them
-  module _ {X : Type 0} (told : Option (Node T R) → X) where
-    pub lost_gone : (old new : Table T R) (gone : List Key) → OnOk r (HasLost old gone new)
-        → OnOk r ((k : Key) → IsAmong k gone → told (new k) ≡ told None)
-    lost_gone old new gone lost = grind arith
-
-    pub lost_kept : (old new : GraphState T R) (gone : List Key)
-        → OnOk r (HasLost (nodes_in old.state) gone (nodes_in new.state))
-        → OnErr r ((new.state ≡ old.state) × (new.revision ≡ old.revision))
-        → (k : Key) → (IsAmong k gone → ⊥) → told (nodes_in new.state k) ≡ told (nodes_in old.state k)
-    lost_kept old new gone lost refused k other = grind arith
+  kept_lost r old new gone lost refused kept simple later = grind (arith, ended_sound, kept_same)

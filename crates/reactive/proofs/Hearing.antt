@@ -31,17 +31,14 @@ module _ {T : Type 0} (same : T → T → Bool) (G : Graph T) where
   all_length : (n : ℕ) (old now : List (Effect T)) (told : List (Told T)) → AllHear same G n old now told
       → (length now ≡ length old) × (n ≤ length old)
   all_length zero old now told h = (ap length h.0, omega arith)
-  all_length (suc n) (o ∷ old) (m ∷ now) told h =
-      let rest = all_length n old now h.2.1 h.2.4 in (ap suc rest.0, omega (arith, rest.1))
+  all_length (suc n) (o ∷ old) (m ∷ now) told h = grind (arith, all_length n old now h.2.1 h.2.4)
   all_length (suc n) old now told h = absurd h
 
   -- the effects that are left are these
   pub all_kept : (n k : ℕ) (old now : List (Effect T)) (told : List (Told T)) → n ≡ length old
       → AllHear same G k old now told
       → AllHear same G k old (take n (now ++ drop (length now) old)) told
-  all_kept n k old now told is h =
-      let long : n ≡ length now = cc ((all_length k old now told h).0) in
-      rw (long, take-append_seam now (drop (length now) old)) h
+  all_kept n k old now told is h = grind (arith, all_length, take-append_seam)
 
   -- all of them have heard in the end
   pub all_heard : (k : ℕ) (old now : List (Effect T)) (told : List (Told T)) → AllHear same G k old now told
@@ -57,9 +54,7 @@ module _ {T : Type 0} (same : T → T → Bool) (G : Graph T) where
   first_heard : (k : Key) (new : List (Effect T)) (told : List (Told T))
       → AllHear same G (suc zero) (record { key = k; told = None } ∷ []) new told
       → (a : Result T Fault) × Says G k a × (told ≡ record { key = k; answer = a } ∷ [])
-  first_heard k [] told h = absurd h
-  first_heard k (f ∷ new) told h =
-      let one = told_first k h.0 f h.2.0 h.2.3 in (h.0, h.1, cc (h.2.2, one.1, h.2.4.1))
+  first_heard k new told h = grind (arith, told_first)
 
   pub first_told : (n : ℕ) (k : Key) (old new : List (Effect T)) (told : List (Told T))
       → old ≡ record { key = k; told = None } ∷ [] → n ≡ length old → AllHear same G n old new told

@@ -1,10 +1,9 @@
 -- What runs and kept answers say of a node.
-use Rattle.reactive.proofs.Common.{AllStand, ap, AreKnown, arith, Asked, false, Follows, Give, GoesOn, Graph}
-use Rattle.reactive.proofs.Common.{inl, inr, is_some, IsAsked, IsMute, IsSound, IsWalk, Key, known_by}
-use Rattle.reactive.proofs.Common.{LeadsTo, length, List, list_map, Needs, Node, None, none-some, Option}
-use Rattle.reactive.proofs.Common.{Plan, Ran, refl, same_Some, Shows, slice_get, slice_index_or, Some}
-use Rattle.reactive.proofs.Common.{some_live, Stands, suc, sym, Table, take, true, vec_items, zero, ℕ, []}
-use Rattle.reactive.proofs.Common.{◌+◌, ◌<◌, ◌∙◌, ◌∷◌, ◌≡◌, ◌≤◌}
+use Rattle.reactive.proofs.Common.{AllStand, ap, AreKnown, arith, Asked, false, GoesOn, Graph, inr, is_some}
+use Rattle.reactive.proofs.Common.{IsAsked, IsMute, IsSound, IsWalk, Key, known_by, LeadsTo, length, List}
+use Rattle.reactive.proofs.Common.{list_map, Needs, Node, None, none-some, Option, Plan, Ran, refl, same_Some}
+use Rattle.reactive.proofs.Common.{Shows, slice_get, slice_index_or, Some, some_live, Stands, suc, sym, Table}
+use Rattle.reactive.proofs.Common.{take, true, vec_items, zero, ℕ, [], ◌+◌, ◌<◌, ◌∙◌, ◌∷◌, ◌≡◌, ◌≤◌}
 use Rattle.reactive.proofs.Meanings.{asked_to, gave_up, needs_mute, ran_to, stopped}
 use Rattle.reactive.proofs.Tables.{all_mean, known_node, known_shows, none_stops, plan_here, shown_known}
 
@@ -73,9 +72,7 @@ module _ {T R : Type 0} {plan : R → Plan T} {G : Graph T} {now : ℕ} {nodes :
       plan_is = cc (plan_here s k n at)
 
       pub rerun_needs : (j : Key) (result : Option T) → Ran (plan rule) answers (Some j) result → Needs G k j
-      rerun_needs j result ran =
-          let to = ran_to (plan rule) answers (Some j) result ran in
-          (answers, to.2.0, all_mean s answers known, rw (plan_is, ← to.2.1) to.1)
+      rerun_needs j result ran = grind (arith, ran_to, all_mean, plan_is)
 
       pub rerun_mute : Ran (plan rule) answers None None → IsMute G k
       rerun_mute ran =
@@ -84,9 +81,7 @@ module _ {T R : Type 0} {plan : R → Plan T} {G : Graph T} {now : ℕ} {nodes :
 
       pub rerun_leads : (v : T) (reads : List Key) → list_map (λ a. a.key) answers ≡ reads
           → Ran (plan rule) answers None (Some v) → LeadsTo G now nodes k n v reads
-      rerun_leads v reads asked ran =
-          let to = ran_to (plan rule) answers None (Some v) ran in
-          let leads : Follows (G k) answers (Give v) = rw (plan_is, ← to.2) to.1 in search
+      rerun_leads v reads asked ran = grind (arith, ran_to, plan_is)
 
     -- ---- what the kept answers come to
 
@@ -94,10 +89,7 @@ module _ {T R : Type 0} {plan : R → Plan T} {G : Graph T} {now : ℕ} {nodes :
     pub kept_walk : (place : ℕ) → GoesOn G now nodes k (Some place) → is_some (known_by now (Some n)) ≡ false
         → is_some n.value ≡ true → (v : T) × (n.value ≡ Some v)
         × ((w : IsWalk G now nodes k n v) × AreKnown nodes now (take place w.answers))
-    kept_walk place (inr far) miss some =
-        let v = some_live n.value some in (v.0, v.1, far n at v.0 v.1)
-    kept_walk place (inl (u, shows)) miss some =
-        absurd (let is = shown_known now nodes k u shows in grind arith)
+    kept_walk place goes miss some = grind (arith, some_live, shown_known)
 
     module _ (v : T) (value : n.value ≡ Some v) (w : IsWalk G now nodes k n v) where
       pub kept_leads : (rule : R) → n.rule ≡ Some rule → AreKnown nodes now w.answers
@@ -106,9 +98,7 @@ module _ {T R : Type 0} {plan : R → Plan T} {G : Graph T} {now : ℕ} {nodes :
 
       -- a kept answer's node is needed, where those before it are what their nodes mean
       pub asked_needs : (j : Key) (place : ℕ) → IsAsked nodes now w.answers j place → Needs G k j
-      asked_needs j place a =
-          let got = asked_to (G k) w.answers place a.answer (Give v) w.leads a.there in
-          rw (← a.of) (take place w.answers, got.0, all_mean s (take place w.answers) a.before, got.1)
+      asked_needs j place a = grind (arith, asked_to, all_mean)
 
       pub asked_goes : (j : Key) (place : ℕ) → IsAsked nodes now w.answers j place
           → GoesOn G now nodes k (Some place)

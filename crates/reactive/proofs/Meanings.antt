@@ -1,6 +1,6 @@
 -- A node means at most one value, a node on a cycle means none, answers that are meant may be put for
 -- questions, and a new node leaves what others mean.
-use Rattle.reactive.proofs.Common.{AllMean, arith, Ask, Asked, Follows, Give, gives, Gives, goes_on, Graph}
+use Rattle.reactive.proofs.Common.{AllMean, arith, Ask, Asked, Follows, Give, Gives, gives, goes_on, Graph}
 use Rattle.reactive.proofs.Common.{IsCyclic, IsMute, Key, List, Means, Needs, None, none-some, Option, Plan}
 use Rattle.reactive.proofs.Common.{Ran, refl, same_Some, slice_get, Some, Stop, subst, suc, sym, take, zero}
 use Rattle.reactive.proofs.Common.{ℕ, [], ⊎_elim, ◌∷◌, ◌≡◌, ◌⊎◌}
@@ -34,8 +34,7 @@ module _ {T : Type 0} where
   ran_to (Give v) [] l r h = (Give v, refl, rw (h.0, h.1) refl)
   ran_to Stop [] l r h = (Stop, refl, rw (h.0, h.1) refl)
   ran_to (Ask k next) [] l r h = (Ask k next, refl, rw h (next, refl))
-  ran_to (Ask k next) (a ∷ rest) l r h =
-      let m = ran_to (next a.value) rest l r h.1 in (m.0, (h.0, m.1), m.2)
+  ran_to (Ask k next) (a ∷ rest) l r h = grind (arith, ran_to (next a.value) rest l r h.1)
   ran_to p (a ∷ rest) l r h = absurd h
 
 module _ {T : Type 0} (G : Graph T) where
@@ -76,8 +75,7 @@ module _ {T : Type 0} (G : Graph T) where
   gave_up j answers all f v d = stopped v (left (G j) answers Stop v f all d)
 
   pub needs_mute : (j k : Key) → Needs G j k → IsMute G k → IsMute G j
-  needs_mute j k (answers, next, all, f) mute v d =
-      let got = inside k next v (left (G j) answers (Ask k next) v f all d) in mute got.0 got.1
+  needs_mute j k needs mute v d = grind (arith, inside, left)
 
   -- a node on a cycle means nothing
   module _ (C : Key → Type 0) (cyclic : IsCyclic G C) where

@@ -1,8 +1,8 @@
 -- What holds of a table when one of its nodes is settled, and that it leaves what was found before.
-use Rattle.reactive.proofs.Common.{AllStand, ap, AreKnown, arith, Asked, Give, gives, Graph, inl, inr}
-use Rattle.reactive.proofs.Common.{IsAdvanced, IsPut, IsSettled, IsSound, IsWalk, Key, LeadsTo, Leaves, List}
-use Rattle.reactive.proofs.Common.{Means, Node, Plan, Shows, Some, Stands, Step, Stepped, sym, Table, Vec}
-use Rattle.reactive.proofs.Common.{vec_items, ℕ, [], ⊎_elim, ◌∙◌, ◌∷◌, ◌≡◌, ◌≤◌, ◌⊎◌}
+use Rattle.reactive.proofs.Common.{AllStand, AreKnown, arith, Asked, Give, gives, Graph, inl, inr, IsAdvanced}
+use Rattle.reactive.proofs.Common.{IsPut, IsSettled, IsSound, IsWalk, Key, LeadsTo, Leaves, List, Means, Node}
+use Rattle.reactive.proofs.Common.{Plan, Shows, Some, Stands, Step, Stepped, Table, Vec, vec_items, ℕ, []}
+use Rattle.reactive.proofs.Common.{⊎_elim, ◌∙◌, ◌∷◌, ◌≡◌, ◌≤◌, ◌⊎◌}
 use Rattle.reactive.proofs.Keys.{key_cases}
 use Rattle.reactive.proofs.Meanings.{same, walked}
 use Rattle.reactive.proofs.Tables.{all_mean, known_means, plan_here, stand_all}
@@ -46,9 +46,7 @@ module _ {T R : Type 0} {plan : R → Plan T} {G : Graph T} {now : ℕ} {old new
 
   stands : (since : ℕ) (a : Asked T) → since ≤ now → (since ≡ now → Means G a.key a.value)
       → Stands old since a → Stands new since a
-  stands since a le mean h n there low =
-      let one : since ≡ now → a.key ≡ k → v ≡ a.value = λ e is. same G (G k) v means a.value (rw is at (mean e)) in
-      grind (arith, each a.key n there, h was, h n)
+  stands since a le mean h n there low = grind (arith, same, means, each)
 
   stays_known : (j : Key) (w : T) → Shows old now j w → Shows new now j w
   stays_known j w known = ⊎_elim
@@ -65,24 +63,11 @@ module _ {T R : Type 0} {plan : R → Plan T} {G : Graph T} {now : ℕ} {old new
   }
 
   walks : (j : Key) (n : Node T R) → new j ≡ Some n → (w : T) → n.value ≡ Some w → IsWalk G now new j n w
-  walks j n there w value = ⊎_elim
-      (λ here. let one : w ≡ v = cc (settled.value, here.1) in rw (here.0, here.1, one) (record {
-        answers = l.answers;
-        asked = l.asked ∙ ap vec_items (sym settled.asked_by);
-        leads = l.leads;
-        stand = known_stand new now is.checked l.answers (known_left settling l.answers l.known);
-        fresh = λ e. all_mean s l.answers l.known;
-      }))
-      (λ before. walk_left settling j n w (s.checked j n before) (s.walks j n before w value))
-      (each j n there)
+  walks j n there w value =
+      grind (arith, known_stand, known_left, settling, all_mean, walk_left, each)
 
   settle : IsSound plan G now new
-  settle = record {
-    same = λ j. grind (arith, key_cases j k, plan_here s k was at, s.same j);
-    walks = walks;
-    checked = λ j n there. grind (arith, each j n there, s.checked j n);
-    changed = λ j n there. grind (arith, each j n there, s.changed j n, s.changed k was at);
-  }
+  settle = grind (arith, same, key_cases, plan_here, walks, each)
 
   pub found : (step : Step) → (((v : T) × Shows new now k v) → Stepped G now new k step)
       → IsAdvanced plan G now old k step new

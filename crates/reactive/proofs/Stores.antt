@@ -1,20 +1,17 @@
 -- The nodes of a store are found by their keys, and change as the machine says.
-use Rattle.reactive.proofs.Common
-use Common.{arith, Bool, box_with, can_write, Done, End, ends, false, free_seen, GenerationalBox}
-use Common.{GenerationalBoxId, GenerationalPointer, IfNone, IfSome, is_some, IsPut, IsSimple, IsSoundStore}
-use Common.{Key, led_box, Location, made, Made, made_apart, made_new, Make, Meets, name_of, Node, nodes_in}
-use Common.{None, Ok, Old, Option, others_left, pointer_in, pointer_of, reach_apart, reaches, same_id_reach}
-use Common.{same_id_sees, same_value, seen_reached, seen_store, sets, SetValue, Some, State, stuck_unseen}
-use Common.{sym, Table, true, unseen, value_in, ◌∙◌, ◌≡◌, ◌≢◌}
+use Rattle.reactive.proofs.Common.{arith, Bool, box_with, can_write, Done, End, ends, false, free_seen}
+use Rattle.reactive.proofs.Common.{GenerationalBox, GenerationalBoxId, GenerationalPointer, IfNone, IfSome}
+use Rattle.reactive.proofs.Common.{is_some, IsPut, IsSimple, IsSoundStore, Key, led_box, Location, Made, made}
+use Rattle.reactive.proofs.Common.{made_apart, made_new, Make, Meets, Node, nodes_in, None, Ok, Old, Option}
+use Rattle.reactive.proofs.Common.{others_left, pointer_in, pointer_of, reach_apart, reaches, same_id_reach}
+use Rattle.reactive.proofs.Common.{same_id_sees, same_value, seen_reached, seen_store, sets, SetValue, Some}
+use Rattle.reactive.proofs.Common.{State, stuck_unseen, sym, Table, true, unseen, value_in, ◌∙◌, ◌≡◌, ◌≢◌}
 
 -- ---- the box that is found by an id
 
 module _ {N : Type 0} (S : State N) where
   found : (b : GenerationalPointer) (v : N) → value_in S b ≡ Some v → is_some (box_with S b.id) ≡ true
-  found b v is =
-      let to = seen_reached S b v is in
-      let r = reaches S b to.0 to.1 in
-      let box = led_box _ (name_of b) to.0 r.leads in grind arith
+  found b v is = grind (arith, seen_reached, reaches, led_box)
 
   pub not_found : (b : GenerationalPointer) → None ≡ box_with S b.id → value_in S b ≡ None
   not_found b none = grind (arith, found)

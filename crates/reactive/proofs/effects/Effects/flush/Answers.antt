@@ -1,5 +1,5 @@
-use Rattle.reactive.proofs.{add-one, all_heard, all_kept, ap, append-nil, append_assoc, arith, get_or}
-use Rattle.reactive.proofs.{hear_more, refl, rules, set-get_or, slice_get-get_or, sym, [], ◌++◌, ◌∙◌}
+use Rattle.reactive.proofs.{add-one, all_heard, all_kept, ap, append_assoc, arith, get_or, hear_more, rules}
+use Rattle.reactive.proofs.{set-get_or, slice_get-get_or, ◌++◌, ◌∙◌}
 use Rattle.reactive.proofs.effects.Effects.flush.Goals as goal
 
 pub returns-in_err-hear : goal.returns-in_err-hear
@@ -18,9 +18,6 @@ returns-in_err-hear g c =
       plans = c.hear.ensures.plans ∙ inv.0;
       kinds = c.hear.ensures.kinds ∙ inv.2;
     }
-
-pub loop-effect-init : goal.loop-effect-init
-loop-effect-init g c = (refl, ([], sym (append-nil c.args.told.now.items), (search rules, refl)), refl)
 
 pub loop-effect-preserved : goal.loop-effect-preserved
 loop-effect-preserved g c =

@@ -1,5 +1,5 @@
+use Rattle.reactive.proofs.{found, inr, refl}
 use Rattle.reactive.specs.declared.look.Step.TheVariants as step
-use Rattle.reactive.proofs.{found, inr, leaves_nothing, refl}
 use Rattle.reactive.proofs.nodes.Nodes.advance.Goals as goal
 
 pub returns-in-Right-clause-advanced : goal.returns-in-Right-clause-advanced
@@ -14,7 +14,3 @@ returns-in-New-clause-advanced g c = λ G s goes.
     let (n, at, leads) = c.in-New.ensures.looked G s goes in
     let kept = c.keep.ensures.kept n at in
     found s c.args.key n kept.0 c.in-New.value c.in-New.reads at leads kept.1 kept.2 step.Settled (λ x. x)
-
-pub returns-in-NoValue-clause-advanced : goal.returns-in-NoValue-clause-advanced
-returns-in-NoValue-clause-advanced g c = λ G s goes.
-    record { sound = s; leaves = leaves_nothing s; stepped = c.in-NoValue.ensures.looked G s goes }

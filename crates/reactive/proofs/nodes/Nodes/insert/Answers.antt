@@ -13,8 +13,5 @@ returns-in-Ok-clause-put g c =
       made_puts (sound _) c.args.node c.args.here c.in-Ok.raw _ (sym c.id.ensures) step,
     )
 
-pub returns-in-Err-clause-cause : goal.returns-in-Err-clause-cause
-returns-in-Err-clause-cause g c = (make_short _ _ _ c.in-Err.ensures.step).0
-
 pub returns-in-Err-clause-short : goal.returns-in-Err-clause-short
 returns-in-Err-clause-short g c = (make_short _ _ _ c.in-Err.ensures.step).1

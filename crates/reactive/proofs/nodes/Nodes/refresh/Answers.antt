@@ -1,14 +1,4 @@
-use Rattle.reactive.proofs.{begins, refl, rules}
 use Rattle.reactive.proofs.nodes.Nodes.refresh.Goals as goal
-
-pub loop-step-init : goal.loop-step-init
-loop-step-init g c = (
-  c.requires.simple,
-  refl,
-  λ G s. record { sound = s; chain = search rules; others = search rules; last = begins s c.args.key },
-  refl,
-  λ known. (search rules, refl, refl, refl),
-)
 
 pub returns-in-Ok-None-clause-refreshed : goal.returns-in-Ok-None-clause-refreshed
 returns-in-Ok-None-clause-refreshed g c = λ G s.

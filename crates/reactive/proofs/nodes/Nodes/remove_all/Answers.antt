@@ -1,4 +1,4 @@
-use Rattle.reactive.proofs.{arith, lost_more}
+use Rattle.reactive.proofs.{lost_more}
 use Rattle.reactive.proofs.nodes.Nodes.remove_all.Goals as goal
 
 pub loop-key-preserved : goal.loop-key-preserved
@@ -7,6 +7,3 @@ loop-key-preserved g c = (
   lost_more _ _ _ c.args.keys.now c.loop-key.key-index _ c.loop-key-test.true c.loop-key.invariant.1
       c.remove.ensures.ended c.remove.ensures.others,
 )
-
-pub returns-clause-later : goal.returns-clause-later
-returns-clause-later g c = let h = c.in-Some.ensures in omega arith
