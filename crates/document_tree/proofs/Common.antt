@@ -26,15 +26,15 @@ pub use Rattle.generational_core.specs.Leaving.{LeavesContent}
 pub use Rattle.generational_core.specs.Machine.{act, Action, Answer, cell_at, NewNames}
 pub use Rattle.generational_core.specs.Machine.Action.{End, MakeShared, Point, Refer, SetValue}
 pub use Rattle.generational_core.specs.Machine.Answer.{Done, Made, Old}
-pub use Rattle.generational_core.specs.Names.{Name, name_cmp, NameMap}
+pub use Rattle.generational_core.specs.Names.{Name, NameMap}
 pub use Rattle.generational_core.specs.State.{IsSound, State}
 pub use Rattle.generational_core.specs.StepCalls.{target_in, target_of}
 pub use Rattle.generational_core.specs.Steps.{Meets, no_names}
 pub use Rattle.generational_sessions.proofs.callers.Ids.{same_id_reach, same_value_there, unreached}
 pub use Rattle.generational_sessions.proofs.callers.Shortage.{refer_short, share_short, shared_apart}
 pub use Rattle.std.proofs.Common.{add-one, ap, append_assoc, arith, Err, false, inl, inr, length, List, map}
-pub use Rattle.std.proofs.Common.{None, Ok, Option, refl, reverse, rules, Some, suc, sym, true, zero, ℕ, []}
-pub use Rattle.std.proofs.Common.{⊎_elim, ◌++◌, ◌+◌, ◌-◌, ◌<◌, ◌∙◌, ◌∷◌, ◌≡◌, ◌≢◌, ◌≤◌}
+pub use Rattle.std.proofs.Common.{None, Ok, Option, refl, reverse, rules, Some, suc, sym, true, ℕ, [], ⊎_elim}
+pub use Rattle.std.proofs.Common.{◌++◌, ◌+◌, ◌-◌, ◌<◌, ◌∙◌, ◌∷◌, ◌≡◌, ◌≢◌, ◌≤◌}
 pub use Rattle.std.proofs.lemmas.Bool.{eq-eqb, eqb-true, true≢false}
 pub use Rattle.std.proofs.lemmas.Iterator.Adapters.{items_from_extend, YieldsList-from_rev_slice}
 pub use Rattle.std.proofs.lemmas.Iterator.Consumers.{YieldsList-at, YieldsList-from_copied}

@@ -11,8 +11,7 @@ module _ {T : Type 0} where
   -- what a place leads to is a part
   part_shared : {D : State (Part T)} → IsSound D → IsKept D → (p : Place) (n : Name)
       → part_in D p ≡ Some n → is_shared (map.get D.cells n) ≡ true
-  part_shared {D} s k p n to =
-      let r = reaches D p.raw n to in grind (arith, k.linked (name_of p.raw), s.targets (name_of p.raw))
+  part_shared s k p n to = grind (arith, reaches)
 
   module _ {D E : State (Part T)} (call : Action (Part T)) (answer : Answer (Part T)) (s : IsSound D)
       (m : Meets D call answer E) where

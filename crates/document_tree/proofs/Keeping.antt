@@ -3,10 +3,10 @@ use Rattle.document_tree.proofs.Common
 use Common.{act, act_start, Action, Answer, ap, arith, BeginsNoBorrow, BorrowError, BorrowMutError, by_name}
 use Common.{Cell, Content, Done, End, end_refused, eq-eqb, eqb-true, false, free, fresh, GenerationalPointer}
 use Common.{get-insert_apart, get-insert_here, is_making, is_some, IsKept, IsReference, IsSound, keep_each}
-use Common.{Location, MakeShared, may_lack, Meets, meets_each, meets_follows, Name, name_cmp, name_of}
-use Common.{NameMap, new_content, NewNames, no_names, None, Option, OutOfMemory, Point, quiet_free}
-use Common.{quiet_fresh, quiet_stays, reaches, read_refused, ref_reaches, Refer, refer_short, refill, refl}
-use Common.{rests, seen_reached, SetValue, Some, State, test_sees, Value, value_in, ℕ, ◌∙◌, ◌≡◌}
+use Common.{Location, MakeShared, may_lack, Meets, meets_each, meets_follows, Name, NameMap, new_content}
+use Common.{NewNames, no_names, None, Option, OutOfMemory, Point, quiet_free, quiet_fresh, quiet_stays}
+use Common.{reaches, read_refused, ref_reaches, Refer, refer_short, refill, refl, rests, seen_reached}
+use Common.{SetValue, Some, State, test_sees, Value, value_in, ℕ, ◌∙◌, ◌≡◌}
 use Rattle.std.specs.FinMap as map
 use Rattle.std.specs.FinSet as set
 use Rattle.generational_errors.specs.declared.error.Refused as error
@@ -22,10 +22,7 @@ module _ {C : Type 0} where
   AreNoValues cells = (n : Name) → IsNoValue (map.get cells n)
 
   pub fresh_kept : (number start next : ℕ) → IsKept (fresh {T = C} number start next)
-  fresh_kept number start next = record {
-    unborrowed = quiet_fresh number start next;
-    linked = λ n c l is. cc (map.get-empty {X = Cell C} name_cmp n);
-  }
+  fresh_kept number start next = grind (arith, quiet_fresh, map.get-empty)
 
   refilled : (d : Content C) (x : Cell C) (c : Content C) (l : Location) → IsNoValue (Some x)
       → Some (refill d x) ≡ Some (Value c l) → ⊥
@@ -80,10 +77,7 @@ module _ {C : Type 0} where
   -- a box that sees a value is that of a reference
   pub seen_reference : {S : State C} → IsSound S → IsKept S → (b : GenerationalPointer) (v : C)
       → value_in S b ≡ Some v → IsReference S b
-  seen_reference {S} s k b v seen =
-      let to = seen_reached S b v seen in
-      let r = reaches S b to.0 to.1 in
-      let linked = k.linked (name_of b) in grind (arith, eqb-true)
+  seen_reference s k b v seen = grind (arith, seen_reached, reaches, eqb-true)
 
   -- so it is refused a reference for want of memory alone
   pub refer_lacks : {S R : State C} → IsSound S → IsKept S → (b : GenerationalPointer) (v : C)

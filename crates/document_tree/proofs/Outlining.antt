@@ -3,8 +3,8 @@ use Rattle.document_tree.proofs.Common
 use Common.{add-one, All, All-append, All-cons, All-contains_itself, All-head, All-map, All-nil, All-pop}
 use Common.{All-tail, All-weaker, append-nil, append_assoc, arith, children_in, deep_outline_of, IsBelow}
 use Common.{IsBelowBy, length, length_push, List, map, map-append, map-id, map-map, nil_from_length}
-use Common.{outline_of, Part, Place, refl, reverse, reverse-append, reverse-reverse, Some, State, suc, sym}
-use Common.{zero, ℕ, [], ◌++◌, ◌+◌, ◌-◌, ◌<◌, ◌∷◌, ◌≡◌, ◌≤◌}
+use Common.{outline_of, Part, Place, refl, reverse, reverse-append, reverse-reverse, Some, State, suc, sym, ℕ}
+use Common.{[], ◌++◌, ◌+◌, ◌-◌, ◌<◌, ◌∷◌, ◌≡◌, ◌≤◌}
 
 -- what is read of a list that waits, up to a limit: its first, and then the children of that and the rest
 pub record IsReading {X : Type 0} (children : X → List X) (read : ℕ → List X → List X) : Type 0 where
@@ -18,8 +18,7 @@ module _ {X : Type 0} {children : X → List X} {read : ℕ → List X → List 
   -- at the limit, and where nothing waits, what was read is all
   pub limit_read : (limit : ℕ) (places waiting : List X) {all : List X} → limit ≤ length places
       → places ++ read (limit - length places) waiting ≡ all → places ≡ all
-  limit_read limit places waiting within is =
-      let none : limit - length places ≡ 0 = omega arith in rw (none, r.ended waiting, append-nil places) at is
+  limit_read limit places waiting within is = grind (arith, append-nil)
 
   pub all_read : (limit : ℕ) (places waiting : List X) {all : List X} → length waiting ≡ 0
       → places ++ read (limit - length places) (reverse waiting) ≡ all → places ≡ all
@@ -41,12 +40,11 @@ module _ {X : Type 0} {children : X → List X} {read : ℕ → List X → List 
   -- what holds of the places that wait, and with a place of its children, holds of what is read
   all_of : (P : X → Type 0) → ((p : X) → P p → All P (children p)) → (limit : ℕ) (waiting : List X)
       → All P waiting → All P (read limit waiting)
-  all_of P goes zero waiting all = rw (r.ended waiting) (All-nil P)
-  all_of P goes (suc limit) [] all = rw (r.none (suc limit)) (All-nil P)
   all_of P goes (suc limit) (p ∷ waiting) all =
       let here = All-head P p waiting all in
       rw (r.first limit p waiting) (All-cons P p _ here (all_of P goes limit (children p ++ waiting)
       (All-append P (children p) waiting (goes p here) (All-tail P p waiting all))))
+  all_of P goes limit waiting all = grind arith
 
 pub map_reverse : {X Y : Type 0} (f : X → Y) (xs : List X) → map f (reverse xs) ≡ reverse (map f xs)
 map_reverse f [] = refl
@@ -69,8 +67,7 @@ shallow_after p places more waiting rest left children is waits goes all =
 module _ {T : Type 0} (D : State (Part T)) where
   pub reading : IsReading (children_in D) (outline_of D)
   unfolding outline_of
-  reading =
-      record { ended = λ _. refl; none = elim [ zero ↦ refl | suc limit ↦ refl ]; first = λ _ _ _. refl }
+  reading = grind arith
 
   -- the children of a place with its depth, each one step deeper
   abbrev pub deeper : ℕ × Place → List (ℕ × Place)
@@ -78,8 +75,7 @@ module _ {T : Type 0} (D : State (Part T)) where
 
   pub deep_reading : IsReading deeper (deep_outline_of D)
   unfolding deep_outline_of
-  deep_reading =
-      record { ended = λ _. refl; none = elim [ zero ↦ refl | suc limit ↦ refl ]; first = λ _ _ _. refl }
+  deep_reading = grind arith
 
   -- the places of an outline with depths are those of the outline
   pub deep_places : (limit : ℕ) (waiting : List (ℕ × Place))

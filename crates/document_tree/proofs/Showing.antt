@@ -1,8 +1,8 @@
 -- What places show after each call of their document.
 use Rattle.document_tree.proofs.Common
 use Common.{Action, Answer, ap, arith, can_write, Cell, cell_at, Changes, children_of, Content, filter, fresh}
-use Common.{fresh_sees, GenerationalPointer, given_other, GivesOther, HasNoBorrows, inl, inr, is_some, IsKept}
-use Common.{IsSame, IsSound, IsUnchanged, leads_to, Leaves, leaves, LeavesContent, List, live_among, Location}
+use Common.{fresh_sees, GenerationalPointer, given_other, GivesOther, HasNoBorrows, is_some, IsKept, IsSame}
+use Common.{IsSound, IsUnchanged, leads_to, Leaves, leaves, LeavesContent, List, live_among, Location}
 use Common.{location_of, Made, Meets, meets_cases, meets_given, meets_number, MutBor, Name, name_cases}
 use Common.{name_of, None, Old, Once, Option, Part, part_in, Place, quiet_free, quiet_gone, reach}
 use Common.{reached_boxed, Refer, refl, same_id_reach, same_value_there, seen_reached, sets, SetValue, Shown}
@@ -13,9 +13,7 @@ use Rattle.generational_core.specs.Changing as change
 
 -- two names that may be none are the same or not
 name_or_none : (x y : Option Name) → (x ≡ y) ⊎ (x ≢ y)
-name_or_none (Some n) (Some m) = grind (arith, name_cases n m)
-name_or_none None None = inl refl
-name_or_none x y = inr (λ is. cc)
+name_or_none x y = grind (arith, name_cases)
 
 -- ---- places
 
@@ -107,10 +105,8 @@ module _ {T : Type 0} where
       → Changes D p (with_children (λ xs. rest) (shown_in D p)) E
       → Changes E p (with_children (λ xs. after) (shown_in E p)) F → after ≡ list
       → children_of (shown_in D p) ≡ Some list → (q : Place) → Leaves D q F
-  put_back {D} {E} {p = p} list rest after first second same old q =
-      let both = changed_twice first second in
-      let cases = name_or_none (part_in D q) (part_in D p) in
-      grind (arith, first.here p refl, both.parts q, both.here q, both.others q, same_part_shown D p q)
+  put_back list rest after first second same old q =
+      grind (arith, changed_twice, name_or_none, same_part_shown)
 
   -- what a part shows whose children were looked through while they were out
   pub shows_live : {D E F : State (Part T)} {p : Place} (list rest after : List Place)
@@ -137,9 +133,7 @@ module _ {T : Type 0} where
   pub target_reached : {D : State (Part T)} → IsKept D → (b : GenerationalPointer)
       → is_some (target_of D b) ≡ is_some (reach D b)
   unfolding reach
-  target_reached {D} kept b =
-      let linked = kept.linked (name_of b) in
-      grind (arith, names_alike D.number (name_of b) (map.get D.cells (name_of b)) linked)
+  target_reached kept b = grind (arith, names_alike)
 
   -- ---- where a part was added
 
