@@ -6,7 +6,7 @@ use Common.{list_any-append, live, live_row, Location, lookup, lookup-map_values
 use Common.{map-append, Meets, name_apart, name_here, name_of, names_in, names_of, NewOwner, None, Old, Option}
 use Common.{option_map, others_left, Owned, pointer_in, quiet_free, reach_apart, refl, ReleaseOwner, remove_entry}
 use Common.{same_value, seen_reached, seen_store, Session, set_value, sets, SetValue, Some, State, stores_of, sym}
-use Common.{true, value_in, with_entry, without_entry, ◌++◌, ◌||◌, ◌∙◌, ◌∷◌, ◌≡◌, ◌≢◌}
+use Common.{true, value_in, ◌++◌, ◌||◌, ◌∙◌, ◌∷◌, ◌≡◌, ◌≢◌}
 use Rattle.session_table.proofs.Keeping.{ended_kept, ended_left, ended_shows, forgotten_kept, login_kept}
 use Rattle.session_table.proofs.Keeping.{put_kept, renamed_kept, same_kept}
 use Rattle.session_table.proofs.Removing.{found_all, found_named, named_removed, removed_all, removed_once}
@@ -80,18 +80,8 @@ module _ {I K T : Type 0} {eq : I → I → Bool} {old new : List (I × Session 
 
   pub put_rows : {S R : State T} → IsSound S → IsKept S eq (held_in eq old) → w.owner ≡ s.owner → (v : T) (l : Location)
       → Meets S (Make (Some s.owner) v l) (Made (pointer_in e)) R → IsKept R eq (held_in eq new)
-  put_rows {S} {R} sound kept owner v l m = put_kept S R sound kept c.laws k (held_of s) (held_there c) v l e.raw
-      (λ q. held_after c q ∙ ap (λ h. cond (eq k q) (Some h) (held_in eq old q)) grown) m
-    where
-      grown : held_of w ≡ record {
-        owner = s.owner;
-        names = names_of s.entries.entries ++ name_of (pointer_in e) ∷ [];
-        stores = stores_of s.entries.entries ++ (pointer_in e).id.store ∷ [];
-      }
-      grown j = record { owner = owner j; names = grown_names j; stores = grown_stores j }
-
-  pub put_session : w.used_at ≡ s.used_at → lookup (eq k) (map live_row new) ≡ Some (with_entry key e (live s))
-  put_session at = grind (arith, own_session c)
+  put_rows {S} {R} sound kept owner v l m = put_kept S R sound kept c.laws k (held_of s)
+      (held_there c) (held_of w) (held_after c) v l e.raw owner grown_names grown_stores m
 
   -- what is listed is the new entry, and what was
   grown_listed : (f : Entry T) → among (names_of w.entries.entries) (name_of (pointer_in f))
@@ -144,13 +134,6 @@ module _ {I K T : Type 0} {eq : I → I → Bool} {S : State T} (sound : IsSound
       (rw entries (removed_all test (λ (x : K × Entry T). (pointer_in x.1).id.store) (λ n. n ≡ S.number)
       s.entries.entries (kept.own k (held_of s) row)))
       (found_named test s.entries.entries e there) row_own
-
--- the id's session has lost it
-pub forgotten_session : {I K T : Type 0} {eq : I → I → Bool} {old new : List (I × Session K T)} {k : I}
-    {s w : Session K T} → IsChange eq old new k (Some s) (Some w) → (same : K → K → Bool) (key : K)
-    → w.entries.entries ≡ remove_entry (same key) s.entries.entries → w.used_at ≡ s.used_at
-    → lookup (eq k) (map live_row new) ≡ Some (without_entry same key (live s))
-forgotten_session c same key entries at = grind (arith, own_session c)
 
 -- a session that ends
 module _ {I K T : Type 0} {eq : I → I → Bool} {S R : State T} (sound : IsSound S) {old new : List (I × Session K T)} {k : I}

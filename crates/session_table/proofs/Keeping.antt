@@ -1,17 +1,16 @@
 -- A table's store and its rows after each call.
 use Rattle.session_table.proofs.Common
 use Common.{[], Action, All-from_recursion, All-push, AllByRecursion, among, Answer, ap, arith, BeginsNoBorrow}
-use Common.{Bool, by_cond, by_option, cases_Bool, Cell, cond, Done, End, ends, ends_owned, eq_by_cmp_equiv}
-use Common.{eqb-true, false, false_from_ne_true, fresh, fresh_listed, fresh_plain, GenerationalBox}
-use Common.{GenerationalPointer, GivesOther, Held, held_record, IfSome, inl, inr, is_name, is_some, IsDistinct}
-use Common.{IsDistinct-push, IsEquivalence, IsKept, IsOf, IsSound, IsUnchanged, keeps_known, keeps_record}
-use Common.{last_record, LeavesBox, LeavesOwner, List, list_any-append, lists, Location, Made, made, made_new}
-use Common.{Make, MakesNoReference, Meets, meets_number, Name, name_cases, name_cmp, name_here, name_of}
-use Common.{name_same, name_total, nat_cmp, nat_eq, NewOwner, None, Ok, Old, Option, Owned, owned, OwnerName}
-use Common.{Ownership, ownership, pointer_of, quiet_fresh, quiet_stays, reach, reaches, recursion_from_All, refl}
-use Common.{release_leaves, ReleaseOwner, same_reach, seen_reached, SetValue, Some, State, stays_listed}
-use Common.{stays_plain, subst, sym, true, unknown_owner, unlisted, unseen, value_in, ℕ, ⊎_elim, ◌++◌, ◌||◌, ◌∙◌}
-use Common.{◌∷◌, ◌≡◌, ◌≢◌, ◌⊎◌}
+use Common.{Bool, by_cond, by_option, cases_Bool, Cell, cond, Done, End, ends, ends_owned, eq_by_cmp_equiv, false}
+use Common.{false_from_ne_true, fresh, fresh_listed, fresh_plain, GenerationalBox, GenerationalPointer}
+use Common.{GivesOther, Held, held_record, IfSome, inr, is_name, is_some, IsDistinct, IsDistinct-push}
+use Common.{IsEquivalence, IsKept, IsOf, IsSound, IsUnchanged, keeps_known, keeps_record, last_record, LeavesBox}
+use Common.{LeavesOwner, List, list_any-append, lists, Location, Made, made, made_new, Make, MakesNoReference}
+use Common.{Meets, meets_number, Name, name_cmp, name_here, name_of, name_same, name_total, nat_cmp, nat_eq}
+use Common.{NewOwner, None, Ok, Old, Option, Owned, owned, OwnerName, Ownership, ownership, pointer_of}
+use Common.{quiet_fresh, quiet_stays, reach, reaches, recursion_from_All, refl, release_leaves, ReleaseOwner}
+use Common.{same_reach, seen_reached, SetValue, Some, State, stays_listed, stays_plain, subst, sym, true}
+use Common.{unknown_owner, unlisted, unseen, value_in, ℕ, ⊎_elim, ◌++◌, ◌||◌, ◌∙◌, ◌∷◌, ◌≡◌, ◌≢◌, ◌⊎◌}
 use Rattle.generational_core.specs.Conditions.{names_in as owned_names}
 use Rattle.std.specs.FinMap as map
 
@@ -80,16 +79,11 @@ module _ {I T : Type 0} {eq : I → I → Bool} (S R : State T) (s : IsSound S) 
         → ((b : GenerationalPointer) → among h.names (name_of b) ≡ true
         → LeavesBox S call b × GivesOther call answer b) → IsRow R h
     row_still i h is leaves left =
-        let was = k.held i h is in
-        let number = meets_number S R call answer m in record {
-          held = (was.0, keeps_known call answer s m h.owner was.0 leaves was.1, was.2);
-          once = k.once i h is;
-          own = rw number (k.own i h is);
-          live = λ b listed own.
-              let to = k.live i h is b listed (own ∙ number) in
-              let other = left b listed in
-              (to.0, same_reach S R call answer s m b other.0 other.1 ∙ to.1);
-        }
+        let number = meets_number S R call answer m in
+        let own : AllByRecursion (λ n. n ≡ R.number) h.stores = rw number (k.own i h is) in
+        let known = keeps_known call answer s m h.owner in
+        let same = same_reach S R call answer s m in
+        grind (arith, k.held i h is, k.once i h is, own, k.live i h is, number, known, same, left)
 
     -- the row of an id becomes another, or comes, or goes, and the call leaves what isn't its owner's
     module _ (quiet : BeginsNoBorrow call) (plain : MakesNoReference call) (laws : IsEquivalence eq)
@@ -130,24 +124,21 @@ module _ {I T : Type 0} {eq : I → I → Bool} (S R : State T) (s : IsSound S) 
 
   pub set_kept : (b : GenerationalPointer) (v old : T) → Meets S (SetValue b v) (Old old) R
       → IsKept R eq rows
-  set_kept a v old m = record {
-    unborrowed = quiet_stays call (Old old) m tt k.unborrowed;
-    plain = stays_plain call (Old old) m tt k.plain;
-    listed = stays_listed call (Old old) s m k.listed;
-    apart = k.apart;
-    held = λ i h is. (still i h is).held;
-    once = k.once;
-    own = λ i h is. (still i h is).own;
-    known = λ o r is. k.known o r (sym (keeps_record call (Old old) m o tt tt) ∙ is);
-    kept = λ b n to. k.kept b n (sym (same_reach S R call (Old old) s m b tt tt) ∙ to);
-    live = λ i h is. (still i h is).live;
-  }
-    where
-      call : Action T
-      call = SetValue a v
-
-      still : (i : I) (h : Held) → rows i ≡ Some h → IsRow R h
-      still i h is = row_still _ _ m i h is tt (λ _ _. (tt, tt))
+  set_kept a v old m =
+      let still = λ (i : I) (h : Held) (is : rows i ≡ Some h).
+      row_still (SetValue a v) (Old old) m i h is tt (λ _ _. (tt, tt)) in
+      record {
+        unborrowed = quiet_stays _ _ m tt k.unborrowed;
+        plain = stays_plain _ _ m tt k.plain;
+        listed = stays_listed _ _ s m k.listed;
+        apart = k.apart;
+        held = λ i h is. (still i h is).held;
+        once = k.once;
+        own = λ i h is. (still i h is).own;
+        known = λ o r is. k.known o r (sym (keeps_record _ _ m o tt tt) ∙ is);
+        kept = λ b n to. k.kept b n (sym (same_reach S R _ _ s m b tt tt) ∙ to);
+        live = λ i h is. (still i h is).live;
+      }
 
   -- ---- a login
 
@@ -156,19 +147,10 @@ module _ {I T : Type 0} {eq : I → I → Bool} (S R : State T) (s : IsSound S) 
       (free : (i : I) → eq at i ≡ true → rows i ≡ None) (m : Meets S NewOwner (Owned o) R) where
     pub login_kept : IsKept R eq after
     login_kept = changed_kept _ _ m tt tt laws at o None (Some (record { owner = o; names = []; stores = [] }))
-        free update tt (
-          refl,
-          record {
-            held = (record { names = []; count = 1 }, owned (Ok o) m, record { single = refl; lists = λ n listed. listed });
-            once = none_twice;
-            own = tt;
-            live = λ b listed. cc;
-          },
-        )
-        (λ i h f is. (
-          λ e. let was = k.held i h is in cc (unknown_owner (Ok o) s m),
-          row_still _ _ m i h is tt (λ b listed. (tt, tt)),
-        ))
+        free update tt (refl, grind (arith, owned (Ok o) m, none_twice))
+        (λ i h f is. let was = k.held i h is in
+        let still = row_still _ _ m i h is tt (λ b listed. (tt, tt)) in
+        ((λ e. cc (unknown_owner (Ok o) s m)), still))
         (λ p ne. keeps_record NewOwner (Owned o) m p tt ne) (λ r is. refl)
         (λ b n to. inr (refl, sym (same_reach S R NewOwner (Owned o) s m b tt tt) ∙ to))
 
@@ -193,13 +175,11 @@ module _ {I T : Type 0} {eq : I → I → Bool} (S R : State T) (s : IsSound S) 
 
     -- ---- a value that is put
 
-    module _ {after : I → Option Held} (v : T) (l : Location) (a : GenerationalBox T)
-        (update : (i : I) → after i ≡ cond (eq at i)
-        (Some (record {
-          owner = x.owner;
-          names = x.names ++ name_of (pointer_of a) ∷ [];
-          stores = x.stores ++ (pointer_of a).id.store ∷ [];
-        })) (rows i))
+    module _ {after : I → Option Held} (y : Held)
+        (update : (i : I) → after i ≡ cond (eq at i) (Some y) (rows i))
+        (v : T) (l : Location) (a : GenerationalBox T) (owner : y.owner ≡ x.owner)
+        (names : y.names ≡ x.names ++ name_of (pointer_of a) ∷ [])
+        (stores : y.stores ≡ x.stores ++ (pointer_of a).id.store ∷ [])
         (m : Meets S (Make (Some x.owner) v l) (Made (pointer_of a)) R) where
       abbrev new : Name
       new = name_of (pointer_of a)
@@ -215,42 +195,38 @@ module _ {I T : Type 0} {eq : I → I → Bool} (S R : State T) (s : IsSound S) 
       grown names n = grind (arith, list_any-append)
 
       pub put_kept : IsKept R eq after
-      put_kept = changed_kept _ _ m tt tt laws at x.owner (Some x) _ there update refl (
-        refl,
-        record {
-          held = (
-            _,
-            lists x.owner v l (Ok a) m its.0 its.1,
+      put_kept =
+          let given = made_new S R _ _ m in
+          let number = meets_number S R _ _ m in
+          let now = lists x.owner v l (Ok a) m its.0 its.1 in
+          let to = seen_reached R (pointer_of a) v (made (Some x.owner) v l (Ok a) m) in
+          let all = All-from_recursion (λ n. n ≡ S.number) _ (k.own at x has) in
+          changed_kept _ _ m tt tt laws at x.owner (Some x) (Some y) there update refl (
+            owner,
             record {
-              single = its.2.single;
-              lists = λ n listed. grind (arith, grown x.names n, grown its.0.names n, its.2.lists n);
+              held =
+                  let more = grown x.names in
+                  let whole = grown its.0.names in
+                  (_, ap (ownership R) owner ∙ now, grind (arith, names, its.2, more, whole));
+              once = rw names (IsDistinct-push name_equal x.names new (k.once at x has)
+                  (false_from_ne_true _ (λ listed. unnamed at x has new listed refl)));
+              own =
+                  let every = All-push (λ n. n ≡ S.number) x.stores _ all given.0 in
+                  rw (stores, number) (recursion_from_All (λ n. n ≡ S.number) _ every);
+              live = λ b listed own.
+                  let alike = reach_alike R b (pointer_of a) in
+                  let same = same_reach S R _ _ s m b tt in
+                  let more = grown x.names (name_of b) in
+                  let one = name_same (name_of b) new in
+                  let was = k.live at x has b in
+                  grind (arith, names, to, alike, given, number, was, more, one, same);
             },
-          );
-          once = IsDistinct-push name_equal x.names new (k.once at x has)
-              (false_from_ne_true _ (λ listed. unnamed at x has new listed refl));
-          own =
-              let own : AllByRecursion (λ n. n ≡ R.number) x.stores = rw (meets_number S R _ _ m) (k.own at x has) in
-              recursion_from_All (λ n. n ≡ R.number) _ (All-push (λ n. n ≡ R.number) x.stores _ (All-from_recursion _ _ own)
-              ((made_new S R _ _ m).0 ∙ sym (meets_number S R _ _ m)));
-          live = λ b listed own. ⊎_elim
-              (λ e. let to = seen_reached R (pointer_of a) v (made (Some x.owner) v l (Ok a) m) in (
-                to.0,
-                reach_alike R b (pointer_of a) (cc ((made_new S R _ _ m).0, meets_number S R _ _ m)) (sym e) ∙ to.1,
-              ))
-              (λ ne. let to = k.live at x has b (grind (arith, grown x.names (name_of b), name_same (name_of b) new))
-              (own ∙ meets_number S R _ _ m) in (to.0, same_reach S R _ _ s m b tt ne ∙ to.1))
-              (name_cases new (name_of b));
-        },
-      )
-          (λ i h f is. (
-            other_owner i h f is,
-            row_still _ _ m i h is (other_owner i h f is) (λ b listed. (tt, unnamed i h is (name_of b) listed)),
-          ))
+          )
+          (λ i h f is. let still = row_still _ _ m i h is (other_owner i h f is) in
+          (other_owner i h f is, still (λ b listed. (tt, unnamed i h is (name_of b) listed))))
           (λ o ne. keeps_record _ _ m o ne tt) (λ r is. refl)
-          (λ b n to. ⊎_elim (λ listed. inl listed)
-          (λ out. let ne : new ≢ name_of b = λ e. grind (arith, grown x.names (name_of b), name_here new) in
-          inr (grind (arith, grown x.names (name_of b)), sym (same_reach S R _ _ s m b tt ne) ∙ to))
-          (cases_Bool (among (x.names ++ new ∷ []) (name_of b))))
+          (λ b n to. let same = same_reach S R _ _ s m b tt in
+          grind (arith, names, grown x.names (name_of b), name_here new, same))
 
     -- ---- a session that ends
 
@@ -279,20 +255,13 @@ module _ {I T : Type 0} {eq : I → I → Bool} (S R : State T) (s : IsSound S) 
 
       pub ended_kept : IsKept R eq after
       ended_kept = changed_kept _ _ m tt tt laws at x.owner (Some x) None there update refl tt
-          (λ i h f is. (
-            other_owner i h f is,
-            row_still _ _ m i h is (other_owner i h f is) (λ b listed. (
-              ap (λ r. among (owned_names r) (name_of b)) (held_record S x.owner its.0 its.1)
-                  ∙ other_names i h f is (name_of b) listed,
-              tt,
-            )),
-          ))
+          (λ i h f is. let still = row_still _ _ m i h is (other_owner i h f is) in
+          let own = ap owned_names (held_record S x.owner its.0 its.1) in
+          let out = other_names i h f is in
+          (other_owner i h f is, still (λ b listed. (rw own (out (name_of b) listed), tt))))
           (λ o ne. keeps_record _ _ m o ne tt) (λ r is. cc gone)
-          (λ b n to. ⊎_elim (λ owns. cc (owned_reach b owns)) (λ free. inr (
-            false_from_ne_true _ (λ was. cc (its.2.lists (name_of b) was)),
-            sym (release_leaves S R x.owner Done s m its.0 its.1 b free).reached ∙ to,
-          ))
-          (cases_Bool (among its.0.names (name_of b))))
+          (λ b n to. let left = release_leaves S R x.owner Done s m its.0 its.1 b in
+          grind (arith, owned_reach b, its.2.lists (name_of b), left))
 
     -- ---- an entry that ends
 
@@ -305,39 +274,23 @@ module _ {I T : Type 0} {eq : I → I → Bool} (S R : State T) (s : IsSound S) 
 
       pub forgotten_kept : IsDistinct is_name y.names → AllByRecursion (λ n. n ≡ S.number) y.stores
           → among x.names (name_of b) ≡ true → b.id.store ≡ S.number → IsKept R eq after
-      forgotten_kept once own had store = changed_kept _ _ m tt tt laws at x.owner (Some x) (Some y) there update refl (
-        owner,
-        record {
-          held = (
-            its.0,
-            ap (ownership R) owner ∙ keeps_known _ _ s m x.owner its.0 tt its.1,
-            record {
-              single = its.2.single;
-              lists = λ n now. its.2.lists n (named n now).0;
-            },
-          );
-          once = once;
-          own = rw (meets_number S R _ _ m) own;
-          live = λ c listed own.
-              let is = named (name_of c) listed in
-              let to = k.live at x has c is.0 (own ∙ meets_number S R _ _ m) in
-              (to.0, same_reach S R _ _ s m c is.1 tt ∙ to.1);
-        },
-      )
-          (λ i h f is. (
-            other_owner i h f is,
-            row_still _ _ m i h is tt
-                (λ c listed. (λ e. cc (other_names i h f is (name_of c) listed, its.2.lists (name_of b) had), tt)),
-          ))
+      forgotten_kept once own had store =
+          let number = meets_number S R _ _ m in
+          let stores : AllByRecursion (λ n. n ≡ R.number) y.stores = rw number own in
+          let known = keeps_known _ _ s m x.owner its.0 tt its.1 in
+          let same = same_reach S R _ _ s m in
+          let live = k.live at x has in
+          let lists = its.2.lists (name_of b) had in
+          let over = ends b {U = Unit {0}} (Ok tt) m in
+          changed_kept _ _ m tt tt laws at x.owner (Some x) (Some y) there update refl
+          (owner, grind (arith, known, owner, its.2, once, stores, named, live, number, same))
+          (λ i h f is. let out = other_names i h f is in
+          let still = row_still _ _ m i h is tt in
+          (other_owner i h f is, still (λ c listed. ((λ e. cc (out (name_of c) listed)), tt))))
           (λ o ne. keeps_record _ _ m o tt tt) (λ r is. refl)
-          (λ c n to.
-          let ne : name_of b ≢ name_of c = λ same. cc (
-            ends b {U = Unit {0}} (Ok tt) m,
-            reach_alike R b c
-                (store ∙ (sym (meets_number S R _ _ m) ∙ sym (eqb-true c.id.store R.number (reaches R c n to).number))) same,
-          ) in
-          ⊎_elim (λ was. inl (grind (arith, names (name_of c), name_same (name_of c) (name_of b))))
-          (λ out. inr (out, sym (same_reach S R _ _ s m c ne tt) ∙ to)) (cases_Bool (among x.names (name_of c))))
+          (λ c n to. let at = (reaches R c n to).number in
+          let listed = names (name_of c) in
+          grind (arith, over, reach_alike R b c, store, number, at, listed, name_same, same c))
 
 -- ---- a session that gets another id
 
@@ -367,11 +320,7 @@ module _ {I T : Type 0} {eq : I → I → Bool} {S : State T} {rows after : I �
       held = λ i g is. let was = was_row i g is in kept.held was.0 g was.1;
       once = λ i g is. let was = was_row i g is in kept.once was.0 g was.1;
       own = λ i g is. let was = was_row i g is in kept.own was.0 g was.1;
-      known = λ o r is.
-          let was = kept.known o r is in
-          let now = now_row was.0 was.1 was.2 in (now.0, was.1, now.1, was.3);
-      kept = λ b m to.
-          let was = kept.kept b m to in
-          let now = now_row was.0 was.1 was.2 in (now.0, was.1, now.1, was.3);
+      known = λ o r is. grind (arith, kept.known o r is, now_row);
+      kept = λ b m to. grind (arith, kept.kept b m to, now_row);
       live = λ i g is. let was = was_row i g is in kept.live was.0 g was.1;
     }

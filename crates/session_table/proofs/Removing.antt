@@ -1,7 +1,7 @@
 -- Entries of which one is taken out.
 use Rattle.session_table.proofs.Common.{[], All-from_recursion, All-map-remove_entry, AllByRecursion, among}
-use Rattle.session_table.proofs.Common.{arith, Bool, cond, cond_both, Entry, false, is_name, IsDistinct, List}
-use Rattle.session_table.proofs.Common.{lookup, map, Name, name_here, name_of, name_same, names_of, pointer_in}
+use Rattle.session_table.proofs.Common.{arith, Bool, cond, Entry, false, is_name, IsDistinct, List, lookup, map}
+use Rattle.session_table.proofs.Common.{Name, name_here, name_of, name_same, names_of, pointer_in}
 use Rattle.session_table.proofs.Common.{recursion_from_All, remove_entry, Some, true, ◌∷◌, ◌≡◌}
 use Rattle.std.proofs.lemmas.List.Folds.{list_any_none}
 
@@ -25,13 +25,8 @@ module _ {K T : Type 0} (test : K → Bool) where
   unfolding IsDistinct
   named_removed [] e is once n = cc
   named_removed (x ∷ es) e is once n =
-      grind (
-        arith,
-        name_same n (name_of (pointer_in e)),
-        found_named es e,
-        named_removed es e,
-        unnamed (name_of (pointer_in x.1)) n (names_of es) once.0,
-      )
+      let apart = unnamed (name_of (pointer_in x.1)) n (names_of es) once.0 in
+      grind (arith, name_same, found_named es e, named_removed es e, apart)
 
   -- what holds of all of them holds of the one that is found
   pub found_all : {X : Type 0} (f : Entry T → X) (P : X → Type 0) (es : List (K × Entry T)) (e : Entry T)
@@ -49,9 +44,7 @@ module _ {K T : Type 0} (test : K → Bool) where
       → IsDistinct is_name (names_of (remove_entry test es))
   unfolding IsDistinct
   removed_once [] once = once
-  removed_once (x ∷ es) once = cond_both (test x.0) _ _
-      (λ (left : List (K × Entry T)). IsDistinct is_name (names_of left)) (λ _. once.1)
-      (λ _. (
-        removed_all (λ y. name_of (pointer_in y.1)) (λ n. is_name (name_of (pointer_in x.1)) n ≡ false) es once.0,
-        removed_once es once.1,
-      ))
+  removed_once (x ∷ es) once =
+      let apart = λ (n : Name). is_name (name_of (pointer_in x.1)) n ≡ false in
+      let left = removed_all (λ y. name_of (pointer_in y.1)) apart es once.0 in
+      grind (arith, left, removed_once es once.1)

@@ -1,7 +1,7 @@
 use Rattle.session_table.proofs.{ap, changed, given_other, inr, is_some, length-map, live_row, made, made_new}
-use Rattle.session_table.proofs.{map, meets_given, Ok, other_sessions, others_left, pointer_in, put_keeps}
-use Rattle.session_table.proofs.{put_next, put_rows, put_session, put_still, put_unkept, row_known, rules}
-use Rattle.session_table.proofs.{same_held, same_rows, same_sessions, same_value, session_of, sym, ◌∙◌}
+use Rattle.session_table.proofs.{map, meets_given, Ok, other_sessions, others_left, own_session, pointer_in}
+use Rattle.session_table.proofs.{put_keeps, put_next, put_rows, put_still, put_unkept, row_known, rules}
+use Rattle.session_table.proofs.{same_held, same_rows, same_sessions, same_value, session_of, Some, sym, ◌∙◌}
 use Rattle.session_table.proofs.table.SessionTable.put.Goals as goal
 
 pub keep-requires : goal.keep-requires
@@ -30,9 +30,10 @@ returns g c =
     let step = c.in-Ok.ensures.step in
     let entry = c.in-Ok.entry in
     let entries = c.in-Ok.ensures.entries in
-    rw (← c.self.view_is, session_of (g.I.PartialEq.eq c.args.id.now) c.self.inside.rows.entries found) (record {
+    rw (← c.self.view_is, session_of (g.I.PartialEq.eq c.args.id.now) _ found) (record {
       shown = made _ _ _ (Ok entry.raw) step;
-      kept = put_session change c.args.key entry entries c.keep.ensures.used;
+      kept = own_session change
+          ∙ (λ j. Some (record { used_at = c.keep.ensures.used j; entries = entries j }));
       keeps = put_keeps change c.args.key entry entries;
       still = put_still change c.args.key entry entries;
       unkept = λ other f given. put_unkept change c.args.key entry entries other f
@@ -57,17 +58,14 @@ returns g c =
 pub returns-in-Err : goal.returns-in-Err
 returns-in-Err g c =
     let found = sym c.in-Some.ensures.value in
-    let eq = g.I.PartialEq.eq in
-    let rows = c.self.inside.rows.entries in
-    let same = ap (map live_row) (c.get_mut.follows.holds c.keep.new.self).0
-    ∙ same_sessions (eq c.args.id.now) rows c.in-Some.session.now c.keep.new.self found
-    (λ j. record { used_at = c.keep.ensures.used j; entries = c.in-Err.ensures.same j }) in
     let why = c.in-Err.ensures in
-    rw (← c.self.view_is, c.in-Err.ensures.refused, same, session_of (eq c.args.id.now) rows found) (search (rules, inr))
+    let same = ap (map live_row) (c.get_mut.follows.holds c.keep.new.self).0
+    ∙ same_sessions (g.I.PartialEq.eq c.args.id.now) _ _ c.keep.new.self found
+    (λ j. record { used_at = c.keep.ensures.used j; entries = why.same j }) in
+    let session = session_of (g.I.PartialEq.eq c.args.id.now) _ found in
+    rw (← c.self.view_is, why.refused, same, session) (search (rules, inr))
 
 pub returns-in_default : goal.returns-in_default
-returns-in_default g c = rw (
-  ← c.self.view_is,
-  c.get_mut.follows.holds-at-none,
-  session_of (g.I.PartialEq.eq c.args.id.now) c.self.inside.rows.entries (sym c.in_default.ensures.value),
-) (search rules)
+returns-in_default g c =
+    let none = session_of (g.I.PartialEq.eq c.args.id.now) _ (sym c.in_default.ensures.value) in
+    rw (← c.self.view_is, c.get_mut.follows.holds-at-none, none) (search rules)

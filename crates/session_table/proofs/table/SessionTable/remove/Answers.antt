@@ -1,15 +1,13 @@
-use Rattle.session_table.proofs.{ap, changed, ends, forgotten_rows, forgotten_session, is_some, length-map}
-use Rattle.session_table.proofs.{live_row, map, none-some, Ok, other_sessions, others_left, pointer_in, row_own}
-use Rattle.session_table.proofs.{row_shows, rules, same_held, same_rows, same_sessions, same_Some, same_value}
-use Rattle.session_table.proofs.{session_of, simple_taken, sym, taken_seen, unseen, ◌∙◌}
+use Rattle.session_table.proofs.{ap, changed, ends, forgotten_rows, is_some, length-map, live_row, map, none-some}
+use Rattle.session_table.proofs.{Ok, other_sessions, others_left, own_session, pointer_in, row_own, row_shows}
+use Rattle.session_table.proofs.{rules, same_held, same_rows, same_sessions, same_Some, same_value, session_of}
+use Rattle.session_table.proofs.{simple_taken, Some, sym, taken_seen, unseen, ◌∙◌}
 use Rattle.session_table.proofs.table.SessionTable.remove.Goals as goal
 
 pub returns-in_default : goal.returns-in_default
-returns-in_default g c = rw (
-  ← c.self.view_is,
-  c.get_mut.follows.holds-at-none,
-  session_of (g.I.PartialEq.eq c.args.id.now) c.self.inside.rows.entries (sym c.in_default.ensures.value),
-) (search rules)
+returns-in_default g c =
+    let none = session_of _ c.self.inside.rows.entries (sym c.in_default.ensures.value) in
+    rw (← c.self.view_is, c.get_mut.follows.holds-at-none, none) (search rules)
 
 pub invariant_of-self-in_default-forget : goal.invariant_of-self-in_default-forget
 invariant_of-self-in_default-forget g c =
@@ -21,58 +19,51 @@ invariant_of-self-in_default-forget g c =
 pub returns-in_default-forget : goal.returns-in_default-forget
 returns-in_default-forget g c =
     let found = sym c.in-Some.ensures.value in
-    let eq = g.I.PartialEq.eq in
-    let rows = c.self.inside.rows.entries in
+    let was = c.in_default-forget.ensures in
     let same = ap (map live_row) (c.get_mut.follows.holds c.forget.new.self).0
-    ∙ same_sessions (eq c.args.id.now) rows c.in-Some.session.now c.forget.new.self found
-    (λ j. record { used_at = c.forget.ensures.used j; entries = c.in_default-forget.ensures.same j }) in
-    rw (
-      ← c.self.view_is,
-      same,
-      session_of (eq c.args.id.now) rows found,
-      ← c.in_default-forget.ensures.entry,
-    ) (search rules)
+    ∙ same_sessions _ c.self.inside.rows.entries _ c.forget.new.self found
+    (λ j. record { used_at = c.forget.ensures.used j; entries = was.same j }) in
+    let session = session_of _ c.self.inside.rows.entries found in
+    rw (← c.self.view_is, same, session, ← was.entry) (search rules)
 
 pub unreachable-requires : goal.unreachable-requires
 unreachable-requires g c =
     let sound = g.met.S.AnyStorage.sound c.self.inside.store in
     let k = c.self.invariant in
-    let seen = row_shows sound _ c.args.id.now k (sym c.in-Some.ensures.value) (g.K.PartialEq.eq c.args.key.now)
-    (sym c.in-Some-forget.ensures.entry) in
+    let entry = sym c.in-Some-forget.ensures.entry in
+    let seen = row_shows sound _ _ k (sym c.in-Some.ensures.value) _ entry in
     none-some seen.0 (c.in-None.ensures.value
     ∙ (simple_taken _ sound k.plain k.unborrowed (pointer_in c.in-Some-forget.entry) ∙ seen.1))
 
 pub invariant_of-self-2 : goal.invariant_of-self-2
 invariant_of-self-2 g c =
     let found = sym c.in-Some.ensures.value in
-    forgotten_rows (g.met.S.AnyStorage.sound c.self.inside.store) _ c.args.id.now c.self.invariant found
-    (g.K.PartialEq.eq c.args.key.now) (sym c.in-Some-forget.ensures.entry) (changed g.met.I.Eq.laws c.args.id.now found
-    ((c.get_mut.follows.holds c.forget.new.self).3 (ap is_some found)).0) c.forget.ensures.entries c.forget.ensures.owner
-    c.in-Some-take.ensures.ended
+    let change = changed g.met.I.Eq.laws _ found
+    ((c.get_mut.follows.holds c.forget.new.self).3 (ap is_some found)).0 in
+    forgotten_rows (g.met.S.AnyStorage.sound _) _ _ c.self.invariant found _
+    (sym c.in-Some-forget.ensures.entry) change
+    c.forget.ensures.entries c.forget.ensures.owner c.in-Some-take.ensures.ended
 
 pub returns : goal.returns
 returns g c =
     let found = sym c.in-Some.ensures.value in
-    let rows = c.self.inside.rows.entries in
     let entry = c.in-Some-forget.entry in
     let sound = g.met.S.AnyStorage.sound c.self.inside.store in
     let change = changed g.met.I.Eq.laws c.args.id.now found
     ((c.get_mut.follows.holds c.forget.new.self).3 (ap is_some found)).0 in
     let ended = c.in-Some-take.ensures.ended in
-    rw (
-      ← c.self.view_is,
-      session_of (g.I.PartialEq.eq c.args.id.now) rows found,
-      ← c.in-Some-forget.ensures.entry,
-    ) (record {
+    let session = session_of _ c.self.inside.rows.entries found in
+    rw (← c.self.view_is, session, ← c.in-Some-forget.ensures.entry) (record {
       taken = λ e is. rw (← same_Some entry e is) (sym (taken_seen _ _ _ (sym c.in-Some-take.ensures.value)));
       none = search rules;
-      kept = λ some. forgotten_session change g.K.PartialEq.eq c.args.key.now c.forget.ensures.entries c.forget.ensures.used;
+      kept = λ some.
+          let w = c.forget.ensures in
+          own_session change ∙ (λ j. Some (record { used_at = w.used j; entries = w.entries j }));
       others = other_sessions change;
       count = simp length-map (c.get_mut.follows.holds c.forget.new.self).2;
       gone = λ e is. rw (← same_Some entry e is) (unseen _ _ (ends _ {U = Unit {0}} (Ok tt) ended));
       beside = λ e is f other. others_left _ _ ended (pointer_in entry) (pointer_in f)
-          (row_own sound rows c.args.id.now c.self.invariant found (g.K.PartialEq.eq c.args.key.now)
-          (sym c.in-Some-forget.ensures.entry))
+          (row_own sound _ _ c.self.invariant found _ (sym c.in-Some-forget.ensures.entry))
           (λ ne. same_value _ _ _ _ sound ended _ ne tt) (rw (← same_Some entry e is) at other);
       put = search rules;
       ticket = search rules;

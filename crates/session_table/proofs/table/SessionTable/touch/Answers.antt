@@ -23,8 +23,6 @@ returns g c =
     })
 
 pub returns-in_default : goal.returns-in_default
-returns-in_default g c = rw (
-  ← c.self.view_is,
-  c.get_mut.follows.holds-at-none,
-  session_of (g.I.PartialEq.eq c.args.id.now) c.self.inside.rows.entries (sym c.in_default.ensures.value),
-) (search rules)
+returns-in_default g c =
+    let none = session_of _ c.self.inside.rows.entries (sym c.in_default.ensures.value) in
+    rw (← c.self.view_is, c.get_mut.follows.holds-at-none, none) (search rules)
