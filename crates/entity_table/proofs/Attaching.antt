@@ -38,12 +38,9 @@ module _ {T C : Type 0} where
 
   pub other_part : (parts : List (Option (Part T C))) (a e : Entity T) (p : Part T C)
       → part_of parts a ≡ Some p → slot_in a ≡ slot_in e → IsOther a e → part_of parts e ≡ None
-  other_part parts a e p is slot other = grind (
-    arith,
-    part_there parts a p is,
-    same_ids (pointer_in p.entity) (pointer_in a),
-    same_ids (pointer_in p.entity) (pointer_in e),
-  )
+  other_part parts a e p is slot other =
+      let same = same_ids (pointer_in p.entity) in
+      grind (arith, part_there parts a p is, same (pointer_in a), same (pointer_in e))
 
   -- an entity whose part shows what it showed does too
   pub shown_same : (S R : State C) (e : Entity T) (x : Option (Part T C))
@@ -75,27 +72,17 @@ module _ {T C : Type 0} where
 
   pub fresh_attached : (number start next : ℕ)
       → AreAttached {T = T} {C = C} (fresh {T = C} number start next) []
-  fresh_attached number start next = record {
-    unborrowed = quiet_fresh number start next;
-    plain = fresh_plain number start next;
-    placed = λ slot p is. cc;
-    seen = λ slot p is. cc;
-    apart = λ i j p q ne is. cc;
-    listed = λ b seen. cc (fresh_sees {T = C} number start next b);
-  }
+  fresh_attached number start next =
+      let quiet = quiet_fresh {T = C} number start next in
+      let plain = fresh_plain {T = C} number start next in
+      grind (arith, quiet, plain, fresh_sees {T = C} number start next)
 
   -- more slots change nothing
   pub attached_more : {S : State C} {parts : List (Option (Part T C))} → AreAttached S parts
       → (more : List (Option (Part T C))) → ((at : ℕ) → part_at more at ≡ part_at parts at)
       → AreAttached S more
-  attached_more k more same = record {
-    unborrowed = k.unborrowed;
-    plain = k.plain;
-    placed = λ slot p is. k.placed slot p (sym (same slot) ∙ is);
-    seen = λ slot p is. k.seen slot p (sym (same slot) ∙ is);
-    apart = λ i j p q ne is at. k.apart i j p q ne (sym (same i) ∙ is) (sym (same j) ∙ at);
-    listed = λ b seen. let it = k.listed b seen in (it.0, it.1, same it.0 ∙ it.2, it.3);
-  }
+  attached_more k more same =
+      grind (arith, k.unborrowed, k.plain, k.placed, k.seen, k.apart, k.listed, same)
 
   module _ {S R : State C} (s : IsSound S) {parts : List (Option (Part T C))} (k : AreAttached S parts) where
     -- the part of a slot becomes another, or comes, or goes, and the call leaves what isn't its box
@@ -116,14 +103,10 @@ module _ {T C : Type 0} where
           plain = stays_plain call answer m plain k.plain;
           placed = λ i q at. grind (arith, set_cases parts slot i now q lt at, k.placed i q);
           seen = λ i q at. grind (arith, set_cases parts slot i now q lt at, k.seen i q, beside i q);
-          apart = λ i j p q ne at there. grind (
-            arith,
-            set_cases parts slot i now p lt at,
-            set_cases parts slot j now q lt there,
-            apart i p,
-            apart j q,
-            k.apart i j p q,
-          );
+          apart = λ i j p q ne at there.
+              let first = set_cases parts slot i now p lt at in
+              let second = set_cases parts slot j now q lt there in
+              grind (arith, first, second, apart i p, apart j q, k.apart i j p q);
           listed = λ b seen. ⊎_elim
               (λ new. (slot, new.0, get_or-set_same parts slot now None lt ∙ new.1, new.2))
               (λ old. (old.0, old.1, get_or-set_other parts slot old.0 now None old.2 ∙ old.3, old.4)) (listed b seen);
@@ -141,23 +124,18 @@ module _ {T C : Type 0} where
     -- a component that was changed in its place
     pub attached_changed : (p : Part T C) (v old : C)
         → Meets S (SetValue (box_of_part p) v) (Old old) R → AreAttached R parts
-    attached_changed p v old m = record {
-      unborrowed = quiet_stays _ _ m tt k.unborrowed;
-      plain = stays_plain _ _ m tt k.plain;
-      placed = k.placed;
-      seen = λ i q at. set_seen s k.unborrowed _ v old m (box_of_part q) ∙ k.seen i q at;
-      apart = k.apart;
-      listed = λ b seen. k.listed b (sym (set_seen s k.unborrowed _ v old m b) ∙ seen);
-    }
+    attached_changed p v old m =
+        let quiet = quiet_stays _ _ m tt k.unborrowed in
+        let plain = stays_plain _ _ m tt k.plain in
+        let sees = set_seen s k.unborrowed (box_of_part p) v old m in
+        grind (arith, quiet, plain, k.placed, k.seen, k.apart, k.listed, sees)
 
     pub changed_beside : (a e : Entity T) (p : Part T C) (v old : C) → part_of parts a ≡ Some p
         → Meets S (SetValue (box_of_part p) v) (Old old) R → IsOther a e
         → shown_by R (part_of parts e) ≡ shown_by S (part_of parts e)
-    changed_beside a e p v old is m other = ⊎_elim
-        (λ same. cc (other_part parts a e p is same other))
-        (λ ne. shown_same S R e (part_at parts (slot_in e)) (λ q at. set_beside (slot_in a) p v old
-        (part_there parts a p is).0 m (slot_in e) q (λ back. ne (sym back)) at))
-        (key_cases by_number (slot_in a) (slot_in e))
+    changed_beside a e p v old is m other =
+        let beside = set_beside (slot_in a) p v old (part_there parts a p is).0 m (slot_in e) in
+        grind (arith, other_part parts a e p is, beside, shown_same S R e)
 
     pub attached_set : (slot : ℕ) (p : Part T C) (e : Entity T) (v old : C) → slot ≡ slot_in e
         → part_at parts slot ≡ Some p → Meets S (SetValue (box_of_part p) v) (Old old) R
@@ -191,8 +169,8 @@ module _ {T C : Type 0} where
         (sym own, ap is_some (made None v l (Ok a) m)) (λ j q ne at. new_name v l a m j q at)
         (λ j q ne at. new_beside v l a m j q at)
         (λ b seen. ⊎_elim (λ same. inl (record { entity = e; raw = a }, refl, same))
-        (λ ne. let was = k.listed b (sym (ap is_some (same_value S R _ _ s m b tt ne)) ∙ seen) in
-        inr (was.0, was.1, (λ here. cc (none, was.2)), was.2, was.3)) (name_cases (name_of (pointer_of a)) (name_of b)))
+        (λ ne. inr (grind (arith, same_value S R _ _ s m b tt ne, k.listed b, none)))
+        (name_cases (name_of (pointer_of a)) (name_of b)))
 
     -- a component less
     module _ (slot : ℕ) (p : Part T C) (is : part_at parts slot ≡ Some p) (m : Meets S (End (box_of_part p)) Done R) where
@@ -204,14 +182,13 @@ module _ {T C : Type 0} where
       pub attached_gone : AreAttached R (slice_set parts slot None)
       attached_gone = attached_by _ _ m tt tt slot None (part_within parts slot p is) tt (λ _ _ _ _. tt) gone_beside
           (λ b seen. let ne = ended_unseen s (box_of_part p) (k.seen slot p is) m b seen in
-          let was = k.listed b (sym (ap is_some (same_value S R _ _ s m b ne tt)) ∙ seen) in
-          inr (was.0, was.1, (λ here. ne (cc (is, was.2, was.3))), was.2, was.3))
+          grind (arith, ne, same_value S R _ _ s m b ne tt, k.listed b, is))
 
     pub gone_others : (a e : Entity T) (p : Part T C) → part_of parts a ≡ Some p
         → Meets S (End (box_of_part p)) Done R → IsOther a e
         → shown_by R (part_of (slice_set parts (slot_in a) None) e) ≡ shown_by S (part_of parts e)
     gone_others a e p is m other =
-        let there = (part_there parts a p is).0 in
-        let within = part_within parts (slot_in a) p there in
+        let beside = gone_beside (slot_in a) p (part_there parts a p is).0 m in
         let apart = written_apart S R parts (slot_in a) None e in
-        grind (arith, other_part parts a e p is, get_or-set_same, apart, gone_beside (slot_in a) p there m)
+        let there = part_there parts a p is in
+        grind (arith, other_part parts a e p is, there, part_within, get_or-set_same, apart, beside)

@@ -1,14 +1,13 @@
 -- A table's store and rows after each of its calls.
 use Rattle.entity_table.proofs.Common
-use Common.{[], ap, ArePlaced, arith, Bor, by_number, by_option, Done, End, ended, Entity, Fits, fresh}
-use Common.{fresh_sees, fresh_simple, GenerationalPointer, get_or, get_or_from_slice_get, get_pushed}
-use Common.{get_set_apart, get_set_here, is_some, IsDense, IsKept, IsOther, IsPlain, IsSame, IsSeen, IsSimple}
-use Common.{IsSound, KeepsPlaces, key_cases, length, List, Location, Made, made, made_simple, Make, making, Meets}
-use Common.{meets_sound, name_cases, name_of, None, Ok, Old, one_id, Option, option_copied, others_left}
-use Common.{pointer_in, pushed_new, pushed_old, reach_apart, reached_boxed, same_value, seen_cell, seen_reach}
-use Common.{seen_reached, seen_store, set_seen, sets, SetValue, simple_still, slice_get, slice_get_within}
-use Common.{slice_set, slot_apart, slot_in, slot_within, slots, Some, State, swap_remove, sym, TableState}
-use Common.{value_in, ℕ, ⊎_elim, ◌++◌, ◌-◌, ◌<◌, ◌∙◌, ◌∷◌, ◌≡◌, ◌≢◌, ◌⊎◌}
+use Common.{[], ap, ArePlaced, arith, Bor, Done, End, ended, Entity, fresh, fresh_sees, fresh_simple}
+use Common.{GenerationalPointer, get_or, get_or_from_slice_get, get_pushed, get_set_apart, get_set_here, is_some}
+use Common.{IsDense, IsKept, IsOther, IsPlain, IsSame, IsSeen, IsSimple, IsSound, KeepsPlaces, length, List}
+use Common.{Location, Made, made, made_simple, Make, making, Meets, meets_sound, name_of, None, Ok, Old, one_id}
+use Common.{Option, option_copied, others_left, pointer_in, pushed_new, pushed_old, reach_apart, reached_boxed}
+use Common.{same_value, seen_cell, seen_reach, seen_reached, seen_store, set_seen, sets, SetValue, simple_still}
+use Common.{slice_get, slice_get_within, slice_set, slot_apart, slot_in, slot_within, slots, Some, State}
+use Common.{swap_remove, sym, TableState, value_in, ℕ, ◌++◌, ◌-◌, ◌<◌, ◌∙◌, ◌∷◌, ◌≡◌, ◌≢◌, ◌⊎◌}
 use Rattle.entity_table.proofs.Removals.{removed_get, removed_last, removed_old}
 
 -- a look that finds something
@@ -38,12 +37,8 @@ ended_unseen {S = S} {R} s a seen m b live e =
 
 module _ {T : Type 0} where
   pub fresh_kept : (number start next : ℕ) → IsKept (fresh {T = T} number start next) [] []
-  fresh_kept number start next = record {
-    simple = fresh_simple number start next;
-    placed = λ row e is. cc;
-    live = λ row e is. cc;
-    listed = λ e seen. cc (fresh_sees {T = T} number start next (pointer_in e));
-  }
+  fresh_kept number start next =
+      grind (arith, fresh_simple {T = T} number start next, fresh_sees {T = T} number start next)
 
   -- the rows are dense
   pub kept_dense : {S : State T} {rows : List (Entity T)} {places : List ℕ} → IsKept S rows places
@@ -57,8 +52,7 @@ module _ {T : Type 0} where
   -- where there are no rows no entity is live
   pub dense_empty : (t : TableState T) → IsDense t → t.rows ≡ [] → (e : Entity T)
       → value_in t.state (pointer_in e) ≡ None
-  dense_empty t dense none e = by_option (value_in t.state (pointer_in e)) (λ is. is)
-      (λ v is. let row = dense.listed e (ap is_some is) in cc row.2)
+  dense_empty t dense none e = grind (arith, dense.listed e)
 
   -- a live entity stands in the row which is read at its slot
   module _ {S : State T} {rows : List (Entity T)} {places : List ℕ} (k : IsKept S rows places) (a : Entity T)
@@ -70,10 +64,9 @@ module _ {T : Type 0} where
 
     module _ (slot row : ℕ) (is : slot ≡ slot_in a) (read : row ≡ get_or places slot row) where
       row_is : row ≡ (k.listed a seen).0
-      row_is =
-          let at = k.listed a seen in
-          let place : slice_get places (slot_in a) ≡ Some at.0 = cc (k.placed at.0 at.1 at.2) in
-          cc (get_or_from_slice_get places (slot_in a) at.0 row place)
+      row_is = let at = k.listed a seen in
+          let place = k.placed at.0 at.1 at.2 in
+          grind (arith, place, at.3, get_or_from_slice_get places (slot_in a) at.0 row)
 
       pub row_within : row < length rows
       row_within =
@@ -95,12 +88,7 @@ module _ {T : Type 0} where
   pub kept_still : {S R : State T} {rows : List (Entity T)} {places : List ℕ} → IsKept S rows places
       → IsSimple R → ((b : GenerationalPointer) → is_some (value_in R b) ≡ is_some (value_in S b))
       → IsKept R rows places
-  kept_still k simple same = record {
-    simple = simple;
-    placed = k.placed;
-    live = λ row e is. same (pointer_in e) ∙ k.live row e is;
-    listed = λ e seen. k.listed e (sym (same (pointer_in e)) ∙ seen);
-  }
+  kept_still k simple same = grind (arith, simple, same, k.placed, k.live, k.listed)
 
   pub kept_set : {S R : State T} {rows : List (Entity T)} {places : List ℕ} → IsSound S → IsKept S rows places
       → (a : GenerationalPointer) (v old : T) → Meets S (SetValue a v) (Old old) R → IsKept R rows places
@@ -122,74 +110,52 @@ module _ {T : Type 0} where
     pub kept_spawned : (v : T) (l : Location) (e : Entity T) → slots S < length places
         → Meets S (Make None v l) (Made (pointer_in e)) R
         → IsKept R (rows ++ e ∷ []) (slice_set places (slot_in e) (length rows))
-    kept_spawned v l e room m = record {
-      simple = made_simple s k.simple v l b m;
-      placed = λ row f is. let there = get_set_here places (slot_in e) (length rows) within in
-          let left = get_set_apart places (slot_in e) (slot_in f) (length rows) in
-          grind (arith, get_pushed rows row e f is, left, apart f, k.placed row f, k.live row f, there);
-      live = λ row f is. grind (arith, get_pushed rows row e f is, k.live row f, apart f, same f, seen);
-      listed = λ f live. ⊎_elim
-          (λ is. (length rows, e, pushed_new rows e, one_id R b (pointer_in f) (meets_sound S R _ _ s m) seen live is))
-          (λ ne. let old = k.listed f (sym (ap is_some (same f ne)) ∙ live) in
-          (old.0, old.1, pushed_old rows old.0 e old.1 old.2, old.3))
-          (name_cases (name_of b) (name_of (pointer_in f)));
-    }
-      where
-        b : GenerationalPointer
-        b = pointer_in e
-
-        fits : Fits S (name_of b)
-        fits = (making {S = S} {R = R} v l b m).fits
-
-        within : slot_in e < length places
-        within = omega (arith, room, slot_within S (name_of b) k.simple.bounded fits)
-
-        seen : IsSeen R b
-        seen = ap is_some (made None v l (Ok e.raw) m)
-
-        apart : (f : Entity T) → IsSeen S (pointer_in f) → slot_in f ≢ slot_in e
-        apart f live = slot_apart S (name_of b) s.given k.simple.bounded fits
-            (name_of (pointer_in f)) (seen_cell S (pointer_in f) live)
-
-        same : (f : Entity T) → name_of b ≢ name_of (pointer_in f)
-            → value_in R (pointer_in f) ≡ value_in S (pointer_in f)
-        same f = same_value S R (Make None v l) (Made b) s m (pointer_in f) tt
+    kept_spawned v l e room m =
+        let b = pointer_in e in
+        let fits = (making {S = S} {R = R} v l b m).fits in
+        let within : slot_in e < length places =
+        omega (arith, room, slot_within S (name_of b) k.simple.bounded fits) in
+        let seen : IsSeen R b = ap is_some (made None v l (Ok e.raw) m) in
+        let apart = λ (f : Entity T) (live : IsSeen S (pointer_in f)). slot_apart S (name_of b)
+        s.given k.simple.bounded fits (name_of (pointer_in f)) (seen_cell S (pointer_in f) live) in
+        let same = λ (f : Entity T). same_value S R _ _ s m (pointer_in f) tt in
+        record {
+          simple = made_simple s k.simple v l b m;
+          placed = λ row f is.
+              let here = get_set_here places (slot_in e) (length rows) within in
+              let left = get_set_apart places (slot_in e) (slot_in f) (length rows) in
+              let new = get_pushed rows row e f is in
+              grind (arith, new, left, apart f, k.placed row f, k.live row f, here);
+          live = λ row f is.
+              grind (arith, get_pushed rows row e f is, k.live row f, apart f, same f, seen);
+          listed = λ f live.
+              let one = one_id R b (pointer_in f) (meets_sound S R _ _ s m) seen live in
+              grind (arith, one, pushed_new rows e, same f, k.listed f, pushed_old rows);
+        }
 
     -- an entity that was ended, and whose row was removed
     pub kept_removed : (a e : Entity T) (row : ℕ) (after : List (Entity T)) (left : List ℕ)
         → IsSeen S (pointer_in a) → Meets S (End (pointer_in a)) Done R
         → slice_get rows row ≡ Some e → IsSame e a → after ≡ swap_remove rows row e
         → ArePlaced after left → IsKept R after left
-    kept_removed a f row after left seen m there same is placed = rw is (record {
-      simple = simple_still s k.simple (End (pointer_in a)) Done m tt tt;
-      placed = rw is at placed;
-      live = λ j x is.
-          grind (arith, removed_get rows row j f x within is, still (length rows - 1) x, still j x);
-      listed = λ x live. let old = k.listed x (sym (kept x (other x live)) ∙ live) in
-          found x old.0 old.1 old.2 old.3 (other x live);
-    })
-      where
-        within : row < length rows
-        within = slice_get_within rows row f there
-
-        kept : (x : Entity T) → name_of (pointer_in a) ≢ name_of (pointer_in x)
-            → is_some (value_in R (pointer_in x)) ≡ is_some (value_in S (pointer_in x))
-        kept x ne = ap is_some (same_value S R (End (pointer_in a)) Done s m (pointer_in x) ne tt)
-
-        -- what stands in another row is another entity
-        still : (j : ℕ) (x : Entity T) → slice_get rows j ≡ Some x → j ≢ row → IsSeen R (pointer_in x)
-        still j x is ne =
-            kept x (λ e. ne (cc (k.placed j x is, k.placed row f there, ap (λ n. n.slot) e))) ∙ k.live j x is
-
-        other : (x : Entity T) → IsSeen R (pointer_in x) → name_of (pointer_in a) ≢ name_of (pointer_in x)
-        other x = ended_unseen s (pointer_in a) seen m (pointer_in x)
-
-        found : (x : Entity T) (j : ℕ) (y : Entity T) → slice_get rows j ≡ Some y → IsSame y x
-            → name_of (pointer_in a) ≢ name_of (pointer_in x)
-            → (i : ℕ) × (z : Entity T) × (slice_get (swap_remove rows row f) i ≡ Some z) × IsSame z x
-        found x j y is one ne =
-            let apart : j ≢ row = λ at. ne (cc (there, is, same, one)) in
-            let lt = slice_get_within rows j y is in
-            ⊎_elim (λ last. (row, y, grind (arith, removed_last rows row f y, lt, within), one))
-            (λ before. (j, y, grind (arith, removed_old rows row j f y, lt), one))
-            (key_cases by_number j (length rows - 1))
+    kept_removed a f row after left seen m there same is placed =
+        let within = slice_get_within rows row f there in
+        let kept = λ (x : Entity T). same_value S R (End (pointer_in a)) Done s m (pointer_in x) in
+        let still = λ (j : ℕ) (x : Entity T) (is : slice_get rows j ≡ Some x) (ne : j ≢ row).
+        let first = k.placed j x is in
+        let second = k.placed row f there in
+        ap is_some (kept x (λ e. ne (cc (first, second, ap (λ n. n.slot) e))) tt) ∙ k.live j x is in
+        rw is (record {
+          simple = simple_still s k.simple (End (pointer_in a)) Done m tt tt;
+          placed = rw is at placed;
+          live = λ j x is.
+              let was = removed_get rows row j f x within is in
+              grind (arith, was, still (length rows - 1) x, still j x);
+          listed = λ x live.
+              let ne = ended_unseen s (pointer_in a) seen m (pointer_in x) live in
+              let old = k.listed x (sym (ap is_some (kept x ne tt)) ∙ live) in
+              let lt = slice_get_within rows old.0 old.1 old.2 in
+              let last = removed_last rows row f old.1 in
+              let before = removed_old rows row old.0 f old.1 in
+              grind (arith, ne, old, there, same, lt, within, last, before);
+        })

@@ -2,8 +2,8 @@
 use Rattle.entity_table.proofs.Common
 use Common.{[], add-one, All, All-cons, All-nil, ap, AreAttached, AreSeen, arith, box_of_part, by_option, Entity}
 use Common.{entity_of_part, IsSame, IsStrictlyIncreasing, List, listed_parts, map, map-map, None, Option, Part}
-use Common.{part_at, part_of, pointer_in, refl, same_ids, shown_by, shown_rows, slice_get, slot_in, Some}
-use Common.{State, subst, suc, sym, zero, ℕ, ◌+◌, ◌<◌, ◌∙◌, ◌∷◌, ◌≡◌, ◌≤◌}
+use Common.{part_at, part_of, pointer_in, refl, same_ids, shown_by, shown_rows, slice_get, slot_in, Some, State}
+use Common.{subst, suc, sym, zero, ℕ, ◌+◌, ◌<◌, ◌∙◌, ◌∷◌, ◌≡◌, ◌≤◌}
 use Rattle.entity_table.proofs.Attaching.{own_part, part_there}
 use Rattle.entity_table.proofs.Walking.{all_seen, shown_all, shown_each, shown_sees}
 
@@ -18,20 +18,17 @@ module _ {T C : Type 0} where
   -- a listed part is that of a slot
   listed_at : (parts : List (Option (Part T C))) (i : ℕ) (p : Part T C)
       → slice_get (listed_parts parts) i ≡ Some p → (slot : ℕ) × (part_at parts slot ≡ Some p)
-  listed_at [] i p is = cc
   listed_at (None ∷ parts) i p is = let at = listed_at parts i p is in (suc at.0, at.1)
-  listed_at (Some q ∷ parts) zero p is = (0, is)
   listed_at (Some q ∷ parts) (suc i) p is = let at = listed_at parts i p is in (suc at.0, at.1)
+  listed_at parts i p is = (0, grind arith)
 
   -- and each slot's is listed
   listed_there : (parts : List (Option (Part T C))) (slot : ℕ) (p : Part T C)
       → part_at parts slot ≡ Some p → (i : ℕ) × (slice_get (listed_parts parts) i ≡ Some p)
-  listed_there [] slot p is = cc
-  listed_there (None ∷ parts) zero p is = cc
   listed_there (None ∷ parts) (suc slot) p is = listed_there parts slot p is
-  listed_there (Some q ∷ parts) zero p is = (0, is)
   listed_there (Some q ∷ parts) (suc slot) p is =
       let at = listed_there parts slot p is in (suc at.0, at.1)
+  listed_there parts slot p is = (0, grind arith)
 
   -- so the slots of listed parts rise
   slots_rise : (parts : List (Option (Part T C))) (first : ℕ)
@@ -68,12 +65,9 @@ module _ {T C : Type 0} where
         × IsSame f e
     listed_every e c shows = by_option (part_of parts e) (λ none. cc) (λ p is.
         let there = part_there parts e p is in
-        let i = listed_there parts (slot_in e) p there.0 in (
-          i.0,
-          p.entity,
-          shown_each entity_of_part box_of_part S (listed_parts parts) listed_seen i.0 p c i.1 (rw is at shows),
-          (same_ids (pointer_in p.entity) (pointer_in e)).0 there.1,
-        ))
+        let i = listed_there parts (slot_in e) p there.0 in
+        let row = shown_each entity_of_part box_of_part S _ listed_seen i.0 p c i.1 (rw is at shows) in
+        (i.0, p.entity, row, (same_ids (pointer_in p.entity) (pointer_in e)).0 there.1))
 
     pub listed_rise : IsStrictlyIncreasing (map (λ p. slot_in p.0)
         (shown_rows entity_of_part box_of_part S (listed_parts parts)))

@@ -50,8 +50,7 @@ module _ {T : Type 0} where
       → row < length rows → ArePlaced rows places → slice_get rows (length rows - 1) ≡ Some last
       → ArePlaced (swap_remove rows row d) (slice_set places (slot_in last) row)
   placed_moved rows places row d last lt placed is k e there =
-      let place = placed (length rows - 1) last is in
-      let within = slice_get_within places (slot_in last) _ place in
+      let within = last_within rows places last placed is in
       let old = removed_get rows row k d e lt there in
       let here = get_set_here places (slot_in last) row within in
-      grind (arith, old, here, placed k e, get_set_apart places (slot_in last) (slot_in e) row)
+      grind (arith, old, here, placed, is, get_set_apart places (slot_in last) (slot_in e) row)

@@ -34,7 +34,8 @@ module _ {T : Type 0} where
       passed = λ i e is le.
           let at = removed_get old.rows r.0 i r.1 e (slice_get_within old.rows r.0 r.1 r.3) (rw r.4 at is) in
           grind (arith, at, passed (length old.rows - 1) e, passed i e, here);
-      front = λ i e is all. grind (arith, s.front i e is, all, survives, before i e, no_further i e is);
+      front = λ i e is all.
+          grind (arith, s.front i e is, all, stays, before i e, no_further i e is);
       ahead = λ i e lt is. before i e lt (s.ahead i e (omega (arith, lt)) is);
       within = omega (arith, s.within, ap length r.4 ∙ removed_length old.rows r.0 r.1);
     }
@@ -48,10 +49,6 @@ module _ {T : Type 0} where
 
         alike : (e : Entity T) → IsSame entity e → element_in new e ≡ None
         alike e same = cc (same_id_sees new.state (pointer_in entity) (pointer_in e) same, end.gone)
-
-        -- what shows something still did so before, and isn't the one that was ended
-        survives : (e : Entity T) → is_some (element_in new e) ≡ true → is_some (element_in old e) ≡ true
-        survives e shows = grind (arith, alike e, end.others e, one_or_two entity e)
 
         before : (i : ℕ) (e : Entity T) → i < row → slice_get old.rows i ≡ Some e
             → slice_get new.rows i ≡ Some e

@@ -42,6 +42,5 @@ module _ {E V R : Type 0} (key : R → E) (box : R → GenerationalPointer) (S :
   pub shown_each : (rows : List R) → AreSeen box S rows → (i : ℕ) (r : R) (v : V)
       → slice_get rows i ≡ Some r → value_in S (box r) ≡ Some v
       → slice_get (shown_rows key box S rows) i ≡ Some (key r, v)
-  shown_each [] seen i r v is sees = cc
-  shown_each (q ∷ rows) seen zero r v is sees = grind arith
   shown_each (q ∷ rows) seen (suc i) r v is sees = grind (arith, shown_each rows seen.1 i r v is sees)
+  shown_each rows seen i r v is sees = grind arith

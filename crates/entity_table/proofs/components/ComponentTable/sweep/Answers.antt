@@ -18,8 +18,5 @@ pub returns-clause-gone : goal.returns-clause-gone
 returns-clause-gone g c e dead =
     c.loop-slot.invariant.0.gone e dead (omega (arith, c.loop-slot-test.false))
 
-pub returns-clause-kept : goal.returns-clause-kept
-returns-clause-kept g c = c.loop-slot.invariant.0.kept
-
 pub returns-clause-listed : goal.returns-clause-listed
 returns-clause-listed g c = c.loop-slot.invariant.1

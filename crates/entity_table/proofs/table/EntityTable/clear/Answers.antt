@@ -2,9 +2,6 @@ use Rattle.entity_table.proofs.{ap, arith, dense_empty, length, none_last, remov
 use Rattle.entity_table.proofs.{◌-◌, ◌<◌, ◌∙◌, ◌≡◌}
 use Rattle.entity_table.proofs.table.EntityTable.clear.Goals as goal
 
-pub loop-last-init : goal.loop-last-init
-loop-last-init g c = λ f given. given
-
 pub loop-last-smaller : goal.loop-last-smaller
 loop-last-smaller g c =
     let row = c.in-Ok.ensures.row in
@@ -12,9 +9,6 @@ loop-last-smaller g c =
     let less : length c.despawn.new.self.rows ≡ length c.loop-last.self.rows - 1 =
     ap length row.4 ∙ removed_length _ row.0 row.1 in
     omega (arith, within, less)
-
-pub loop-last-preserved : goal.loop-last-preserved
-loop-last-preserved g c = λ f given. c.in-Ok.ensures.kept f (c.loop-last.invariant f given)
 
 pub returns-clause-gone : goal.returns-clause-gone
 returns-clause-gone g c e = dense_empty _ c.last.ensures.dense

@@ -1,6 +1,6 @@
-use Rattle.entity_table.proofs.{ap, arith, ends, is_some, kept_removed, meets_given, Ok, others_left}
-use Rattle.entity_table.proofs.{pointer_in, refl, row_same, row_within, rules, same_value, seen_store}
-use Rattle.entity_table.proofs.{simple_taken, slot_within_places, sym, taken_seen, unseen, ◌∙◌}
+use Rattle.entity_table.proofs.{ap, arith, ends, is_some, kept_removed, meets_given, Ok, others_left, pointer_in}
+use Rattle.entity_table.proofs.{refl, row_same, row_within, rules, same_value, seen_store, simple_taken}
+use Rattle.entity_table.proofs.{slot_within_places, sym, taken_seen, unseen, ◌∙◌}
 use Rattle.entity_table.proofs.table.EntityTable.take.Goals as goal
 
 pub index-row-requires : goal.index-row-requires
