@@ -4,12 +4,10 @@ use Rattle.example_callers.proofs.leaving.read_across_end.Goals as goal
 
 pub unreachable-requires : goal.unreachable-requires
 unreachable-requires g c =
-    let sound = g.met.S.AnyStorage.sound in
+    let same = reader_sees _ _ _ _ (g.met.S.AnyStorage.sound _) c.manually_drop.ensures
+    c.in_ok-guard.guard tt (reads_known _ _ _ _ c.in_ok-guard.ensures).0 in
     let read = opens_value _ _ (Ok c.in_ok-guard.guard) c.in_ok-guard.ensures in
-    let same = reader_sees _ _ _ _ (sound _) c.manually_drop.ensures c.in_ok-guard.guard tt
-    (reads_known _ _ _ _ c.in_ok-guard.ensures).0 in
-    let seen = c.deref.ensures ∙ (same ∙ read.1) in
-    grind (arith, common_steps)
+    grind (arith, common_steps, c.deref.ensures ∙ (same ∙ read.1))
 
 pub returns : goal.returns
 returns g c =

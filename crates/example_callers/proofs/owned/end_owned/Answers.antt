@@ -38,8 +38,8 @@ module _ {T : Type 0} where
   }
   after_making o v l (Err e) new m = record {
     names = [];
-    held = subst (λ X. ownership X o ≡ Some (one_owner [])) (sym (refused_make _ (Err e) m)) new;
-    free = λ c n there. absurd (true≢false (sym there));
+    held = rw (refused_make _ (Err e) m) new;
+    free = λ c n there. cc;
   }
 
 pub unreachable-requires : goal.unreachable-requires
@@ -61,7 +61,7 @@ returns-in-Err-made-clause-left g c b =
     let sound = g.met.S.AnyStorage.sound in
     let new = owned (Ok c.in_ok-owner.owner) c.in_ok-owner.ensures in
     let still = refused_make _ (Err c.in-Err-made.field-0) c.in-Err-made.ensures.step in
-    let held = subst (λ X. ownership X c.in_ok-owner.owner ≡ Some (one_owner [])) (sym still) new in
+    let held = rw (← still) at new in
     left_twice (left_twice (leaves _ _ _ _ (sound _) c.in_ok-owner.ensures b tt tt)
     (left_still b still)) (release_leaves _ _ _ _ (sound _) c.in-Ok.ensures.step _ held b refl)
 

@@ -22,8 +22,7 @@ returns-in_err-guard g c =
 pub unreachable-requires : goal.unreachable-requires
 unreachable-requires g c =
     let read = opens_value _ _ (Ok c.in_ok-guard.guard) c.in_ok-guard.ensures in
-    let seen = c.deref.ensures ∙ read.1 in
-    grind (arith, common_steps)
+    grind (arith, common_steps, c.deref.ensures ∙ read.1)
 
 pub returns : goal.returns
 returns g c =
