@@ -8,7 +8,7 @@ use Rattle.example_histories.proofs.Common.{List, Name, name_cmp, nat_cmp, not, 
 use Rattle.example_histories.proofs.Common.{sym, true, ℕ, ◌||◌, ◌∙◌, ◌≡◌}
 use Rattle.std.proofs.Common.{arith, None}
 use Rattle.std.specs.Prelude.{length, map as list_map, T}
-use Rattle.generational_core.proofs.maps.Maps.{by_name, by_option, IsKeyOrder}
+use Rattle.generational_core.proofs.maps.Maps.{by_name, by_option, get-keep, IsKeyOrder}
 use Rattle.std.specs.FinMap as map
 
 -- the entries in which what stands at a key, if anything does, is changed by f
@@ -52,12 +52,10 @@ module _ {K X : Type 0} (R : K → K → Ordering) where
     pub kept_there : (p : K → Bool) → IsKeyOrder R
         → map.retain_keys (map.from_sorted {R = R} es) p
         ≡ map.from_sorted (filter (λ e. p e.0) es)
-    kept_there p o =
-        map.same_map o.total o.exact _ _ (λ q.
-        map.get-retain_keys _ p q (λ x t. ap p (sym (o.exact q x t)))
-        ∙ ap (λ x. cond (p q) x None) (get_there q)
-        ∙ sym (find-where_key R p q (λ x t. ap p (sym (o.exact q x t))) es)
-        ∙ sym (map.get-from_sorted R _ q (is_sorted-where_key R p es (subst T (sym h) tt))))
+    kept_there p o = map.same_map o.total o.exact _ _ (λ q.
+        get-keep o _ p q ∙ ap (λ x. cond (p q) x None) (get_there q)
+        ∙ sym (map.get-from_sorted R _ q (is_sorted-where_key R p es (subst T (sym h) tt))
+        ∙ find-where_key R p q (λ x t. ap p (sym (o.exact q x t))) es))
 
     pub changed_there : (k : K) (f : X → X) → IsKeyOrder R
         → change (map.from_sorted {R = R} es) k f ≡ map.from_sorted (alter R k f es)
@@ -68,17 +66,8 @@ module _ {K X : Type 0} (R : K → K → Ordering) where
     -- to remove a key is to keep the others
     pub removed_there : (k : K) → IsKeyOrder R → map.remove (map.from_sorted {R = R} es) k
         ≡ map.from_sorted (filter (λ e. not (eq_by_cmp R e.0 k)) es)
-    removed_there k o =
-        map.same_map o.total o.exact _ (map.retain_keys (map.from_sorted es) others) (λ q.
-        map.get-remove o.total _ k q ∙ turn (eq_by_cmp R q k) _ _
-        ∙ sym (map.get-retain_keys _ others q (λ x t. ap others (sym (o.exact q x t)))))
-        ∙ kept_there others o
-      where
-        others : K → Bool
-        others q = not (eq_by_cmp R q k)
-
-        turn : {A : Type 0} (b : Bool) (x y : A) → cond b x y ≡ cond (not b) y x
-        turn b x y = grind arith
+    removed_there k o = map.same_map o.total o.exact _ (map.retain_keys _ (λ q. not (eq_by_cmp R q k)))
+        (λ q. rw (map.get-remove o.total, get-keep o) (grind arith)) ∙ kept_there _ o
 
 -- ---- cells that go
 

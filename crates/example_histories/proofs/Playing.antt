@@ -4,7 +4,9 @@ use Rattle.generational_core.specs.{Answers.value_behind, Boxes.name_of, Cells.C
 use Rattle.generational_core.specs.{Cells.refill, declared.borrow.Borrow.Borrow, Ending.close, Machine.add_cell}
 use Rattle.generational_core.specs.{Machine.read_at, Machine.unless, Machine.write_at, Names.NameMap}
 use Rattle.generational_core.specs.{State.IsSound, State.Owners}
-use Rattle.generational_core.proofs.{machine.Soundness.fresh_sound, machine.Stepping.meets_sound}
+use Rattle.generational_core.proofs.machine.{Bounding.lasts_insert}
+pub use Rattle.generational_core.proofs.machine.{Bounding.no_slots}
+use Rattle.generational_core.proofs.machine.{Soundness.fresh_sound, Stepping.meets_sound}
 use Rattle.example_histories.proofs.Common
 use Common.{[], act, Action, Answer, ap, arith, Bool, by_number, Cell, change, cond, contains-insert_name, drop}
 use Common.{false, find, fresh, Guard, Here, hindrance_to, inl, inr, is_sorted, limit_tickets, List, Location}
@@ -52,17 +54,14 @@ module _ {T : Type 0} where
   new_name S n h = grind arith
 
   new_names : (S : State T) (a : Action T) (f : NewNames) → are_new S a f ≡ true → AreNew S a f
-  new_names S (Make o v l) f h = new_name S f.first h
   new_names S (MakeShared o v l) f h =
       let both = and_parts (is_new S f.first) _ h in
       (new_name S f.first both.0, new_name _ f.second both.1)
-  new_names S (Refer o b) f h = new_name S f.first h
-  new_names S _ f h = tt
+  new_names S a f h = grind (arith, new_name)
 
   pub taken : (S : State T) (a : Action T) (answer : Answer T) (f : NewNames)
       → takes S a answer f ≡ true → Takes S a answer f
-  taken S a (Made b) f h = new_names S a f h
-  taken S a _ f h = tt
+  taken S a answer f h = grind (arith, new_names)
 
 -- a row that is computed: names are tested, and soundness follows
 unfoldable pub Plays : {T : Type 0} → State T → Row T → Type 0
@@ -83,9 +82,7 @@ tells {T} S ((Call a f, told) ∷ row) s h =
     let new = taken S a out.0 f h.1 in
     let sound = meets_sound S out.1 a out.0 s (inl (f, new, refl)) in
     (h.0, new, sound, tells out.1 row sound h.2)
-tells S ((Ask a, told) ∷ row) s h = (h.0, tells S row s h.1)
-tells S ((Open g, told) ∷ row) s h = (h.0, tells S row s h.1)
-tells S ((Count, told) ∷ row) s h = (h.0, tells S row s h.1)
+tells S ((line, told) ∷ row) s h = (h.0, tells S row s h.1)
 
 pub plays_tell : {T : Type 0} (start next : ℕ) (row : Row T)
     → Plays (fresh 7 start next) row → Tells (fresh 7 start next) row
@@ -107,18 +104,11 @@ adds_there es n h =
     ap (λ x. map.insert (map.from_sorted es) n.slot (max n.generation (unwrap_or x 0)))
     (get_there nat_cmp es h n.slot) ∙ put_there nat_cmp es h _ _ by_number
 
--- the slots where no name was given, and where one more was, from the law of them
-pub none_given : lasts (set.items (set.empty {R = name_cmp})) ≡ lasts []
-    → lasts (set.items (set.empty {R = name_cmp})) ≡ map.empty
-unfolding lasts
-none_given law = law
-
-pub more_given : ((given : Names) (n : Name)
-    → lasts (set.items (set.insert given n)) ≡ lasts (n ∷ set.items given))
-    → (given : Names) (n : Name)
+-- the slots where one more name was given
+pub more_given : (given : Names) (n : Name)
     → lasts (set.items (set.insert given n)) ≡ adds (lasts (set.items given)) n
-unfolding lasts adds
-more_given law = law
+unfolding adds
+more_given = lasts_insert
 
 -- ---- calls, from states that are written out
 
@@ -132,8 +122,9 @@ reader t l = record { ticket = t; location = l }
 abbrev pub own_names : GenerationalPointer → List Name
 own_names b = cond (nat_eq b.id.store 7) (name_of b ∷ []) []
 
-is_here : {A : Type 0} {x : A} {P : Type 0} → ((x ≡ x) × P) ↔ P
-is_here = (λ h. h.1, λ p. (refl, p))
+-- what is so, is so
+pub is_same : {P : Type 0} → P ↔ P
+is_same = (λ h. h, λ h. h)
 
 module _ {T : Type 0} where
   abbrev pub stage_of : ℕ → NameMap (Cell T) → Names → Owners → ℕ → ℕ → State T
@@ -178,10 +169,6 @@ module _ {T : Type 0} where
     abbrev S : State T
     S = stage b c g o n p
 
-    -- what a row tells from such a state
-    pub goes : Row T → Type 0
-    goes row = Plays S row
-
     -- a reader and a writer more, so that a borrow holds its ticket alone, and no state
     abbrev fill_in : Name → Content T → State T
     fill_in m x = stage_of b (change (map.from_sorted c) m (refill x)) g (map.from_sorted o) (n + 1) p
@@ -221,71 +208,69 @@ module _ {T : Type 0} where
       outcome a f = outcome_by (λ z e. simp get_there at e)
 
       pub calls : (a : Action T) (f : NewNames) (told : Told T) (row : Row T)
-          → goes ((Call a f, told) ∷ row) ↔ hears S a f (outcome a f).0 told row
-      unfolding goes hears Plays
+          → Plays S ((Call a f, told) ∷ row) ↔ hears S a f (outcome a f).0 told row
+      unfolding hears Plays
       calls a f told row =
-          let e = (outcome a f).1 in
-          (subst (λ x. hears S a f x told row) e, subst (λ x. hears S a f x told row) (sym e))
+          subst (λ x. hears S a f (act S a f) told row ↔ hears S a f x told row) (outcome a f).1 is_same
+
+      abbrev lacking : Action T → Told T → Row T → Outcome T → Type 0
+      lacking a told row x = sees (Lacks (needs_memory S (limit_tickets S x).0 a)) told S row
 
       pub asks : (a : Action T) (told : Told T) (row : Row T)
-          → goes ((Ask a, told) ∷ row) ↔ sees (Lacks (needs_memory S
-          (limit_tickets S (outcome a no_names).0).0 a)) told S row
-      unfolding goes sees Plays may_lack
-      asks a told row =
-          let e = (outcome a no_names).1 in
-          let lacking : Outcome T → Type 0 =
-          λ x. (Lacks (needs_memory S (limit_tickets S x).0 a) ≡ told) × Plays S row in
-          (subst lacking e, subst lacking (sym e))
+          → Plays S ((Ask a, told) ∷ row) ↔ lacking a told row (outcome a no_names).0
+      unfolding sees Plays may_lack
+      asks a told row = subst (λ x. lacking a told row (act S a no_names) ↔ lacking a told row x)
+          (outcome a no_names).1 is_same
 
     -- ---- the rules by which a row is computed
 
-    pub starts : (row : Row T) → Plays S row ↔ goes row
-    unfolding goes
-    starts row = (λ h. h, λ h. h)
-
-    pub ends : goes [] ↔ Unit {0}
-    unfolding goes Plays
-    ends = (λ h. h, λ h. h)
+    pub ends : Plays S [] ↔ Unit {0}
+    unfolding Plays
+    ends = is_same
 
     pub hears_on : (R : State T) (a : Action T) (f : NewNames) (answer : Answer T) (row : Row T)
         → is_short answer R.next ≡ false → takes R a answer f ≡ true
-        → hears R a f (answer, S) (Says answer) row ↔ goes row
-    unfolding goes hears
+        → hears R a f (answer, S) (Says answer) row ↔ Plays S row
+    unfolding hears
     hears_on R a f answer row h new =
         subst (λ k. limit k R a f (answer, S) (Says answer) row ↔ Plays S row) (sym h)
         (λ h. h.2, λ p. (refl, new, p))
 
     pub hears_no : (a : Action T) (f : NewNames) (answer : Answer T) (R : State T) (row : Row T)
         → is_short answer n ≡ true
-        → hears S a f (answer, R) (Says (Refused NumbersExhausted)) row ↔ goes row
-    unfolding goes hears
+        → hears S a f (answer, R) (Says (Refused NumbersExhausted)) row ↔ Plays S row
+    unfolding hears
     hears_no a f answer R row h = subst
         (λ k. limit k S a f (answer, R) (Says (Refused NumbersExhausted)) row ↔ Plays S row)
         (sym h) (λ h. h.2, λ p. (refl, refl, p))
 
     pub looks : (guard : Guard) (told : Told T) (row : Row T)
-        → goes ((Open guard, told) ∷ row) ↔ sees (Opens (value_behind S guard)) told S row
-    unfolding goes Plays sees
-    looks guard told row = (λ h. h, λ h. h)
+        → Plays S ((Open guard, told) ∷ row) ↔ sees (Opens (value_behind S guard)) told S row
+    unfolding Plays sees
+    looks guard told row = is_same
 
     pub counts : (told : Told T) (row : Row T)
-        → goes ((Count, told) ∷ row) ↔ sees (counted S) told S row
-    unfolding goes Plays sees
-    counts told row = (λ h. h, λ h. h)
+        → Plays S ((Count, told) ∷ row) ↔ sees (counted S) told S row
+    unfolding Plays sees
+    counts told row = is_same
 
-    pub sees_on : (told : Told T) (row : Row T) → sees told told S row ↔ goes row
-    unfolding goes sees
-    sees_on told row = is_here
+    pub sees_on : (told : Told T) (row : Row T) → sees told told S row ↔ Plays S row
+    unfolding sees
+    sees_on told row = (λ h. h.1, λ p. (refl, p))
 
-    -- a row tells so if its first lines lead here, and the others tell so from here
+  -- A row tells so if its first lines lead here, and the others tell so from here. A long row is cut
+  -- where a state is written out: its cells, the names given, the owners, the next ticket and the peak.
+  module _ (c : List (Name × Cell T)) (g : List Name) (o : List (ℕ × Ownership)) (n p : ℕ) where
+    abbrev here : State T
+    here = stage 1 c (set.from_list g) o n p
+
     pub cut : (R : State T) (row : Row T) (k : ℕ)
-        → ((rest : Row T) → goes rest → Plays R (take k row ++ rest))
-        → Plays S (drop k row) → Plays R row
-    unfolding goes
+        → ((rest : Row T) → Plays here rest → Plays R (take k row ++ rest))
+        → Plays here (drop k row) → Plays R row
     cut R row k f rest = subst (Plays R) (take-append-drop k row) (f (drop k row) rest)
 
-pub ruleset steps = (starts, ends, calls, asks, hears_on, hears_no, looks, counts, sees_on)
+pub ruleset steps = (ends, calls, asks, hears_on, hears_no, looks, counts, sees_on)
 
-pub ruleset names = (contains-insert_name, set.contains-empty)
+pub ruleset names = (contains-insert_name, set.contains-empty, no_slots, more_given)
 
 pub ruleset plays = (steps, adds_there, entries, names)

@@ -7,11 +7,12 @@ use Common.{[], act, Action, Answer, arith, Bool, Cell, cond, drop, false, fresh
 use Common.{limit_tickets, List, Name, name_cmp, Names, nat_cmp, NewNames, Nothing, NumbersExhausted, Outcome}
 use Common.{Ownership, refl, Refused, State, subst, sym, take, take-append-drop, true, ℕ, ◌++◌, ◌↔◌, ◌∷◌, ◌≡◌}
 use Rattle.std.specs.Prelude.{slice_set}
+use Rattle.std.specs.FinSet as set
 use Rattle.generational_sessions.specs.Session.{ask, gives, Held, reply_of, Request, SessionReply, SessionState}
 use Rattle.generational_sessions.specs.Session.{settle, Settles, spend}
 use Rattle.generational_sessions.proofs.sessions.Sessions.{fresh_kept, session_kept}
 use Rattle.example_histories.specs.SessionRows.{comes_to, Replies, SessionRow, TakesNew}
-use Rattle.example_histories.proofs.Playing.{is_short, outcome, stage, taken, takes}
+use Rattle.example_histories.proofs.Playing.{is_same, is_short, outcome, stage, taken, takes}
 
 module _ {T : Type 0} where
   -- whether the names are new and fit, where they are given
@@ -70,80 +71,73 @@ module _ {T : Type 0} where
       → SessionReply T → SessionRow T → Outcome T → Type 0
   hears S table c a f x row out = settled S table c a f x row (limited S out)
 
-  -- the places after a call that was answered
   module _ (b : ℕ) (c : List (Name × Cell T)) (g : Names) (o : List (ℕ × Ownership)) (n p : ℕ) where
-    abbrev left : State T
-    left = stage b c g o n p
-
-    pub hears_on : (R : State T) (before : List (Held T)) (call : Call T) (a : Action T)
-        (f : NewNames) (x : SessionReply T) (row : SessionRow T) (answer : Answer T)
-        → is_short answer R.next ≡ false → takes R a answer f ≡ true → reply_of call answer ≡ x
-        → hears R before call a f x row (answer, left)
-        ↔ Plays (record { state = left; table = spend call answer before ++ gives answer ∷ [] }) row
-    unfolding hears
-    hears_on R before call a f x row answer h new is =
-        subst (λ k. settled R before call a f x row (cond k (Refused NumbersExhausted, R) (answer, left))
-        ↔ Plays (record { state = left; table = spend call answer before ++ gives answer ∷ [] }) row)
-        (sym h) (λ h. h.2, λ q. (is, new, q))
-
-  module _ (b : ℕ) (c : List (Name × Cell T)) (g : Names) (o : List (ℕ × Ownership)) (n p : ℕ)
-      (table : List (Held T)) where
     abbrev S : State T
     S = stage b c g o n p
 
-    -- what a row replies from such a session, and from what a call asks there
-    pub goes : SessionRow T → Type 0
-    goes row = Plays (record { state = S; table = table }) row
+    -- the places after a call that was answered
+    pub hears_on : (R : State T) (before : List (Held T)) (call : Call T) (a : Action T)
+        (f : NewNames) (x : SessionReply T) (row : SessionRow T) (answer : Answer T)
+        → is_short answer R.next ≡ false → takes R a answer f ≡ true → reply_of call answer ≡ x
+        → hears R before call a f x row (answer, S)
+        ↔ Plays (record { state = S; table = spend call answer before ++ gives answer ∷ [] }) row
+    unfolding hears
+    hears_on R before call a f x row answer h new is =
+        subst (λ k. settled R before call a f x row (cond k (Refused NumbersExhausted, R) (answer, S))
+        ↔ Plays (record { state = S; table = spend call answer before ++ gives answer ∷ [] }) row)
+        (sym h) (λ h. h.2, λ q. (is, new, q))
 
-    pub comes : Call T → NewNames → SessionReply T → SessionRow T → Request T → Type 0
-    comes call f x row asked =
-        let s : SessionState T = record { state = S; table = table } in
-        let out : SessionReply T × SessionState T = comes_to s call f asked in
-        (out.0 ≡ x) × (takes_new S f asked ≡ true) × Plays out.1 row
+    module _ (table : List (Held T)) where
+      abbrev here : SessionState T
+      here = record { state = S; table = table }
 
-    -- ---- the rules by which a row is computed
+      -- what a row replies from what a call asks there
+      pub comes : Call T → NewNames → SessionReply T → SessionRow T → Request T → Type 0
+      comes call f x row asked =
+          let out : SessionReply T × SessionState T = comes_to here call f asked in
+          (out.0 ≡ x) × (takes_new S f asked ≡ true) × Plays out.1 row
 
-    pub starts : (row : SessionRow T) → Plays (record { state = S; table = table }) row ↔ goes row
-    unfolding goes
-    starts row = (λ h. h, λ h. h)
+      -- ---- the rules by which a row is computed
 
-    pub ends : goes [] ↔ Unit {0}
-    unfolding goes Plays
-    ends = (λ h. h, λ h. h)
+      pub ends : Plays here [] ↔ Unit {0}
+      unfolding Plays
+      ends = is_same
 
-    pub calls : (call : Call T) (f : NewNames) (x : SessionReply T) (row : SessionRow T)
-        → goes (record { call = call; names = f; reply = x } ∷ row)
-        ↔ comes call f x row (ask (record { state = S; table = table }) call)
-    unfolding goes comes Plays
-    calls call f x row = (λ h. h, λ h. h)
+      pub calls : (call : Call T) (f : NewNames) (x : SessionReply T) (row : SessionRow T)
+          → Plays here (record { call = call; names = f; reply = x } ∷ row)
+          ↔ comes call f x row (ask here call)
+      unfolding comes Plays
+      calls call f x row = is_same
 
-    pub acts : (hc : is_sorted name_cmp c ≡ true) (ho : is_sorted nat_cmp o ≡ true) (call : Call T)
-        (f : NewNames) (x : SessionReply T) (row : SessionRow T) (a : Action T)
-        → comes call f x row (Asks a) ↔ hears S table call a f x row (outcome b c g o n p hc ho a f).0
-    unfolding comes hears
-    acts hc ho call f x row a =
-        let e = (outcome b c g o n p hc ho a f).1 in
-        let heard : Outcome T → Type 0 = λ y. settled S table call a f x row (limited S y) in
-        (subst heard e, subst heard (sym e))
+      pub acts : (hc : is_sorted name_cmp c ≡ true) (ho : is_sorted nat_cmp o ≡ true) (call : Call T)
+          (f : NewNames) (x : SessionReply T) (row : SessionRow T) (a : Action T)
+          → comes call f x row (Asks a) ↔ hears S table call a f x row (outcome b c g o n p hc ho a f).0
+      unfolding comes hears
+      acts hc ho call f x row a = subst (λ y. settled S table call a f x row (limited S (act S a f))
+          ↔ settled S table call a f x row (limited S y)) (outcome b c g o n p hc ho a f).1 is_same
 
-    -- a reply at once, and another value for a writer
-    pub tells_on : (call : Call T) (f : NewNames) (x : SessionReply T) (row : SessionRow T)
-        → comes call f x row (Tells x)
-        ↔ Plays (record { state = S; table = table ++ Nothing ∷ [] }) row
-    unfolding comes
-    tells_on call f x row = (λ h. h.2, λ q. (refl, refl, q))
+      -- a reply at once, and another value for a writer
+      pub tells_on : (call : Call T) (f : NewNames) (x : SessionReply T) (row : SessionRow T)
+          → comes call f x row (Tells x)
+          ↔ Plays (record { state = S; table = table ++ Nothing ∷ [] }) row
+      unfolding comes
+      tells_on call f x row = (λ h. h.2, λ q. (refl, refl, q))
 
-    pub swaps_on : (call : Call T) (f : NewNames) (p : ℕ) (g : Guard) (v old : T)
-        (row : SessionRow T) → comes call f (TheOld old) row (Swaps p g v old)
-        ↔ Plays (record { state = S; table = slice_set table p (Writing g v) ++ Nothing ∷ [] }) row
-    unfolding comes
-    swaps_on call f p g v old row = (λ h. h.2, λ q. (refl, refl, q))
+      pub swaps_on : (call : Call T) (f : NewNames) (p : ℕ) (g : Guard) (v old : T)
+          (row : SessionRow T) → comes call f (TheOld old) row (Swaps p g v old)
+          ↔ Plays (record { state = S; table = slice_set table p (Writing g v) ++ Nothing ∷ [] }) row
+      unfolding comes
+      swaps_on call f p g v old row = (λ h. h.2, λ q. (refl, refl, q))
 
-    -- a row replies so if its first calls lead here, and the others reply so from here
+  -- a row replies so if its first calls lead here, and the others reply so from here
+  module _ (c : List (Name × Cell T)) (g : List Name) (o : List (ℕ × Ownership)) (n p : ℕ)
+      (table : List (Held T)) where
+    abbrev at_last : SessionState T
+    at_last = record { state = stage 1 c (set.from_list g) o n p; table = table }
+
     pub cut : (s : SessionState T) (row : SessionRow T) (k : ℕ)
-        → ((rest : SessionRow T) → goes rest → Plays s (take k row ++ rest))
-        → Plays (record { state = S; table = table }) (drop k row) → Plays s row
-    unfolding goes
+        → ((rest : SessionRow T) → Plays at_last rest → Plays s (take k row ++ rest))
+        → Plays at_last (drop k row) → Plays s row
     cut s row k f rest = subst (Plays s) (take-append-drop k row) (f (drop k row) rest)
 
-pub ruleset replying = (starts, ends, calls, acts, hears_on, tells_on, swaps_on)
+pub ruleset replying = (ends, calls, acts, hears_on, tells_on, swaps_on)
