@@ -1,9 +1,9 @@
 -- Two lists of replies at a place, and past their ends.
-use Rattle.std.proofs.Common.{◌≡◌, ◌≢◌, ℕ, ◌<◌, ◌≤◌, ◌+◌, List, length, None, Some}
-use Rattle.std.proofs.Common.{ap, sym, subst, ◌∙◌, arith, slice_get, option_map, inl, inr, min}
-use Rattle.std.proofs.Common.{get_or}
-use Rattle.std.specs.Prelude.{String, ◌⊎◌, map as list_map}
-use Rattle.std.proofs.lemmas.Bool.{cases_order}
+use Rattle.std.proofs.Common.{◌≡◌, ◌≢◌, ℕ, ◌≤◌, ◌+◌, List, length, None, Some}
+use Rattle.std.proofs.Common.{ap, sym, ◌∙◌, arith, slice_get, option_map, ⊎_elim, min}
+use Rattle.std.specs.Prelude.{String, map as list_map}
+use Rattle.std.proofs.lemmas.Bool.{cases_lt}
+use borrow.Author.Count.{below_more}
 use Rattle.std.proofs.lemmas.Option.{slice_get-map, slice_get_past, slice_get_cases}
 use Rattle.std.proofs.lemmas.Option.{same_Some, none-some}
 use Rattle.generational_errors.specs.declared.error.StoreError.TheVariants.{OutOfMemory}
@@ -21,16 +21,9 @@ turned_past : {A B : Type 0} (f : A → B) (xs : List A) (i : ℕ) → length xs
     → slice_get (list_map f xs) i ≡ None
 turned_past f xs i past = slice_get-map f xs i ∙ ap (option_map f) (slice_get_past xs i past)
 
-module _ {A B : Type 0} (f : A → B) (xs : List A) (i : ℕ)
-    (none : slice_get (list_map f xs) i ≡ None) where
-  found : ((x : A) × (i < length xs) × (slice_get xs i ≡ Some x) × (get_or xs i x ≡ x))
-      ⊎ ((length xs ≤ i) × (slice_get xs i ≡ None)) → length xs ≤ i
-  found (inl (x, within, there, read)) =
-      absurd (none-some _ (sym none ∙ turned_at f xs i x there))
-  found (inr (past, gone)) = past
-
-  turned_none : length xs ≤ i
-  turned_none = found (slice_get_cases xs i).1
+turned_none : {A B : Type 0} (f : A → B) (xs : List A) (i : ℕ)
+    → slice_get (list_map f xs) i ≡ None → length xs ≤ i
+turned_none f xs i none = grind (arith, slice_get-map f xs i, slice_get_cases xs i)
 
 module _ {Z : Type 0} where
   -- memory refused the call at a place exactly where its reply tells so, and never past the end
@@ -61,41 +54,25 @@ module _ {Z : Type 0} (xs ys : List (Reply (String Z))) where
   }
 
   pub one_more : (n : ℕ) → AreSameBelow xs ys n → AreSameAt xs ys n → AreSameBelow xs ys (n + 1)
-  one_more n below here i within = by_order (cases_order i n) where
-    by_order : (i ≡ n) ⊎ ((i < n) ⊎ (n < i)) → AreSameAt xs ys i
-    by_order (inl e) = subst (AreSameAt xs ys) (sym e) here
-    by_order (inr (inl l)) = below i l
-    by_order (inr (inr l)) = absurd (omega (arith, l, within))
+  one_more n below here = below_more (AreSameAt xs ys) n below here
 
   pub all_same : (n : ℕ) → AreSameBelow xs ys n → length xs ≤ n → length ys ≤ n
       → (i : ℕ) → AreSameAt xs ys i
-  all_same n below xs_end ys_end i = by_order (cases_order i n) where
-    by_order : (i ≡ n) ⊎ ((i < n) ⊎ (n < i)) → AreSameAt xs ys i
-    by_order (inl e) = same_past i (omega (arith, e, xs_end)) (omega (arith, e, ys_end))
-    by_order (inr (inl l)) = below i l
-    by_order (inr (inr l)) = same_past i (omega (arith, l, xs_end)) (omega (arith, l, ys_end))
+  all_same n below xs_end ys_end i =
+      ⊎_elim (below i) (λ past. same_past i (omega arith) (omega arith)) (cases_lt i n)
 
   -- where the lists have different lengths, the shorter one ends at a place that the longer one has
   pub ends_differ : (n : ℕ) → n ≡ min (length xs) (length ys) → length xs ≢ length ys
       → slice_get (list_map told xs) n ≢ slice_get (list_map told ys) n
-  ends_differ n shorter lengths same = by_order (cases_order (length xs) (length ys)) where
-    by_order : (length xs ≡ length ys) ⊎ ((length xs < length ys) ⊎ (length ys < length xs)) → ⊥
-    by_order (inl e) = lengths e
-    by_order (inr (inl l)) =
-        let none = turned_none told ys n (sym same
-        ∙ turned_past told xs n (omega (arith, shorter, l))) in
-        omega (arith, shorter, l, none)
-    by_order (inr (inr l)) =
-        let none = turned_none told xs n (same
-        ∙ turned_past told ys n (omega (arith, shorter, l))) in
-        omega (arith, shorter, l, none)
+  ends_differ n shorter lengths same = grind (
+    arith,
+    turned_none told xs n,
+    turned_none told ys n,
+    turned_past told xs n,
+    turned_past told ys n,
+  )
 
   -- and where memory refused a call there, the other list has ended
   pub other_ends : (n : ℕ) → n ≡ min (length xs) (length ys) → length xs ≢ length ys
       → LacksAt xs n → slice_get ys n ≡ None
-  other_ends n shorter lengths lacks = by_order (cases_order (length xs) (length ys)) where
-    by_order : (length xs ≡ length ys) ⊎ ((length xs < length ys) ⊎ (length ys < length xs))
-        → slice_get ys n ≡ None
-    by_order (inl e) = absurd (lengths e)
-    by_order (inr (inl l)) = absurd (lacks_within xs n (omega (arith, shorter, l)) lacks)
-    by_order (inr (inr l)) = slice_get_past ys n (omega (arith, shorter, l))
+  other_ends n shorter lengths lacks = grind (arith, slice_get_past ys n, lacks_within xs n)

@@ -45,10 +45,7 @@ decimal_of word n h read =
 pub returns-then-not-begins_above_zero : goal.returns-then-not-begins_above_zero
 returns-then-not-begins_above_zero c = λ n. (
   (λ e. absurd (none-some n e)),
-  (λ h. grind (
-    arith,
-    c.if-not-begins_above_zero.ensures.1 (begins c.args.word.now n h.0 h.1 h.2),
-  )),
+  (λ h. grind (arith, c.if-not-begins_above_zero.ensures.1 (begins c.args.word.now n h.0 h.1 h.2))),
 )
 
 pub returns-then-number-le-MOST_LINES : goal.returns-then-number-le-MOST_LINES
@@ -59,31 +56,17 @@ returns-then-number-le-MOST_LINES c =
     λ n. (
       (λ e. rw (sym (same_Some c.in-Ok.number n e))
           (positive c.args.word.now c.in-Ok.number w above, c.if-number-le-MOST_LINES.true, w)),
-      (λ h. grind (
-        arith,
-        c.in-Ok.is,
-        reads c.args.word.now n c.parse.result h.1 h.2 c.parse.ensures.value.0,
-      )),
+      (λ h. grind (arith, reads c.args.word.now n c.parse.result h.1 h.2 c.parse.ensures.value.0)),
     )
 
 pub returns-else-number-le-MOST_LINES : goal.returns-else-number-le-MOST_LINES
 returns-else-number-le-MOST_LINES c = λ n. (
   (λ e. absurd (none-some n e)),
-  (λ h. grind (
-    arith,
-    c.if-number-le-MOST_LINES.false,
-    h.1,
-    c.in-Ok.is,
-    reads c.args.word.now n c.parse.result h.1 h.2 c.parse.ensures.value.0,
-  )),
+  (λ h. grind (arith, reads c.args.word.now n c.parse.result h.1 h.2 c.parse.ensures.value.0)),
 )
 
 pub returns-in-Err : goal.returns-in-Err
 returns-in-Err c = λ n. (
   (λ e. absurd (none-some n e)),
-  (λ h. grind (
-    arith,
-    c.in-Err.is,
-    reads c.args.word.now n c.parse.result h.1 h.2 c.parse.ensures.value.0,
-  )),
+  (λ h. grind (arith, reads c.args.word.now n c.parse.result h.1 h.2 c.parse.ensures.value.0)),
 )
