@@ -50,41 +50,30 @@ fn one_by_one<A: Count, B: Count, C: Count, D: Count>(
     assert!(rt; tally.is_whole());
 }
 
-#[test]
-fn calls_without_threads(rt: HostRuntime) {
+// One worker whose ledgers are named here.
+fn without_threads(rt: &impl Abort, alloc: Global, course: Course) {
     one_by_one::<Brand, Brand, Brand, Brand>(
-        &rt,
-        rt.alloc(),
-        Course::Live,
+        rt,
+        alloc,
+        course,
         Blank::new(1),
         Blank::new(1),
         Blank::new(1),
         Blank::new(1),
     );
+}
+
+#[test]
+fn calls_without_threads(rt: HostRuntime) {
+    without_threads(&rt, rt.alloc(), Course::Live);
 }
 
 #[test]
 fn a_checkpoint_without_threads(rt: HostRuntime) {
-    one_by_one::<Brand, Brand, Brand, Brand>(
-        &rt,
-        rt.alloc(),
-        Course::Trim,
-        Blank::new(1),
-        Blank::new(1),
-        Blank::new(1),
-        Blank::new(1),
-    );
+    without_threads(&rt, rt.alloc(), Course::Trim);
 }
 
 #[test]
 fn each_call_without_threads(rt: HostRuntime) {
-    one_by_one::<Brand, Brand, Brand, Brand>(
-        &rt,
-        rt.alloc(),
-        Course::Each,
-        Blank::new(1),
-        Blank::new(1),
-        Blank::new(1),
-        Blank::new(1),
-    );
+    without_threads(&rt, rt.alloc(), Course::Each);
 }

@@ -1,4 +1,4 @@
-use Rattle.test_shared.proofs.unshared.calls_without_threads.Given as goal
+use Rattle.test_shared.proofs.unshared.without_threads.Given as goal
 
 abbrev pub ghosts-one_by_one-A-Ledger : goal.ghosts-one_by_one-A-Ledger
 ghosts-one_by_one-A-Ledger g a = record { name = a.made.name; parts = a.made.parts }
