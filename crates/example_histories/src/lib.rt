@@ -12,8 +12,6 @@ ghost use Rattle.example_histories.specs.Rows.{Tells, TellsFrom, ◌#◌};
 ghost use Rattle.example_histories.specs.SessionRows.{RepliesFrom};
 ghost use Rattle.example_histories.specs.Histories as row;
 
-use generational_sessions::laws;
-
 /// Owners, slots, strangers, and numbers that run out.
 pub fn owners<T>()
     ensures reference_outlives { TellsFrom T 1 0 row.a_reference_outlives_its_first_owner }
@@ -38,9 +36,7 @@ pub fn owners<T>()
         Tells (fresh 7 1 0) (row.one_name_twice u v w L M R W) → ⊥ }
     ensures no_other_name_fits { (u v w : T) (L M R W : Location) →
         Fits (row.one_live u v w L M R W) (0 # 2) → ⊥ }
-{
-    laws::slots_follow_from_names();
-}
+{}
 
 /// Sessions: what their places keep, and two orders of slots.
 pub fn sessions<T>()
@@ -55,9 +51,7 @@ pub fn sessions<T>()
         list_map (λ line. erase line.reply) (row.the_slot_freed_last_is_taken_again u v w L M R W)
         ≡ list_map (λ line. erase line.reply)
         (row.the_slot_freed_first_is_taken_again u v w L M R W) }
-{
-    laws::slots_follow_from_names();
-}
+{}
 
 /// Readers, writers, and boxes that have ended.
 pub fn borrows<T>()
@@ -71,9 +65,7 @@ pub fn borrows<T>()
     ensures no_setting { TellsFrom T 1 0 row.what_is_borrowed_or_gone_is_not_set }
     ensures ended_box { TellsFrom T 1 0 row.an_ended_box_tells_of_no_other }
     ensures memory { TellsFrom T 1 0 row.memory_may_lack_where_room_is_needed }
-{
-    laws::slots_follow_from_names();
-}
+{}
 
 /// References, where they point, and what a turn and a release ask first.
 pub fn references<T>()
@@ -85,6 +77,4 @@ pub fn references<T>()
     ensures new_location { TellsFrom T 1 0 row.a_turned_box_leads_to_the_location_of_its_new_value }
     ensures lasting_borrow { TellsFrom T 1 0 row.a_turn_is_hindered_by_no_borrow_of_what_lives_on }
     ensures first_box_listed { TellsFrom T 1 0 row.a_release_is_refused_at_the_first_box_listed }
-{
-    laws::slots_follow_from_names();
-}
+{}
