@@ -1,2 +1,2 @@
-mod Alike
-mod Places
+pub mod Places
+unfoldable pub use Places.*

@@ -1,16 +1,42 @@
--- Two lists of replies at a place, and past their ends.
-use Rattle.std.proofs.Common.{◌≡◌, ◌≢◌, ℕ, ◌≤◌, ◌+◌, List, length, None, Some}
-use Rattle.std.proofs.Common.{ap, sym, ◌∙◌, arith, slice_get, option_map, ⊎_elim, min}
-use Rattle.std.specs.Prelude.{String, map as list_map}
-use Rattle.std.proofs.lemmas.Bool.{cases_lt}
-use borrow.Author.Count.{below_more}
-use Rattle.std.proofs.lemmas.Option.{slice_get-map, slice_get_past, slice_get_cases}
-use Rattle.std.proofs.lemmas.Option.{same_Some, none-some}
+-- Places, and sessions that answer alike.
+use Rattle.boxes_parts.specs.Told.{AreSameAt, AreSameBelow, LacksAt, plain, told}
+use Rattle.generational_errors.specs.Texts.{same_location, same_locations}
+use Rattle.generational_errors.specs.declared.error.Location.{Location}
 use Rattle.generational_errors.specs.declared.error.StoreError.TheVariants.{OutOfMemory}
 use Rattle.generational_sessions.specs.declared.calls.Reply.{Reply}
-use Rattle.generational_sessions.specs.Numbered.{refusal_in}
-use Rattle.generational_sessions.specs.Places.{as_reply}
-use Rattle.boxes_parts.specs.Told.{told, LacksAt, AreSameAt, AreSameBelow}
+use Rattle.generational_sessions.specs.{Places.as_reply, Numbered.refusal_in}
+use Rattle.std.proofs.Common.{ap, arith, Bool, length, List, min, None, option_map, rules}
+use Rattle.std.proofs.Common.{slice_get, Some, sym, ℕ, [], ⊎_elim, ◌+◌, ◌∙◌, ◌∷◌, ◌≡◌, ◌≢◌, ◌≤◌}
+use Rattle.std.proofs.lemmas.Option.{none-some, same_Some, slice_get-map, slice_get_cases}
+use Rattle.std.proofs.{lemmas.Slice.Eq.bytes_eq-Decides, lemmas.Bool.cases_lt}
+use Rattle.std.proofs.{lemmas.Grind.common_steps, lemmas.Option.slice_get_past}
+use Rattle.std.specs.Prelude.{map as list_map, String}
+use Rattle.std.specs.{Bool.Decides, Cmp.Lexicographic.pointwise}
+use borrow.Author.Count.{below_more}
+
+-- ==== tests of locations, and of lists of them, decide whether they are the same
+
+module _ {A B : Type 0} (E : A → A → Bool) (f : A → B)
+    (decides : (a b : A) → Decides (E a b) (f a ≡ f b)) where
+  pub lists_decide : (xs ys : List A) → Decides (pointwise E xs ys) (list_map f xs ≡ list_map f ys)
+  lists_decide [] [] = search rules
+  lists_decide [] (y ∷ ys) = search rules
+  lists_decide (x ∷ xs) [] = search rules
+  lists_decide (x ∷ xs) (y ∷ ys) =
+      let h = decides x y in
+      let more = lists_decide xs ys in
+      grind (arith, common_steps, h, more)
+
+pub locations_decide : (a b : Location) → Decides (same_location a b) (plain a ≡ plain b)
+locations_decide a b =
+    let h = bytes_eq-Decides a.file.now b.file.now in
+    grind (arith, common_steps, h)
+
+pub readers_decide : (xs ys : List Location)
+    → Decides (same_locations xs ys) (list_map plain xs ≡ list_map plain ys)
+readers_decide = lists_decide same_location plain locations_decide
+
+-- ==== two lists of replies at a place, and past their ends
 
 -- what a list turned by a function has at a place of the list, and past its end
 turned_at : {A B : Type 0} (f : A → B) (xs : List A) (i : ℕ) (x : A) → slice_get xs i ≡ Some x

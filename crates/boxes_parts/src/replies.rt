@@ -71,7 +71,7 @@ fn is_same_cause(one: &StoreError, other: &StoreError) -> bool
 }
 
 // Whether two errors are of one kind, with the same locations in the same order.
-#[tactic(auto, using(crate::proofs::Alike::readers_decide))]
+#[tactic(auto, using(crate::proofs::Places::readers_decide))]
 fn is_same_error(one: &BorrowMutError, other: &BorrowMutError) -> bool
     ensures { IsTrue result ↔
         (plain_refusal (refusal_of_error one.now) ≡ plain_refusal (refusal_of_error other.now)) }

@@ -1,11 +1,9 @@
--- A shared value with two references, and what more callers share.
-use Rattle.example_callers.proofs.Common
-use Common.{Back, can_write, Err, GenerationalBox, GenerationalPointer, IfNone, IfSome, IsGiven, IsSound}
-use Common.{IsUnchanged, keeps_free, leaves, left_given, left_twice, Location, Made, made, made_shared}
-use Common.{made_shared_free, MakeShared, Meets, meets_given, name_of, None, Ok, Option, pointer_of, reach}
-use Common.{Refer, referred, referred_apart, referred_free, referred_next, referred_together, ReleaseWriter}
-use Common.{shared_apart, shares, Some, State, sym, true, true≢false, value_in, Write, WriteGuard, Writes}
-use Common.{written_by, ◌∙◌, ◌≡◌, ◌≢◌}
+-- What the callers share.
+pub mod Common
+use Rattle.example_callers.specs.Table.{TableState}
+unfoldable pub use Common.*
+
+-- ==== a shared value with two references, and what more callers share
 
 -- what follows where there is a value, and where there is none
 pub either : {A N Q : Type 0} {P : A → Type 0} (r : Option A) → IfSome r P → IfNone r N
@@ -53,3 +51,13 @@ module _ {T : Type 0} where
         seen = referred None _ (Ok b) r made ∙ first;
         next = referred_next _ _ made ∙ (shares v l _ step).next;
       }
+
+-- ==== what a caller sees of a table, part by part
+
+pub same_table : {T : Type 0} {rows shown : List (Option T)} (next next' : ℕ) → rows ≡ shown
+    → next ≡ next' → ◌≡◌ {A = TableState T} (record { rows = rows; looks = last_ticket - next })
+    (record { rows = shown; looks = last_ticket - next' })
+same_table next next' same tickets = λ i. record {
+  rows = same i;
+  looks = last_ticket - tickets i;
+}

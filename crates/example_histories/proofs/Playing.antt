@@ -1,29 +1,29 @@
 -- Rows, computed from states that are written out.
-use Rattle.std.proofs.{Common.◌+◌, lemmas.Bool.and_parts}
-use Rattle.generational_core.specs.{Answers.value_behind, Boxes.name_of, Cells.Content, Cells.Content.Lent}
-use Rattle.generational_core.specs.{Cells.refill, declared.borrow.Borrow.Borrow, Ending.close, Machine.add_cell}
-use Rattle.generational_core.specs.{Machine.read_at, Machine.unless, Machine.write_at, Names.NameMap}
-use Rattle.generational_core.specs.{State.IsSound, State.Owners}
-use Rattle.generational_core.proofs.machine.{Bounding.lasts_insert}
-pub use Rattle.generational_core.proofs.machine.{Bounding.no_slots}
-use Rattle.generational_core.proofs.machine.{Soundness.fresh_sound, Stepping.meets_sound}
-use Rattle.example_histories.proofs.Common
-use Common.{[], act, Action, Answer, ap, arith, Bool, by_number, Cell, change, cond, contains-insert_name, drop}
-use Common.{false, find, fresh, Guard, Here, hindrance_to, inl, inr, is_sorted, limit_tickets, List, Location}
-use Common.{Name, name_cmp, Names, nat_cmp, NewNames, not, NumbersExhausted, Option, Outcome, owner, Ownership}
-use Common.{put, reach, refl, refusal_to_read, refusal_to_write, Refused, Shared, Some, State, subst, sym, take}
-use Common.{take-append-drop, true, ℕ, ⊎_elim, ◌++◌, ◌||◌, ◌↔◌, ◌∙◌, ◌∷◌, ◌≡◌}
-use Rattle.std.specs.Prelude.{max, nat_eq, unwrap_or, ◌&&◌}
-use Rattle.generational_core.specs.declared.boxes.GenerationalPointer.{GenerationalPointer}
-use Rattle.generational_core.specs.Machine.Action.{End, LeakOwner, Make, MakeShared, NewOwner, Read, Refer, Write}
-use Rattle.generational_core.specs.Machine.Answer.{Done, Made, Owned, Reads, Writes}
-use Rattle.generational_core.specs.Slots.{free, is_free, last_name, lasts, slots, slots_of}
-use Rattle.generational_core.specs.Steps.{AreNew, IsNew, last_ticket, may_lack, needs_memory, no_names, Takes}
-use Rattle.generational_core.specs.Steps.{takes_ticket}
+use Rattle.example_histories.proofs
+use proofs.Common.{act, Action, Answer, ap, arith, Bool, by_number, Cell, change, cond}
+use proofs.Common.{contains-insert_name, drop, false, find, fresh, Guard, Here, hindrance_to, inl}
+use proofs.Common.{inr, is_sorted, limit_tickets, List, Location, Name, name_cmp, Names, nat_cmp}
+use proofs.Common.{NewNames, not, NumbersExhausted, Option, Outcome, owner, Ownership, put, reach}
+use proofs.Common.{refl, refusal_to_read, refusal_to_write, Refused, Shared, Some, State, subst}
+use proofs.Common.{sym, take, take-append-drop, true, ℕ, [], ⊎_elim, ◌++◌, ◌||◌, ◌↔◌, ◌∙◌, ◌∷◌, ◌≡◌}
+use proofs.Entries.{entries, get_there, put_there}
 use Rattle.example_histories.specs.Rows.{counted, guard, Row, Tells, Told}
 use Rattle.example_histories.specs.Rows.Line.{Ask, Call, Count, Open}
 use Rattle.example_histories.specs.Rows.Told.{Lacks, Opens, Says}
-use Rattle.example_histories.proofs.Entries.{entries, get_there, put_there}
+use Rattle.generational_core.proofs.machine.{lasts_insert}
+use Rattle.generational_core.proofs.machine.Calls.Steps.{fresh_sound, meets_sound}
+pub use Rattle.generational_core.proofs.machine.{no_slots}
+use Rattle.generational_core.specs
+use specs.Machine.Action.{End, LeakOwner, Make, MakeShared, NewOwner, Read, Refer, Write}
+use specs.Steps.{AreNew, IsNew, last_ticket, may_lack, needs_memory, no_names, Takes, takes_ticket}
+use specs.{Machine.add_cell, declared.borrow.Borrow.Borrow, Ending.close, Cells.Content}
+use specs.{Machine.Answer.Done, Slots.free, declared.boxes.GenerationalPointer.GenerationalPointer}
+use specs.{Slots.is_free, State.IsSound, Slots.last_name, Slots.lasts, Cells.Content.Lent}
+use specs.{Machine.Answer.Made, Boxes.name_of, Names.NameMap, Machine.Answer.Owned, State.Owners}
+use specs.{Machine.read_at, Machine.Answer.Reads, Cells.refill, Slots.slots, Slots.slots_of}
+use specs.{Machine.unless, Answers.value_behind, Machine.write_at, Machine.Answer.Writes}
+use Rattle.std.proofs.{lemmas.Bool.and_parts, Common.◌+◌}
+use Rattle.std.specs.Prelude.{max, nat_eq, unwrap_or, ◌&&◌}
 use Rattle.std.specs.FinMap as map
 use Rattle.std.specs.FinSet as set
 

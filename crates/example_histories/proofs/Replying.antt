@@ -1,18 +1,19 @@
 -- Rows of sessions, computed from states that are written out.
-use Rattle.generational_sessions.specs.{declared.calls.Call.Call, Session.Held.Writing, Session.Request.Asks}
-use Rattle.generational_sessions.specs.{Session.Request.Swaps, Session.Request.Tells, Session.SessionReply.TheOld}
-use Rattle.generational_sessions.specs.{SoundSession.IsSoundSession}
-use Rattle.example_histories.proofs.Common
-use Common.{[], act, Action, Answer, arith, Bool, Cell, cond, drop, false, fresh, Guard, inl, is_sorted}
-use Common.{limit_tickets, List, Name, name_cmp, Names, nat_cmp, NewNames, Nothing, NumbersExhausted, Outcome}
-use Common.{Ownership, refl, Refused, State, subst, sym, take, take-append-drop, true, ℕ, ◌++◌, ◌↔◌, ◌∷◌, ◌≡◌}
+use Rattle.example_histories.proofs
+use proofs.Common.{act, Action, Answer, arith, Bool, Cell, cond, drop, false, fresh, Guard, inl}
+use proofs.Common.{is_sorted, limit_tickets, List, Name, name_cmp, Names, nat_cmp, NewNames}
+use proofs.Common.{Nothing, NumbersExhausted, Outcome, Ownership, refl, Refused, State, subst, sym}
+use proofs.Common.{take, take-append-drop, true, ℕ, [], ◌++◌, ◌↔◌, ◌∷◌, ◌≡◌}
+use proofs.Playing.{is_same, is_short, outcome, stage, taken, takes}
+use Rattle.example_histories.specs.SessionRows.{comes_to, Replies, SessionRow, TakesNew}
+use Rattle.generational_sessions.proofs.callers.carrying.Cells.sessions.{fresh_kept, session_kept}
+use Rattle.generational_sessions.specs.Session.{ask, gives, Held, reply_of, Request, SessionReply}
+use Rattle.generational_sessions.specs.Session.{SessionState, settle, Settles, spend}
+use Rattle.generational_sessions.specs.Session.Request.{Asks, Swaps, Tells}
+use Rattle.generational_sessions.specs.{declared.calls.Call.Call, SoundSession.IsSoundSession}
+use Rattle.generational_sessions.specs.{Session.SessionReply.TheOld, Session.Held.Writing}
 use Rattle.std.specs.Prelude.{slice_set}
 use Rattle.std.specs.FinSet as set
-use Rattle.generational_sessions.specs.Session.{ask, gives, Held, reply_of, Request, SessionReply, SessionState}
-use Rattle.generational_sessions.specs.Session.{settle, Settles, spend}
-use Rattle.generational_sessions.proofs.sessions.Sessions.{fresh_kept, session_kept}
-use Rattle.example_histories.specs.SessionRows.{comes_to, Replies, SessionRow, TakesNew}
-use Rattle.example_histories.proofs.Playing.{is_same, is_short, outcome, stage, taken, takes}
 
 module _ {T : Type 0} where
   -- whether the names are new and fit, where they are given

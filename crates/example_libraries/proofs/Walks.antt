@@ -1,9 +1,6 @@
--- What callers say of a walk, from what holds of its items.
-use Rattle.example_libraries.proofs.Common
-use Common.{ap, AreAncestors, arith, cases_Bool, get_pushed, is_id, is_same, IsStepsBelow, length, List, map}
-use Common.{Node, None, none-some, Option, option_map, parent_of, pointer_in, refl, same_id_sees, same_Some}
-use Common.{slice_get, slice_get-map, Some, subst, suc, sym, times, times_apart, TreeState, true, value_of}
-use Common.{zero, [], ℕ, ⊎_elim, ◌++◌, ◌<◌, ◌∙◌, ◌∷◌, ◌≡◌}
+-- Walks over what libraries keep.
+pub mod Common
+unfoldable pub use Common.*
 
 -- a row's key stands beside a value
 pub stands_with : {E V : Type 0} (pairs : List (E × V)) (row : ℕ) (e : E)

@@ -1,2 +1,3 @@
 pub mod machine
 pub mod maps
+unfoldable pub use machine.*

@@ -1,6 +1,2 @@
 pub mod callers
-pub mod carrying
-pub mod sessions
-unfoldable pub use sessions.*
-unfoldable pub use carrying.*
-pub use carrying.Plain.*
+unfoldable pub use callers.*

@@ -1,23 +1,143 @@
--- What lies under the lock stays as it is kept, and each call that is recorded is a step.
-use Rattle.generational_sync.proofs.Common
-use Common.{[], Action, and_parts, Answer, ap, ArePast, arith, BaseRow, Bases, BaseState, borrows}
-use Common.{borrows_in, Cell, cond_gives, content_at, Counts, ends_borrow, fresh, given_by, Guard, HasEnded}
-use Common.{IfSome, inl, is_ready, is_some, IsAnswered, IsKept, IsSettled, IsSound, IsStep, kind_in}
-use Common.{knows_reader, LeadsTo, leaves, length, lent_in, List, Location, LogState, Made, Make}
-use Common.{MakeShared, MayAnswer, Meets, Name, name_cmp, nat_eq, new_base, None, Ok, Option, option_map}
-use Common.{option_to_list, OwnerName, Plain, plain, plain_answer, plain_call, plain_meets, plain_of}
-use Common.{plain_step, raised_by, ReadBack, recorded_as, recorded_reply, Records, refl, ReleaseReader}
-use Common.{ReleaseWriter, replay_from, Replays, rows_of, shared, SharedState, Some, start, State, Step}
-use Common.{step_kind, step_of, StepCall, StepReply, subst, sym, tallied, told_by, true, true≢false}
-use Common.{value_at, value_behind, WasAnswered, ℕ, ◌+◌, ◌<◌, ◌∙◌, ◌∷◌, ◌≡◌, ◌≤◌}
+-- What a shared store keeps under its lock.
+pub mod Placing
+use Rattle.generational_core.specs.Machine.Answer.{Refused as RefusedFor}
+use Rattle.generational_errors.specs.declared.error.Refused.{Refused as IsRefused}
 use Rattle.std.specs.FinMap as map
-use Rattle.generational_sync.proofs.Past.{own_past, past_still}
-use Rattle.generational_sync.proofs.Trimming.{told_number, told_start}
-use Rattle.generational_sync.proofs.Answering.{reader_here}
-use Rattle.generational_sync.proofs.Counting.{meets_fine, written_stand}
-use Rattle.generational_sync.proofs.Leading.{led_as, led_nowhere, led_on, same_number, same_start}
-use Rattle.generational_sync.proofs.Making.{shared_named}
-use Rattle.generational_sync.proofs.Standings.{without_stand}
+use Rattle.shared_records.specs.declared.step.StepReply.TheVariants as reply
+use Rattle.generational_core.specs.declared.steps.StepCall.TheVariants as call
+unfoldable pub use Placing.*
+
+-- ==== how a call that no borrow hinders is answered
+
+-- what hinders an end is a borrow
+abbrev is_borrow : Option BorrowRefusal → Bool
+is_borrow (Some (Dropped l)) = false
+is_borrow _ = true
+
+module _ {T : Type 0} where
+  borrow_left : (cells left : NameMap (Cell T)) (n : Name)
+      → is_borrow (hindrance_at cells left n) ≡ true
+  borrow_left cells left n = grind arith
+
+  borrow_among : (cells left : NameMap (Cell T)) (names : List Name)
+      → is_borrow (first_hindrance cells left names) ≡ true
+  borrow_among cells left [] = refl
+  borrow_among cells left (n ∷ names) = grind (arith, borrow_left, borrow_among cells left names)
+
+  hindered_borrow : (S : State T) (names : List Name) → is_borrow (hindrance_to S names) ≡ true
+  unfolding hindrance_to
+  hindered_borrow S names = borrow_among S.cells (cells_after S.cells names) names
+
+  read_dropped : (S : State T) (b : GenerationalPointer) (k : Location)
+      → refusal_to_read S b ≡ Some (Dropped k) → k ≡ b.created_at
+  unfolding refusal_to_read
+  read_dropped S b k e = grind arith
+
+  write_dropped : (S : State T) (b : GenerationalPointer) (k : Location)
+      → refusal_to_write S b ≡ Some (Dropped k) → k ≡ b.created_at
+  unfolding refusal_to_write
+  write_dropped S b k e = grind arith
+
+  -- ---- boxes that name or reach something are of the store
+
+  own_here : (S : State T) (id : GenerationalBoxId) (c : Cell T)
+      → own_cell S id ≡ Some c → id.store ≡ S.number
+  own_here S id c e = grind arith
+
+  reach_here : (S : State T) (b : GenerationalPointer) (n : Name)
+      → reach S b ≡ Some n → b.id.store ≡ S.number
+  unfolding reach
+  reach_here S b n e = grind arith
+
+  -- so are what may be read, and what may be written
+  readable_here : (S : State T) (b : GenerationalPointer) → refusal_to_read S b ≡ None
+      → (b.id.store ≡ S.number) × (is_some (reach S b) ≡ true)
+  unfolding refusal_to_read
+  readable_here S b free = grind (arith, reach_here)
+
+  writable_here : (S : State T) (b : GenerationalPointer) → refusal_to_write S b ≡ None
+      → b.id.store ≡ S.number
+  unfolding refusal_to_write
+  writable_here S b free = grind (arith, reach_here)
+
+  -- and a guard that is known
+  pub reader_here : (S : State T) (g : Guard) → knows_reader S g ≡ true → g.store ≡ S.number
+  reader_here S g known = eqb-true _ _ (and_parts (nat_eq g.store S.number) _ known).0
+
+  -- ---- an outcome's answer grants or refuses the call as it may, and takes no ticket but one that
+  -- it needs
+
+  abbrev AnswersFit : State T → Action T → Outcome T → Type 0
+  AnswersFit S a out = (is_hindered a out.0 ≡ false → MayAnswer S.number a out.0)
+      × (takes_ticket out.0 ≡ true → TakesTicket S.number a)
+
+  limited_fits : (S : State T) (a : Action T) (out : Outcome T) → AnswersFit S a out → (b : Bool)
+      → (takes_ticket out.0 && nat_eq S.next last_ticket) ≡ b
+      → let limited : Outcome T = cond b (RefusedFor NumbersExhausted, S) out in
+      is_hindered a limited.0 ≡ false → MayAnswer S.number a limited.0
+  limited_fits S a out h true is free = h.1 (and_parts (takes_ticket out.0) _ is).0
+  limited_fits S a out h false is free = h.0 free
+
+  refer_fits : (S : State T) (o : Option OwnerName) (b : GenerationalPointer) (f : NewNames)
+      → AnswersFit S (Refer o b) (act S (Refer o b) f)
+  refer_fits S o b f = grind (arith, readable_here S b, read_dropped S b)
+
+  -- what only a borrow hinders
+  hinder_fits : (S : State T) (a : Action T) (t : Option BorrowRefusal) (out : Outcome T)
+      → is_borrow t ≡ true → AnswersFit S a out → AnswersFit S a (unless t S out)
+  hinder_fits S a t out borrow h = grind arith
+
+  end_fits : (S : State T) (b : GenerationalPointer) (f : NewNames) → AnswersFit S (End b) (act S (End b) f)
+  end_fits S b f = hinder_fits S (End b) (hindrance_to S (own_name S b)) _
+      (hindered_borrow S (own_name S b)) (grind arith)
+
+  released_fits : (S : State T) (o : OwnerName) (h : Option Ownership)
+      → (is_some h ≡ true → o.store ≡ S.number) → AnswersFit S (ReleaseOwner o) (release_owner S o h)
+  released_fits S o None own = grind arith
+  released_fits S o (Some h) own = let borrow = hindered_borrow S h.names in grind arith
+
+  release_fits : (S : State T) (o : OwnerName) (f : NewNames)
+      → AnswersFit S (ReleaseOwner o) (act S (ReleaseOwner o) f)
+  release_fits S o f = released_fits S o (ownership S o) (λ known. grind arith)
+
+  read_fits : (S : State T) (b : GenerationalPointer) (l : Location) (f : NewNames)
+      → AnswersFit S (Read b l) (act S (Read b l) f)
+  read_fits S b l f = grind (arith, readable_here S b, read_dropped S b)
+
+  write_fits : (S : State T) (b : GenerationalPointer) (l : Location) (f : NewNames)
+      → AnswersFit S (Write b l) (act S (Write b l) f)
+  write_fits S b l f = grind (arith, writable_here, write_dropped)
+
+  set_fits : (S : State T) (b : GenerationalPointer) (v : T) (f : NewNames)
+      → AnswersFit S (SetValue b v) (act S (SetValue b v) f)
+  set_fits S b v f = grind (arith, reach_here)
+
+  point_fits : (S : State T) (a b : GenerationalPointer) (f : NewNames)
+      → AnswersFit S (Point a b) (act S (Point a b) f)
+  point_fits S a b f =
+      grind (arith, readable_here S b, read_dropped S b, reach_here S b, own_here S a.id, borrow_left)
+
+  -- a recorded call
+  act_fits : (S : State T) (a : Action T) (f : NewNames) → is_some (recorded_as a) ≡ true
+      → AnswersFit S a (act S a f)
+  act_fits S (Refer o b) f is = refer_fits S o b f
+  act_fits S (ReleaseOwner o) f is = release_fits S o f
+  act_fits S (Read b l) f is = read_fits S b l f
+  act_fits S (Write b l) f is = write_fits S b l f
+  act_fits S (SetValue b v) f is = set_fits S b v f
+  act_fits S (End b) f is = end_fits S b f
+  act_fits S (Point a b) f is = point_fits S a b f
+  act_fits S a f is = grind arith
+
+  pub answers_so : (S R : State T) (a : Action T) (c : StepCall) (answer : Answer T)
+      → recorded_as a ≡ Some c → Meets S a answer R → is_hindered a answer ≡ false
+      → MayAnswer S.number a answer
+  answers_so S R a c answer asked (inl m) =
+      subst (λ (o : Outcome T). is_hindered a o.0 ≡ false → MayAnswer S.number a o.0) (sym m.2)
+      (limited_fits S a _ (act_fits S a m.0 (ap is_some asked)) _ refl)
+  answers_so S R a c answer asked (inr m) = λ free. subst (MayAnswer S.number a) (sym m.1) tt
+
+-- ==== what lies under the lock stays as it is kept, and each call that is recorded is a step
 
 no_borrows : {T : Type 0} (es : List (Name × Cell T)) → length es ≡ 0 → borrows_in es ≡ 0
 no_borrows [] e = refl
@@ -316,3 +436,281 @@ module _ {T : Type 0} (laws : Laws T) {number : ℕ} where
   pub settled_not : {R : State T} {log : LogState} {c : StepCall} {r : Option StepReply}
       {counts : Counts} → r ≡ None → IsSettled number log counts c r R log counts
   settled_not is = rw is (settled refl refl refl (omega arith))
+
+-- ==== a call whose answer tells of no borrow, and of no want, was one in whose way none stood; one
+-- that was refused left all as it was
+
+-- what the law says: a call is ready exactly where the machine's answer tells of no borrow
+abbrev AreTold : Type 0 → Type 0
+AreTold T = (S : State T) (a : Action T) (c : StepCall) (new : NewNames) → recorded_as a ≡ Some c
+    → is_ready S c ≡ not (is_hindered a (act S a new).0)
+
+pub on_true : {b : Bool} {P : Type 0} → b ≡ true → OnTrue b P → P
+on_true {P = P} is told = subst (λ b. OnTrue b P) is told
+
+-- a refusal leaves all as it was
+pub read_leaves : (T : Type 0) (e : IsRefused BorrowError) → leaves {T = T} (read_refused e) ≡ true
+read_leaves T e = grind arith
+
+pub end_leaves : (T : Type 0) (e : IsRefused BorrowMutError) → leaves {T = T} (end_refused e) ≡ true
+end_leaves T e = grind arith
+
+module _ {T : Type 0} where
+  -- whether an answer tells of want of memory or of numbers
+  abbrev pub refuses : Answer T → Bool
+  refuses (Refused e) = true
+  refuses _ = false
+
+  -- an answer that tells of no want is the machine's own
+  unlimited : (S R : State T) (out : Outcome T) (answer : Answer T)
+      → (answer, R) ≡ limit_tickets S out → refuses answer ≡ false → out.0 ≡ answer
+  unlimited S R out answer is granted = grind arith
+
+  pub granted_ready : AreTold T → (S R : State T) (a : Action T) (c : StepCall) (answer : Answer T)
+      → recorded_as a ≡ Some c → Meets S a answer R → refuses answer ≡ false
+      → is_hindered a answer ≡ false → is_ready S c ≡ true
+  granted_ready told S R a c answer asked (inl m) granted free =
+      told S a c m.0 asked
+      ∙ ap not (ap (is_hindered a) (unlimited S R (act S a m.0) answer m.2 granted) ∙ free)
+  granted_ready told S R a c answer asked (inr m) granted free =
+      absurd (true≢false (sym (ap refuses m.1) ∙ granted))
+
+  -- a call that is told of a value that is gone was ready too
+  pub dropped_ready : AreTold T → (S R : State T) (a : Action T) (c : StepCall) (answer : Answer T)
+      (l : Location) → recorded_as a ≡ Some c → Meets S a answer R
+      → Some (reply.Dropped l) ≡ recorded_reply R a answer → is_ready S c ≡ true
+  dropped_ready told S R a c answer l asked met replied =
+      granted_ready told S R a c answer asked met (grind arith) (grind arith)
+
+  -- a read tells of no location but the box's own
+  act_tells : (S : State T) (b : GenerationalPointer) (l : Location) (new : NewNames) (k : Location)
+      → (act S (Read b l) new).0 ≡ BorrowRefused (Dropped k) → k ≡ b.created_at
+  unfolding refusal_to_read
+  act_tells S b l new k e = grind arith
+
+  pub read_told : (S R : State T) (b : GenerationalPointer) (l : Location) (answer : Answer T)
+      → Meets S (Read b l) answer R → (told : Location)
+      → Some (reply.Dropped told) ≡ recorded_reply R (Read b l) answer → told ≡ b.created_at
+  read_told S R b l answer (inr m) told replied = cc (ap (recorded_reply R (Read b l)) m.1)
+  read_told S R b l answer (inl m) told replied = grind (arith, act_tells S b l m.0)
+
+  pub left_as : (S R : State T) (a : Action T) (answer : Answer T) → Meets S a answer R
+      → leaves answer ≡ true → R ≡ S
+  left_as S R a answer met left = (meets_fine S R a answer met).1 left
+
+  pub left_kept : {number : ℕ} {log room after : LogState} (S R : State T) (a : Action T)
+      (answer : Answer T) → IsKept number S log → HasRoom log room → Meets S a answer R
+      → leaves answer ≡ true → after ≡ room → IsKept number R after
+  left_kept {number = number} {room = room} S R a answer kept made met left is =
+      rw (is, left_as S R a answer met left) (room_kept kept made)
+
+  -- a call that was refused, where the state after it is known by another name
+  pub refused : {c : StepCall} {r : Option StepReply} (S R : State T) (a : Action T) (answer : Answer T)
+      → recorded_as a ≡ Some c → Meets S a answer R → r ≡ recorded_reply R a answer
+      → leaves answer ≡ true → WasRefused c r R
+  refused S R a answer asked met replied left =
+      let stays = subst (λ s. Meets s a answer R) (sym (left_as S R a answer met left)) met in
+      record { action = a; answer = answer; asked = asked; met = stays; replied = replied }
+
+  -- and it was ready where it is now
+  pub left_ready : (c : StepCall) (S R : State T) (a : Action T) (answer : Answer T) → Meets S a answer R
+      → leaves answer ≡ true → true ≡ is_ready R c → is_ready S c ≡ true
+  left_ready c S R a answer met left now =
+      ap (λ s. is_ready s c) (sym (left_as S R a answer met left)) ∙ sym now
+
+  -- a call in whose way a borrow stands, and that left all as it was
+  pub hindered : {old : SharedState T} {counts raised : Counts} {after : LogState}
+      {c d : StepCall} (log room : LogState) (S R : State T) (a : Action T) (answer : Answer T)
+      → room.bases ≡ log.bases
+      → room.steps ≡ log.steps → shared S log ≡ old → Meets S a answer R → leaves answer ≡ true
+      → after ≡ room → c ≡ d → false ≡ is_ready R c → raised ≡ counts
+      → IsHindered old counts d (shared R after) raised
+  hindered log room S R a answer base steps view met left is same stands count =
+      let now = left_as S R a answer met left in
+      record {
+        waits = (λ i. is_ready ((ap (λ (s : SharedState T). s.state) (sym view) ∙ sym now) i) (sym same i))
+            ∙ sym stands;
+        state = (λ i. shared (now i) (is i)) ∙ room_shared S log room base steps view;
+        tally = count;
+      }
+
+-- ==== the state without values takes the recorded step
+
+-- what the laws of the machine say: a call is ready where its answer tells of no borrow, and each
+-- call is one of the state without values
+abbrev IsTold : Type 0
+IsTold = (P : Plain) (a : Action (Unit {0})) (c : StepCall) (new : NewNames)
+    → recorded_as a ≡ Some c → is_ready P c ≡ not (is_hindered a (act P a new).0)
+
+abbrev IsPlain : Type 0 → Type 0
+IsPlain T = (S R : State T) (a : Action T) (answer : Answer T) → Meets S a answer R
+    → Meets (plain S) (plain_call a) (plain_answer answer) (plain R)
+
+-- ---- what answers are recorded
+
+-- how an outcome is recorded
+abbrev recorded_of : Plain → Action (Unit {0}) → Outcome (Unit {0}) → Option StepReply
+recorded_of P a out = recorded_reply (limit_tickets P out).1 a (limit_tickets P out).0
+
+-- an answer that is recorded tells of no borrow
+unhindered : (P : Plain) (a : Action (Unit {0})) (out : Outcome (Unit {0})) (r : StepReply)
+    → recorded_of P a out ≡ Some r → is_hindered a out.0 ≡ false
+unhindered P a out r h = grind arith
+
+-- ---- a step without values
+
+module _ (tell : IsTold) (P : Plain) where
+  -- a call is a lawful step, where the names in its reply are those that it takes
+  lawful : (c : StepCall) (r : StepReply) (a : Action (Unit {0})) → recorded_as a ≡ Some c
+      → action_of P c ≡ Some a → gives_new P a r ≡ true
+      → recorded_of P a (act P a (names_of_reply r)) ≡ Some r
+      → plain_step P c r ≡ Some (limit_tickets P (act P a (names_of_reply r))).1
+  unfolding plain_step
+  lawful c r a as_call action new h =
+      let out : Outcome (Unit {0}) = limit_tickets P (act P a (names_of_reply r)) in
+      let free = ap not (unhindered P a (act P a (names_of_reply r)) r h) in
+      let ready = tell P a c (names_of_reply r) as_call ∙ free in
+      ap (step_by P c r) action ∙ ap (λ b. cond b (Some out.1) None)
+      (and_from _ _ ready (and_from _ _ new (recorded_is (recorded_reply out.1 a out.0) r h)))
+
+  -- what a recorded call leads to
+  abbrev Leads : StepCall → Action (Unit {0}) → Outcome (Unit {0}) → Type 0
+  Leads c a out = (r : StepReply) → recorded_of P a out ≡ Some r
+      → plain_step P c r ≡ Some (limit_tickets P out).1
+
+  -- ---- makings
+
+  abbrev TellsReply : Action (Unit {0}) → NewNames → Outcome (Unit {0}) → StepReply → Type 0
+  TellsReply a new out r = (act P a (names_of_reply r) ≡ out) × (gives_new P a r ≡ true)
+
+  make_tells : (o : Option OwnerName) (l : Location) (new : NewNames)
+      → Takes P (Make o tt l) (limit_tickets P (act P (Make o tt l) new)).0 new → (r : StepReply)
+      → recorded_of P (Make o tt l) (act P (Make o tt l) new) ≡ Some r
+      → TellsReply (Make o tt l) new (act P (Make o tt l) new) r
+  make_tells o l new takes r h = grind (arith, new_to)
+
+  refer_tells : (o : Option OwnerName) (b : GenerationalPointer) (new : NewNames)
+      → Takes P (Refer o b) (limit_tickets P (act P (Refer o b) new)).0 new → (r : StepReply)
+      → recorded_of P (Refer o b) (act P (Refer o b) new) ≡ Some r
+      → TellsReply (Refer o b) new (act P (Refer o b) new) r
+  refer_tells o b new takes r h = grind (arith, new_to)
+
+  some_is : (x y : StepReply) → Some x ≡ Some y → x ≡ y
+  some_is x y e = cc
+
+  -- a refusal for an unknown owner tells no name
+  unknown : (a : Action (Unit {0})) (new : NewNames) (r : StepReply)
+      → ((f : NewNames) → act P a f ≡ (Refused UnknownOwner, P))
+      → Some (reply.Store UnknownOwner) ≡ Some r
+      → TellsReply a new (Refused UnknownOwner, P) r
+  unknown a new r same e = subst (TellsReply a new (Refused UnknownOwner, P))
+      (some_is (reply.Store UnknownOwner) r e) (same no_names, refl)
+
+  shared_tells : (o : Option OwnerName) (l : Location) (new : NewNames) (known : Bool)
+      → is_known P o ≡ known → let out : Outcome (Unit {0}) = cond known
+      (make (add_cell P new.first (Shared (Here tt []) l)) o new.second (Ref new.first l) l)
+      (Refused UnknownOwner, P) in
+      Takes P (MakeShared o tt l) (limit_tickets P out).0 new → (r : StepReply)
+      → recorded_of P (MakeShared o tt l) out ≡ Some r → TellsReply (MakeShared o tt l) new out r
+  shared_tells o l new false is takes r h =
+      unknown (MakeShared o tt l) new r (λ f. rw is refl) h
+  shared_tells o l new true is takes r h =
+      let shared = add_cell P new.first (Shared (Here tt []) l) in
+      let out : Outcome (Unit {0}) = make shared o new.second (Ref new.first l) l in
+      let box = box_of P.number new.second l in
+      let at : recorded_of P (MakeShared o tt l) out
+      ≡ Some (reply.MadeShared (id_of P.number new.first) box) =
+      ap (option_map (λ id. reply.MadeShared id box)) (target_made shared o new.second new.first l) in
+      subst (TellsReply (MakeShared o tt l) new out)
+      (some_is (reply.MadeShared (id_of P.number new.first) box) r (sym at ∙ h)) (
+        rw is refl,
+        and_from _ _ (new_to P new.first takes.0) (new_to shared new.second takes.1),
+      )
+
+  gives_any : (a : Action (Unit {0})) (r : StepReply) → ((f : NewNames) → are_new P a f ≡ true)
+      → gives_new P a r ≡ true
+  gives_any a r new = grind arith
+
+  -- the names that a recorded reply tells are those that the call takes, if it takes any
+  tells : (a : Action (Unit {0})) (new : NewNames) → Takes P a (limit_tickets P (act P a new)).0 new
+      → (r : StepReply) → recorded_of P a (act P a new) ≡ Some r → TellsReply a new (act P a new) r
+  tells (Make o v l) new takes r h = make_tells o l new takes r h
+  tells (MakeShared o v l) new takes r h = shared_tells o l new (is_known P o) refl takes r h
+  tells (Refer o b) new takes r h = refer_tells o b new takes r h
+  tells a new takes r h = (refl, gives_any a r (λ f. refl))
+
+  -- so it is a step under the names that it takes
+  named : (c : StepCall) (a : Action (Unit {0})) (new : NewNames) → recorded_as a ≡ Some c
+      → action_of P c ≡ Some a → Takes P a (limit_tickets P (act P a new)).0 new
+      → Leads c a (act P a new)
+  named c a new as_call action takes r h =
+      let it = tells a new takes r h in
+      lawful c r a as_call action it.1 (ap (recorded_of P a) it.0 ∙ h)
+      ∙ ap (λ out. Some (limit_tickets P out).1) it.0
+
+  -- ---- releases
+
+  -- a release whose answer is recorded was of a guard that the state knew
+  own_guard : (g : Guard) → nat_eq g.store P.number ≡ true → guard_at P g.ticket g.cell ≡ g
+  own_guard g own = grind arith
+
+  reader_leads : (g : Guard) (new : NewNames) → IsSound P
+      → Takes P (ReleaseReader g) (limit_tickets P (act P (ReleaseReader g) new)).0 new
+      → Leads (call.ReleaseRead g.ticket) (ReleaseReader g) (act P (ReleaseReader g) new)
+  reader_leads g new sound takes r h =
+      let known : knows_reader P g ≡ true = grind arith in
+      let parts = and_parts (nat_eq g.store P.number) _ known in
+      named (call.ReleaseRead g.ticket) (ReleaseReader g) new refl
+      (ap (option_map (λ n. ReleaseReader (guard_at P g.ticket n)))
+      (reader_found P g.cell g.ticket sound parts.1)
+      ∙ ap (λ x. Some (ReleaseReader x)) (own_guard g parts.0)) takes r h
+
+  writer_leads : (g : Guard) (new : NewNames) → IsSound P
+      → Takes P (ReleaseWriter g tt) (limit_tickets P (act P (ReleaseWriter g tt) new)).0 new
+      → Leads (call.ReleaseWrite g.ticket) (ReleaseWriter g tt) (act P (ReleaseWriter g tt) new)
+  writer_leads g new sound takes r h =
+      let known : knows_writer P g ≡ true = grind arith in
+      let parts = and_parts (nat_eq g.store P.number) _ known in
+      named (call.ReleaseWrite g.ticket) (ReleaseWriter g tt) new refl
+      (ap (option_map (λ n. ReleaseWriter (guard_at P g.ticket n) tt))
+      (writer_found P g.cell g.ticket sound parts.1)
+      ∙ ap (λ x. Some (ReleaseWriter x tt)) (own_guard g parts.0)) takes r h
+
+  -- a step of a recorded call, under the names that it takes
+  does : (a : Action (Unit {0})) (new : NewNames) → IsSound P
+      → Takes P a (limit_tickets P (act P a new)).0 new
+      → IfSome (recorded_as a) (λ c. Leads c a (act P a new))
+  does (LeakOwner o) new sound takes = tt
+  does (CanRead b) new sound takes = tt
+  does (CanWrite b) new sound takes = tt
+  does (ReleaseReader g) new sound takes = reader_leads g new sound takes
+  does (ReleaseWriter g tt) new sound takes = writer_leads g new sound takes
+  does (Make None tt l) new sound takes = named _ (Make None tt l) new refl refl takes
+  does (MakeShared None tt l) new sound takes = named _ (MakeShared None tt l) new refl refl takes
+  does (Refer None b) new sound takes = named _ (Refer None b) new refl refl takes
+  does a new sound takes = named _ a new refl refl takes
+
+  follows : (a : Action (Unit {0})) (c : StepCall) (answer : Answer (Unit {0})) (Q : Plain)
+      (r : StepReply) → IsSound P → recorded_as a ≡ Some c → Meets P a answer Q
+      → recorded_reply Q a answer ≡ Some r → plain_step P c r ≡ Some Q
+  follows a c answer Q r sound e (inl m) h =
+      let takes = subst (λ (o : Outcome (Unit {0})). Takes P a o.0 m.0) m.2 m.1 in
+      subst (λ o. IfSome o (λ c. Leads c a (act P a m.0))) e (does a m.0 sound takes) r
+      (ap (λ (o : Outcome (Unit {0})). recorded_reply o.1 a o.0) (sym m.2) ∙ h)
+      ∙ ap (λ (o : Outcome (Unit {0})). Some o.1) (sym m.2)
+  follows a c answer Q r sound e (inr m) h =
+      let none : recorded_reply Q a answer ≡ None = ap (recorded_reply Q a) m.1 in absurd cc
+
+-- ---- a step of the store, without values
+
+module _ {T : Type 0} where
+  plain_recorded : (a : Action T) → recorded_as (plain_call a) ≡ recorded_as a
+  plain_recorded a = grind arith
+
+  pub plain_follows : IsTold → IsPlain T → (S R : State T) (a : Action T) (c : StepCall)
+      (answer : Answer T) (r : StepReply) → IsSound (plain S) → recorded_as a ≡ Some c
+      → Meets S a answer R → recorded_reply R a answer ≡ Some r
+      → plain_step (plain S) c r ≡ Some (plain R)
+  plain_follows tell without S R a c answer r sound e m h =
+      follows tell (plain S) (plain_call a) c (plain_answer answer) (plain R) r sound
+      (plain_recorded a ∙ e) (without S R a answer m) (plain_reply R a answer ∙ h)

@@ -1,22 +1,394 @@
--- A tree in which a node was moved, was made a root, or was removed with all below it.
-use Rattle.scene_tree.proofs.{Counting.same_without, Linked.among, Stores.one_live}
-use Rattle.scene_tree.proofs.Common.{above, ap, arith, CanMove, cases_eq, cases_lt, children_at, children_of, count_at}
-use Rattle.scene_tree.proofs.Common.{Family, family_of, HasLost, IfOk, is_live, is_some, IsAmong, IsAttached, IsBelow}
-use Rattle.scene_tree.proofs.Common.{IsCut, IsDetached, IsKept, IsLiveIn, IsOther, IsSound, IsSpotIn, IsUnder, length}
-use Rattle.scene_tree.proofs.Common.{List, named, Node, NodeIsUnchanged, parent_at, parent_for, parent_of, placed, refl}
-use Rattle.scene_tree.proofs.Common.{Result, same_Some, slot_in, slot_of, Some, Spot, State, subst, suc, sym, times}
-use Rattle.scene_tree.proofs.Common.{TreeState, true, value_of, without, zero, ℕ, ◌<◌, ◌∙◌, ◌≡◌, ◌≢◌}
-use Rattle.scene_tree.proofs.Forests.{above_parent, no_cycle, slot_cases, under_up}
-use Rattle.scene_tree.proofs.Gathering.{all_listed, listed_below, part_whole}
-use Rattle.scene_tree.proofs.Keeping.{alike, kept_attached, kept_cleared, kept_detached}
-use Rattle.scene_tree.proofs.Trees.{has_parent, left_with, list_live, live_children, live_family, live_parent}
-use Rattle.scene_tree.proofs.Trees.{part_with, times_live, under_below}
+-- What moves, what is walked, and what stays.
+pub mod Trees
+use Rattle.std.specs.FinMap as map
 use Rattle.scene_tree.specs.declared.spot.Spot.TheVariants as spot
+unfoldable pub use Trees.*
+
+-- ==== walks: from parent to parent up to a root, and over the nodes of all slots
+
+module _ {T : Type 0} (fs : List (Family T)) where
+  way_none : (n : ℕ) → way_up fs n None ≡ []
+  way_none n = grind arith
+
+  -- enough steps are enough
+  way_enough : (n m d : ℕ) (node : Node T) → IsRooted fs d (slot_in node) → d ≤ n → d ≤ m
+      → way_up fs n (parent_at fs (slot_in node)) ≡ way_up fs m (parent_at fs (slot_in node))
+  way_enough (suc n) (suc m) (suc d) node r lt more =
+      let up = above_parent fs (slot_in node) r.0 r.1 in grind (arith, way_enough n m d up.0)
+  way_enough n m d node r lt more = grind (arith, way_none)
+
+  module _ (f : IsForest fs) where
+    -- the first node of a way is met, and then those above it
+    pub way_next : (node : Node T) → slot_in node < length fs → way_up fs (length fs) (Some node)
+        ≡ node ∷ way_up fs (length fs) (parent_at fs (slot_in node))
+    way_next node lt =
+        let r = f.rooted (slot_in node) in
+        let deep = depth_within fs f r.0 (slot_in node) r.1 lt in by (length fs) r deep
+      where
+        by : (n : ℕ) (r : (d : ℕ) × IsRooted fs d (slot_in node)) → r.0 < n
+            → way_up fs n (Some node) ≡ node ∷ way_up fs n (parent_at fs (slot_in node))
+        by zero r lt = absurd (omega arith)
+        by (suc n) r lt = grind (arith, way_enough n (suc n) r.0 node)
+
+    -- and these have slots too
+    pub next_within : (slot : ℕ) → IsWithin fs (parent_at fs slot)
+    next_within slot = at (parent_at fs slot) refl
+      where
+        at : (o : Option (Node T)) → parent_at fs slot ≡ o → IsWithin fs o
+        at None is = tt
+        at (Some up) is = above_within fs f slot (slot_in up) (ap slot_of is)
+
+-- the way from a live node's parent on has its ancestors
+module _ {T : Type 0} {S : State T} {fs : List (Family T)} (sound : IsSound S) (k : IsKept S fs) where
+  abbrev walked : TreeState T
+  walked = record { state = S; families = fs }
+
+  way_ancestors : (n d : ℕ) (node : Node T) → IsLiveIn S node → IsRooted fs d (slot_in node) → d ≤ n
+      → (o : Option (Node T)) → parent_at fs (slot_in node) ≡ o
+      → AreAncestors walked node (way_up fs n o)
+  way_ancestors n d node live r le None is = rw (way_none fs n) (live_parent sound k node live ∙ is)
+  way_ancestors zero d node live r le (Some up) is = grind arith
+  way_ancestors (suc n) d node live r le (Some up) is =
+      let less = rooted_up fs d (slot_in node) (slot_in up) (ap slot_of is) r in
+      let one = less.1 in (
+        live_parent sound k node live ∙ is,
+        way_ancestors n less.0 up (k.parents (slot_in node) up is) less.2 (omega (arith, le, one))
+            (parent_at fs (slot_in up)) refl,
+      )
+
+  pub ancestors_of : (node : Node T) → IsLiveIn S node → slot_in node < length fs
+      → AreAncestors walked node (way_up fs (length fs) (parent_at fs (slot_in node)))
+  ancestors_of node live lt =
+      let r = k.forest.rooted (slot_in node) in
+      grind (arith, way_ancestors, depth_within fs k.forest r.0 (slot_in node) r.1 lt)
+
+module _ {T : Type 0} (S : State T) (roots : Bool) where
+  -- what is noted from a slot on is of its slot
+  abbrev ArePlaced : List (Link T) → ℕ → Type 0
+  ArePlaced links k = (i : ℕ) (h : Node T) → noted links i ≡ Some h → slot_in h ≡ k + i
+
+  placed_rest : (l : Link T) (links : List (Link T)) (k : ℕ) → ArePlaced (l ∷ links) k
+      → ArePlaced links (suc k)
+  placed_rest l links k placed_row i h is =
+      let at = placed_row (suc i) h is in omega (arith, at)
+
+  met_below : (links : List (Link T)) (k : ℕ) → ArePlaced links k → (n : Node T) → slot_in n < k
+      → times n (met S roots links) ≡ 0
+  met_below [] k placed_row n lt = refl
+  met_below (l ∷ links) k placed_row n lt =
+      let rest = met_below links (suc k) (placed_rest l links k placed_row) n (omega (arith, lt)) in
+      let here = placed_row 0 l.node refl in
+      grind (arith, times_apart n l.node (met S roots links), same_slot l.node n)
+
+  -- how many times a node is met whose slot has a link, or none
+  abbrev met_at : Node T → Option (Link T) → ℕ
+  met_at n None = 0
+  met_at n (Some l) = cond (is_met S roots l && is_same l.node n) 1 0
+
+  met_times : (links : List (Link T)) (k i : ℕ) → ArePlaced links k → (n : Node T)
+      → slot_in n ≡ k + i → times n (met S roots links) ≡ met_at n (slice_get links i)
+  met_times [] k i placed_row n at = refl
+  met_times (l ∷ links) k zero placed_row n at =
+      let rest = met_below links (suc k) (placed_rest l links k placed_row) n (omega (arith, at)) in
+      let more = times_more n l.node (met S roots links) in
+      grind (arith, times_apart n l.node (met S roots links))
+  met_times (l ∷ links) k (suc i) placed_row n at =
+      let here = placed_row 0 l.node refl in
+      let rest = met_times links (suc k) i (placed_rest l links k placed_row) n (omega (arith, at)) in
+      grind (arith, times_apart n l.node (met S roots links), same_slot l.node n)
+
+  met_some : (n : Node T) (o : Option (Link T)) → 0 < met_at n o
+      → (l : Link T) × (o ≡ Some l) × (is_met S roots l ≡ true) × (is_same l.node n ≡ true)
+  met_some n None lt = absurd (omega (arith, lt))
+  met_some n (Some l) lt = (l, refl, grind arith, grind arith)
+
+module _ {T : Type 0} {S : State T} (sound : IsSound S) (links : List (Link T)) (k : IsKept S (families links))
+    (a : AreNoted S links) where
+  abbrev met_tree : TreeState T
+  met_tree = record { state = S; families = families links }
+
+  placed_row : (i : ℕ) (h : Node T) → noted links i ≡ Some h → slot_in h ≡ 0 + i
+  placed_row i h is = let at = a.placed i h is in omega (arith, at)
+
+  met_is : (roots : Bool) (n : Node T)
+      → times n (met S roots links) ≡ met_at S roots n (slice_get links (slot_in n))
+  met_is roots n = met_times S roots links 0 (slot_in n) placed_row n (omega arith)
+
+  -- a node is met where its slot's link is of it, and is met
+  from_link : (roots : Bool) (n : Node T) → 0 < times n (met S roots links) → (l : Link T)
+      × (slice_get links (slot_in n) ≡ Some l) × (is_met S roots l ≡ true)
+      × (is_same l.node n ≡ true)
+  from_link roots n some =
+      met_some S roots n (slice_get links (slot_in n)) (subst (λ k. 0 < k) (met_is roots n) some)
+
+  -- a live node has a link
+  has_link : (n : Node T) → IsLiveIn S n → (l : Link T) × (slice_get links (slot_in n) ≡ Some l)
+      × IsSame l.node n
+  has_link n live = let h = a.live n live in at (slice_get links (slot_in n)) h.1 h.2
+    where
+      at : {h : Node T} (o : Option (Link T)) → node_in o ≡ Some h → IsSame h n
+          → (l : Link T) × (o ≡ Some l) × IsSame l.node n
+      at None is same = absurd (none-some _ is)
+      at (Some l) is same = (l, refl, grind arith)
+
+  -- its parent is the link's
+  link_parent : (n : Node T) → IsLiveIn S n → (l : Link T) → slice_get links (slot_in n) ≡ Some l
+      → parent_of met_tree n ≡ l.parent
+  link_parent n live l there = live_parent sound k n live ∙ (parent_from links (slot_in n) ∙ ap upper there)
+
+  sees : (l : Link T) (n : Node T) → IsSame l.node n
+      → value_in S (pointer_in l.node) ≡ value_in S (pointer_in n)
+  sees l n = same_id_sees S (pointer_in l.node) (pointer_in n)
+
+  pub all_met : AreAll met_tree (met S false links)
+  all_met = record {
+    live = λ n. (
+      λ some. let l = from_link false n some in grind (arith, sees l.0 n, is_id l.0.node n),
+      λ live. let l = has_link n live in
+          grind (arith, met_is false n, sees l.0 n, same_id l.0.node n),
+    );
+    once = λ n. grind (arith, met_is false n);
+  }
+
+  pub roots_met : AreRoots met_tree (met S true links)
+  roots_met = record {
+    roots = λ n. (
+      λ some. let l = from_link true n some in
+          grind (arith, sees l.0 n, is_id l.0.node n, link_parent n),
+      λ root. let l = has_link n root.0 in
+          grind (arith, met_is true n, link_parent n root.0 l.0, sees l.0 n, same_id l.0.node n),
+    );
+    once = λ n. grind (arith, met_is true n);
+  }
+
+-- ==== a tree's store and families after each of its calls
+
+-- what is never some is none, and a list without a first item is empty
+no_some : {X : Type 0} (o : Option X) → ((x : X) → o ≢ Some x) → o ≡ None
+no_some o never = grind arith
+
+no_item : {X : Type 0} (xs : List X) → ((x : X) (rest : List X) → xs ≢ x ∷ rest) → xs ≡ []
+no_item [] never = refl
+no_item (x ∷ xs) never = absurd (never x xs refl)
+
+-- what holds of each item holds of each that a filter leaves
+filtered : {X : Type 0} (P : X → Type 0) (test : X → Bool) (xs : List X) → Each P xs
+    → Each P (filter test xs)
+filtered P test [] each k x at = each k x at
+filtered P test (y ∷ xs) each zero x at =
+    grind (arith, filtered P test xs (λ i. each (suc i)) zero, each 0)
+filtered P test (y ∷ xs) each (suc k) x at = grind (arith, filtered P test xs (λ i. each (suc i)))
+
+module _ {T : Type 0} where
+  pub fresh_kept : (number start next : ℕ) → IsKept (fresh {T = T} number start next) []
+  fresh_kept number start next = record {
+    simple = fresh_simple number start next;
+    whole = sym (ap map.len no_slots ∙ map.len-empty nat_cmp ℕ);
+    forest = search arith;
+    parents = λ s up is. absurd (none-some up is);
+    children = λ s k c is. absurd (none-some c is);
+  }
+
+  module _ {S : State T} {fs : List (Family T)} (k : IsKept S fs) where
+    -- a slot without a live node is alone
+    pub lone : (slot : ℕ) → ((n : Node T) → IsLiveIn S n → slot_in n ≢ slot) → family_at fs slot ≡ alone
+    lone slot none = λ i. record { parent = no_some _ root i; children = no_item _ childless i }
+      where
+        root : (up : Node T) → parent_at fs slot ≢ Some up
+        root up is =
+            let one = k.forest.once slot (slot_in up) (ap slot_of is) in
+            let there = counted slot (children_at fs (slot_in up)) (omega (arith, one)) in
+            none there.1 (k.children (slot_in up) there.0 there.1 there.2) there.3
+
+        childless : (c : Node T) (cs : List (Node T)) → children_at fs slot ≢ c ∷ cs
+        childless c cs is =
+            let over = parent_is fs k.forest slot 0 c (ap (λ xs. slice_get xs 0) is) in
+            let up = above_parent fs (slot_in c) slot over in none up.0 (k.parents (slot_in c) up.0 up.1) up.2
+
+    -- the same families over a store in which all live nodes are live
+    pub kept_same : {R : State T} (gs : List (Family T)) → IsSimple R → length gs ≡ slots R
+        → ((s : ℕ) → family_at gs s ≡ family_at fs s)
+        → ((n : Node T) → IsLiveIn S n → IsLiveIn R n) → IsKept R gs
+    kept_same gs simple whole same live = grind (arith, same_forest fs gs k.forest same)
+
+    -- the same families where the same nodes are live
+    pub kept_still : {R : State T} → IsSimple R → slots R ≡ slots S
+        → ((n : Node T) → is_some (value_in R (pointer_in n)) ≡ is_some (value_in S (pointer_in n)))
+        → IsKept R fs
+    kept_still simple same live = grind arith
+
+    -- a slot that was opened for a new node
+    module _ {R : State T} (sound : IsSound S) (v : T) (l : Location) (b : GenerationalPointer)
+        (m : Meets S (Make None v l) (Made b) R) (gs : List (Family T)) (o : IsOpened fs b.id.slot gs) where
+      pub opened_same : (s : ℕ) → family_at gs s ≡ family_at fs s
+      opened_same = o.same
+
+      opened_whole : length gs ≡ slots R
+      opened_whole = grind (arith, made_slots sound k.simple v l b m)
+
+      pub opened_within : b.id.slot < length gs
+      opened_within = grind arith
+
+      pub kept_opened : IsKept R gs
+      kept_opened = kept_same gs (made_simple sound k.simple v l b m) opened_whole opened_same
+          (λ n live. ap is_some (same_value S R (Make None v l) (Made b) sound m (pointer_in n) tt
+          (λ is. made_beside sound k.simple v l b m n live (sym (ap (λ n. n.slot) is)))) ∙ live)
+
+      -- the new node has neither parent nor children
+      pub opened_alone : family_at gs b.id.slot ≡ alone
+      opened_alone = opened_same b.id.slot ∙ lone b.id.slot (made_beside sound k.simple v l b m)
+
+    -- a node that was made a child of another
+    pub kept_attached : (gs : List (Family T)) (parent child : Node T) (spot : Spot T) → IsLiveIn S parent
+        → IsLiveIn S child → above fs (slot_in child) ≡ None
+        → ((e : ℕ) → IsUnder fs (slot_in child) e (slot_in parent) → ⊥)
+        → IsAttached fs parent spot child gs → IsKept S gs
+    kept_attached gs parent child spot live lives root apart new =
+        grind (arith, attached, each)
+      where
+        each : (s : ℕ) → Each (IsLiveIn S) (placed spot child (children_at fs s))
+        each s = placed_each (IsLiveIn S) spot (children_at fs s) child lives (k.children s)
+
+    -- a node that was taken out of its parent's children
+    pub alike : IsSound S → (child : Node T) → IsLiveIn S child → (s i : ℕ) (x : Node T)
+        → slice_get (children_at fs s) i ≡ Some x → slot_in x ≡ slot_in child → is_same x child ≡ true
+    alike sound child live s i x at same =
+        same_id x child (one_live S x child sound k.simple (k.children s i x at) live same)
+
+    sibling_in : IsSound S → (by up : Node T)
+        → parent_of (record { state = S; families = fs }) by ≡ Some up
+        → IsAmong (children_at fs (slot_in up)) by
+    sibling_in sound by up is =
+        let has = has_parent sound k by up is in among by (children_at fs (slot_in up))
+        (grind (arith, k.forest.once (slot_in by) (slot_in up))) (alike sound by has.0 (slot_in up))
+
+    -- a sibling that a spot names is among the children of its parent
+    pub spot_in : IsSound S → (at : Spot T) (up : Node T)
+        → parent_for (record { state = S; families = fs }) at ≡ Some up
+        → IsSpotIn (children_at fs (slot_in up)) at
+    spot_in sound to up is = grind (arith, sibling_in)
+
+    pub kept_detached : IsSound S → (gs : List (Family T)) (child : Node T) → IsLiveIn S child
+        → IsDetached fs child gs → IsKept S gs
+    kept_detached sound gs child live new = grind (arith, detached, alike, each)
+      where
+        each : (s : ℕ) → Each (IsLiveIn S) (children_at gs s)
+        each s = ⊎_elim (λ is. rw (new.lost s is)
+            (filtered (IsLiveIn S) _ (children_at fs s) (k.children s)))
+            (λ ne. rw (new.others s ne) (k.children s)) (slot_cases (above fs (slot_in child)) s)
+
+    -- nodes that were left alone, with all that are below them and none above, and whose values ended
+    module _ (R : State T) (gs : List (Family T)) (list : List (Node T)) (c : IsCleared fs gs list)
+        (down : (s up : ℕ) → above fs s ≡ Some up → 0 < count_at up list → 0 < count_at s list)
+        (upward : (s up : ℕ) → above fs s ≡ Some up → 0 < count_at s list → 0 < count_at up list)
+        (live : (n : Node T) → count_at (slot_in n) list ≡ 0 → IsLiveIn S n → IsLiveIn R n) where
+      out : (s : ℕ) → (0 < count_at s list → ⊥) → count_at s list ≡ 0
+      out s never = ⊎_elim (λ lt. absurd (never lt)) (λ le. omega (arith, le)) (cases_lt 0 (count_at s list))
+
+      pub kept_cleared : IsSimple R → length gs ≡ slots R → IsKept R gs
+      kept_cleared simple whole = record {
+        simple = simple;
+        whole = whole;
+        forest = cleared fs gs k.forest list c down upward;
+        parents = λ s up is. grind (arith, live up, k.parents s up, c.cleared s, c.others s, down s (slot_in up), out);
+        children =
+            λ s i x is. grind (arith, live x, k.children s i x, c.cleared s, c.others s, parent_is fs k.forest s i x, out);
+      }
+
+  -- both: a new child
+  module _ {S R : State T} {fs : List (Family T)} (k : IsKept S fs) (sound : IsSound S) (v : T) (l : Location)
+      (parent child : Node T) (spot : Spot T) (m : Meets S (Make None v l) (Made (pointer_in child)) R)
+      (live : IsLiveIn S parent)
+      (is : parent_for (record { state = S; families = fs }) spot ≡ Some parent)
+      (gs hs : List (Family T)) (o : IsOpened fs (slot_in child) gs)
+      (a : IsAttached gs parent spot child hs) where
+    apart : (n : Node T) → IsLiveIn S n → slot_in n ≢ slot_in child
+    apart = made_beside sound k.simple v l (pointer_in child) m
+
+    lone_child : family_at gs (slot_in child) ≡ alone
+    lone_child = opened_alone k sound v l (pointer_in child) m gs o
+
+    -- a live node is left
+    left : (n : Node T) → IsLiveIn S n → value_in R (pointer_in n) ≡ value_in S (pointer_in n)
+    left n lives = grind (arith, same_value S R (Make None v l) (Made (pointer_in child)) sound m, apart)
+
+    shown : IsLiveIn R child
+    shown = ap is_some (made None v l (Ok child.raw) m)
+
+    pub kept_added : IsKept R hs
+    kept_added =
+        let opened = kept_opened k sound v l (pointer_in child) m gs o in
+        kept_attached opened hs parent child spot (ap is_some (left parent live) ∙ live) shown
+        (ap (λ x. slot_of x.parent) lone_child) (λ e under. apart parent live
+        (under_alone gs opened.forest (slot_in child) e (slot_in parent) lone_child under)) a
+
+    abbrev old : TreeState T
+    old = record { state = S; families = fs }
+
+    abbrev new : TreeState T
+    new = record { state = R; families = hs }
+
+    pub added_child : family_of new child ≡ record { parent = parent_for old spot; children = [] }
+    added_child = rw is (grind (arith, live_family, shown, apart, lone_child))
+
+    pub added_parent : (up : Node T) → parent_for old spot ≡ Some up
+        → (value_of new up ≡ value_of old up) × (family_of new up ≡ record {
+          parent = parent_of old up;
+          children = placed spot child (children_of old up);
+        })
+    added_parent up some =
+        grind (arith, same_Some, live_parent, live_children, left, live_family, apart)
+
+    pub added_others : (n : Node T) → IsOther child n
+        → ((up : Node T) → parent_for old spot ≡ Some up → IsOther up n) → NodeIsUnchanged old n new
+    added_others n other beside = left_with old new n
+        (others_left _ _ m (pointer_in child) (pointer_in n) (made_new _ _ _ _ m).0
+        (same_value _ _ _ _ sound m _ tt) other)
+        (λ lives. let off = one_live S parent n sound k.simple live lives in
+        let to = beside parent is in
+        let same = o.same (slot_in n) in
+        grind (arith, a.parents (slot_in n) (apart n lives), a.others (slot_in n)))
+
+  module _ {S : State T} (links : List (Link T)) (sound : IsSound S) (k : IsKept S (families links)) where
+    -- a live node's slot has links
+    pub live_slot : (n : Node T) → IsLiveIn S n → slot_in n < length links
+    live_slot n live = grind (arith, live_within S n sound k.simple live, length-map links (family_in links))
+
+    -- a new node's has, or is the next one, and has no parent
+    module _ {R : State T} (v : T) (l : Location) (b : GenerationalPointer)
+        (m : Meets S (Make None v l) (Made b) R) where
+      pub next_root : above (families links) b.id.slot ≡ None
+      next_root = ap (λ f. slot_of f.parent) (lone k b.id.slot (made_beside sound k.simple v l b m))
+
+-- links that stayed are kept as they were
+module _ {T : Type 0} {S R : State T} (sound : IsSound S) (node : Node T) (v old : T)
+    (m : Meets S (SetValue (pointer_in node) v) (Old old) R) where
+  pub set_still : {links : List (Link T)} → IsKept S (families links) × IsLinked links × AreNoted S links
+      → IsKept R (families links) × IsLinked links × AreNoted R links
+  set_still was = (
+    kept_still was.0 (simple_still sound was.0.simple _ _ m tt tt) (same_slots _ _ refl m) seen,
+    was.1,
+    noted_left was.2 (λ s. refl) (λ n now. sym (seen n) ∙ now),
+  )
+    where
+      seen : (n : Node T) → is_some (value_in R (pointer_in n)) ≡ is_some (value_in S (pointer_in n))
+      seen n = set_seen sound was.0.simple.unborrowed _ _ _ m (pointer_in n)
+
+  pub set_others : IsSimple S → (fs : List (Family T)) (n : Node T) → IsOther node n
+      → NodeIsUnchanged (record { state = S; families = fs }) n (record { state = R; families = fs })
+  set_others simple fs n other =
+      let before = (sets (pointer_in node) v old m).0 in
+      let to = seen_reached S (pointer_in node) old before in
+      left_with _ _ n (others_left _ _ m (pointer_in node) (pointer_in n) (seen_store _ _ sound (ap is_some before))
+      (λ ne. same_value _ _ _ _ sound m _
+      (λ same. ne (reach_apart _ simple.plain _ _ to.0 to.1 (sym same))) tt) other) (λ live. refl)
+
+-- ==== a tree in which a node was moved, was made a root, or was removed with all below it
 
 module _ {T : Type 0} {S : State T} {fs gs : List (Family T)} (sound : IsSound S)
     (k : IsKept S fs) (node : Node T) (live : IsLiveIn S node) (d : IsDetached fs node gs) where
-  abbrev tree : TreeState T
-  tree = record { state = S; families = fs }
+  abbrev moved_tree : TreeState T
+  moved_tree = record { state = S; families = fs }
 
   abbrev freed : TreeState T
   freed = record { state = S; families = gs }
@@ -25,19 +397,19 @@ module _ {T : Type 0} {S : State T} {fs gs : List (Family T)} (sound : IsSound S
   parents_left : (n : Node T) → IsOther node n → IsLiveIn S n → parent_at gs (slot_in n) ≡ parent_at fs (slot_in n)
   parents_left n other lives = grind (arith, one_live)
 
-  children_left : (n : Node T) → ((up : Node T) → parent_of tree node ≡ Some up → IsOther up n) → IsLiveIn S n
+  children_left : (n : Node T) → ((up : Node T) → parent_of moved_tree node ≡ Some up → IsOther up n) → IsLiveIn S n
       → children_at gs (slot_in n) ≡ children_at fs (slot_in n)
   children_left n beside lives =
       d.others (slot_in n) (λ is. let p = above_parent fs (slot_in node) (slot_in n) is in
       beside p.0 (live_parent sound k node live ∙ p.1)
       (one_live S p.0 n sound k.simple (k.parents (slot_in node) p.0 p.1) lives p.2))
 
-  pub freed_others : (n : Node T) → ((up : Node T) → parent_of tree node ≡ Some up → IsOther up n)
-      → children_of freed n ≡ children_of tree n
-  freed_others n beside = part_with (λ f. f.children) tree freed n refl (children_left n beside)
+  pub freed_others : (n : Node T) → ((up : Node T) → parent_of moved_tree node ≡ Some up → IsOther up n)
+      → children_of freed n ≡ children_of moved_tree n
+  freed_others n beside = part_with (λ f. f.children) moved_tree freed n refl (children_left n beside)
 
   -- a spot that doesn't name the node or what is below it is where it was
-  sibling_left : (by up : Node T) → parent_of tree by ≡ Some up → (IsBelow tree node by → ⊥)
+  sibling_left : (by up : Node T) → parent_of moved_tree by ≡ Some up → (IsBelow moved_tree node by → ⊥)
       → IsAmong (children_at gs (slot_in up)) by
   sibling_left by up is apart =
       let has = has_parent sound k by up is in
@@ -47,12 +419,12 @@ module _ {T : Type 0} {S : State T} {fs gs : List (Family T)} (sound : IsSound S
       (grind (arith, left.forest.once (slot_in by) (slot_in up)))
       (alike left sound by has.0 (slot_in up))
 
-  pub spot_left : (at : Spot T) (up : Node T) → parent_for tree at ≡ Some up
-      → (IsBelow tree node (named at) → ⊥) → IsSpotIn (children_at gs (slot_in up)) at
+  pub spot_left : (at : Spot T) (up : Node T) → parent_for moved_tree at ≡ Some up
+      → (IsBelow moved_tree node (named at) → ⊥) → IsSpotIn (children_at gs (slot_in up)) at
   spot_left to up is apart = grind (arith, sibling_left)
 
-  module _ {hs : List (Family T)} (parent : Node T) (at : Spot T) (may : CanMove tree node parent)
-      (is : parent_for tree at ≡ Some parent) (a : IsAttached gs parent at node hs) where
+  module _ {hs : List (Family T)} (parent : Node T) (at : Spot T) (may : CanMove moved_tree node parent)
+      (is : parent_for moved_tree at ≡ Some parent) (a : IsAttached gs parent at node hs) where
     abbrev moved : TreeState T
     moved = record { state = S; families = hs }
 
@@ -69,8 +441,8 @@ module _ {T : Type 0} {S : State T} {fs gs : List (Family T)} (sound : IsSound S
         (λ e under. may.apart (e, below e parent may.parent (under_before e (slot_in parent) under))) a
 
     -- the node is at its spot, and was taken out from where it stood
-    pub moved_placed : (up : Node T) → parent_for tree at ≡ Some up
-        → children_of moved up ≡ placed at node (without node (children_of tree up))
+    pub moved_placed : (up : Node T) → parent_for moved_tree at ≡ Some up
+        → children_of moved up ≡ placed at node (without node (children_of moved_tree up))
     moved_placed up some = rw (same_Some up parent (sym some ∙ is))
         (grind (arith, live_family, same_without, slot_cases, live_children))
 
@@ -78,9 +450,9 @@ module _ {T : Type 0} {S : State T} {fs gs : List (Family T)} (sound : IsSound S
     not_parent : (n : Node T) → IsOther parent n → IsLiveIn S n → slot_in n ≢ slot_in parent
     not_parent n other lives is = other (one_live S parent n sound k.simple may.parent lives (sym is))
 
-    pub moved_others : (n : Node T) → ((to : Node T) → parent_for tree at ≡ Some to → IsOther to n)
-        → ((up : Node T) → parent_of tree node ≡ Some up → IsOther up n)
-        → children_of moved n ≡ children_of tree n
+    pub moved_others : (n : Node T) → ((to : Node T) → parent_for moved_tree at ≡ Some to → IsOther to n)
+        → ((up : Node T) → parent_of moved_tree node ≡ Some up → IsOther up n)
+        → children_of moved n ≡ children_of moved_tree n
     moved_others n other beside =
         grind (arith, not_parent n (other parent is), freed_others n beside)
 
@@ -141,20 +513,20 @@ module _ {T : Type 0} {S R : State T} {fs hs : List (Family T)} (sound : IsSound
       let r = k.forest.rooted (slot_in node) in
       grind (arith, no_cycle fs r.0 (slot_in node) up, under up, cases_lt 0 (count_at up list))
 
-  abbrev old : TreeState T
-  old = record { state = S; families = fs }
+  abbrev whole : TreeState T
+  whole = record { state = S; families = fs }
 
-  abbrev new : TreeState T
-  new = record { state = R; families = hs }
+  abbrev cut_tree : TreeState T
+  cut_tree = record { state = R; families = hs }
 
-  pub cut_parent : (up : Node T) → parent_of old node ≡ Some up → (value_of new up ≡ value_of old up)
-      × (family_of new up ≡ record { parent = parent_of old up; children = without node (children_of old up) })
+  pub cut_parent : (up : Node T) → parent_of whole node ≡ Some up → (value_of cut_tree up ≡ value_of whole up)
+      × (family_of cut_tree up ≡ record { parent = parent_of whole up; children = without node (children_of whole up) })
   cut_parent up is = grind (arith, parent_free (slot_in up), same_times up, not_node (slot_in up))
 
   -- each other node is as it was
   pub cut_others : (n : Node T) → times n list ≡ 0
-      → ((up : Node T) → parent_of old node ≡ Some up → IsOther up n) → NodeIsUnchanged old n new
-  cut_others n out other = left_with old new n (lost.others n out) (λ lives.
+      → ((up : Node T) → parent_of whole node ≡ Some up → IsOther up n) → NodeIsUnchanged whole n cut_tree
+  cut_others n out other = left_with whole cut_tree n (lost.others n out) (λ lives.
       let none = sym (same_times n lives) ∙ out in
       cut.cleared.others (slot_in n) none ∙ λ i. record {
         parent = cut.detached.parents (slot_in n) (not_node (slot_in n) none) i;

@@ -1,18 +1,11 @@
--- A table's store and its rows after each call.
-use Rattle.session_table.proofs.Common
-use Common.{[], Action, All-from_recursion, All-push, AllByRecursion, among, Answer, ap, arith, BeginsNoBorrow}
-use Common.{Bool, by_cond, by_option, cases_Bool, Cell, cond, Done, End, ends, ends_owned, eq_by_cmp_equiv, false}
-use Common.{false_from_ne_true, fresh, fresh_listed, fresh_plain, GenerationalBox, GenerationalPointer}
-use Common.{GivesOther, Held, held_record, IfSome, inr, is_name, is_some, IsDistinct, IsDistinct-push}
-use Common.{IsEquivalence, IsKept, IsOf, IsSound, IsUnchanged, keeps_known, keeps_record, last_record, LeavesBox}
-use Common.{LeavesOwner, List, list_any-append, lists, Location, Made, made, made_new, Make, MakesNoReference}
-use Common.{Meets, meets_number, Name, name_cmp, name_here, name_of, name_same, name_total, nat_cmp, nat_eq}
-use Common.{NewOwner, None, Ok, Old, Option, Owned, owned, OwnerName, Ownership, ownership, pointer_of}
-use Common.{quiet_fresh, quiet_stays, reach, reaches, recursion_from_All, refl, release_leaves, ReleaseOwner}
-use Common.{same_reach, seen_reached, SetValue, Some, State, stays_listed, stays_plain, subst, sym, true}
-use Common.{unknown_owner, unlisted, unseen, value_in, ℕ, ⊎_elim, ◌++◌, ◌||◌, ◌∙◌, ◌∷◌, ◌≡◌, ◌≢◌, ◌⊎◌}
+-- What a table of sessions keeps.
+pub mod Common
 use Rattle.generational_core.specs.Conditions.{names_in as owned_names}
+use Rattle.std.proofs.lemmas.List.Folds.{list_any_none}
 use Rattle.std.specs.FinMap as map
+unfoldable pub use Common.*
+
+-- ==== a table's store and its rows after each call
 
 -- names are compared for equality
 name_equal : IsEquivalence is_name
@@ -324,3 +317,348 @@ module _ {I T : Type 0} {eq : I → I → Bool} {S : State T} {rows after : I �
       kept = λ b m to. grind (arith, kept.kept b m to, now_row);
       live = λ i g is. let was = was_row i g is in kept.live was.0 g was.1;
     }
+
+-- ==== what a caller sees of rows, and what they say of the store
+
+module _ {I K T : Type 0} (eq : I → I → Bool) (S : State T) (rows : List (I × Session K T)) where
+  -- the session of an id is that of its row
+  pub session_row : (i : I) → session_in eq (table_of S rows) i ≡ option_map live (lookup (eq i) rows)
+  session_row i = lookup-map_values live (eq i) rows
+
+  -- an id keeps what its row lists
+  pub keeps_row : (i : I) (h : Held) (e : Entry T) → held_in eq rows i ≡ Some h
+      → keeps eq (table_of S rows) i e ≡ among h.names (name_of (pointer_in e))
+  keeps_row i h e is = grind (arith, session_row i)
+
+  pub kept_row : (i : I) (e : Entry T) → keeps eq (table_of S rows) i e ≡ true
+      → (h : Held) × (held_in eq rows i ≡ Some h) × (among h.names (name_of (pointer_in e)) ≡ true)
+  kept_row i e kept = by_option (lookup (eq i) rows) (λ none. cc (session_row i))
+      (λ s some. (held_of s, ap (option_map held_of) some, cc (session_row i)))
+
+  module _ (k : IsKept S eq (held_in eq rows)) where
+    -- the store has an owner of each row
+    pub row_known : (i : I) (s : Session K T) → lookup (eq i) rows ≡ Some s
+        → is_some (ownership S s.owner) ≡ true
+    row_known i s is = ap is_some (k.held i (held_of s) (ap (option_map held_of) is)).1
+
+    -- no entry is kept by two ids
+    pub kept_once : (i j : I) (e : Entry T) → eq i j ≡ false → keeps eq (table_of S rows) i e ≡ true
+        → keeps eq (table_of S rows) j e ≡ false
+    kept_once i j e ne one =
+        grind (arith, kept_row i e, kept_row j e, k.held i, k.held j, k.listed.apart, k.apart i j)
+
+    pub kept_orderly : IsSound S → IsDistinct eq (keys_of rows) → IsOrderly eq (table_of S rows)
+    kept_orderly s once = let keys = keys_of-map_values live rows in
+        grind (arith, keys, kept_once, kept_row, keeps_row, k.kept, k.live, seen_reached, free_sees, quiet_free S k.unborrowed)
+
+-- ==== entries of which one is taken out
+
+-- a name from which all of a list differ isn't among them
+apart_unnamed : (m n : Name) (names : List Name) → AllByRecursion (λ x. is_name m x ≡ false) names
+    → is_name n m ≡ true → among names n ≡ false
+apart_unnamed m n names apart same =
+    rw (name_same n m same) (list_any_none (is_name m) names (All-from_recursion _ _ apart))
+
+module _ {K T : Type 0} (test : K → Bool) where
+  -- what is found is among all
+  pub found_named : (es : List (K × Entry T)) (e : Entry T) → lookup test es ≡ Some e
+      → among (names_of es) (name_of (pointer_in e)) ≡ true
+  found_named [] e is = cc
+  found_named (x ∷ es) e is = grind (arith, name_here (name_of (pointer_in e)), found_named es e)
+
+  -- without it all the other names are there, and its isn't
+  pub named_removed : (es : List (K × Entry T)) (e : Entry T) → lookup test es ≡ Some e
+      → IsDistinct is_name (names_of es) → (n : Name) → among (names_of (remove_entry test es)) n
+      ≡ cond (is_name n (name_of (pointer_in e))) false (among (names_of es) n)
+  unfolding IsDistinct
+  named_removed [] e is once n = cc
+  named_removed (x ∷ es) e is once n =
+      let apart = apart_unnamed (name_of (pointer_in x.1)) n (names_of es) once.0 in
+      grind (arith, name_same, found_named es e, named_removed es e, apart)
+
+  -- what holds of all of them holds of the one that is found
+  pub found_all : {X : Type 0} (f : Entry T → X) (P : X → Type 0) (es : List (K × Entry T)) (e : Entry T)
+      → lookup test es ≡ Some e → AllByRecursion P (map (λ x. f x.1) es) → P (f e)
+  found_all f P [] e is all = cc
+  found_all f P (x ∷ es) e is all = grind (arith, found_all f P es e)
+
+  -- what holds of all of them holds of those that are left
+  pub removed_all : {X : Type 0} (f : K × Entry T → X) (P : X → Type 0) (es : List (K × Entry T))
+      → AllByRecursion P (map f es) → AllByRecursion P (map f (remove_entry test es))
+  removed_all f P es all = recursion_from_All P _ (All-map-remove_entry test f P es (All-from_recursion P _ all))
+
+  -- and none of them stands there twice
+  pub removed_once : (es : List (K × Entry T)) → IsDistinct is_name (names_of es)
+      → IsDistinct is_name (names_of (remove_entry test es))
+  unfolding IsDistinct
+  removed_once [] once = once
+  removed_once (x ∷ es) once =
+      let apart = λ (n : Name). is_name (name_of (pointer_in x.1)) n ≡ false in
+      let left = removed_all (λ y. name_of (pointer_in y.1)) apart es once.0 in
+      grind (arith, left, removed_once es once.1)
+
+-- ==== rows of which one is taken out, and tables whose old sessions end
+
+-- what stands before a place stays there
+pub taken_before : {X : Type 0} (xs : List X) (i : ℕ) (d : X) → i < length xs
+    → take i (swap_remove xs i d) ≡ take i xs
+taken_before xs i d lt = take-take i (length xs - 1) _ (omega (arith, lt)) ∙ take-set xs i _
+
+module _ {I K T : Type 0} (eq : I → I → Bool) (time : ℕ) where
+  -- from the one table to the other some old sessions have ended: those before a place are young, an
+  -- id has the session that it had, or has none where that was old, and an entry shows what it showed,
+  -- but for those that such an id kept
+  pub record Sheds (place : ℕ) (a b : TableState I K T) : Type 0 where
+    pub within : place ≤ length b.sessions
+    pub fewer : length b.sessions ≤ length a.sessions
+    pub young : (i : ℕ) (e : I × LiveSession K T) → i < place → slice_get b.sessions i ≡ Some e
+        → is_young time e.1 ≡ true
+    pub sessions : (id : I) → (session_in eq b id ≡ session_in eq a id)
+        ⊎ ((session_in eq b id ≡ None) × (if_young time (session_in eq a id) ≡ None))
+    pub left : (e : Entry T) → (shown_in b e ≡ shown_in a e)
+        ⊎ ((shown_in b e ≡ None) × ((id : I) × (keeps eq a id e ≡ true) × (session_in eq b id ≡ None)))
+    pub put : (e : Entry T) → WasPut a e → WasPut b e
+    pub ticket : b.state.next ≡ a.state.next
+
+module _ {I K T : Type 0} {eq : I → I → Bool} {time : ℕ} where
+  pub sheds_none : (a : TableState I K T) → Sheds eq time 0 a a
+  sheds_none a = search (rules, arith)
+
+  module _ {place : ℕ} {a b : TableState I K T} (s : Sheds eq time place a b) where
+    -- the session at the place is young
+    pub sheds_young : place < length b.sessions
+        → ((e : I × LiveSession K T) → slice_get b.sessions place ≡ Some e → is_young time e.1 ≡ true)
+        → Sheds eq time (place + 1) a b
+    sheds_young lt here = grind (arith, here, s.young, s.sessions, s.left)
+
+    -- what an id has it had
+    had : (id : I) (x : LiveSession K T) → session_in eq b id ≡ Some x → session_in eq a id ≡ Some x
+    had id x is = grind (arith, s.sessions id)
+
+    -- or old, and ends
+    pub sheds_old : IsEquivalence eq → {c : TableState I K T} → (e : EndsAt eq place b c)
+        → is_young time e.ended.1 ≡ false → Sheds eq time place a c
+    sheds_old laws {c} e old =
+        let was = had e.ended.0 e.ended.1 e.found in
+        let within = slice_get_within b.sessions place e.ended e.there in
+        let alike = lookup_congr eq laws.congr a.sessions e.ended.0 in
+        let own = laws.refl e.ended.0 in
+        let before = get_take b.sessions place in
+        let after = get_take c.sessions place in
+        grind (arith, e.sessions, s.sessions, was, alike, own, e.gone, e.left, s.left, s.young, before, after, within)
+
+    -- ---- once each session is young
+
+    pub shed_ids : length b.sessions ≤ place → (id : I)
+        → session_in eq b id ≡ if_young time (session_in eq a id)
+    shed_ids all id = by_option (session_in eq b id) (λ is. grind (arith, s.sessions id))
+        (λ x is. let p = place_from_lookup (eq id) b.sessions x is in
+        let lt = slice_get_within b.sessions p.0 (p.1, x) p.2 in
+        grind (arith, had id x is, s.young p.0 (p.1, x) (omega (arith, lt, all)) p.2))
+
+    module _ (laws : IsEquivalence eq) (was : IsOrderly eq a) where
+      -- the ids that keep an entry have one session
+      keepers : (i j : I) (e : Entry T) → keeps eq a i e ≡ true → keeps eq a j e ≡ true
+          → session_in eq b i ≡ session_in eq b j
+      keepers i j e x y = grind (arith, was.apart i j e, lookup_congr eq laws.congr b.sessions i j)
+
+      pub shed_kept : (id : I) (e : Entry T) → keeps eq a id e ≡ true → has_session eq b id ≡ true
+          → shown_in b e ≡ shown_in a e
+      shed_kept id e kept has = grind (arith, s.left e, keepers id)
+
+      pub shed_gone : IsOrderly eq b → (id : I) (e : Entry T) → keeps eq a id e ≡ true
+          → has_session eq b id ≡ false → shown_in b e ≡ None
+      shed_gone now id e kept hasnt = grind (arith, now.kept e, keepers id, had)
+
+      pub shed_none : (e : Entry T) → shown_in a e ≡ None → shown_in b e ≡ None
+      shed_none e none = grind (arith, s.left e)
+
+-- no rows are left where none are counted
+pub none_left : {I K T : Type 0} {eq : I → I → Bool} (S : State T) (rows : List (I × Session K T))
+    {t : TableState I K T} (n : ℕ) → IsKept S eq (held_in eq rows) → table_of S rows ≡ t
+    → n ≡ length t.sessions → n ≤ 0 → IsKept S eq no_rows
+none_left S [] n k is len low = k
+none_left S (x ∷ rows) n k is len low = absurd (omega (arith, ap (λ t. length t.sessions) is))
+
+-- ==== what a caller sees after one row has changed
+
+-- a row's session that is to a caller what it was
+pub same_sessions : {I K T : Type 0} (test : I → Bool) (es : List (I × Session K T)) (s w : Session K T)
+    → lookup test es ≡ Some s → live w ≡ live s → map live_row (set_value test es w) ≡ map live_row es
+same_sessions test [] s w found same = refl
+same_sessions test (e ∷ es) s w found same = grind (arith, same_sessions test es s w)
+
+-- the session of an id that has a row, and of one that has none
+pub session_of : {I K T : Type 0} (test : I → Bool) (rows : List (I × Session K T))
+    {o : Option (Session K T)} → lookup test rows ≡ o → lookup test (map live_row rows) ≡ option_map live o
+session_of test rows is = lookup-map_values live test rows ∙ ap (option_map live) is
+
+pub no_row : {I K T : Type 0} (test : I → Bool) (rows : List (I × Session K T))
+    → is_some (lookup test (map live_row rows)) ≡ false → lookup test rows ≡ None
+no_row test rows none = by_option (lookup test rows) (λ is. is) (λ s is. cc (session_of test rows is))
+
+-- what has no value is none
+pub no_value : {X : Type 0} (o : Option X) → is_some o ≡ false → o ≡ None
+no_value o none = grind arith
+
+-- the row of an id is another one, or is new, or gone
+pub record IsChange {I R : Type 0} (eq : I → I → Bool) (old new : List (I × R)) (k : I)
+    (was now : Option R) : Type 0 where
+  pub laws : IsEquivalence eq
+  pub there : lookup (eq k) old ≡ was
+  pub after : (q : I) → lookup (eq q) new ≡ cond (eq k q) now (lookup (eq q) old)
+
+pub changed : {I R : Type 0} {eq : I → I → Bool} (laws : IsEquivalence eq) {old new : List (I × R)} (k : I)
+    {was now : Option R} → lookup (eq k) old ≡ was
+    → ((q : I) → lookup (eq q) new ≡ cond (eq k q) now (lookup (eq q) old)) → IsChange eq old new k was now
+changed laws k there after = record { laws = laws; there = there; after = after }
+
+module _ {I K T : Type 0} {eq : I → I → Bool} {old new : List (I × Session K T)} {k : I}
+    {was now : Option (Session K T)} (c : IsChange eq old new k was now) where
+  same_id : (q : I) → eq k q ≡ true → lookup (eq q) old ≡ was
+  same_id q t = cc (lookup_congr eq c.laws.congr old k q t, c.there)
+
+  pub held_there : (q : I) → eq k q ≡ true → held_in eq old q ≡ option_map held_of was
+  held_there q t = ap (option_map held_of) (same_id q t)
+
+  pub held_after : (q : I) → held_in eq new q ≡ cond (eq k q) (option_map held_of now) (held_in eq old q)
+  held_after q = grind (arith, c.after q)
+
+  -- one whose owner and entries are as they were
+  pub same_rows : {S : State T} → IsKept S eq (held_in eq old)
+      → option_map held_of now ≡ option_map held_of was → IsKept S eq (held_in eq new)
+  same_rows kept same = same_kept kept (λ q. grind (arith, held_after q, held_there q))
+
+  pub now_session : (q : I) → lookup (eq q) (map live_row new)
+      ≡ cond (eq k q) (option_map live now) (lookup (eq q) (map live_row old))
+  now_session q = grind (arith, c.after q, session_of (eq q) old refl, session_of (eq q) new refl)
+
+  pub own_session : lookup (eq k) (map live_row new) ≡ option_map live now
+  own_session = grind (arith, now_session k, c.laws.refl k)
+
+  pub other_sessions : (q : I) → eq k q ≡ false → lookup (eq q) (map live_row new) ≡ lookup (eq q) (map live_row old)
+  other_sessions q f = grind (arith, now_session q)
+
+-- a value that is put
+module _ {I K T : Type 0} {eq : I → I → Bool} {old new : List (I × Session K T)} {k : I} {s w : Session K T}
+    (c : IsChange eq old new k (Some s) (Some w)) (key : K) (e : Entry T)
+    (entries : w.entries.entries ≡ s.entries.entries ++ (key, e) ∷ []) where
+  grown_names : names_of w.entries.entries ≡ names_of s.entries.entries ++ name_of (pointer_in e) ∷ []
+  grown_names = grind (arith, map-append (λ (x : K × Entry T). name_of (pointer_in x.1)) s.entries.entries ((key, e) ∷ []))
+
+  grown_stores : stores_of w.entries.entries ≡ stores_of s.entries.entries ++ (pointer_in e).id.store ∷ []
+  grown_stores = grind (arith, map-append (λ (x : K × Entry T). (pointer_in x.1).id.store) s.entries.entries ((key, e) ∷ []))
+
+  pub put_rows : {S R : State T} → IsSound S → IsKept S eq (held_in eq old) → w.owner ≡ s.owner → (v : T) (l : Location)
+      → Meets S (Make (Some s.owner) v l) (Made (pointer_in e)) R → IsKept R eq (held_in eq new)
+  put_rows {S} {R} sound kept owner v l m = put_kept S R sound kept c.laws k (held_of s)
+      (held_there c) (held_of w) (held_after c) v l e.raw owner grown_names grown_stores m
+
+  -- what is listed is the new entry, and what was
+  grown_listed : (f : Entry T) → among (names_of w.entries.entries) (name_of (pointer_in f))
+      ≡ (among (names_of s.entries.entries) (name_of (pointer_in f))
+      || is_name (name_of (pointer_in f)) (name_of (pointer_in e)))
+  grown_listed f = grind (arith, grown_names, list_any-append)
+
+  -- the id keeps the new entry
+  pub put_keeps : among (names_in (lookup (eq k) (map live_row new))) (name_of (pointer_in e)) ≡ true
+  put_keeps = grind (arith, own_session c, grown_listed e, name_here (name_of (pointer_in e)))
+
+  module _ (q : I) (f : Entry T) where
+    -- what was kept is kept, and nothing else of what was given
+    pub put_still : among (names_in (lookup (eq q) (map live_row old))) (name_of (pointer_in f)) ≡ true
+        → among (names_in (lookup (eq q) (map live_row new))) (name_of (pointer_in f)) ≡ true
+    put_still was = grind (arith, now_session c q, same_id c q, session_of (eq q) old refl, grown_listed f)
+
+    pub put_unkept : name_of (pointer_in e) ≢ name_of (pointer_in f)
+        → among (names_in (lookup (eq q) (map live_row old))) (name_of (pointer_in f)) ≡ false
+        → among (names_in (lookup (eq q) (map live_row new))) (name_of (pointer_in f)) ≡ false
+    put_unkept ne was =
+        let apart = name_apart (name_of (pointer_in f)) (name_of (pointer_in e)) in
+        grind (arith, now_session c q, same_id c q, session_of (eq q) old refl, grown_listed f, apart)
+
+-- an entry that is taken out
+module _ {I K T : Type 0} {eq : I → I → Bool} {S : State T} (sound : IsSound S) (old : List (I × Session K T)) (k : I)
+    {s : Session K T} (kept : IsKept S eq (held_in eq old)) (found : lookup (eq k) old ≡ Some s) (test : K → Bool)
+    {e : Entry T} (there : lookup test s.entries.entries ≡ Some e) where
+  row : held_in eq old k ≡ Some (held_of s)
+  row = ap (option_map held_of) found
+
+  -- it is of the store, is listed, and shows something
+  pub row_own : (pointer_in e).id.store ≡ S.number
+  row_own = found_all test (λ (x : Entry T). (pointer_in x).id.store) (λ n. n ≡ S.number) s.entries.entries e there
+      (kept.own k (held_of s) row)
+
+  pub row_shows : (v : T) × (value_in S (pointer_in e) ≡ Some v)
+  row_shows =
+      let to = kept.live k (held_of s) row (pointer_in e) (found_named test s.entries.entries e there) row_own in
+      free_sees S (pointer_in e) sound (quiet_free S kept.unborrowed (pointer_in e) to.0 to.1)
+
+  pub forgotten_rows : {R : State T} {new : List (I × Session K T)} {w : Session K T}
+      → IsChange eq old new k (Some s) (Some w) → w.entries.entries ≡ remove_entry test s.entries.entries
+      → w.owner ≡ s.owner → Meets S (End (pointer_in e)) Done R → IsKept R eq (held_in eq new)
+  forgotten_rows {R} {w = w} c entries owner m =
+      let once = kept.once k (held_of s) row in
+      forgotten_kept S R sound kept c.laws k (held_of s) (held_there c) (held_of w) (held_after c) (pointer_in e) m owner
+      (λ n. ap (λ es. among (names_of es) n) entries ∙ named_removed test s.entries.entries e there once n)
+      (rw entries (removed_once test s.entries.entries once))
+      (rw entries (removed_all test (λ (x : K × Entry T). (pointer_in x.1).id.store) (λ n. n ≡ S.number)
+      s.entries.entries (kept.own k (held_of s) row)))
+      (found_named test s.entries.entries e there) row_own
+
+-- a session that ends
+module _ {I K T : Type 0} {eq : I → I → Bool} {S R : State T} (sound : IsSound S) {old new : List (I × Session K T)} {k : I}
+    {s : Session K T} (kept : IsKept S eq (held_in eq old)) (c : IsChange eq old new k (Some s) None)
+    (m : Meets S (ReleaseOwner s.owner) Done R) where
+  pub ended_rows : IsKept R eq (held_in eq new)
+  ended_rows = ended_kept S R sound kept c.laws k (held_of s) (held_there c) (held_after c) m
+
+  -- what it kept shows nothing, and all else is left
+  pub row_ended : (e : Entry T) → among (names_of s.entries.entries) (name_of (pointer_in e)) ≡ true
+      → value_in R (pointer_in e) ≡ None
+  row_ended e = ended_shows S R sound kept c.laws k (held_of s) (held_there c) (held_after c) m (pointer_in e)
+
+  pub row_left : (e : Entry T) → among (names_of s.entries.entries) (name_of (pointer_in e)) ≡ false
+      → value_in R (pointer_in e) ≡ value_in S (pointer_in e)
+  row_left e out = (ended_left S R sound kept c.laws k (held_of s) (held_there c) (held_after c) m (pointer_in e) out).seen
+
+-- a session that begins
+pub login_rows : {I K T : Type 0} {eq : I → I → Bool} {S R : State T} (sound : IsSound S) {old new : List (I × Session K T)}
+    {k : I} {s : Session K T} (kept : IsKept S eq (held_in eq old)) (c : IsChange eq old new k None (Some s))
+    → s.entries.entries ≡ [] → Meets S NewOwner (Owned s.owner) R → IsKept R eq (held_in eq new)
+login_rows {eq = eq} {S} {R} sound {old = old} {k = k} {s = s} kept c empty m = login_kept S R sound kept c.laws k s.owner
+    (λ q. held_after c q ∙ ap (λ es. cond (eq k q) (Some (record { owner = s.owner; names = names_of es; stores = stores_of es }))
+    (held_in eq old q)) empty) (held_there c) m
+
+-- an id that had no session has none after another went, and one whose session went to another has none
+pub still_none : {I R : Type 0} {eq : I → I → Bool} {old new : List (I × R)} {k : I} {was : Option R}
+    → IsChange eq old new k was None → (q : I) → lookup (eq q) old ≡ None → lookup (eq q) new ≡ None
+still_none c q none = grind (arith, c.after q)
+
+pub left_none : {I K T : Type 0} {eq : I → I → Bool} {old mid new : List (I × Session K T)} {k t : I}
+    {s w : Session K T} → IsChange eq old mid k (Some s) None → IsChange eq mid new t None (Some w)
+    → lookup (eq t) old ≡ None → lookup (eq k) (map live_row new) ≡ None
+left_none {eq = eq} {old = old} {k = k} {t} c d free =
+    grind (arith, now_session d k, own_session c, c.there, lookup_congr eq c.laws.congr old t k)
+
+-- a session that gets another id
+pub renamed_rows : {I K T : Type 0} {eq : I → I → Bool} {S : State T} {old mid new : List (I × Session K T)}
+    {k t : I} {s : Session K T} → IsKept S eq (held_in eq old) → IsChange eq old mid k (Some s) None
+    → IsChange eq mid new t None (Some s) → lookup (eq t) old ≡ None → IsKept S eq (held_in eq new)
+renamed_rows {eq = eq} {old = old} {k = k} {t} {s} kept c d free = renamed_kept kept c.laws k t (held_of s)
+    (λ q. held_after d q ∙ ap (cond (eq t q) (Some (held_of s))) (held_after c q)) (held_there c)
+    (λ q same. cc (lookup_congr eq c.laws.congr old t q same))
+
+-- a value that is set leaves each other box
+pub set_beside : {T : Type 0} {S R : State T} → IsSound S → IsPlain S → (a b : GenerationalPointer) (v old : T)
+    → Meets S (SetValue a v) (Old old) R → a.id ≢ b.id → value_in R b ≡ value_in S b
+set_beside sound plain a b v old m other =
+    let saw = (sets _ _ _ m).0 in
+    let to = seen_reached _ _ _ saw in
+    others_left _ _ m a b (seen_store _ _ sound (ap is_some saw)) (λ ne. same_value _ _ _ _ sound m _
+    (λ same. ne (reach_apart _ plain _ _ to.0 to.1 (sym same))) tt) other
+
+-- a row whose owner and entries are as they were
+pub same_held : {K T : Type 0} (s w : Session K T) → w.owner ≡ s.owner → w.entries.entries ≡ s.entries.entries
+    → ◌≡◌ {A = Option Held} (Some (held_of w)) (Some (held_of s))
+same_held s w owner entries j = Some (record { owner = owner j; names = names_of (entries j); stores = stores_of (entries j) })

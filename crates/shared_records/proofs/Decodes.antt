@@ -1,20 +1,32 @@
--- Decoding, one item more, and where the tables grow.
-use Rattle.std.proofs.Common.{◌≡◌, ℕ, zero, suc, ◌+◌, ◌*◌, ◌/◌, ◌%◌, ◌<◌, ◌≤◌, List, [], ◌∷◌, ◌++◌, length}
-use Rattle.std.proofs.Common.{get_or, Option, Some, None, option_map, option_to_list, refl, ap, ◌∙◌, arith}
-use Rattle.std.proofs.Common.{append_assoc, length-append, rules}
-use Rattle.std.proofs.lemmas.List.{append-nil, get_or_append_left}
-use Rattle.generational_errors.specs.declared.error.Location.{Location}
-use Rattle.shared_records.specs.declared.step.Step.{Step}
-use Rattle.std.proofs.Math.Seq.{get_or-append_seam}
-use Rattle.shared_records.specs.declared.short.Reached.{Reached}
-use Rattle.shared_records.specs.declared.short.Short.{Short}
-use Rattle.shared_records.specs.declared.short.ShortName.{ShortName}
-use Rattle.shared_records.specs.declared.shorten.Names.{Names}
+-- Records, written and read back.
+use Rattle.generational_errors.specs.{declared.error.Location.Location, Texts.same_location}
+use Rattle.shared_records.specs
+use specs.Decoding.{after, AreWithin, decode, Extends, IsAt, IsNaming, IsWithin, name_item}
+use specs.Decoding.{name_items, naming_all, no_step, nowhere, reached_by, step_at}
+use specs.Letters.{Appends, lettered, lettered_step}
+use specs.{declared.shorten.Names.Names, declared.short.Reached.Reached, declared.short.Short.Short}
+use specs.{declared.short.ShortName.ShortName, declared.step.Step.Step}
+use Rattle.std.proofs.Common.{ap, append_assoc, arith, get_or, length, length-append, List, None}
+use Rattle.std.proofs.Common.{Option, option_map, option_to_list, refl, rules, Some, suc, true}
+use Rattle.std.proofs.Common.{zero, ℕ, [], ◌%◌, ◌*◌, ◌++◌, ◌+◌, ◌/◌, ◌<◌, ◌∙◌, ◌∷◌, ◌≡◌, ◌≤◌}
+use Rattle.std.proofs.lemmas.List.{append-nil, get_or_append_left, get_or_default}
+use Rattle.std.proofs.lemmas.Slice.Eq.{bytes_eq-Decides}
+use Rattle.std.proofs.{lemmas.Grind.common_steps, Math.Seq.get_or-append_seam}
+use Rattle.std.specs.Bool.{Decides}
 use Rattle.shared_records.specs.declared.shorten.Names.TheVariants as names
-use Rattle.shared_records.specs.Letters.{Appends, lettered_step}
-use Rattle.shared_records.specs.Decoding.{AreWithin, Extends, IsNaming, IsWithin, after, decode}
-use Rattle.shared_records.specs.Decoding.{name_item, name_items, naming_all, no_step}
-use Rattle.shared_records.specs.Decoding.{reached_by, step_at}
+
+-- ==== the test of two locations decides whether they are the same by their letters
+
+locations_decide : (a b : Location) → Decides (same_location a b) (lettered a ≡ lettered b)
+locations_decide a b = grind (arith, common_steps, bytes_eq-Decides a.file.now b.file.now)
+
+-- where the test says so, the location is in the table
+pub same_places : (places : List Location) (i n : ℕ) (at d : Location) → i < length places → n ≡ i
+    → same_location (get_or places i d) at ≡ true → IsAt places n at
+same_places places i n at d within is same =
+    grind (arith, common_steps, locations_decide (get_or places i d) at, get_or_default places i nowhere d within)
+
+-- ==== decoding, one item more, and where the tables grow
 
 -- within tables, and in longer ones
 pub within_grows : (p q r s : ℕ) (x : Short) → p ≤ r → q ≤ s → IsWithin p q x → IsWithin r s x

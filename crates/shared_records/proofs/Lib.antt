@@ -1,2 +1,2 @@
 pub mod Decodes
-pub mod Letters
+unfoldable pub use Decodes.*

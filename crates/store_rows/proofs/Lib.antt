@@ -1,3 +1,2 @@
-pub mod Packing
-pub mod Past
-pub mod Pairs
+pub mod Unpacking
+unfoldable pub use Unpacking.*

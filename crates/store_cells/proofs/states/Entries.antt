@@ -1,18 +1,122 @@
--- The slots of a store with the table of their borrows and the noted one, as methods find them.
-use Rattle.store_cells.proofs.Common
-use Common.{ap, AreIndexed, AreNoted, AreRoomy, arith, Bool, Borrow, BorrowMutError, borrows_of, cases_eq, cell_in}
-use Common.{change_entry, cleared, cond, content_in, content_of, content_rows, data_in, entries_from, entries_of}
-use Common.{Entry, entry_of, EntryDetails, EntryList, eq-eqb, Err, false, FoundBorrowed, FoundReaders}
-use Common.{GenerationalBoxId, get_or, has_no_borrow, HasListIndex, HasWriter, IfSome, index_in, index_of, inl, inr}
-use Common.{is_lent_data, is_none, is_noted, is_noted_at, is_reader, is_some, is_unborrowed_data, is_unborrowed_value}
-use Common.{is_writer, IsAlone, IsListable, IsListed, IsNoted, IsReadable, IsUnborrowed, IsUsed, IsWritten, Kept}
-use Common.{kept_data, Kind, kind_in, kind_of, LastBorrow, lead_of, leads_to, length, length-set, Lent, List, list_at}
-use Common.{Live, Location, may_note, Name, named_by, nat_eq, nat_tests, ne_eqb, no_index, None, not, noted_at}
-use Common.{Option, refl, Refused, set-own, set_written, slice_get, slice_get_cases, slice_get_past, slice_get_read}
-use Common.{slice_get_within, slice_set, SlotData, Some, StorageEntry, StorageEntryData, suc, sym, Table, target_in}
-use Common.{true, value_for, value_of, write_refusal, zero, [], ℕ, ⊎_elim, ◌&&◌, ◌+◌, ◌<◌, ◌∙◌, ◌∷◌, ◌≡◌, ◌≢◌, ◌≤◌}
-use Rattle.store_cells.proofs.lists.TableChanges.{none_some}
+-- Entries: notes of one borrow, and lists in the table of borrows.
+pub mod Common
 use Rattle.store_cells.specs.Data.{SlotData as slot}
+use Rattle.std.specs.FinSet as set
+use Rattle.store_cells.specs.declared.entry.Kind.TheVariants as kind
+use Rattle.store_cells.specs.declared.entry.StorageEntryData.TheVariants as content
+unfoldable pub use Common.*
+
+-- ==== a table of borrows that changes at one index, and what that leaves of the others
+
+pub none_some : (b : Borrow) (bs : List Borrow) → b ∷ bs ≡ [] → ⊥
+none_some b bs z = cc
+
+pub not_empty : (bs : List Borrow) (b : Borrow) → bs ++ b ∷ [] ≢ []
+not_empty [] b z = cc
+not_empty (a ∷ bs) b z = cc
+
+some_member : (s : set.FinSet nat_cmp) (x : ℕ) → set.contains s x ≡ true → 1 ≤ set.len s
+some_member s x member =
+    let some : set.len s ≢ 0 = λ z. cc (set.empty_of_len s z, set.contains-empty nat_cmp x) in
+    omega arith
+
+pub record Changes (t t' : Table) (x : ℕ) : Type 0 where
+  pub lists : (q : ℕ) → q ≢ x → list_at t'.lists q ≡ list_at t.lists q
+  pub free : (q : ℕ) → q ≢ x → set.contains t'.free q ≡ set.contains t.free q
+  pub more : length t.lists ≤ length t'.lists
+
+pub used_still : {t t' : Table} {x : ℕ} → Changes t t' x → (q : ℕ) → q ≢ x → IsUsed t q → IsUsed t'
+    q
+used_still c q other u = record {
+  within = omega arith;
+  used = c.free q other ∙ u.used;
+  some = λ z. u.some (sym (c.lists q other) ∙ z);
+}
+
+put_other : (lists : List (List Borrow)) (x : ℕ) (bs : List Borrow) (q : ℕ) → q ≢ x
+    → list_at (put_list lists x bs) q ≡ list_at lists q
+put_other lists x bs q other =
+    let long = length-append lists (bs ∷ []) in let before = get_or-append lists (bs ∷ []) [] q in
+    grind (arith, nat_tests, before, get_or-eq_default, get_or-set_other lists x q bs [])
+
+-- a list that takes the place of another at an index
+pub list_changed : (t t' : Table) (x : ℕ) (bs : List Borrow)
+    → t' ≡ record t { lists = slice_set t.lists x bs } → Changes t t' x
+list_changed t t' x bs is = rw is (record {
+  lists = λ q other. get_or-set_other t.lists x q bs [] other;
+  free = λ q other. refl;
+  more = omega (arith, length-set t.lists x bs);
+})
+
+pub list_used : {t : Table} {x : ℕ} {bs : List Borrow} → IsUsed t x → bs ≢ []
+    → IsUsed (record t { lists = slice_set t.lists x bs }) x
+list_used {t} {x} {bs} u some = record {
+  within = omega (arith, u.within, length-set t.lists x bs);
+  used = u.used;
+  some = rw (get_or-set_same t.lists x bs [] u.within) some;
+}
+
+-- an index that is free again
+pub closed : {t t' : Table} {x : ℕ} → IsClosed t t' x → Changes t t' x
+closed {t} {t'} {x} c = record {
+  lists = c.others;
+  free = λ q other. rw (c.freed, contains-insert_at t.free x q, ne_eqb q x other);
+  more = omega arith;
+}
+
+pub closed_count : {t t' : Table} {x : ℕ} → IsClosed t t' x → set.contains t.free x ≡ false
+    → set.len t'.free ≡ set.len t.free + 1
+closed_count {t} {t'} {x} c used = rw (c.freed, set.len-insert nat_cmp_total t.free x, used) refl
+
+-- an index that is used
+pub record Opens (t t' : Table) (x : ℕ) (list : List Borrow) : Type 0 where
+  pub vacant : IsVacant t x
+  pub some : list ≢ []
+  pub lists : t'.lists ≡ put_list t.lists x list
+  pub free : t'.free ≡ set.remove t.free x
+
+pub opens_one : {t t' : Table} {x : ℕ} {b : Borrow} → IsVacant t x
+    → t'.lists ≡ put_list t.lists x (b ∷ []) → t'.free ≡ set.remove t.free x
+    → Opens t t' x (b ∷ [])
+opens_one {b = b} vacant lists free =
+    record { vacant = vacant; some = none_some b []; lists = lists; free = free }
+
+module _ {t t' : Table} {x : ℕ} {list : List Borrow} (o : Opens t t' x list) where
+  put_length : length (put_list t.lists x list)
+      ≡ length t.lists + cond (nat_eq x (length t.lists)) 1 0
+  put_length = grind (arith, length-append t.lists (list ∷ []), length-set t.lists x list)
+
+  pub opened : Changes t t' x
+  opened = record {
+    lists = λ q other. rw o.lists (put_other t.lists x list q other);
+    free = λ q other. rw (o.free, contains-remove_at t.free x q, ne_eqb q x other);
+    more = rw (o.lists, put_length) (omega arith);
+  }
+
+  pub opened_list : list_at t'.lists x ≡ list
+  opened_list = let vacant = o.vacant in
+      rw o.lists (grind (arith, nat_tests, get_or-set_same, get_or-append_seam t.lists list [] []))
+
+  pub opened_used : IsUsed t' x
+  opened_used = record {
+    within = let vacant = o.vacant in
+        rw (o.lists, put_length) (grind (arith, nat_tests));
+    used = rw (o.free, contains-remove_at t.free x x, eq-eqb x x refl);
+    some = λ z. o.some (sym opened_list ∙ z);
+  }
+
+  -- one index more is used, and none is added but where none was free
+  pub opened_count : set.len t'.free + length t.lists + 1 ≡ set.len t.free + length t'.lists
+  opened_count = rw (o.lists, o.free, put_length, set.len-remove nat_cmp_total t.free x)
+      (let vacant = o.vacant in let some = some_member t.free x in
+      grind (arith, nat_tests, some, set.contains-empty nat_cmp x))
+
+  pub opened_few : (n : ℕ) → length t.lists ≤ n → (set.len t.free ≡ 0 → length t.lists < n)
+      → length t'.lists ≤ n
+  opened_few n few full = let vacant = o.vacant in
+      rw (o.lists, put_length) (grind (arith, nat_tests, full, set.len-empty nat_cmp))
+
+-- ==== the slots of a store with the table of their borrows and the noted one, as methods find them
 
 -- lists with the same at each place
 same_each : {A : Type 0} (xs ys : List A) → ((k : ℕ) → slice_get xs k ≡ slice_get ys k) → xs ≡ ys
@@ -453,3 +557,56 @@ module _ {T : Type 0} {r : LastBorrow} {t : Table} {es : List (StorageEntry T)} 
 
     pub rowless : (id : GenerationalBoxId) → content_rows id (content_in (entry_of r t.lists i e d).kept) ≡ []
     rowless id = grind arith
+
+-- ==== what a slot's content says, by its form
+
+module _ {T : Type 0} {d : StorageEntryData T} where
+  -- a value, one with listed readers, and one that is lent
+  pub data_form : {v : T} → (d ≡ content.Data v) ⊎ (d ≡ content.Shared v) → (kd : Kind) × (data_in d ≡ slot.Data kd v)
+  data_form is = elim is [ inl own ↦ (kind.Value, ap data_in own) | inr own ↦ (kind.Shared, ap data_in own) ]
+
+  pub read_form : {x : ℕ} {v : T} → (d ≡ content.Read x v) ⊎ (d ≡ content.SharedRead x v)
+      → (kd : Kind) × (data_in d ≡ slot.Read kd x v)
+  read_form is = elim is [ inl own ↦ (kind.Value, ap data_in own) | inr own ↦ (kind.Shared, ap data_in own) ]
+
+  pub index_form : {x : ℕ} → ((v : T) × (d ≡ content.Read x v)) ⊎ ((v : T) × (d ≡ content.SharedRead x v))
+      → (kd : Kind) × (v : T) × (data_in d ≡ slot.Read kd x v)
+  index_form is = grind arith
+
+  -- what it isn't
+  pub no_read : ((x : ℕ) (v : T) → d ≡ content.Read x v → ⊥) → ((x : ℕ) (v : T) → d ≡ content.SharedRead x v → ⊥)
+      → NotRead (data_in d)
+  no_read own shared = grind (arith, own, shared)
+
+  module _ (lent : (x : ℕ) (kd : Kind) → d ≡ content.Lent x kd → ⊥) where
+    pub no_borrow : ((x : ℕ) (v : T) → d ≡ content.Read x v → ⊥) → ((x : ℕ) (v : T) → d ≡ content.SharedRead x v → ⊥)
+        → is_free (data_in d) ≡ true
+    no_borrow own shared = grind (arith, own, shared, lent)
+
+    -- where none is lent, no writer stands
+    pub no_refusal : (bs : List Borrow) (l : Location) → None ≡ read_refusal (content_in (kept_data bs l (data_in d)))
+    no_refusal bs l = grind (arith, lent)
+
+    pub no_writer : (bs : List Borrow) (l : Location) (n : ℕ) → has_writer (content_in (kept_data bs l (data_in d))) n ≡ false
+    no_writer bs l n = grind (arith, lent)
+
+  module _ (own : (v : T) → d ≡ content.Data v → ⊥) (shared : (v : T) → d ≡ content.Shared v → ⊥) where
+    pub no_data : {kd : Kind} {v : T} → data_in d ≡ slot.Data kd v → ⊥
+    no_data is = grind (arith, own, shared)
+
+    -- where no value is, none is seen
+    pub no_value : ((x : ℕ) (v : T) → d ≡ content.Read x v → ⊥) → ((x : ℕ) (v : T) → d ≡ content.SharedRead x v → ⊥)
+        → (bs : List Borrow) (l : Location) → None ≡ value_of (content_in (kept_data bs l (data_in d)))
+    no_value read shared_read bs l = grind (arith, own, shared, read, shared_read)
+
+-- a noted borrow has an index, unless it is a value's only reader or a writer
+module _ {T : Type 0} {r : LastBorrow} {t : Table} {es : List (StorageEntry T)} {i : ℕ} {e : StorageEntry T}
+    (a : IsSlot r t es i e) (on : is_noted_at r i ≡ true) where
+  pub noted_placed : ((v : T) → e.content ≡ content.Data v → ⊥) → ((v : T) → e.content ≡ content.Shared v → ⊥)
+      → ((x : ℕ) (kd : Kind) → e.content ≡ content.Lent x kd → ⊥) → index_of (data_in e.content) ≢ no_index
+  noted_placed own shared lent none =
+      grind (arith, own, shared, lent, noted_here a on, has_place a)
+
+-- readers that have an index stay listed
+pub still_read : {T : Type 0} (kd : Kind) (x : ℕ) (v : T) → x ≢ no_index → slot.Read kd x v ≡ unread_data (slot.Read kd x v)
+still_read kd x v some = rw (ne_eqb x no_index some) refl

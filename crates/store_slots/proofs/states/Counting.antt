@@ -1,20 +1,176 @@
--- The counts of references where a cell comes or goes, and where a reference names another value.
-use Rattle.store_slots.proofs.Common
-use Common.{ap, AreReferred, arith, bit, Bool, Cell, cell_of, cell_under, CellName, cells_of, change_entry, cond}
-use Common.{Count, count_less, count_more, Entry, false, HasTargets, how_many, IfSome, IfSome_then, is_live, is_name}
-use Common.{is_shared, is_some, IsReferred, IsSlotTable, IsUnborrowed, IsWritten, Kept, kept_data, length, length-set}
-use Common.{List, live_target, Location, many_some, many_within, Name, name_here, name_of_cell, name_test, named_by}
-use Common.{named_gives, NameMap, nat_cmp, nat_tests, ne_eqb, None, Option, option_map, passes, refers, refers_to}
-use Common.{refl, set_written, shared_target, slice_get, SlotData, SlotsState, Some, state_of, sym, target_in, true}
-use Common.{[], ℕ, ◌+◌, ◌-◌, ◌<◌, ◌∙◌, ◌≡◌, ◌≢◌}
-use Rattle.store_slots.proofs.states.Changes.{found, found_in, IsFound, live_seen, referred, rekept, rekept_length}
-use Rattle.store_slots.proofs.states.Changes.{rekept_state, rekept_written, slotted_still, state_same}
-use Rattle.store_slots.proofs.states.References.{count_of, has_shared, named_count}
-use Rattle.store_slots.proofs.states.{States.get_cells, States.not_named}
+-- Counts of slots and of references, and what ends.
+pub mod Changes
 use Rattle.store_cells.specs.Data.{SlotData as slot}
 use Rattle.std.specs.FinMap as map
 use Rattle.std.specs.FinSet as set
 use Rattle.store_cells.specs.declared.entry.Kind.TheVariants as kind
+unfoldable pub use Changes.*
+
+-- ==== how many references name a cell, also where some names end
+
+-- a cell is named where some reference names it
+pub named_count : {T : Type 0} (slots : List (Entry T)) (m : Name)
+    → is_named (cells_of slots) m ≡ nat_lt 0 (how_many (refers m) slots)
+named_count slots m = both_ways _ _
+    (λ h. let it = named_gives (cells_of slots) m h in
+    let f = found slots it.0 is_some refl (ap is_some it.2) in
+    lt-ltb 0 _ (many_some (refers m) slots it.0.slot _ f.there
+    (ap (refers_to m) (sym f.cell ∙ it.2) ∙ name_here m)))
+    (λ h. let one = some_of_many (refers m) slots (ltb-true 0 _ h) in
+    let n : Name = record { slot = one.0; generation = one.1.generation } in
+    let ref = is_ref m (cell_of one.1.kept) one.3 in
+    named_from (cells_of slots) m (
+      n,
+      ref.0,
+      get_cells slots n
+          ∙ rw (one.2, eq-eqb n.generation n.generation refl) ref.1,
+    ))
+
+-- ---- names that end
+
+-- names that differ from one aren't it
+apart_each : (n : Name) (names : List Name) → AllByRecursion (λ q. is_name n q ≡ false) names
+    → AllByRecursion (λ q. among (n ∷ []) q ≡ false) names
+unfolding is_name
+apart_each n [] apart = tt
+apart_each n (q ∷ names) apart =
+    (rw ((eq_by_cmp_equiv name_total).symm q n, apart.0) refl, apart_each n names apart.1)
+
+-- what is left of the slots where the cells of some names are taken away
+pub record IsAway {T : Type 0} (slots : List (Entry T)) (names : List Name) : Type 0 where
+  pub left : List (Entry T)
+  pub cells : take_away (cells_of slots) names ≡ cells_of left
+  pub counts : (m : Name)
+      → how_many (refers m) left + refers_among slots names m ≡ how_many (refers m) slots
+
+module _ {T : Type 0} (slots : List (Entry T)) where
+  -- where nothing stands that goes, nothing goes
+  same_away : (names : List Name) → take_away (cells_of slots) names ≡ cells_of slots
+      → ((m : Name) → refers_among slots names m ≡ 0) → IsAway slots names
+  same_away names same none =
+      record { left = slots; cells = same; counts = λ m. omega (arith, none m) }
+
+  -- what is left where one name ends: the slot of a Value or a Ref is empty then
+  pub first_away : (n : Name) → IsAway slots (n ∷ [])
+  first_away n = by (cell_under slots n) refl
+    where
+      by : (cell : Option (Cell T)) → cell_under slots n ≡ cell → IsAway slots (n ∷ [])
+      by None at = same_away (n ∷ []) (away_absent (cells_of slots) n (get_cells slots n ∙ at))
+          (λ m. rw at refl)
+      by (Some (Shared c l)) at = same_away (n ∷ [])
+          (away_shared (cells_of slots) n (ap is_shared (get_cells slots n ∙ at))) (λ m. rw at refl)
+      by _ at =
+          let there = get_cells slots n ∙ at in
+          let f = found slots n is_some refl (ap is_some there) in
+          record {
+            left = ended f;
+            cells = away_one (cells_of slots) n (ap is_shared there) ∙ sym (cells_ended f);
+            counts = λ m.
+                let count = (rekept_written f.spot (λ k. Empty)).count (refers m) in
+                let was = ap (λ o. bit (passes (refers m) o)) f.there in
+                let own = ap (λ c. bit (refers_to m c)) (sym f.cell ∙ get_cells slots n) in
+                omega (arith, count, was, own);
+          }
+
+  -- other names keep their cells
+  kept_away : {names : List Name} (a : IsAway slots names) (q : Name) → among names q ≡ false
+      → cell_under a.left q ≡ cell_under slots q
+  kept_away {names} a q other =
+      rw (← get_cells a.left q, ← get_cells slots q, ← a.cells)
+      (⊎_elim (λ e. e) (λ e. absurd cc) (without_view (cells_of slots) names q))
+
+  -- so references among these are as many as before
+  among_away : {names : List Name} (a : IsAway slots names) (m : Name) (others : List Name)
+      → AllByRecursion (λ q. among names q ≡ false) others
+      → refers_among a.left others m ≡ refers_among slots others m
+  among_away a m [] apart = refl
+  among_away a m (q ∷ others) apart =
+      let own = ap (λ c. bit (refers_to m c)) (kept_away a q apart.0) in
+      omega (
+        arith,
+        sum_by-cons (λ n. bit (refers_to m (cell_under a.left n))) q others,
+        among_away a m others apart.1,
+        sum_by-cons (λ n. bit (refers_to m (cell_under slots n))) q others,
+      )
+
+-- names end one after the other
+pub all_away : {T : Type 0} (names : List Name) → IsDistinct is_name names
+    → (slots : List (Entry T)) → IsAway slots names
+all_away [] apart slots =
+    same_away slots [] (away_nothing (cells_of slots) [] (λ q h. absurd cc)) (λ m. refl)
+all_away (n ∷ names) apart slots =
+    let one = first_away slots n in
+    let rest = all_away names (IsDistinct-tail is_name n names apart) one.left in
+    record {
+      left = rest.left;
+      cells = rw (away_each (cells_of slots) n names, one.cells) rest.cells;
+      counts = λ m.
+          let same = among_away slots one m names
+          (apart_each n names (IsDistinct-head is_name n names apart)) in
+          let both = sum_by-cons (λ q. bit (refers_to m (cell_under slots q))) n names in
+          omega (arith, one.counts m, rest.counts m);
+    }
+
+-- some are left where fewer went than there were
+rest_left : (left gone all : ℕ) → left + gone ≡ all → nat_lt 0 left ≡ nat_lt gone all
+rest_left left gone all e = grind (arith, nat_tests)
+
+module _ {T : Type 0} (slots : List (Entry T)) where
+  -- a cell is named where names are taken away if not all that name it are among these
+  pub named_after : (names : List Name) → IsDistinct is_name names → (m : Name)
+      → is_named (take_away (cells_of slots) names) m
+      ≡ nat_lt (refers_among slots names m) (how_many (refers m) slots)
+  named_after names apart m =
+      let a = all_away names apart slots in
+      rw (a.cells, named_count a.left m) (rest_left _ _ _ (a.counts m))
+
+  -- without one reference to it a cell is named where it had two
+  pub named_without : (n m : Name) (l : Location) → cell_under slots n ≡ Some (Ref m l)
+      → (0 < how_many (refers m) slots)
+      × (is_named (map.remove (cells_of slots) n) m ≡ nat_lt 1 (how_many (refers m) slots))
+  named_without n m l at =
+      let a = first_away slots n in
+      let plain = away_one (cells_of slots) n (ap is_shared (get_cells slots n ∙ at)) in
+      let one : refers_among slots (n ∷ []) m ≡ 1 = rw (at, name_here m) refl in (
+        omega (arith, a.counts m),
+        rw (← plain, a.cells, named_count a.left m) (rest_left _ 1 _ (omega (arith, a.counts m))),
+      )
+
+-- ---- what references name
+
+-- the slot of a shared value
+pub record HasShared {T : Type 0} (slots : List (Entry T)) (n : Name) : Type 0 where
+  pub slot : IsFound slots n
+  pub open slot use *
+  pub shared : is_shared (cell_of slot.kept) ≡ true
+
+pub has_shared : {T : Type 0} (slots : List (Entry T)) (n : Name)
+    → is_shared (map.get (cells_of slots) n) ≡ true → HasShared slots n
+has_shared slots n h =
+    let f = found slots n is_shared refl h in record { slot = f; shared = rw f.cell at h }
+
+-- what it counts, but for some, is how many references name it
+pub references_of : {T : Type 0} {slots : List (Entry T)} {less : Name → ℕ} → AreReferred less slots
+    → {m : Name} (t : HasShared slots m) → t.references + less m ≡ how_many (refers m) slots
+references_of referred {m} t = (rw t.there at (referred.each m.slot)) t.shared
+
+-- what names something is a Ref to it
+pub reference_to : {T : Type 0} (cell : Option (Cell T)) (m : Name) → target_in cell ≡ Some m
+    → (l : Location) × (cell ≡ Some (Ref m l))
+reference_to cell m h = grind arith
+
+-- each reference of linked cells names a shared value
+pub named_shared : {T : Type 0} (slots : List (Entry T)) → HasTargets (cells_of slots)
+    → (n m : Name) → Some m ≡ target_in (cell_under slots n) → is_shared (map.get (cells_of slots) m) ≡ true
+named_shared slots targets n m target =
+    let it = reference_to (cell_under slots n) m (sym target) in targets n m it.0 (get_cells slots n ∙ it.1)
+
+pub found_target : {T : Type 0} (slots : List (Entry T)) → HasTargets (cells_of slots)
+    → (n m : Name) → Some m ≡ target_in (cell_under slots n) → HasShared slots m
+found_target slots targets n m target = has_shared slots m (named_shared slots targets n m target)
+
+-- ==== the counts of references where a cell comes or goes, and where a reference names another
+-- value
 
 -- whether a target, if there is one, is this cell
 abbrev pub is_target : Option Name → Name → Bool
@@ -80,7 +236,7 @@ module _ {T : Type 0} where
   may_rise None u = (tt, tt)
   may_rise {slots} (Some m) u =
       let t = has_shared slots (name_of_cell m) u.shared in
-      let count = count_of u.counted t in
+      let count = references_of u.counted t in
       let own = ap bit (name_here (name_of_cell m)) in
       let most = many_within (refers (name_of_cell m)) slots in
       (t.within, rw t.there (omega arith))
@@ -91,7 +247,7 @@ module _ {T : Type 0} where
   counted_more None u = u.counted
   counted_more {slots} (Some m) u =
       let t = has_shared slots m u.shared in
-      let count = count_of u.counted t in
+      let count = references_of u.counted t in
       let own = ap bit (name_here m) in
       referred (recounted_written slots m.slot (λ e. e.references + 1) _ t.there) u.counted
       (λ q other. rw (t.there, not_named q m other) refl)
@@ -177,7 +333,7 @@ forgotten {T} slots r n (Some m) is = by (is_shared (cell_under slots m)) refl
         let names : refers_to m (cell_of f.kept) ≡ true =
         grind (arith, refers_target, name_here, f.cell) in
         let some = many_some (refers m) slots n.slot _ f.there names in
-        let count = count_of r t in
+        let count = references_of r t in
         let own = ap bit (name_here m) in
         record {
           within = t.within;
@@ -254,3 +410,137 @@ module _ {T : Type 0} {slots : List (Entry T)} {start peak spare : ℕ} {now : S
           refers_target q (cell_of h.cell.kept),
           refers_target q (cell_of (k h.cell.kept)),
         ) (omega arith)) (λ shared. absurd cc)
+
+-- ==== the end of one name, by the value that goes with it
+
+module _ {T : Type 0} where
+  -- what hinders the end of a list is told by the cells
+  pub hindrance_is : (S : State T) (names : List Name)
+      → hindrance_to S names ≡ first_hindrance S.cells (cells_after S.cells names) names
+  unfolding hindrance_to
+  hindrance_is S names = refl
+
+  -- the state without the cell of a value that goes
+  abbrev pub without : State T → Option Name → State T
+  without S None = S
+  without S (Some m) = record S { cells = map.remove S.cells m }
+
+  -- a cell that no borrow hinders, and the shared value that it names: where it goes, an end is done
+  pub record Goes (S : State T) (n : Name) (target : Option Name) (closed : State T) : Type 0 where
+    pub there : is_some (map.get S.cells n) ≡ true
+    pub named : target ≡ live_target S.cells (map.get S.cells n)
+    pub alone : write_refusal (content_at S n) ≡ None
+    pub closes : record S { cells = map.remove S.cells n } ≡ closed
+
+  module _ (S : State T) (n : Name) (linked : IsLinked S.cells) (d : Option Name)
+      (ending : d ≡ would_end (is_named (map.remove S.cells n)) (map.get S.cells n) n) where
+    -- a borrow of that value hinders the end, and no other
+    pub ending_hinders : hindrance_to S (n ∷ []) ≡ refusal_of S.cells d
+    ending_hinders = let all = one_hindered S n linked _ refl in grind arith
+
+    -- a reference stays as it is when the value has gone, and then it goes
+    pub reference_goes : {o : Option Name} → o ≡ target_in (map.get S.cells n) → is_some o ≡ true
+        → Goes (without S d) n (cond (is_some d) None o) (close S (n ∷ []))
+    reference_goes {o} is some =
+        let ref : (m : Name) × (l : Location) × (map.get S.cells n ≡ Some (Ref m l)) = grind arith in
+        let shared = linked.targets n ref.0 ref.1 ref.2 in
+        let apart : n ≢ ref.0 = λ same. let no = rw (← same, ref.2) at shared in cc in
+        let kept = get-remove_apart by_name S.cells ref.0 n apart in
+        let gone = get-remove_here by_name S.cells ref.0 in
+        let closed = close_one S.cells n linked _ ref.2 in
+        record { there = grind arith; named = grind arith; alone = grind arith; closes = grind arith }
+
+    -- a value ends by itself, and what is neither a value nor a reference changes nothing
+    pub value_closes : is_some (target_in (map.get S.cells n)) ≡ false
+        → without S d ≡ close S (n ∷ [])
+    value_closes h = let ends = close_one S.cells n linked _ refl in grind arith
+
+  -- an insertion at a key that is then removed changes nothing
+  removed_again : (cells : NameMap (Cell T)) (n : Name) (c : Cell T)
+      → map.remove (map.insert cells n c) n ≡ map.remove cells n
+  removed_again cells n c = same_cells _ _ (λ q.
+      grind (arith, map.get-remove {X = Cell T} name_total, map.get-insert {X = Cell T} name_total))
+
+  -- a value of its own without borrows ends by itself, and nothing hinders that; it can be lent, and
+  -- then goes as it would have gone
+  pub record EndsFree (S : State T) (n : Name) : Type 0 where
+    pub goes : Goes S n None (close S (n ∷ []))
+    pub open goes use *
+    pub hinders : hindrance_to S (n ∷ []) ≡ None
+    pub unborrowed : has_no_borrow (content_at S n) ≡ true
+    pub value : (v : T) → content_at S n ≡ Some (Here v [])
+        → Some v ≡ unborrowed_value (map.get S.cells n)
+    pub lent : (w : Borrow) → (is_some (map.get (fill S n (Lent w)).cells n) ≡ true)
+        × (None ≡ live_target (fill S n (Lent w)).cells (map.get (fill S n (Lent w)).cells n))
+        × (record S { cells = map.remove (fill S n (Lent w)).cells n } ≡ close S (n ∷ []))
+
+  pub free_ends : (S : State T) {n : Name} → IsLinked S.cells
+      → is_unborrowed_value (map.get S.cells n) ≡ true → EndsFree S n
+  free_ends S {n} linked free =
+      let own : (v : T) × (l : Location) × (map.get S.cells n ≡ Some (Value (Here v []) l)) =
+      grind arith in
+      let ends = close_one S.cells n linked _ own.2 in
+      record {
+        goes = record {
+          there = rw own.2 refl;
+          named = rw own.2 refl;
+          alone = rw own.2 refl;
+          closes = rw ends refl;
+        };
+        hinders = one_hindered S n linked _ own.2;
+        unborrowed = rw own.2 refl;
+        value = λ v is. rw own.2 (let same = rw own.2 at is in cc);
+        lent = λ w.
+            let cell = get-changed_here by_name S.cells n (refill (Lent w)) _ own.2 in
+            let there = changed_there by_name S.cells n (refill (Lent w)) _ own.2 in
+            let again = removed_again S.cells n (Value (Lent w) own.1) in
+            (rw cell refl, rw cell refl, rw (there, again, ends) refl);
+      }
+
+-- ==== what becomes of a reference's old target where it names another, and what is answered, as
+-- the machine says it
+
+module _ {T : Type 0} where
+  -- a reference that is to name another value
+  module _ (S : State T) (n old new : Name) (l : Location) (there : map.get S.cells n ≡ Some (Ref old l))
+      (linked : IsLinked S.cells) where
+    abbrev pub left : NameMap (Cell T)
+    left = sweep (map.insert S.cells n (Ref new l))
+
+    module _ (other : is_name old new ≡ false) (d : Option Name)
+        (ending : d ≡ would_end (is_named (map.remove S.cells n)) (map.get S.cells n) n) where
+      target_ending : d ≡ cond (is_named (map.remove S.cells n) old) None (Some old)
+      target_ending = rw there at ending
+
+      -- the old target hinders it where it would go
+      pub hinders : hindrance_at S.cells left old ≡ refusal_of S.cells d
+      hinders = grind (arith, target_ending, turn_hindered)
+
+      -- it's there still when the reference has turned, and names nothing
+      pub ending_left : (x : Name) → d ≡ Some x
+          → (is_some (map.get (map.insert S.cells n (Ref new l)) x) ≡ true)
+          × (None ≡ live_target (map.insert S.cells n (Ref new l))
+          (map.get (map.insert S.cells n (Ref new l)) x))
+      ending_left x is = grind (arith, get-insert_apart, by_name, target_ending)
+
+      pub turns_done : (R : State T) → refusal_of S.cells d ≡ None
+          → R ≡ without (record S { cells = map.insert S.cells n (Ref new l) }) d
+          → IsTurned S R (Ok tt) (turn S n old new l)
+      turns_done R free after =
+          rw (other, hinders ∙ free) (
+            refl,
+            after ∙ rw (
+              target_ending,
+              turn_sweep S.cells n old new l linked there other,
+            ) (grind arith),
+          )
+
+-- ==== which calls no borrow hinders, as the machine answers them
+
+module _ {T : Type 0} where
+  -- what hinders the turn of a reference is what hinders its end
+  pub turn_free : (S : State T) (n old new : Name) (l : Location) (a : Action T)
+      → IsLinked S.cells → map.get S.cells n ≡ Some (Ref old l) → is_name old new ≡ false
+      → is_none (hindrance_to S (n ∷ [])) ≡ not (is_hindered a (turn S n old new l).0)
+  turn_free S n old new l a linked there other =
+      grind (arith, ending_hinders, hinders)

@@ -1,5 +1,5 @@
+use Rattle.boxes_parts.proofs.{locations_decide}
 use Rattle.std.proofs.Common.{rules}
-use Rattle.boxes_parts.proofs.Alike.{locations_decide}
 use Rattle.boxes_parts.proofs.replies.is_same_location.Goals as goal
 
 pub returns : goal.returns

@@ -1,12 +1,12 @@
-use Rattle.example_callers.proofs.{ap, AreFree, arith, box_answer, can_write, ended_owned, Err, false}
-use Rattle.example_callers.proofs.{frees_owned, GenerationalBox, GenerationalPointer, leaves, left_still}
-use Rattle.example_callers.proofs.{left_twice, List, listed_last, lists, Location, made_free, Make, Meets}
-use Rattle.example_callers.proofs.{Name, name_apart, name_of, name_same, Ok, or_cases, OwnerName, ownership}
-use Rattle.example_callers.proofs.{Ownership, pointer_of, refl, Refusal, refused_make, release_leaves, Result}
-use Rattle.example_callers.proofs.{Some, State, subst, sym, true, true≢false, [], ⊎_elim, ◌||◌, ◌∷◌, ◌≡◌}
-use Rattle.example_callers.proofs.Common.{owned}
+use Rattle.example_callers.proofs.{ap, AreFree, arith, box_answer, can_write, ended_owned, Err}
+use Rattle.example_callers.proofs.{false, frees_owned, GenerationalBox, GenerationalPointer, leaves}
+use Rattle.example_callers.proofs.{left_still, left_twice, List, listed_last, lists, Location}
+use Rattle.example_callers.proofs.{made_free, Make, Meets, Name, name_apart, name_of, name_same, Ok}
+use Rattle.example_callers.proofs.{or_cases, OwnerName, Ownership, ownership, pointer_of}
+use Rattle.example_callers.proofs.{refl, Refusal, refused_make, release_leaves, Result, Some, State}
+use Rattle.example_callers.proofs.{subst, sym, true, true≢false, [], ⊎_elim, ◌||◌, ◌∷◌, ◌≡◌}
+use Rattle.example_callers.proofs.Sharing.Common.{owned}
 use Rattle.generational_core.specs.Borrowing.{reach, refusal_to_write}
-use Rattle.std.specs.FinMap as map
 use Rattle.example_callers.proofs.owned.end_owned.Goals as goal
 
 -- a record of one owner value, with these boxes

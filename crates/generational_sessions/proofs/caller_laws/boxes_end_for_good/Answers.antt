@@ -1,4 +1,4 @@
-use Rattle.generational_core.proofs.machine.Boxing.{ended, ended_owned, reached_boxed}
+use Rattle.generational_core.proofs.machine.Calls.{ended, ended_owned, reached_boxed}
 use Rattle.generational_sessions.proofs.{boxed_stays, held_boxed, made_boxed}
 use Rattle.generational_sessions.proofs.caller_laws.boxes_end_for_good.Goals as goal
 

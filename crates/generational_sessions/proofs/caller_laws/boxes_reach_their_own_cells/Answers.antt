@@ -1,5 +1,4 @@
-use Rattle.generational_sessions.proofs.callers.PlainStores.{fresh_plain, reach_apart, reaches_own}
-use Rattle.generational_sessions.proofs.callers.PlainStores.{stays_plain}
+use Rattle.generational_sessions.proofs.{fresh_plain, reach_apart, reaches_own, stays_plain}
 use Rattle.generational_sessions.proofs.caller_laws.boxes_reach_their_own_cells.Goals as goal
 
 pub returns : goal.returns

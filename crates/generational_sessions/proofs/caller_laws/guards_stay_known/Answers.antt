@@ -1,6 +1,6 @@
-use Rattle.generational_core.proofs.machine.Guarding.{reader_kept, writer_kept, reader_sees}
-use Rattle.generational_core.proofs.machine.Guarding.{reader_opens, opens_value, reader_leaves}
-use Rattle.generational_core.proofs.machine.Guarding.{writer_returns}
+use Rattle.generational_core.proofs.machine.Calls.{opens_value, reader_kept, reader_leaves}
+use Rattle.generational_core.proofs.machine.Calls.{reader_opens, reader_sees, writer_kept}
+use Rattle.generational_core.proofs.machine.Calls.{writer_returns}
 use Rattle.generational_sessions.proofs.caller_laws.guards_stay_known.Goals as goal
 
 pub returns : goal.returns

@@ -1,5 +1,5 @@
-use Rattle.generational_sessions.proofs.callers.ListedOnce.{fresh_listed, stays_listed, session_listed}
-use Rattle.generational_sessions.proofs.callers.ListedOnce.{release_beside, run_listed}
+use Rattle.generational_sessions.proofs.{fresh_listed, release_beside, run_listed, session_listed}
+use Rattle.generational_sessions.proofs.{stays_listed}
 use Rattle.generational_sessions.proofs.caller_laws.names_are_listed_once.Goals as goal
 
 pub returns : goal.returns

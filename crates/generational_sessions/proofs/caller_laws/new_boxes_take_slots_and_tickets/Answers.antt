@@ -1,6 +1,6 @@
-use Rattle.generational_sessions.proofs.callers.Shortage.{make_short, share_short, shares, refer_short}
-use Rattle.generational_sessions.proofs.callers.Shortage.{referred_free, referred_next, shared_apart}
-use Rattle.generational_sessions.proofs.callers.Shortage.{write_short, read_short}
+use Rattle.generational_sessions.proofs.{make_short, read_short, refer_short, referred_free}
+use Rattle.generational_sessions.proofs.{referred_next, share_short, shared_apart, shares}
+use Rattle.generational_sessions.proofs.{write_short}
 use Rattle.generational_sessions.proofs.caller_laws.new_boxes_take_slots_and_tickets.Goals as goal
 
 pub returns : goal.returns

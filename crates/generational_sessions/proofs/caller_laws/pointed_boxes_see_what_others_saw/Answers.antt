@@ -1,4 +1,4 @@
-use Rattle.generational_core.proofs.machine.Boxing.{points_seen}
+use Rattle.generational_core.proofs.machine.Calls.{points_seen}
 use Rattle.generational_sessions.proofs.caller_laws.pointed_boxes_see_what_others_saw.Goals as goal
 
 pub returns : goal.returns

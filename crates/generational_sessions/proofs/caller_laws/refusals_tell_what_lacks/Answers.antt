@@ -1,4 +1,4 @@
-use Rattle.generational_sessions.proofs.callers.Lacking.{free_read_lacks}
+use Rattle.generational_sessions.proofs.{free_read_lacks}
 use Rattle.generational_sessions.proofs.caller_laws.refusals_tell_what_lacks.Goals as goal
 
 pub returns-clause-free_read : goal.returns-clause-free_read

@@ -1,7 +1,7 @@
-use Rattle.generational_core.proofs
-use proofs.machine.Refusing.{refused_back, refused_end, refused_free_read, refused_free_write}
-use proofs.machine.Refusing.{refused_make, refused_owner, refused_read, refused_refer}
-use proofs.machine.Refusing.{refused_release, refused_stays, refused_write, unknown_reader}
+use Rattle.generational_core.proofs.machine.Calls.{refused_back, refused_end, refused_free_read}
+use Rattle.generational_core.proofs.machine.Calls.{refused_free_write, refused_make, refused_owner}
+use Rattle.generational_core.proofs.machine.Calls.{refused_read, refused_refer, refused_release}
+use Rattle.generational_core.proofs.machine.Calls.{refused_stays, refused_write, unknown_reader}
 use Rattle.generational_sessions.proofs.caller_laws.refused_calls_change_nothing.Goals as goal
 
 ruleset refused = (refused_make, refused_refer, refused_read, refused_write, refused_owner)

@@ -1,5 +1,5 @@
-use Rattle.generational_core.proofs.machine.Guarding.{read_leaves, set_beside, set_owners, set_seen}
-use Rattle.generational_sessions.{proofs.writes_back, proofs.callers.Lefts.set_free}
+use Rattle.generational_core.proofs.machine.Calls.{read_leaves, set_beside, set_owners, set_seen}
+use Rattle.generational_sessions.proofs.{set_free, writes_back}
 use Rattle.generational_sessions.proofs.caller_laws.released_borrows_leave_the_rest.Goals as goal
 
 pub returns : goal.returns

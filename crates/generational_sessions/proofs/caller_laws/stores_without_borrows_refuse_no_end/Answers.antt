@@ -1,6 +1,6 @@
-use Rattle.generational_core.proofs.machine
-use machine.Unborrowed.{frees_owned, quiet_ends, quiet_free, quiet_fresh, quiet_gone, quiet_read}
-use machine.Unborrowed.{quiet_releases, quiet_sees, quiet_set, quiet_stays, test_sees}
+use Rattle.generational_core.proofs.machine.{frees_owned, quiet_ends, quiet_free, quiet_fresh}
+use Rattle.generational_core.proofs.machine.{quiet_gone, quiet_read, quiet_releases, quiet_sees}
+use Rattle.generational_core.proofs.machine.{quiet_set, quiet_stays, test_sees}
 use Rattle.generational_sessions.proofs.caller_laws.stores_without_borrows_refuse_no_end.Goals as goal
 
 ruleset tests = (test_sees, quiet_sees, quiet_free, quiet_gone, quiet_fresh)

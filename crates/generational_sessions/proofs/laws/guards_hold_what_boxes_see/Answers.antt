@@ -1,5 +1,5 @@
-use Rattle.generational_core.proofs.machine.Calling.{opens, lends, lends_at, puts_back, opens_free}
-use Rattle.generational_core.proofs.machine.Calling.{lends_free, sets}
+use Rattle.generational_core.proofs.machine.Calls.{lends, lends_at, lends_free, opens, opens_free}
+use Rattle.generational_core.proofs.machine.Calls.{puts_back, sets}
 use Rattle.generational_sessions.proofs.laws.guards_hold_what_boxes_see.Goals as goal
 
 pub returns : goal.returns

@@ -1,5 +1,5 @@
+use Rattle.generational_core.proofs.machine.{slots_are}
 use Rattle.generational_sessions.proofs.{arith, fresh_bounded, meets_bounded}
-use Rattle.generational_core.proofs.machine.SlotKinds.{slots_are}
 use Rattle.generational_sessions.proofs.laws.slots_are_bounded.Goals as goal
 
 pub returns : goal.returns

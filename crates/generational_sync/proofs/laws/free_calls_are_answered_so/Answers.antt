@@ -1,4 +1,4 @@
-use Rattle.generational_sync.proofs.Answering.{answers_so}
+use Rattle.generational_sync.proofs.{answers_so}
 use Rattle.generational_sync.proofs.laws.free_calls_are_answered_so.Goals as goal
 
 pub returns : goal.returns

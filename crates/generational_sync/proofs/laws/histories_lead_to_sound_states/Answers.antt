@@ -1,7 +1,4 @@
-use Rattle.generational_sync.proofs.Common
-use Common.{plain_of, ◌∙◌}
-use Rattle.generational_sync.proofs.Replaying.{replay_kept}
-use Rattle.generational_sync.proofs.Trimming.{told_number}
+use Rattle.generational_sync.proofs.{plain_of, replay_kept, told_number, ◌∙◌}
 use Rattle.generational_sync.proofs.laws.histories_lead_to_sound_states.Goals as goal
 
 pub returns : goal.returns

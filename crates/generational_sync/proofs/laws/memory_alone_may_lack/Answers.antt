@@ -1,5 +1,4 @@
-use Rattle.generational_sync.proofs.Common
-use Common.{arith}
+use Rattle.generational_sync.proofs.{arith}
 use Rattle.generational_sync.proofs.laws.memory_alone_may_lack.Goals as goal
 
 pub returns : goal.returns

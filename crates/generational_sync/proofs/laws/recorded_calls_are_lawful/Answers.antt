@@ -1,6 +1,4 @@
-use Rattle.generational_sync.proofs.Common
-use Common.{sym}
-use Rattle.generational_sync.proofs.Following.{plain_follows}
+use Rattle.generational_sync.proofs.{plain_follows, sym}
 use Rattle.generational_sync.proofs.laws.recorded_calls_are_lawful.Goals as goal
 
 pub returns-clause-start : goal.returns-clause-start

@@ -1,4 +1,4 @@
-use Rattle.generational_sync.proofs.Replaying.{leads_over, step_taken}
+use Rattle.generational_sync.proofs.{leads_over, step_taken}
 use Rattle.generational_sync.proofs.laws.recorded_steps_are_taken.Goals as goal
 
 pub returns-clause-step : goal.returns-clause-step

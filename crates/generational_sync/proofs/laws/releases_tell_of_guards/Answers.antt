@@ -1,5 +1,4 @@
-use Rattle.generational_sync.proofs.Common
-use Common.{arith}
+use Rattle.generational_sync.proofs.{arith}
 use Rattle.generational_sync.proofs.laws.releases_tell_of_guards.Goals as goal
 
 pub returns-clause-reader : goal.returns-clause-reader

@@ -1,4 +1,4 @@
-use Rattle.generational_sync.proofs.Keeping.{settled}
+use Rattle.generational_sync.proofs.{settled}
 use Rattle.generational_sync.proofs.state.settle.Goals as goal
 
 pub returns : goal.returns

@@ -1,6 +1,4 @@
-use Rattle.generational_sync.proofs.Common
-use Common.{ap, IfSome, Some, subst, ◌∙◌, ◌≡◌}
-use Rattle.generational_sync.proofs.Keeping.{settled_end, settled_not}
+use Rattle.generational_sync.proofs.{ap, IfSome, settled_end, settled_not, Some, subst, ◌∙◌, ◌≡◌}
 use Rattle.generational_sync.proofs.state.settle_end.Goals as goal
 
 pub returns-in-Some : goal.returns-in-Some

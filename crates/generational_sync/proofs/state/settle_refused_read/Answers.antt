@@ -1,7 +1,5 @@
-use Rattle.generational_sync.proofs.Common
-use Common.{ap, Read, Some, sym, ◌∙◌}
+use Rattle.generational_sync.proofs.{ap, dropped_ready, Read, Some, sym, ◌∙◌}
 use Rattle.generational_core.specs.declared.steps.StepCall.TheVariants as call
-use Rattle.generational_sync.proofs.Granting.{dropped_ready}
 use Rattle.generational_sync.proofs.state.settle_refused_read.Goals as goal
 
 pub returns-in-Dropped-clause-ready : goal.returns-in-Dropped-clause-ready

@@ -1,4 +1,4 @@
-use Rattle.generational_sync.proofs.Keeping.{settled_not}
+use Rattle.generational_sync.proofs.{settled_not}
 use Rattle.generational_sync.proofs.state.settle_told.Goals as goal
 
 pub returns-in-None : goal.returns-in-None

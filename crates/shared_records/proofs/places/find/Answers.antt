@@ -1,5 +1,5 @@
-use Rattle.std.proofs.Common.{◌∙◌, sym}
-use Rattle.shared_records.proofs.Letters.{same_places}
+use Rattle.shared_records.proofs.{same_places}
+use Rattle.std.proofs.Common.{sym, ◌∙◌}
 use Rattle.shared_records.proofs.places.find.Goals as goal
 
 pub returns-then-eq : goal.returns-then-eq

@@ -1,7 +1,6 @@
-use Rattle.std.proofs.Common.{append_assoc, length, refl}
-use Rattle.std.proofs.lemmas.List.{take_more}
+use Rattle.shared_records.proofs.{decode_snoc, reached_both, within_at}
+use Rattle.std.proofs.{Common.append_assoc, Common.length, Common.refl, lemmas.List.take_more}
 use Rattle.shared_records.specs.declared.short.Short.TheVariants as short
-use Rattle.shared_records.proofs.Decodes.{within_at, decode_snoc, reached_both}
 use Rattle.shared_records.proofs.short.decode_all.Goals as goal
 
 pub step_at-step-requires : goal.step_at-step-requires

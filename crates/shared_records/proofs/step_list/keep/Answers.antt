@@ -1,9 +1,9 @@
-use Rattle.std.proofs.Common.{[], Some, length, length-append, ap, sym, ◌∙◌, arith}
-use Rattle.std.proofs.lemmas.List.{append-nil}
-use Rattle.shared_records.specs.declared.step.Step.{Step}
-use Rattle.shared_records.specs.Letters.{lettered_step}
+use Rattle.shared_records.proofs.{grown_reached, grown_steps, grown_within, long_is, long_last}
+use Rattle.shared_records.proofs.{within_grows}
 use Rattle.shared_records.specs.Decoding.{advanced, long_item, reached_first}
-use Rattle.shared_records.proofs.Decodes.{grown_reached, grown_steps, grown_within, long_is, long_last, within_grows}
+use Rattle.shared_records.specs.{Letters.lettered_step, declared.step.Step.Step}
+use Rattle.std.proofs.Common.{ap, arith, length, length-append, Some, sym, [], ◌∙◌}
+use Rattle.std.proofs.lemmas.List.{append-nil}
 use Rattle.shared_records.proofs.step_list.keep.Goals as goal
 
 pub returns-in-Some-clause-within : goal.returns-in-Some-clause-within

@@ -1,5 +1,5 @@
 use Rattle.std.proofs.Common.{add-one, append_assoc, arith}
-use Rattle.store_rows.proofs.Pairs.{drop_next}
+use Rattle.store_rows.proofs.{drop_next}
 use Rattle.store_rows.proofs.rows.unpack_all.Goals as goal
 
 pub loop-slot-preserved : goal.loop-slot-preserved

@@ -1,4 +1,4 @@
-use Rattle.entity_table.proofs.Keeping.{kept_dense}
+use Rattle.entity_table.proofs.{kept_dense}
 use Rattle.entity_table.proofs.table.EntityTable.last.Goals as goal
 
 pub returns-clause-dense : goal.returns-clause-dense

@@ -1,6 +1,6 @@
 -- Rows of an earlier state, of which some slots are packed anew, are such still.
 use Rattle.generational_box.proofs.{plain}
-use Rattle.store_rows.proofs.Past.{past_slots, slots_past}
+use Rattle.store_rows.proofs.Unpacking.{past_slots, slots_past}
 use Rattle.generational_box.proofs.unsync.Store.pack_ahead.Goals as goal
 
 pub pack_ahead-requires : goal.pack_ahead-requires

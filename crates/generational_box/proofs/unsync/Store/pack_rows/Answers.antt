@@ -1,6 +1,6 @@
 -- The packed rows of a store are read back, and those of an earlier state are such of its slots.
 use Rattle.generational_box.proofs.{made_read_back, plain}
-use Rattle.store_rows.proofs.Past.{past_slots}
+use Rattle.store_rows.proofs.Unpacking.{past_slots}
 use Rattle.generational_box.proofs.unsync.Store.pack_rows.Goals as goal
 
 pub pack_rows-requires-clause-past : goal.pack_rows-requires-clause-past

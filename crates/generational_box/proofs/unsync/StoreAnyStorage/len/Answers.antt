@@ -1,5 +1,5 @@
 use Rattle.generational_box.proofs.{arith}
-use Rattle.generational_core.proofs.machine.SlotKinds.{slots_are}
+use Rattle.generational_core.proofs.machine.{slots_are}
 use Rattle.generational_box.proofs.unsync.StoreAnyStorage.len.Goals as goal
 
 pub overflow_sub-result : goal.overflow_sub-result

@@ -1,4 +1,4 @@
-use Rattle.generational_core.proofs.machine.Granting.{write_refused_by}
+use Rattle.generational_core.proofs.machine.{write_refused_by}
 use Rattle.generational_core.proofs.boxes.GenerationalBox.write.Goals as goal
 
 pub returns-in-Err-Store-clause-cause : goal.returns-in-Err-Store-clause-cause

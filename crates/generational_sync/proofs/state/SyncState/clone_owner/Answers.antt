@@ -1,7 +1,5 @@
-use Rattle.generational_sync.proofs.Common
-use Common.{ap, CloneOwner, refl, Some, sym}
+use Rattle.generational_sync.proofs.{ap, CloneOwner, recorded_kept, recorded_step, refl, Some, sym}
 use Rattle.generational_core.specs.declared.steps.StepCall.TheVariants as call
-use Rattle.generational_sync.proofs.Keeping.{recorded_kept, recorded_step}
 use Rattle.generational_sync.proofs.state.SyncState.clone_owner.Goals as goal
 
 pub invariant_of-self-2 : goal.invariant_of-self-2

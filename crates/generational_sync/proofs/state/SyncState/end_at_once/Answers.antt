@@ -1,8 +1,6 @@
-use Rattle.generational_sync.proofs.Common
-use Common.{ap, End, end_refused, refl}
+use Rattle.generational_sync.proofs.{ap, End, end_leaves, end_refused, granted_ready, left_kept}
+use Rattle.generational_sync.proofs.{left_ready, recorded_kept, recorded_step, refl}
 use Rattle.generational_core.specs.declared.steps.StepCall.TheVariants as call
-use Rattle.generational_sync.proofs.Granting.{end_leaves, granted_ready, left_kept, left_ready}
-use Rattle.generational_sync.proofs.Keeping.{recorded_kept, recorded_step}
 use Rattle.generational_sync.proofs.state.SyncState.end_at_once.Goals as goal
 
 pub invariant_of-self-in-Ok : goal.invariant_of-self-in-Ok

@@ -1,7 +1,5 @@
-use Rattle.generational_sync.proofs.Common
-use Common.{ap, Made, Make, option_copied, refl, Some, sym, ◌∙◌}
-use Rattle.generational_sync.proofs.Granting.{on_true}
-use Rattle.generational_sync.proofs.Keeping.{make_ready, recorded_kept, recorded_step}
+use Rattle.generational_sync.proofs.{ap, Made, Make, make_ready, on_true, option_copied}
+use Rattle.generational_sync.proofs.{recorded_kept, recorded_step, refl, Some, sym, ◌∙◌}
 use Rattle.generational_sync.proofs.state.SyncState.make.Goals as goal
 
 pub invariant_of-self-in-Ok : goal.invariant_of-self-in-Ok

@@ -1,8 +1,7 @@
-use Rattle.generational_sync.proofs.Common
-use Common.{ap, Made, MakeShared, Ok, option_copied, option_map, refl, Some, sym, ◌∙◌}
+use Rattle.generational_sync.proofs.{ap, Made, MakeShared, Ok, option_copied, option_map}
+use Rattle.generational_sync.proofs.{recorded_kept, recorded_step, refl, shared_named, shared_ready}
+use Rattle.generational_sync.proofs.{Some, sym, ◌∙◌}
 use Rattle.shared_records.specs.declared.step.StepReply.TheVariants as reply
-use Rattle.generational_sync.proofs.Keeping.{recorded_kept, recorded_step, shared_ready}
-use Rattle.generational_sync.proofs.Making.{shared_named}
 use Rattle.generational_sync.proofs.state.SyncState.make_shared.Goals as goal
 
 pub shared_cell-requires : goal.shared_cell-requires

@@ -1,6 +1,4 @@
-use Rattle.generational_sync.proofs.Common
-use Common.{ap, LogState}
-use Rattle.generational_sync.proofs.Keeping.{fresh_kept}
+use Rattle.generational_sync.proofs.{ap, fresh_kept, LogState}
 use Rattle.generational_sync.proofs.state.SyncState.new.Goals as goal
 
 pub invariant_of-state : goal.invariant_of-state

@@ -1,7 +1,5 @@
-use Rattle.generational_sync.proofs.Common
-use Common.{ap, NewOwner, refl, Some}
+use Rattle.generational_sync.proofs.{ap, NewOwner, recorded_kept, recorded_step, refl, Some}
 use Rattle.shared_records.specs.declared.step.StepReply.TheVariants as reply
-use Rattle.generational_sync.proofs.Keeping.{recorded_kept, recorded_step}
 use Rattle.generational_sync.proofs.state.SyncState.owner.Goals as goal
 
 pub invariant_of-self-in-Ok : goal.invariant_of-self-in-Ok

@@ -1,7 +1,5 @@
-use Rattle.generational_sync.proofs.Common
-use Common.{Point, refl}
+use Rattle.generational_sync.proofs.{Point, ready_as, recorded_kept, recorded_step, refl}
 use Rattle.generational_core.specs.declared.steps.StepCall.TheVariants as call
-use Rattle.generational_sync.proofs.Keeping.{ready_as, recorded_kept, recorded_step}
 use Rattle.generational_sync.proofs.state.SyncState.point_to.Goals as goal
 
 pub invariant_of-self-in-Ok : goal.invariant_of-self-in-Ok

@@ -1,10 +1,8 @@
-use Rattle.generational_sync.proofs.Common
-use Common.{ap, arith, Read, read_refused, refl, rules, Some}
+use Rattle.generational_sync.proofs.{ap, arith, granted_ready, hindered, left_kept, left_ready}
+use Rattle.generational_sync.proofs.{Read, read_leaves, read_refused, read_told, recorded_kept}
+use Rattle.generational_sync.proofs.{recorded_step, refl, refused, rules, Some}
 use Rattle.generational_core.specs.declared.steps.StepCall.TheVariants as call
 use Rattle.shared_records.specs.declared.step.StepReply.TheVariants as reply
-use Rattle.generational_sync.proofs.Granting.{granted_ready, hindered, left_kept, left_ready, read_leaves}
-use Rattle.generational_sync.proofs.Granting.{read_told, refused}
-use Rattle.generational_sync.proofs.Keeping.{recorded_kept, recorded_step}
 use Rattle.generational_sync.proofs.state.SyncState.read_at_once.Goals as goal
 
 pub invariant_of-self-in-Ok : goal.invariant_of-self-in-Ok

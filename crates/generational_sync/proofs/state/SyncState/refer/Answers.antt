@@ -1,6 +1,5 @@
-use Rattle.generational_sync.proofs.Common
-use Common.{ap, Made, option_copied, Refer, referred_by, refl, Some, sym, ◌∙◌}
-use Rattle.generational_sync.proofs.Keeping.{ready_as, recorded_kept, recorded_step}
+use Rattle.generational_sync.proofs.{ap, Made, option_copied, ready_as, recorded_kept}
+use Rattle.generational_sync.proofs.{recorded_step, Refer, referred_by, refl, Some, sym, ◌∙◌}
 use Rattle.generational_sync.proofs.state.SyncState.refer.Goals as goal
 
 pub invariant_of-self-in-Ok : goal.invariant_of-self-in-Ok

@@ -1,7 +1,6 @@
-use Rattle.generational_sync.proofs.Common
-use Common.{ap, refl, ReleaseOwner, Some, sym}
+use Rattle.generational_sync.proofs.{ap, ready_as, recorded_kept, recorded_step, refl, ReleaseOwner}
+use Rattle.generational_sync.proofs.{Some, sym}
 use Rattle.generational_core.specs.declared.steps.StepCall.TheVariants as call
-use Rattle.generational_sync.proofs.Keeping.{ready_as, recorded_kept, recorded_step}
 use Rattle.generational_sync.proofs.state.SyncState.release_owner.Goals as goal
 
 pub invariant_of-self-in-Ok : goal.invariant_of-self-in-Ok

@@ -1,7 +1,5 @@
-use Rattle.generational_sync.proofs.Common
-use Common.{ap, refl, ReleaseReader, Some, sym}
+use Rattle.generational_sync.proofs.{ap, end_recorded, refl, ReleaseReader, Some, sym}
 use Rattle.generational_core.specs.declared.steps.StepCall.TheVariants as call
-use Rattle.generational_sync.proofs.Keeping.{end_recorded}
 use Rattle.generational_sync.proofs.state.SyncState.release_read.Goals as goal
 
 pub invariant_of-self : goal.invariant_of-self

@@ -1,11 +1,9 @@
 -- The base after a checkpoint tells the state, and counts the steps that were trimmed.
-use Rattle.generational_sync.proofs.Common
-use Common.{all_trimmed, ap, arith, Bases, BaseState, counts_of, IsKept, LogState, plain, plain_of}
-use Common.{ReadBack, rules, shared, subst, sym, ◌∙◌, ◌≡◌}
-use Rattle.generational_sync.proofs.Keeping.{rebased, taken_kept}
-use Rattle.generational_sync.proofs.Trimming.{checkpoint_seen, trimmed_within, trims_of}
+use Rattle.generational_sync.proofs.{all_trimmed, ap, arith, Bases, BaseState, checkpoint_seen}
+use Rattle.generational_sync.proofs.{counts_of, state.SyncState.trim.Goals.In_ok-outdated, IsKept}
+use Rattle.generational_sync.proofs.{LogState, plain, plain_of, ReadBack, rebased, rules, shared}
+use Rattle.generational_sync.proofs.{subst, sym, taken_kept, trimmed_within, trims_of, ◌∙◌, ◌≡◌}
 use Rattle.generational_sync.proofs.state.SyncState.trim.Goals as goal
-use Rattle.generational_sync.proofs.state.SyncState.trim.Goals.{In_ok-outdated}
 
 pub pack_rows-requires : goal.pack_rows-requires
 pack_rows-requires g c = rw c.take_past-past.ensures.past c.self.invariant.past

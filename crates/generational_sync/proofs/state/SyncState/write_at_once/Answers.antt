@@ -1,9 +1,7 @@
-use Rattle.generational_sync.proofs.Common
-use Common.{ap, end_refused, refl, Some, Write}
+use Rattle.generational_sync.proofs.{ap, end_leaves, end_refused, granted_ready, left_kept}
+use Rattle.generational_sync.proofs.{left_ready, recorded_kept, recorded_step, refl, Some, Write}
 use Rattle.generational_core.specs.declared.steps.StepCall.TheVariants as call
 use Rattle.shared_records.specs.declared.step.StepReply.TheVariants as reply
-use Rattle.generational_sync.proofs.Granting.{end_leaves, granted_ready, left_kept, left_ready}
-use Rattle.generational_sync.proofs.Keeping.{recorded_kept, recorded_step}
 use Rattle.generational_sync.proofs.state.SyncState.write_at_once.Goals as goal
 
 pub invariant_of-self-in-Ok : goal.invariant_of-self-in-Ok

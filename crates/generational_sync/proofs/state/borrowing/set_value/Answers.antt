@@ -1,6 +1,4 @@
-use Rattle.generational_sync.proofs.Common
-use Common.{sym, ◌∙◌}
-use Rattle.generational_sync.proofs.Making.{set_drops}
+use Rattle.generational_sync.proofs.{set_drops, sym, ◌∙◌}
 use Rattle.generational_sync.proofs.state.borrowing.set_value.Goals as goal
 
 pub returns-clause-step : goal.returns-clause-step

@@ -1,6 +1,4 @@
-use Rattle.generational_sync.proofs.Common
-use Common.{vec_items}
-use Rattle.generational_sync.proofs.Leading.{audited}
+use Rattle.generational_sync.proofs.{audited, vec_items}
 use Rattle.generational_sync.proofs.storage.SyncStorage.audit.Goals as goal
 
 pub returns-clause-replays : goal.returns-clause-replays

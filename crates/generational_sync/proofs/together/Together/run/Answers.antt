@@ -1,5 +1,4 @@
-use Rattle.generational_sync.proofs.Common
-use Common.{refl}
+use Rattle.generational_sync.proofs.{refl}
 use Rattle.generational_sync.proofs.together.Together.run.Goals as goal
 
 pub returns : goal.returns

@@ -1,5 +1,5 @@
+use Rattle.session_table.proofs.{Sheds}
 use Rattle.std.proofs.Common.{length, ◌-◌}
-use Rattle.session_table.proofs.Ending.{Sheds}
 use Rattle.session_table.proofs.table.SessionTable.expire.Given as goal
 
 abbrev pub invariant-places : goal.invariant-places

@@ -1,6 +1,6 @@
-use Rattle.std.proofs.Common.{Err}
-use Rattle.generational_core.proofs.machine.Refusing.{refused_write}
+use Rattle.generational_core.proofs.machine.Calls.{refused_write}
 use Rattle.signals.proofs.Begun.{begun_free}
+use Rattle.std.proofs.Common.{Err}
 use Rattle.signals.proofs.signal.Signal.hindrance.Goals as goal
 
 pub unreachable-requires : goal.unreachable-requires

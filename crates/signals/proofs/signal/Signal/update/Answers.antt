@@ -1,7 +1,5 @@
+use Rattle.generational_core.proofs.{machine.Calls.keeps_known, machine.leaves, machine.Calls.sets}
 use Rattle.std.proofs.Common.{sym, ◌∙◌}
-use Rattle.generational_core.proofs.machine.Calling.{sets}
-use Rattle.generational_core.proofs.machine.Leaving.{leaves}
-use Rattle.generational_core.proofs.machine.Owning.{keeps_known}
 use Rattle.signals.proofs.signal.Signal.update.Goals as goal
 
 pub returns-then-not-can_write-clause-scopes : goal.returns-then-not-can_write-clause-scopes

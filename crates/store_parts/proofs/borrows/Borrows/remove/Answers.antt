@@ -1,9 +1,9 @@
 -- The ticket's own borrow is taken away, where another stands.
-use Rattle.std.proofs.Common.{◌≡◌, ◌∙◌, ◌∷◌, [], ap, length, List, sym}
-use Rattle.store_parts.proofs.lists.Queues.{none_left, only_first}
 use Rattle.generational_core.specs.declared.borrow.Borrow.{Borrow}
+use Rattle.std.proofs.Common.{ap, length, List, sym, [], ◌∙◌, ◌∷◌, ◌≡◌}
+use Rattle.store_parts.proofs.borrows.Borrows.remove.Goals.{in-One-1, in-Several-1}
+use Rattle.store_parts.proofs.{none_left, only_first}
 use Rattle.store_parts.proofs.borrows.Borrows.remove.Goals as goal
-use Rattle.store_parts.proofs.borrows.Borrows.remove.Goals.{in-Several-1, in-One-1}
 
 pub invariant_of-self-then-not-remove : goal.invariant_of-self-then-not-remove
 invariant_of-self-then-not-remove c =

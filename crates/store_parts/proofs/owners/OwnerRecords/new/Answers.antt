@@ -1,4 +1,4 @@
-use Rattle.store_parts.proofs.records.Places.{no_places}
+use Rattle.store_parts.proofs.{no_places}
 use Rattle.store_parts.proofs.owners.OwnerRecords.new.Goals as goal
 
 pub invariant_of-result : goal.invariant_of-result

@@ -1,4 +1,4 @@
-use Rattle.store_parts.proofs.lists.Chains.{last_pushed}
+use Rattle.store_parts.proofs.{last_pushed}
 use Rattle.store_parts.proofs.pool.OldestFirstSlotPool.put.Goals as goal
 
 pub invariant_of-self : goal.invariant_of-self

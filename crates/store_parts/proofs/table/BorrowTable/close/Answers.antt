@@ -1,5 +1,5 @@
 -- An index is free again.
-use Rattle.store_parts.proofs.lists.Tables.{table_closed}
+use Rattle.store_parts.proofs.{table_closed}
 use Rattle.store_parts.proofs.table.BorrowTable.close.Goals as goal
 
 pub invariant_of-self : goal.invariant_of-self

@@ -1,4 +1,4 @@
-use Rattle.store_parts.proofs.lists.Tables.{table_empty}
+use Rattle.store_parts.proofs.{table_empty}
 use Rattle.store_parts.proofs.table.BorrowTable.new.Goals as goal
 
 pub invariant_of-result : goal.invariant_of-result

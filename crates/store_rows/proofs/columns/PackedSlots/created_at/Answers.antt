@@ -1,7 +1,6 @@
 use Rattle.std.proofs.Common.{ap, arith, length, refl}
-use Rattle.std.proofs.lemmas.Option.{slice_get_read}
-use Rattle.std.proofs.lemmas.Slice.Zip.{length-zip}
-use Rattle.store_rows.proofs.Pairs.{pair_at}
+use Rattle.std.proofs.{lemmas.Slice.Zip.length-zip, lemmas.Option.slice_get_read}
+use Rattle.store_rows.proofs.{pair_at}
 use Rattle.store_rows.proofs.columns.PackedSlots.created_at.Goals as goal
 
 pub index-requires : goal.index-requires

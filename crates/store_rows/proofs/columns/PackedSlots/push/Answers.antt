@@ -1,5 +1,5 @@
 use Rattle.std.proofs.Common.{refl}
-use Rattle.store_rows.proofs.Pairs.{zip_snoc}
+use Rattle.store_rows.proofs.{zip_snoc}
 use Rattle.store_rows.proofs.columns.PackedSlots.push.Goals as goal
 
 pub returns : goal.returns

@@ -1,8 +1,7 @@
-use Rattle.std.proofs.Common.{◌∙◌, ◌+◌, ◌≡◌, ap, arith, length, take}
-use Rattle.std.proofs.lemmas.List.{take_more_set}
-use Rattle.std.proofs.lemmas.Result.{on_ok_weaker}
-use Rattle.std.proofs.lemmas.Slice.Zip.{length-zip}
-use Rattle.store_rows.proofs.Pairs.{get_after, get_behind, take_after, zip_set}
+use Rattle.std.proofs.Common.{ap, arith, length, take, ◌+◌, ◌∙◌, ◌≡◌}
+use Rattle.std.proofs.{lemmas.Slice.Zip.length-zip, lemmas.Result.on_ok_weaker}
+use Rattle.std.proofs.{lemmas.List.take_more_set}
+use Rattle.store_rows.proofs.{get_after, get_behind, take_after, zip_set}
 use Rattle.store_rows.proofs.columns.PackedSlots.put.Goals as goal
 
 pub returns-then-slot-len-clause-here : goal.returns-then-slot-len-clause-here

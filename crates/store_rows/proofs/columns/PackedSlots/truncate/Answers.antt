@@ -1,4 +1,4 @@
-use Rattle.store_rows.proofs.Pairs.{zip_take}
+use Rattle.store_rows.proofs.{zip_take}
 use Rattle.store_rows.proofs.columns.PackedSlots.truncate.Goals as goal
 
 pub returns : goal.returns

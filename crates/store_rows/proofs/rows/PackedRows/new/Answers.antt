@@ -1,5 +1,5 @@
-use Rattle.store_rows.proofs.Packing.{no_rows}
 use Rattle.std.proofs.Common.{◌∙◌}
+use Rattle.store_rows.proofs.{no_rows}
 use Rattle.store_rows.proofs.rows.PackedRows.new.Goals as goal
 
 pub returns : goal.returns

@@ -1,4 +1,5 @@
-use Rattle.store_slots.proofs.{ap, arith, count_of, length, nat_cmp, new_state, refl, slotted_new, ◌∙◌, ◌≡◌}
+use Rattle.store_slots.proofs.{ap, arith, count_of, length, nat_cmp, new_state, refl, slotted_new}
+use Rattle.store_slots.proofs.{◌∙◌, ◌≡◌}
 use Rattle.std.specs.FinSet as set
 use Rattle.store_slots.proofs.slots.Slots.new.Goals as goal
 

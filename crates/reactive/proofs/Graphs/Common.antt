@@ -1,0 +1,47 @@
+-- The names of std, of the machine and of the specs that the proofs here cite, passed on from one place.
+pub use Rattle.generational_core.proofs.machine.Calls.{ends, made, made_apart, seen_reached, sets}
+pub use Rattle.generational_core.proofs.machine.Calls.Steps.{led_box, made_new, reaches}
+pub use Rattle.generational_core.proofs.machine.Calls.Steps.Changes.{some_live}
+pub use Rattle.generational_core.proofs.machine.{quiet_ends, same_value, Calls.unseen}
+pub use Rattle.generational_core.specs.Borrowing.{can_write}
+pub use Rattle.generational_core.specs.Machine.Action.{End, Make, SetValue}
+pub use Rattle.generational_core.specs.Machine.Answer.{Done, Made, Old}
+pub use Rattle.generational_core.specs.State.{IsSound as IsSoundStore, State}
+pub use Rattle.generational_core.specs.declared.boxes.GenerationalBox.{GenerationalBox}
+pub use Rattle.generational_core.specs.declared.boxes.GenerationalBoxId.{GenerationalBoxId}
+pub use Rattle.generational_core.specs.declared.boxes.GenerationalPointer.{GenerationalPointer}
+pub use Rattle.generational_core.specs.{Keeping.box_with, Conditions.IsFresh, Steps.Meets}
+pub use Rattle.generational_core.specs.{Boxes.name_of, Answers.pointer_of, Seeing.value_in}
+pub use Rattle.generational_errors.specs.declared.error.Location.{Location}
+use Rattle.generational_sessions.proofs.callers as sessions
+pub use sessions.{found_sees, free_seen, fresh_sees, fresh_simple, made_simple, make_short}
+pub use sessions.{others_left, reach_apart, same_id_reach, same_id_sees, seen_store, simple_still}
+pub use sessions.{stuck_unseen}
+pub use Rattle.generational_sessions.specs.PlainStores.{IsSimple}
+pub use Rattle.reactive.specs.Graphs.{GraphState, HasKind, HasPlan, IsKept, kind_by, kind_by_rule}
+pub use Rattle.reactive.specs.Graphs.{kind_in, kinds_of, plans_in, shown_in}
+pub use Rattle.reactive.specs.Meaning.{AllMean, Gives, gives, goes_on, Graph, IsCyclic, IsMute}
+pub use Rattle.reactive.specs.Plans.{AreGiven, Ask, Asked, Follows, Give, Plan, Ran, Stop}
+pub use Rattle.reactive.specs.Refreshing.{Blames, IsAdvanced, IsOnTheWay, Refreshed}
+pub use Rattle.reactive.specs.Tables.{AllStand, AreKnown, asked_of, graph_of, IsKnown, IsPut}
+pub use Rattle.reactive.specs.Tables.{IsSound, IsWalk, known_by, known_of, nodes_in, plan_at}
+pub use Rattle.reactive.specs.Tables.{plan_by, pointer_in, Shows, Stands, Table}
+pub use Rattle.reactive.specs.{Chains.AllGoOn, Hearing.AllHear, Chains.Chain}
+pub use Rattle.reactive.specs.{declared.effects.Effect.Effect, declared.fault.Fault.Fault}
+pub use Rattle.reactive.specs.{declared.look.Frame.Frame, Chains.GoesOn, Ending.HasLost}
+pub use Rattle.reactive.specs.{Hearing.Hears, Ending.IsAmong, Looks.IsAsked, Changing.IsReset}
+pub use Rattle.reactive.specs.{Changing.IsResetTo, Settling.IsSettled, declared.key.Key.Key}
+pub use Rattle.reactive.specs.{Looks.LeadsTo, Settling.Leaves, Meaning.Means, Meaning.Needs}
+pub use Rattle.reactive.specs.{declared.node.Node.Node, Hearing.Says, Graphs.Kind.Source}
+pub use Rattle.reactive.specs.{declared.look.Step.Step, Looks.Stepped, declared.effects.Told.Told}
+pub use Rattle.std.proofs.Common.{add-one, ap, append_assoc, arith, Bool, drop, eq-eqb, eqb-true}
+pub use Rattle.std.proofs.Common.{Err, false, get_or, inl, inr, length, List, None, Ok, Option}
+pub use Rattle.std.proofs.Common.{refl, Result, rules, set, Some, subst, suc, sym, take, true, zero}
+pub use Rattle.std.proofs.Common.{ℕ, [], ⊎_elim, ◌++◌, ◌+◌, ◌<◌, ◌∙◌, ◌∷◌, ◌≡◌, ◌≢◌, ◌≤◌}
+pub use Rattle.std.proofs.lemmas.Bool.{cases_eq, true≢false}
+pub use Rattle.std.proofs.lemmas.List.{append-nil, map_push, nil_from_length, set-get_or, take_more}
+pub use Rattle.std.proofs.lemmas.Option.{none-some, same_Some, slice_get-get_or}
+pub use Rattle.std.proofs.{lemmas.Fn.filter_same, Math.Seq.take-append_seam}
+pub use Rattle.std.specs.Prelude.{IfErr, IfNone, IfOk, IfSome, is_some, map as list_map, OnErr}
+pub use Rattle.std.specs.Prelude.{OnOk, option_copied, slice_get, slice_index_or, ◌⊎◌}
+pub use Rattle.std.specs.{Borrow.Bor, Global.Vec, Vec.vec_items}

@@ -1,4 +1,0 @@
-pub mod Chains
-pub mod Lists
-pub mod Queues
-pub mod Tables
