@@ -104,11 +104,23 @@ adds_there es n h =
     ap (λ x. map.insert (map.from_sorted es) n.slot (max n.generation (unwrap_or x 0)))
     (get_there nat_cmp es h n.slot) ∙ put_there nat_cmp es h _ _ by_number
 
--- the slots where one more name was given
+-- the slots where one more name was given; and where none was, and one more, from the law of them
 pub more_given : (given : Names) (n : Name)
     → lasts (set.items (set.insert given n)) ≡ adds (lasts (set.items given)) n
 unfolding adds
 more_given = lasts_insert
+
+pub none_by : lasts (set.items (set.empty {R = name_cmp})) ≡ lasts []
+    → lasts (set.items (set.empty {R = name_cmp})) ≡ map.empty
+unfolding lasts
+none_by law = law
+
+pub more_by : ((given : Names) (n : Name)
+    → lasts (set.items (set.insert given n)) ≡ lasts (n ∷ set.items given))
+    → (given : Names) (n : Name)
+    → lasts (set.items (set.insert given n)) ≡ adds (lasts (set.items given)) n
+unfolding lasts adds
+more_by law = law
 
 -- ---- calls, from states that are written out
 
@@ -271,6 +283,7 @@ module _ {T : Type 0} where
 
 pub ruleset steps = (ends, calls, asks, hears_on, hears_no, looks, counts, sees_on)
 
-pub ruleset names = (contains-insert_name, set.contains-empty, no_slots, more_given)
+-- what rows need but for the slots, and with them
+pub ruleset rows = (steps, adds_there, entries, contains-insert_name, set.contains-empty)
 
-pub ruleset plays = (steps, adds_there, entries, names)
+pub ruleset plays = (rows, no_slots, more_given)

@@ -12,6 +12,8 @@ ghost use Rattle.example_histories.specs.Rows.{Tells, TellsFrom, ◌#◌};
 ghost use Rattle.example_histories.specs.SessionRows.{RepliesFrom};
 ghost use Rattle.example_histories.specs.Histories as row;
 
+use generational_sessions::laws;
+
 /// Owners, slots, strangers, and numbers that run out.
 pub fn owners<T>()
     ensures reference_outlives { TellsFrom T 1 0 row.a_reference_outlives_its_first_owner }
@@ -36,7 +38,9 @@ pub fn owners<T>()
         Tells (fresh 7 1 0) (row.one_name_twice u v w L M R W) → ⊥ }
     ensures no_other_name_fits { (u v w : T) (L M R W : Location) →
         Fits (row.one_live u v w L M R W) (0 # 2) → ⊥ }
-{}
+{
+    laws::slots_follow_from_names();
+}
 
 /// Sessions: what their places keep, and two orders of slots.
 pub fn sessions<T>()
