@@ -72,6 +72,12 @@ pub record_held : (number : ℕ) (owners : Owners) (o : OwnerName) (h : Ownershi
     → Some h ≡ record_of number owners o → map.get owners o.key ≡ Some h
 record_held number owners o h is = grind arith
 
+-- it stands for no more owner values than tickets were given
+pub counted_within : {next : ℕ} {owners : Owners} → AreCounted next owners → (number : ℕ)
+    (o : OwnerName) (h : Ownership) → Some h ≡ record_of number owners o → h.count ≤ next
+counted_within {next} {owners} counted number o h is =
+    let each = rw (record_held number owners o h is) at (counted.each o.key) in each.1
+
 -- ==== the calls on the cells of a store, as steps of the machine
 
 -- the name in an id of the store with this number

@@ -316,31 +316,33 @@ impl<T: Drop, P: SlotPool> AnyStorage<T> for Store<T, P> {
     }
 
     fn clone_owner(&mut self, owner: &Owner) -> Result<Owner, StoreError> {
-        if !self.owners.knows(self.number, owner) {
-            return Err(StoreError::UnknownOwner);
-        }
-        if self.next == u64::MAX {
+        let ticket = self.next;
+        let place = match self.owners.find(self.number, owner) {
+            Some((place, _)) => place,
+            None => return Err(StoreError::UnknownOwner),
+        };
+        if ticket == u64::MAX {
             return Err(StoreError::NumbersExhausted);
         }
-        let place = self.owners.count_up(owner);
-        self.next += 1;
+        self.owners.count_up(place);
+        self.next = ticket + 1;
         Ok(owner_at(self.number, owner.id().key, place))
     }
 
     fn release_owner(&mut self, owner: Owner) -> Result<(), (Owner, Refused<BorrowMutError>)> {
-        match self.owners.find(self.number, &owner) {
+        let (place, record) = match self.owners.find(self.number, &owner) {
+            Some(found) => found,
             None => return Err((owner, Refused::Store(StoreError::UnknownOwner))),
-            Some(record) if record.count() > 1 => {
-                self.owners.count_down(&owner);
-                owner.leak();
-                return Ok(());
-            }
-            Some(record) => match self.slots.end_all(record.boxes()) {
-                Ok(()) => {}
-                Err(refused) => return Err((owner, refused)),
-            },
+        };
+        if record.count() > 1 {
+            self.owners.count_down(place);
+            owner.leak();
+            return Ok(());
         }
-        self.owners.take(&owner, self.alloc);
+        if let Err(refused) = self.slots.end_all(record.boxes()) {
+            return Err((owner, refused));
+        }
+        self.owners.remove(place);
         owner.leak();
         Ok(())
     }
@@ -366,8 +368,10 @@ impl<T: Drop, P: SlotPool> AnyStorage<T> for Store<T, P> {
     }
 
     fn may_release(&self, owner: &Owner) -> bool {
-        let record = self.owners.find(self.number, owner);
-        self.may_end_record(record)
+        match self.owners.find(self.number, owner) {
+            Some((_, record)) => self.may_end_record(Some(record)),
+            None => true,
+        }
     }
 
     fn target(&self, pointer: GenerationalPointer) -> Option<GenerationalBoxId> {

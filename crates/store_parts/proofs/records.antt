@@ -138,6 +138,11 @@ pub get_none : (xs : List Place) (q : ℕ) → ((i : ℕ) → record_at q (slice
     → map.get (owners_of xs) q ≡ None
 get_none xs q none = get_first xs q ∙ find_same [] xs q none
 
+-- a record has its key
+pub stands_at : (o : Option Place) (r : KeyedOwnership) (q : ℕ) → o ≡ Some (Some r) → r.key ≡ q
+    → HasRecord q o
+stands_at o r q is key = rw (is, eq-eqb q r.key (sym key)) refl
+
 pub standing : (q : ℕ) (o : Option Place) → HasRecord q o → (r : KeyedOwnership)
     × (o ≡ Some (Some r)) × (q ≡ r.key) × (record_at q o ≡ Some r.ownership)
 standing q (Some (Some r)) has = (r, refl, grind (arith, nat_tests), grind (arith, nat_tests))
@@ -232,10 +237,16 @@ module _ {vacant : set.FinSet nat_cmp} {rooms : ℕ} {xs : List Place}
     old : (q : ℕ) → HasRecord q (slice_get xs i) → q ≡ k
     old q other = (standing q (slice_get xs i) other).2 ∙ grind (arith, there)
 
-    -- what holds of the machine's record holds of it
-    pub holds_there : (P : Ownership → Type 0) → IfSome (map.get (owners_of xs) k) P
-        → IfSome (slice_get xs i) (λ place. IfSome place (λ r. P r.ownership))
-    holds_there P holds = rw there.1 (rw get_there at holds)
+    -- what is read there is its record
+    module _ (x : Place) (read : x ≡ get_or xs i x) where
+      pub value_there : slice_get xs i ≡ Some x
+      value_there = slice_get_read xs (length xs) i x refl record_within read
+
+      pub read_there : x ≡ Some there.0
+      read_there = cc (value_there, there.1)
+
+      pub key_there : (r : KeyedOwnership) → x ≡ Some r → r.key ≡ k
+      key_there r is = cc (read_there, is, there.2)
 
     -- a change that keeps its key
     module _ (g : KeyedOwnership → KeyedOwnership) (same : (g there.0).key ≡ k) where
@@ -269,9 +280,6 @@ module _ {vacant : set.FinSet nat_cmp} {rooms : ℕ} {xs : List Place}
       roomed_there =
           let at = (w_changed (with_rooms more) (sym there.2)).at i in
           rw (at, eq-eqb i i refl, eq-eqb k there.0.key there.2)
-
-    pub taken_names : names_in (record_at k (slice_get xs i)) ≡ names_under (owners_of xs) k
-    taken_names = rw (there.3, get_there)
 
     pub taken : Leaves (set.insert vacant i) rooms (slice_set xs i None)
         (map.remove (owners_of xs) k)
@@ -321,22 +329,11 @@ pub vacant_through : (xs : List Place) (n : ℕ) (x : Place)
     → is_some x ≡ false → (i : ℕ) → i < n + 1 → slice_get xs i ≡ Some None
 vacant_through xs n x before there vacant i within = grind (arith, before i)
 
--- a change where there is no record changes nothing, and the place stays vacant
-module _ (xs : List Place) (i : ℕ) (x : Place) (within : i < length xs) (read : x ≡ get_or xs i x) (vacant : x ≡ None) where
-  pub change_vacant : (g : KeyedOwnership → KeyedOwnership) → slice_set xs i x ≡ change_record xs i g
-  change_vacant g = let there = slice_get_read xs (length xs) i x refl within read in grind (arith, set-own)
-
-  pub vacant_stays : (P : KeyedOwnership → Type 0) → IfSome (slice_get (slice_set xs i x) i) (λ kept. IfSome kept P)
-  vacant_stays P = let there = slice_get_read xs (length xs) i x refl within read in rw (set-own xs i x there, there, vacant) tt
-
--- a record with room has a key
-pub room_record : (o : Option Place) → HasRoom o → (k : ℕ) × HasRecord k o
-room_record (Some (Some r)) room = (r.key, rw (eq-eqb r.key r.key refl) refl)
-room_record _ room = absurd room
-
-pub has_room : (k : ℕ) (o : Option Place) → HasRecord k o
-    → IfSome o (λ kept. IfSome kept (λ r. length r.ownership.names < r.rooms)) → HasRoom o
-has_room k o has room = grind arith
+-- a record stands under its key
+pub held_record : (P : KeyedOwnership → Type 0) (o : Option Place) → Holds P o
+    → HasRecord (key_at o) o
+held_record P (Some (Some r)) held = rw (eq-eqb r.key r.key refl) refl
+held_record P _ held = absurd held
 
 -- ---- the record of an owner of the store
 
@@ -350,23 +347,7 @@ module _ (number : ℕ) (o : OwnerName) (is : o.store ≡ number) (xs : List Pla
     pub record_found : (x : Place) → x ≡ get_or xs i x
         → option_map (λ r. r.ownership) x ≡ record_of number (owners_of xs) o
     record_found x read =
-        let there = slice_get_read xs (length xs) i x refl (record_within placed o.key i has)
-        read in
-        let r = standing o.key (slice_get xs i) has in
-        let same : x ≡ Some r.0 = cc (there, r.1) in
-        rw (same, eq-eqb o.store number is, get_there placed o.key i has)
-
-    pub known_found : knows number (owners_of xs) o ≡ true
-    known_found = rw (eq-eqb o.store number is, get_there placed o.key i has)
-
--- where no place has a record of the key
-module _ (xs : List Place) (k : ℕ) (none : (i : ℕ) → record_at k (slice_get xs i) ≡ None) where
-  pub missing_kept : (f : Ownership → Ownership) → owners_of xs ≡ change (owners_of xs) k f
-  missing_kept f = sym (get-changed_none by_number (owners_of xs) k f (get_none xs k none))
-
-  pub missing_removed : owners_of xs ≡ map.remove (owners_of xs) k
-  missing_removed = map.same_map nat_cmp_total map.nat_cmp-IsAntisymmetric _ _ (λ q.
-      sym (get_put (owners_of xs) k None q ∙ grind (arith, nat_tests, get_none xs k none)))
+        rw (read_there placed o.key i has x read, eq-eqb o.store number is, get_there placed o.key i has)
 
 -- a name more on the list of an owner for which there is room at a place
 pub listed_owners : {vacant : set.FinSet nat_cmp} {rooms : ℕ} {xs : List Place}

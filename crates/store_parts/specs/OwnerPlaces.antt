@@ -75,10 +75,23 @@ pub record ArePlaced (vacant : set.FinSet nat_cmp) (rooms : ℕ) (places : List 
   pub roomy : length places ≤ rooms
   pub apart : HasDistinctKeys places
 
+-- a record of which P holds
+abbrev pub Holds : (KeyedOwnership → Type 0) → Option Place → Type 0
+Holds P (Some (Some r)) = P r
+Holds P _ = ⊥
+
+-- a record
+abbrev pub IsFilled : Option Place → Type 0
+IsFilled place = Holds (λ r. Unit {0}) place
+
 -- a record that has room for a name more on its list
 abbrev pub HasRoom : Option Place → Type 0
-HasRoom (Some (Some r)) = length r.ownership.names < r.rooms
-HasRoom _ = ⊥
+HasRoom place = Holds (λ r. length r.ownership.names < r.rooms) place
+
+-- its key, and for how many names its list has room
+abbrev pub key_at : Option Place → ℕ
+key_at (Some (Some r)) = r.key
+key_at _ = 0
 
 abbrev pub rooms_at : Option Place → ℕ
 rooms_at (Some (Some r)) = r.rooms

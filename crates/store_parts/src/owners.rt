@@ -1,21 +1,19 @@
 //! The records that a store keeps of owners.
 
 ghost use Rattle.std.specs.Prelude.{◌≡◌, ℕ, ◌<◌, ◌↔◌, [], true};
-ghost use Rattle.std.specs.Prelude.{Option, Some, None, IfSome, IfNone, IsSome, IsTrue, IfErr, IfOk};
-ghost use Rattle.std.specs.Prelude.{length, OnOk, OnErr};
+ghost use Rattle.std.specs.Prelude.{Option, Some, None, IfSome, IfNone, IsTrue, IfErr, IfOk};
+ghost use Rattle.std.specs.Prelude.{length, slice_get, OnOk, OnErr};
 ghost use Rattle.std.specs.Prelude.{option_copied, option_map, is_some, map as list_map};
-ghost use Rattle.std.specs.Prelude.{if◌then◌else◌, vec_len, slice_get, slice_set};
 ghost use Rattle.std.specs.FinMap as map;
 ghost use Rattle.generational_core.specs.State.{one_more, one_less, one_listed};
 ghost use Rattle.generational_core.specs.StepCalls.{owner_of};
-ghost use Rattle.generational_core.specs.Conditions.{names_under, names_in};
 ghost use Rattle.generational_core.specs.Names.{change};
 ghost use Rattle.store_parts.specs.CellNames.{name_of_cell};
 ghost use Rattle.store_parts.specs.OwnerRecords.{knows, permits, record_of};
 ghost use Rattle.store_parts.specs.OwnerRecords.{add_to_list_in, IsRefusal};
 ghost use Rattle.store_parts.specs.OwnerPlaces.{with_ownership, with_rooms};
-ghost use Rattle.store_parts.specs.OwnerPlaces.{change_place, change_record, rooms_at};
-ghost use Rattle.store_parts.specs.OwnerPlaces.{HasRoom, IsReserved};
+ghost use Rattle.store_parts.specs.OwnerPlaces.{change_place, change_record, key_at, rooms_at};
+ghost use Rattle.store_parts.specs.OwnerPlaces.{HasRoom, Holds, IsFilled, IsReserved};
 ghost use Rattle.generational_core.specs.Machine.{OwnerName};
 ghost use Rattle.store_parts.specs.OwnerPlaces.{owners_of};
 ghost use Rattle.store_parts.specs.OwnerPlaces.{record_at, HasRecord};
@@ -89,18 +87,6 @@ impl OwnerRecord {
         ensures { list_map name_of_cell result.now ≡ self.now.ownership.names }
     {
         self.boxes.as_slice()
-    }
-
-    // Its boxes, which it gives away.
-    fn into_boxes(self) -> Vec<CellName>
-        ensures { list_map name_of_cell result.items ≡ self.ownership.names }
-    {
-        let OwnerRecord {
-            key: _,
-            boxes,
-            count: _,
-        } = self;
-        boxes
     }
 
     // Makes room for a box more on the list.
@@ -184,18 +170,26 @@ impl OwnerRecords {
         are_vacant(self.places.as_slice())
     }
 
-    /// The owner's record, if it is of a store with this number and these records.
+    /// The place of the owner's record, and the record, if the owner is of a store with this number
+    /// and these records.
     #[inline(always)]
-    pub fn find(&self, number: u64, owner: &Owner) -> Option<&OwnerRecord>
-        ensures { option_map (λ r. r.ownership) (option_copied result) ≡
-            record_of number self.now.owners owner.now }
+    pub fn find(&self, number: u64, owner: &Owner) -> Option<(usize, &OwnerRecord)>
+        ensures record { option_map (λ found. found.1.now.ownership) result
+            ≡ record_of number self.now.owners owner.now }
+        ensures place { IfSome result (λ found.
+            slice_get self.now.places found.0 ≡ Some (Some found.1.now)) }
+        ensures key { IfSome result (λ found. found.1.now.key ≡ owner.now.key) }
     {
         if number_of(owner) != number {
             return None;
         }
-        match find_place(&self.places, owner) {
-            Some(place) => self.places[place].as_ref(),
-            None => None,
+        let place = match find_place(&self.places, owner) {
+            Some(place) => place,
+            None => return None,
+        };
+        match &self.places[place] {
+            Some(record) => Some((place, record)),
+            None => unreachable!(),
         }
     }
 
@@ -261,11 +255,8 @@ impl OwnerRecords {
         ensures refused { IfErr result (λ cause. IsRefusal number self.old.owners
             (Some owner.now) cause) }
     {
-        if number_of(owner) != number {
-            return Err(StoreError::UnknownOwner);
-        }
-        let place = match find_place(&self.places, owner) {
-            Some(place) => place,
+        let place = match self.find(number, owner) {
+            Some((place, _)) => place,
             None => return Err(StoreError::UnknownOwner),
         };
         match reserve_at(&mut self.places, place) {
@@ -316,48 +307,33 @@ impl OwnerRecords {
         }
     }
 
-    /// Takes the owner's record away: its boxes. Takes no memory.
-    pub fn take(&mut self, owner: &Owner, alloc: Global) -> Vec<CellName>
-        ensures after { self.new.owners ≡ map.remove self.old.owners owner.now.key }
-        ensures names { list_map name_of_cell result.items
-            ≡ names_under self.old.owners owner.now.key }
+    /// Takes the record at a place away, with its list. Takes no memory.
+    pub fn remove(&mut self, place: usize)
+        requires { IsFilled (slice_get self.old.places place) }
+        ensures { self.new.owners
+            ≡ map.remove self.old.owners (key_at (slice_get self.old.places place)) }
     {
-        match find_place(&self.places, owner) {
-            Some(place) => {
-                let boxes = take_at(&mut self.places, place, alloc);
-                self.vacant.put(place);
-                boxes
-            }
-            None => Vec::new(alloc),
-        }
+        self.places[place] = None;
+        self.vacant.put(place);
     }
 
-    /// One owner value more of the owner's record. The answer is the record's place.
-    pub fn count_up(&mut self, owner: &Owner) -> usize
-        requires { IfSome (map.get self.old.owners owner.now.key)
-            (λ h. h.count < 18446744073709551615) }
-        ensures counted { self.new.owners ≡ change self.old.owners owner.now.key one_more }
-        ensures place { IsSome (map.get self.old.owners owner.now.key) →
-            HasRecord owner.now.key (slice_get self.old.places result) }
+    /// One owner value more of the record at a place.
+    pub fn count_up(&mut self, place: usize)
+        requires { Holds (λ r. r.ownership.count < 18446744073709551615)
+            (slice_get self.old.places place) }
+        ensures { self.new.owners
+            ≡ change self.old.owners (key_at (slice_get self.old.places place)) one_more }
     {
-        match find_place(&self.places, owner) {
-            Some(place) => {
-                count_up_at(&mut self.places, place);
-                place
-            }
-            None => place_of(owner),
-        }
+        count_up_at(&mut self.places, place);
     }
 
-    /// One owner value less of the owner's record.
-    pub fn count_down(&mut self, owner: &Owner)
-        requires { IfSome (map.get self.old.owners owner.now.key) (λ h. 0 < h.count) }
-        ensures { self.new.owners ≡ change self.old.owners owner.now.key one_less }
+    /// One owner value less of the record at a place.
+    pub fn count_down(&mut self, place: usize)
+        requires { Holds (λ r. 0 < r.ownership.count) (slice_get self.old.places place) }
+        ensures { self.new.owners
+            ≡ change self.old.owners (key_at (slice_get self.old.places place)) one_less }
     {
-        match find_place(&self.places, owner) {
-            Some(place) => count_down_at(&mut self.places, place),
-            None => {}
-        }
+        count_down_at(&mut self.places, place);
     }
 }
 
@@ -418,68 +394,49 @@ fn are_vacant(places: &[Option<OwnerRecord>]) -> bool
 // Makes room for a box more on the list of the record at a place.
 #[inline(always)]
 fn reserve_at(places: &mut Vec<Option<OwnerRecord>>, place: usize) -> Result<(), AllocError>
-    requires { place < vec_len places.old }
+    requires { IsFilled (slice_get places.old.items place) }
     ensures same { places.new.items ≡ change_record places.old.items place
         (with_rooms (rooms_at (slice_get places.new.items place))) }
-    ensures ok { OnOk result (IfSome (slice_get places.new.items place)
-        (λ kept. IfSome kept (λ r. length r.ownership.names < r.rooms))) }
+    ensures ok { OnOk result (HasRoom (slice_get places.new.items place)) }
 {
     match &mut places[place] {
         Some(found) => found.reserve(),
-        None => Ok(()),
+        None => unreachable!(),
     }
 }
 
 // Puts a box at the end of the list of the record at a place, where there is room.
 #[inline(always)]
 fn list_at(places: &mut Vec<Option<OwnerRecord>>, place: usize, name: CellName)
-    requires within { place < vec_len places.old }
-    requires room { HasRoom (slice_get places.old.items place) }
+    requires { HasRoom (slice_get places.old.items place) }
     ensures { places.new.items
         ≡ change_place places.old.items place (one_listed (name_of_cell name)) }
 {
     match &mut places[place] {
         Some(found) => found.list(name),
-        None => {}
-    }
-}
-
-// Takes the record at a place away: its boxes.
-fn take_at(places: &mut Vec<Option<OwnerRecord>>, place: usize, alloc: Global) -> Vec<CellName>
-    requires { place < vec_len places.old }
-    ensures after { places.new.items ≡ slice_set places.old.items place None }
-    ensures names { (key : ℕ) → HasRecord key (slice_get places.old.items place) →
-        list_map name_of_cell result.items
-        ≡ names_in (record_at key (slice_get places.old.items place)) }
-{
-    match places[place].take() {
-        Some(found) => found.into_boxes(),
-        None => Vec::new(alloc),
+        None => unreachable!(),
     }
 }
 
 // One owner value more of the record at a place.
 fn count_up_at(places: &mut Vec<Option<OwnerRecord>>, place: usize)
-    requires within { place < vec_len places.old }
-    requires below { IfSome (slice_get places.old.items place)
-        (λ kept. IfSome kept (λ r. r.ownership.count < 18446744073709551615)) }
+    requires { Holds (λ r. r.ownership.count < 18446744073709551615)
+        (slice_get places.old.items place) }
     ensures { places.new.items ≡ change_place places.old.items place one_more }
 {
     match &mut places[place] {
         Some(found) => found.count_up(),
-        None => {}
+        None => unreachable!(),
     }
 }
 
 // One owner value less of the record at a place.
 fn count_down_at(places: &mut Vec<Option<OwnerRecord>>, place: usize)
-    requires within { place < vec_len places.old }
-    requires above { IfSome (slice_get places.old.items place)
-        (λ kept. IfSome kept (λ r. 0 < r.ownership.count)) }
+    requires { Holds (λ r. 0 < r.ownership.count) (slice_get places.old.items place) }
     ensures { places.new.items ≡ change_place places.old.items place one_less }
 {
     match &mut places[place] {
         Some(found) => found.count_down(),
-        None => {}
+        None => unreachable!(),
     }
 }

@@ -30,16 +30,15 @@ pub use Rattle.std.specs.List.Sorted.{IsBinarySearchResult, IsNonDecreasingBy}
 pub use specs.{Borrows.AreBelow, declared.names.CellName.CellName, CellNames.name_of_cell}
 pub use specs.{Lists.how_many, Pools.chain, Pools.IsPool, Pools.last_of}
 pub use specs.OwnerPlaces.{ArePlaced, change_place, change_record, change_record_if}
-pub use specs.OwnerPlaces.{HasDistinctKeys, HasRecord, HasRoom, is_vacant, IsPlaceOf, IsReserved}
+pub use specs.OwnerPlaces.{HasDistinctKeys, HasRecord, HasRoom, Holds, is_vacant, key_at, IsPlaceOf, IsReserved}
 pub use specs.OwnerPlaces.{keyed_ownerships, KeyedOwnership, Place, place_rows, record_at}
 pub use specs.OwnerPlaces.{record_in, Records, with_ownership, with_rooms}
-pub use specs.OwnerRecords.{add_to_list_in, knows, record_of}
+pub use specs.OwnerRecords.{add_to_list_in, record_of}
 pub use specs.Queues.{HasTicketAt, AreKept, IsOwnPlace, IsQueue, standing_at, StandsAt}
 pub use specs.Queues.{TicketsAscend}
 pub use specs.Table.{IsTable}
-pub use Rattle.generational_core.proofs.maps.Maps.{by_number, changed_there, get-changed_none}
-pub use Rattle.generational_core.proofs.maps.Maps.{insert_there}
-pub use Rattle.generational_core.specs.{Boxes.id_of, Conditions.names_in, Conditions.names_under}
+pub use Rattle.generational_core.proofs.maps.Maps.{by_number, changed_there, insert_there}
+pub use Rattle.generational_core.specs.{Boxes.id_of}
 pub use Rattle.generational_core.specs.{Machine.OwnerName, Names.Name, StepCalls.owner_of}
 pub use Rattle.generational_core.specs.Rows.{owner_rows, reader_row, record_rows}
 pub use Rattle.generational_core.specs.State.{one_less, one_listed, one_more, Owners, Ownership}

@@ -1,10 +1,13 @@
-use Rattle.store_parts.proofs.{changed, listed_owners, name_of_cell, one_listed, room_record}
+use Rattle.store_parts.proofs.{changed, held_record, length, listed_owners, name_of_cell, one_listed}
+use Rattle.store_parts.proofs.{slice_get, ◌<◌}
 use Rattle.store_parts.proofs.owners.OwnerRecords.list.Goals as goal
 
 pub invariant_of-self : goal.invariant_of-self
 invariant_of-self c =
-    let held = room_record _ (rw (c.in-Some.is, ← c.self.view_is) at c.requires) in
-    rw c.list_at.ensures (changed c.self.invariant held.0 c.in-Some.place held.1
+    let has = held_record (λ r. length r.ownership.names < r.rooms)
+    (slice_get c.self.inside.places.items c.in-Some.place)
+    (rw (c.in-Some.is, ← c.self.view_is) at c.requires) in
+    rw c.list_at.ensures (changed c.self.invariant _ c.in-Some.place has
     (one_listed (name_of_cell c.args.name))).placed
 
 pub returns-in-Some : goal.returns-in-Some
