@@ -238,7 +238,7 @@ class Expected:
         return self.known[refused]
 
     def refused_by(self, run):
-        """The lines that were refused in a run, which may have ended for want of memory. Its replies are as expected."""
+        """The lines that were refused in a run, which may have ended for lack of memory. Its replies are as expected."""
         wanted((run.status, run.faults) in [(0, ""), (3, "boxes: out of memory\n")], f"its end: {run}")
         wanted(run.status == 3 or len(run.output) == len(self.row), f"the number of replies: {run}")
         refused = [i for i, it in enumerate(run.output, start=1) if it == REFUSED]
@@ -383,7 +383,7 @@ def kind_of(name):
 def refuse_in_tests(tests):
     found = [(it, name) for it in tests for name in names_of(it) if kind_of(name) in MODULES]
     for module in MODULES:
-        wanted(any(kind_of(name) == module for _, name in found), f"no test of want of memory is listed in {module}")
+        wanted(any(kind_of(name) == module for _, name in found), f"no test of lack of memory is listed in {module}")
     for it, name in found:
         met = refuse_in_test(it, name), refuse_in_test(it, name, less=1)
         wanted(min(met) > 0, f"{name}: nothing was refused")

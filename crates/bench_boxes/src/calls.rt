@@ -4,7 +4,7 @@ use crate::element::Element;
 use generational_box::{GenerationalBox, Location, Owner, Refusal, Refused, Storage, StoreError};
 use std::alloc::AllocError;
 
-/// The workload can't go on: a call was refused, as for want of memory.
+/// The workload can't go on: a call was refused, as for lack of memory.
 #[derive(Clone, Copy)]
 pub struct Stopped;
 

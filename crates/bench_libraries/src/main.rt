@@ -19,7 +19,7 @@
 //! sessions end. Of the last two N are made, ten of a part. 10 N times a drawn one is looked at. N times
 //! a drawn one's part is set and the place led to another part; then all are removed.
 //!
-//! The status is 1 where a call wasn't carried out, as for want of memory, and 2 for other words.
+//! The status is 1 where a call wasn't carried out, as for lack of memory, and 2 for other words.
 #![tactic(auto)]
 
 mod copies;

@@ -20,7 +20,7 @@
 //! | a number | calls drawn from it, over boxes that workers of a shared store hand each other: a few a round |
 //!
 //! Of drawn calls the audits are printed, a base and each step a line (`.ci/replay.py` replays them).
-//! The status is 1 where a call wasn't carried out, as for want of memory, and 2 for other words.
+//! The status is 1 where a call wasn't carried out, as for lack of memory, and 2 for other words.
 #![tactic(auto)]
 
 ghost use Rattle.std.specs.Prelude.{◌≡◌, ◌<◌, IfSome};

@@ -36,11 +36,11 @@
 //!
 //! Any other line, such as one that is not UTF-8, is answered `bad line`, and a number of a line
 //! that gave no such thing `no such`. A borrow that the store denies is answered `error: ` and its
-//! text, and a refusal, such as for want of memory, `refused: ` and its text; the script goes on.
+//! text, and a refusal, such as for lack of memory, `refused: ` and its text; the script goes on.
 //!
 //! A script has at most 1000000 lines. The run ends at the input's end with status 0, or at the
 //! first fault, with status 1 for a stream that failed, 2 for arguments or a line too many, and 3
-//! for want of memory: then a text stands on standard error, and the replies to all earlier lines
+//! for lack of memory: then a text stands on standard error, and the replies to all earlier lines
 //! were written, unless writing is what failed.
 //!
 //! With the words `fuzz SEED COUNT` no script is read. SEED is a number of 64 bits, and COUNT one

@@ -76,7 +76,7 @@ module _ {C : Type 0} where
       → value_in S b ≡ Some v → IsReference S b
   seen_reference s k b v seen = grind (arith, seen_reached, reaches, eqb-true)
 
-  -- so it is refused a reference for want of memory alone
+  -- so it is refused a reference for lack of memory alone
   pub refer_lacks : {S R : State C} → IsSound S → IsKept S → (b : GenerationalPointer) (v : C)
       → value_in S b ≡ Some v → (e : error.Refused BorrowError)
       → Meets S (Refer None b) (read_refused e) R

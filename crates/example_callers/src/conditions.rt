@@ -83,7 +83,7 @@ pub fn read_free<S: Storage<u64>>(
 ) -> Result<Option<u64>, StoreError>
     ensures seen { IfOk result (λ seen. seen ≡ value_in (S.state store.old) (pointer_of target)) }
     ensures left { (b : GenerationalPointer) → IsUnchanged (S.state store.old) b (S.state store.new) }
-    // It is refused as the read is: for want of a ticket, or of memory.
+    // It is refused as the read is: for lack of a ticket, or of memory.
     ensures refused { IfErr result (λ cause. Meets (S.state store.old)
         (Read (pointer_of target) here) (Refused cause) (S.state store.new)) }
 {

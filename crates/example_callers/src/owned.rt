@@ -32,7 +32,7 @@ pub fn end_owned<S: Storage<u64>>(
         IsUnchanged (S.state store.old) b (S.state store.new)) }
     ensures left { OnErr result ((b : GenerationalPointer) →
         IsUnchanged (S.state store.old) b (S.state store.new)) }
-    // It is refused only for want of memory, or of a ticket.
+    // It is refused only for lack of memory, or of a ticket.
     ensures cause { IfErr result (λ cause. Lacks (S.state store.old) cause) }
 {
     let owner = store.owner()?;

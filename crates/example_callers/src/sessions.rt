@@ -47,9 +47,9 @@ pub fn read_later<S: Storage<u64>>(
     Ok((reply, read))
 }
 
-/// Reads and writes a box of an earlier place, by one list of calls. Refused for want of memory alone,
-/// as its error says, and then nothing changes. If the box's name has ended, both are answered so,
-/// with the box's own location.
+/// Reads and writes a box of an earlier place, by one list of calls. Refused for lack of memory
+/// alone, as its error says, and then nothing changes. If the box's name has ended, both are
+/// answered so, with the box's own location.
 pub fn ask_for_ended<S: Storage<u64>>(
     alloc: Global,
     session: &mut Session<u64, S>,
@@ -143,7 +143,7 @@ pub fn replies_over_both<S: Storage<u64> + Drop, R: Storage<u64> + Drop>(
         × Run (session_over (S.state first)) calls.items (as_replies both.0.items) after) }
     ensures run_again { IfSome result (λ both. (after : SessionState ℕ)
         × Run (session_over (R.state second)) again.items (as_replies both.1.items) after) }
-    // Where the same calls were refused for want of memory or of numbers, all replies are the same,
+    // Where the same calls were refused for lack of memory or of numbers, all replies are the same,
     // ids aside.
     ensures same { IfSome result (λ both.
         let list = as_replies both.0.items in

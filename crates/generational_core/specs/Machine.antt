@@ -186,7 +186,7 @@ module _ {T : Type 0} where
   point S a b (Some _) to target =
       (BorrowRefused (Dropped (unwrap_or (location_of target) b.created_at)), S)
 
-  -- what a call answers and leaves, but for tickets that run out and for want of memory
+  -- what a call answers and leaves, but where tickets or memory run out
   abbrev pub act : State T → Action T → NewNames → Outcome T
   act S (Make o v l) f =
       if is_known S o then make S o f.first (Value (Here v []) l) l else (Refused UnknownOwner, S)

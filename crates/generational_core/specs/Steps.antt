@@ -1,4 +1,4 @@
--- A step of the machine: the names that it may take, the end of tickets, and want of memory.
+-- A step of the machine: the names that it may take, the end of tickets, and lack of memory.
 use Rattle.generational_core.specs.Borrowing.{write_refusal, reach}
 use Rattle.std.specs.Prelude.{is_some, ◌≡◌, ℕ, ◌-◌, ◌^◌, Bool, true, false, if◌then◌else◌, ◌&&◌}
 use Rattle.std.specs.Prelude.{◌⊎◌, nat_eq, nat_lt, [], Option, None, Some}

@@ -15,7 +15,7 @@ use Rattle.generational_errors.specs.declared.error.StoreError.{StoreError}
 use Rattle.generational_errors.specs.declared.error.StoreError.TheVariants as error
 
 module _ {T : Type 0} where
-  -- A store may refuse a call by want of memory, and by want of numbers only where all tickets were
+  -- A store may refuse a call for lack of memory, and of numbers only where all tickets were
   -- given. It knows its own owners.
   abbrev pub Lacks : State T → StoreError → Type 0
   Lacks S error.OutOfMemory = Unit {0}
@@ -29,7 +29,7 @@ module _ {T : Type 0} where
   IsShort S slots tickets error.NumbersExhausted = last_ticket < S.next + tickets
   IsShort S slots tickets error.UnknownOwner = ⊥
 
-  -- a refusal that no borrow has caused, for want of so many slots or tickets
+  -- a refusal that no borrow has caused, for lack of so many slots or tickets
   abbrev pub IsShortage : {E : Type 0} → State T → ℕ → ℕ → Refused E → Type 0
   IsShortage S slots tickets (refused.Store cause) = IsShort S slots tickets cause
   IsShortage S slots tickets (refused.Borrow e) = ⊥

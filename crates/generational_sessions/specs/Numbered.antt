@@ -85,7 +85,7 @@ module _ {T : Type 0} where
   erase (TheSlot n) = TheSlot 0
   erase reply = reply
 
-  -- the want of memory or of numbers that a reply tells
+  -- the lack of memory or of numbers that a reply tells
   abbrev pub refusal_in : SessionReply T → Option StoreError
   refusal_in (SessionReply.Lacking e) = want e
   refusal_in (SessionReply.HandedBack v e) = want e

@@ -78,7 +78,7 @@ module _ {T : Type 0} where
     pub asks : ask s c ≡ Asks action
     pub lacks : may_lack s.state action ≡ true
 
-  -- a reply tells want of memory only where it may lack
+  -- a reply tells lack of memory only where it may lack
   abbrev pub TellsLack : SessionState T → Call T → SessionReply T → Type 0
   TellsLack s c x = refusal_in x ≡ Some OutOfMemory → MayLackMemory s c
 

@@ -104,7 +104,7 @@ impl<T: Drop, S: Storage<T>> Session<T, S> {
         ensures ends_owned { IfOk result (λ reply.
             EndsOwned self.old call (as_reply reply) self.new) }
 
-        // Want of memory is told only where the call asks the machine for something that may lack
+        // Lack of memory is told only where the call asks the machine for something that may lack
         // memory there. That the numbers are used up is told exactly where it asks for something
         // that takes a ticket, and the next ticket is the last number. A call that is refused
         // leaves all as it was, and its place holds nothing.

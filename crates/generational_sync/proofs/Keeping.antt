@@ -456,7 +456,7 @@ pub end_leaves : (T : Type 0) (e : IsRefused BorrowMutError) → leaves {T = T} 
 end_leaves T e = grind arith
 
 module _ {T : Type 0} where
-  -- whether an answer tells of want of memory or of numbers
+  -- whether an answer says that memory or numbers ran out
   abbrev pub refuses : Answer T → Bool
   refuses (Refused e) = true
   refuses _ = false

@@ -83,7 +83,7 @@ module _ {T : Type 0} where
 
   -- An answer of the store with this number grants the call, which goes by its own alone, and gives
   -- what is its own; or it refuses it as it may: as one that is `Dropped`, for the last ticket,
-  -- which is asked of its own alone, for an owner that it doesn't know, or for want of memory. The
+  -- which is asked of its own alone, for an owner that it doesn't know, or for lack of memory. The
   -- release of a guard that it doesn't know is neither, and a writer's value comes back.
   abbrev pub MayAnswer : ℕ → Action T → Answer T → Type 0
   MayAnswer number call (Made b) = IsOwn number call × (b.id.store ≡ number) × GivesBox call b

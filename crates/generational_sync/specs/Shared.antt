@@ -87,7 +87,7 @@ pub record IsCheckpoint {T : Type 0} (old new : SharedState T) (trimmed : ℕ) :
   pub trims : Trims old.base old.history new.base
   pub counted : trimmed ≡ all_trimmed new.base
 
--- how a checkpoint is refused: where the trimmed steps would be too many, or for want of memory
+-- how a checkpoint is refused: where the trimmed steps would be too many, or memory runs out
 abbrev pub MayRefuseCheckpoint : {T : Type 0} → SharedState T → StoreError → Type 0
 MayRefuseCheckpoint s NumbersExhausted = 2 ^ 64 ≤ all_trimmed s.base + length s.history
 MayRefuseCheckpoint s OutOfMemory = all_trimmed s.base + length s.history < 2 ^ 64

@@ -39,7 +39,7 @@ module _ {T : Type 0} where
   made_reply _ R b = None
 
   -- How the answer of the machine to a call is recorded, after which its state is R. An answer that
-  -- tells of a borrow or of want of memory isn't recorded, and neither is the release of a guard
+  -- tells of a borrow or of lack of memory isn't recorded, and neither is the release of a guard
   -- that the store doesn't know.
   abbrev pub recorded_reply : State T → Action T → Answer T → Option StepReply
   recorded_reply R call (Made b) = made_reply call R b

@@ -271,8 +271,8 @@ impl<const NUMBER: u64, M: Count, L: Count, C: Count, R: Count> Log<NUMBER, M, L
     }
 
     // Lets the history begin anew at a base that counts all steps so far as trimmed. What is kept no
-    // more is answered, so that who holds a lock can let it go when it is open. Want of memory
-    // changes nothing.
+    // more is answered, so that who holds a lock can let it go when it is open. If memory
+    // runs out nothing changes.
     pub fn rebase(&mut self, base: KeptBase) -> Result<Outdated, AllocError>
         requires { Trims self.old.bases.base self.old.steps base }
         ensures bases { OnOk result

@@ -73,7 +73,7 @@ impl Borrows {
         }
     }
 
-    /// Adds a borrow at the end. Want of memory changes nothing.
+    /// Adds a borrow at the end. If memory runs out nothing changes.
     #[cold]
     #[inline(never)]
     pub fn push(&mut self, alloc: Global, borrow: Borrow) -> Result<(), AllocError>

@@ -50,8 +50,8 @@ impl FreeList {
         }
     }
 
-    /// Makes room for this many slots in all, where there is less. The only refusal is want of
-    /// memory, which changes nothing.
+    /// Makes room for this many slots in all, where there is less. Refused only if memory
+    /// runs out, with nothing changed.
     #[cold]
     #[inline(never)]
     pub fn grow(&mut self, room: usize) -> Result<(), StoreError>

@@ -45,8 +45,8 @@ impl FreeIndexes {
         }
     }
 
-    /// Makes room for this many indexes in all. The only refusal is want of memory, which takes no
-    /// index out.
+    /// Makes room for this many indexes in all. Refused only if memory runs out: then no index
+    /// is taken out.
     pub fn reserve(&mut self, alloc: Global, room: usize) -> Result<(), StoreError>
         ensures indexes { self.new.slots ≡ self.old.slots }
         ensures rooms { self.old.rooms ≤ self.new.rooms }

@@ -279,8 +279,8 @@ impl OwnerRecords {
         }
     }
 
-    /// Adds a record for one owner value under a key that has none. The answer is its place. Want
-    /// of memory changes nothing.
+    /// Adds a record for one owner value under a key that has none. The answer is its place. If
+    /// memory runs out no record changes.
     pub fn add(&mut self, alloc: Global, key: u64) -> Result<usize, AllocError>
         requires { map.get self.old.owners key ≡ None }
         ensures ok { OnOk result (self.new.owners ≡ map.insert self.old.owners key

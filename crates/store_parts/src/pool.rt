@@ -207,8 +207,8 @@ impl SlotPool for OldestFirst {
     }
 }
 
-/// Makes room for one more slot, and for its number among the free ones. Want of memory changes no
-/// slot.
+/// Makes room for one more slot, and for its number among the free ones. If memory runs out no
+/// slot changes.
 #[inline(always)]
 pub fn make_room<T, P: SlotPool>(slots: &mut Vec<T>, pool: &mut P) -> Result<(), StoreError>
     requires { vec_len slots.old ≤ P.rooms pool.old }

@@ -78,8 +78,8 @@ impl Queue {
         self.places[0].borrow
     }
 
-    /// Adds a borrow at the end. Want of memory changes nothing: it is told only where no place is
-    /// dead.
+    /// Adds a borrow at the end. If memory runs out, as it can only where no place is dead, nothing
+    /// changes.
     pub fn push(&mut self, borrow: Borrow) -> Result<(), AllocError>
         requires { AreBelow borrow.ticket self.old }
         ensures ok { OnOk result (self.new ≡ self.old ++ borrow ∷ []) }

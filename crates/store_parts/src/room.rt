@@ -6,7 +6,7 @@ ghost use Rattle.generational_errors.specs.declared.error.StoreError.TheVariants
 use generational_core::StoreError;
 use std::alloc::{AllocError, Global};
 
-/// Makes a buffer large enough for this many in all. Want of memory changes nothing in it.
+/// Makes a buffer large enough for this many in all. If memory runs out it is unchanged.
 pub fn reserve_room<X: Drop>(
     items: &mut Vec<X>,
     alloc: Global,

@@ -67,7 +67,7 @@ impl BorrowTable {
     }
 
     /// Makes the buffer of the lists large enough for this many, without counting them as room. The
-    /// only refusal is want of memory.
+    /// only refusal is that memory runs out.
     pub fn reserve(&mut self, room: usize) -> Result<(), StoreError>
         ensures same { self.new ≡ self.old }
         ensures cause { IfErr result (λ error. error ≡ OutOfMemory) }
@@ -82,7 +82,7 @@ impl BorrowTable {
         self.lists.shrink_to(self.free.room());
     }
 
-    /// Makes room for this many lists. The only refusal is want of memory, which changes no list.
+    /// Makes room for this many lists. Refused only if memory runs out, with all lists unchanged.
     pub fn grow(&mut self, room: usize) -> Result<(), StoreError>
         ensures lists { self.new.lists ≡ self.old.lists }
         ensures free { self.new.free ≡ self.old.free }
@@ -156,7 +156,7 @@ impl BorrowTable {
         self.lists[index as usize].contains(ticket)
     }
 
-    /// Adds a borrow at the end of a list. Want of memory changes nothing.
+    /// Adds a borrow at the end of a list. If memory runs out the lists are unchanged.
     #[inline(always)]
     pub fn push(&mut self, index: u32, borrow: Borrow) -> Result<(), AllocError>
         requires within { index < length self.old.lists }

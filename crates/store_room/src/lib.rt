@@ -8,8 +8,8 @@ use std::alloc::AllocError;
 
 /// Makes room for so many elements more, as `reserve` does: mostly for as many again as there are,
 /// so that few calls pay for it. Where memory is refused it asks for half of the room beyond what
-/// the call needs, then for a quarter and so on, and at last for what it needs alone. The only
-/// refusal is want of memory, which changes nothing.
+/// the call needs, then for a quarter and so on, and at last for what it needs alone. Refused
+/// only if memory runs out, with nothing changed.
 #[inline(always)]
 pub fn reserve_more<X>(items: &mut Vec<X>, more: usize) -> Result<(), AllocError>
     ensures items { items.new.items ≡ items.old.items }
@@ -42,7 +42,7 @@ fn reserve_beside<X>(items: &mut Vec<X>, more: usize, beside: usize) -> Result<(
     reserve_beside(items, more, beside / 2)
 }
 
-/// Appends an element, for which room is made so. Want of memory changes no element.
+/// Appends an element, for which room is made so. If memory runs out no element changes.
 #[inline(always)]
 pub fn push_more<X: Copy>(items: &mut Vec<X>, item: X) -> Result<(), AllocError>
     ensures ok { OnOk result (items.new.items ≡ items.old.items ++ item ∷ []) }

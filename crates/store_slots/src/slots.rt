@@ -522,7 +522,7 @@ impl<T: Drop, P: SlotPool> Slots<T, P> {
         self.pool.free() + (self.pool.room() - self.entries.len())
     }
 
-    // Makes room for one cell more at least. Want of memory is the only refusal. No slot changes.
+    // Makes room for one cell more at least. Refused only if memory runs out. No slot changes.
     #[cold]
     #[inline(never)]
     fn grow(&mut self) -> Result<(), StoreError>
@@ -567,8 +567,8 @@ impl<T: Drop, P: SlotPool> Slots<T, P> {
         Ok(())
     }
 
-    /// Makes room for this many cells more, where there isn't, and for no more than these. Want of
-    /// memory is the only refusal. No slot changes.
+    /// Makes room for this many cells more, where there isn't, and for no more than these. Refused
+    /// only if memory runs out. No slot changes.
     pub fn reserve(&mut self, more: usize) -> Result<(), StoreError>
         ensures state { self.new.state ≡ self.old.state }
         ensures ok { OnOk result (more ≤ self.new.spare) }

@@ -38,7 +38,7 @@ pub(crate) fn begin_or_again<T, S: Storage<T>>(
     }
 }
 
-/// Makes an owner. Want of memory leaves the store as it was.
+/// Makes an owner. If memory runs out the store is as it was.
 pub(crate) fn owner_or_again<T, S: AnyStorage<T>>(rt: &impl Abort, store: &mut S) -> Owner {
     let before = (store.is_fresh(), counts_of(store));
     match store.owner() {

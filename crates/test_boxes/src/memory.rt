@@ -1,4 +1,4 @@
-//! Want of memory. Each test passes whichever one allocation is refused: `rt try --test
+//! Memory runs out. Each test passes whichever one allocation is refused: `rt try --test
 //! --fail-alloc N` refuses the Nth of each test. What may lack memory is tried a second time.
 
 use crate::again::{

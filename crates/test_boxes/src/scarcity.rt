@@ -1,4 +1,4 @@
-//! Want of memory where values are shared. Each test passes whichever one allocation is refused,
+//! Shared values where memory runs out. Each test passes whichever one allocation is refused,
 //! and what may lack memory is tried a second time.
 
 use crate::again::{assert_held, begin_or_again, owner_or_again};

@@ -1,4 +1,4 @@
-//! Want of memory at the last numbers, beside another store, and for values of other types. Each
+//! Memory runs out at the last numbers, beside another store, and for values of other types. Each
 //! test passes whichever one allocation is refused, and what may lack memory is tried a second
 //! time.
 

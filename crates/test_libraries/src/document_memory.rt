@@ -1,5 +1,5 @@
-//! Want of memory in documents. The test passes whichever one allocation is refused: what lacks memory
-//! changes nothing, and is tried a second time.
+//! Documents where memory runs out. The test passes whichever one allocation is refused: what lacks
+//! memory changes nothing, and is tried a second time.
 
 use crate::document_acts::{add, added_at, document_over, has_content};
 use crate::expected::{assert_same, given};

@@ -1,5 +1,5 @@
-//! Want of memory. Each test passes whichever one allocation is refused: what lacks memory changes
-//! nothing, and is tried a second time.
+//! Tables where memory runs out. Each test passes whichever one allocation is refused: what lacks
+//! memory changes nothing, and is tried a second time.
 
 use crate::entity_acts::{add, components_over, entities_over, given_at, spawned_at};
 use crate::expected::{assert_same, given};

@@ -1,5 +1,5 @@
-//! Want of memory. The test passes whichever one allocation is refused: what lacks memory changes
-//! nothing, and is tried a second time.
+//! Tables where memory runs out. The test passes whichever one allocation is refused: what lacks
+//! memory changes nothing, and is tried a second time.
 
 use crate::expected::{assert_same, given};
 use crate::fresh::{Scene, play_both};

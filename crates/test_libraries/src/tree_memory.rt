@@ -1,5 +1,5 @@
-//! Want of memory in trees. The test passes whichever one allocation is refused: what lacks memory
-//! changes nothing, and is tried again.
+//! Trees where memory runs out. The test passes whichever one allocation is refused: what lacks
+//! memory changes nothing, and is tried again.
 
 use crate::expected::{assert_same, given};
 use crate::fresh::{Scene, play};

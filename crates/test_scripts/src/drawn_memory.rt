@@ -1,5 +1,5 @@
-//! Want of memory in drawn lists. Each test passes whichever one allocation is refused: a list is run
-//! twice, and all replies before the first call that is refused are the same, with their ids.
+//! Drawn lists where memory runs out. Each test passes whichever allocation is refused: a list is
+//! run twice, and all replies before the first call that is refused are the same, with their ids.
 
 use crate::expected::given;
 use boxes_parts::{is_lacking, is_same};
@@ -58,7 +58,7 @@ fn names_same(one: &Reply<String>, other: &Reply<String>) -> bool {
     }
 }
 
-/// Asserts that replies are the same up to the first one that tells of want of memory.
+/// Asserts that replies are the same up to the first one that says that memory ran out.
 fn assert_same_before_refusal(rt: &impl Abort, ones: &[Reply<String>], others: &[Reply<String>]) {
     assert!(rt; ones.len() == COUNT && others.len() == COUNT);
     for (one, other) in ones.iter().zip(others) {

@@ -581,7 +581,7 @@ module _ {T : Type 0} where
       (plain_new S f.first new.0, rw born (plain_new (add_cell S f.first cell) f.second new.1))
   plain_are_new S call f new = grind (arith, plain_new)
 
-  -- ---- want of memory
+  -- ---- lack of memory
 
   plain_reached : (S : State T) (b : GenerationalPointer)
       → is_some (write_refusal (content_of (cell_at (plain S) (reach (plain S) b))))
