@@ -15,7 +15,7 @@ use Rattle.generational_core.specs.Cells.Cell.{Value, Shared, Ref}
 use Rattle.generational_core.specs.State.{State, Ownership}
 use Rattle.generational_core.specs.Borrowing.{Guard}
 use Rattle.generational_core.specs.Boxes.{name_of, box_of}
-use Rattle.generational_core.specs.Machine.{Action, Answer, OwnerName, NewNames}
+use Rattle.generational_core.specs.Machine.{Action, Answer, OwnerName}
 use Rattle.generational_core.specs.Machine.Action.{Make, MakeShared, Refer, NewOwner, CloneOwner}
 use Rattle.generational_core.specs.Machine.Action.{ReleaseOwner, LeakOwner, Read, Write}
 use Rattle.generational_core.specs.Machine.Action.{ReleaseReader, ReleaseWriter, SetValue, End}
@@ -91,20 +91,6 @@ module _ (f : Name → Name) (d : ℕ) where
     rename_cell (Shared c l) = Shared (rename_content c) l
     rename_cell (Ref m l) = Ref (f m) l
 
-    abbrev pub renaming : ℕ → Mapping T U
-    renaming number = record {
-      box = rename_box number;
-      guard = rename_guard number;
-      owner = shift_owner number;
-      value = g;
-    }
-
-    abbrev pub rename_action : ℕ → Action T → Action U
-    rename_action number = map_action (renaming number)
-
-    abbrev pub rename_answer : ℕ → Answer T → Answer U
-    rename_answer number = map_answer (renaming number)
-
     -- on the known names S's cells are A's, and S has no others
     pub record CarriesCells
         (Knows : Name → Type 0) (S : NameMap (Cell U)) (A : NameMap (Cell T)) : Type 0 where
@@ -128,39 +114,9 @@ module _ (f : Name → Name) (d : ℕ) where
       -- known names keep apart
       pub apart : (j k : Name) → Knows j → Knows k → f j ≡ f k → j ≡ k
 
--- the names in a call are known
+-- the name in a box, and in a guard, of this store is known
 abbrev pub KnowsBox : (Name → Type 0) → ℕ → GenerationalPointer → Type 0
 KnowsBox Knows number b = nat_eq b.id.store number ≡ true → Knows (name_of b)
 
 abbrev pub KnowsGuard : (Name → Type 0) → ℕ → Guard → Type 0
 KnowsGuard Knows number g = nat_eq g.store number ≡ true → Knows g.cell
-
-abbrev pub KnowsCall : {T : Type 0} → (Name → Type 0) → ℕ → Action T → Type 0
-KnowsCall Knows number (Refer o b) = KnowsBox Knows number b
-KnowsCall Knows number (Read b l) = KnowsBox Knows number b
-KnowsCall Knows number (Write b l) = KnowsBox Knows number b
-KnowsCall Knows number (ReleaseReader g) = KnowsGuard Knows number g
-KnowsCall Knows number (ReleaseWriter g v) = KnowsGuard Knows number g
-KnowsCall Knows number (SetValue b v) = KnowsBox Knows number b
-KnowsCall Knows number (End b) = KnowsBox Knows number b
-KnowsCall Knows number (Point a b) = KnowsBox Knows number a × KnowsBox Knows number b
-KnowsCall Knows number (CanRead b) = KnowsBox Knows number b
-KnowsCall Knows number (CanWrite b) = KnowsBox Knows number b
-KnowsCall Knows number _ = Unit {0}
-
--- the names in an answer are known
-abbrev pub KnowsAnswer : {T : Type 0} → (Name → Type 0) → ℕ → Answer T → Type 0
-KnowsAnswer Knows number (Made b) = KnowsBox Knows number b
-KnowsAnswer Knows number (Reads g) = KnowsGuard Knows number g
-KnowsAnswer Knows number (Writes g v) = KnowsGuard Knows number g
-KnowsAnswer Knows number _ = Unit {0}
-
--- the new names that a call takes are known
-abbrev pub KnowsNewNames : {T : Type 0} → (Name → Type 0) → Action T → NewNames → Type 0
-KnowsNewNames Knows (Make o v l) new = Knows new.first
-KnowsNewNames Knows (MakeShared o v l) new = Knows new.first × Knows new.second
-KnowsNewNames Knows (Refer o b) new = Knows new.first
-KnowsNewNames Knows _ new = Unit {0}
-
-abbrev pub rename_new_names : (Name → Name) → NewNames → NewNames
-rename_new_names f new = record { first = f new.first; second = f new.second }

@@ -2,11 +2,8 @@
 -- finds the box, or the owner, in the struct.
 use Rattle.std.specs.Prelude.{Result, Ok, Err}
 use Rattle.generational_core.specs.declared.boxes.GenerationalPointer.{GenerationalPointer}
-use Rattle.generational_errors.specs.declared.error.BorrowError.{BorrowError}
 use Rattle.generational_errors.specs.declared.error.Refusal.{Refusal}
-use Rattle.generational_errors.specs.declared.error.Refused as error
 use Rattle.generational_errors.specs.declared.error.StoreError.{StoreError}
-use Rattle.generational_core.specs.Answers.{read_refused}
 use Rattle.generational_core.specs.Machine.{Answer, OwnerName}
 use Rattle.generational_core.specs.Machine.Answer.{Made, Owned, Refused}
 
@@ -15,11 +12,6 @@ module _ {T W : Type 0} where
   abbrev pub wrapped_answer : (W → GenerationalPointer) → Result W (Refusal T) → Answer T
   wrapped_answer box (Ok w) = Made (box w)
   wrapped_answer box (Err r) = Refused r.cause
-
-  abbrev pub wrapped_reference_answer : (W → GenerationalPointer)
-      → Result W (error.Refused BorrowError) → Answer T
-  wrapped_reference_answer box (Ok w) = Made (box w)
-  wrapped_reference_answer box (Err e) = read_refused e
 
   abbrev pub wrapped_owner_answer : (W → OwnerName) → Result W StoreError → Answer T
   wrapped_owner_answer owner (Ok w) = Owned (owner w)

@@ -324,6 +324,10 @@ module _ {T : Type 0} where
       reader_here s.state g known.0 ∙ (same_number replays.2
       ∙ (lead s.base s.history replays.2.end replays.1 replays.2.replays ∙ replays.0))
 
+-- a tally after a call with this reply
+abbrev tallied : Option StepReply → Counts → Counts
+tallied r c = raised_by (option_map step_kind r) c
+
 -- ---- a call that the store has answered
 
 module _ {T : Type 0} (laws : Laws T) {number : ℕ} where

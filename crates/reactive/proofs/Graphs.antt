@@ -42,6 +42,10 @@ module _ {T : Type 0} where
   ran_to (Ask k next) (a ∷ rest) l r h = grind (arith, ran_to (next a.value) rest l r h.1)
   ran_to p (a ∷ rest) l r h = absurd h
 
+-- each of some nodes needs one of them: they are on a cycle, or lead to one
+abbrev pub IsCyclic : {T : Type 0} → Graph T → (Key → Type 0) → Type 0
+IsCyclic G C = (j : Key) → C j → (k : Key) × C k × Needs G j k
+
 module _ {T : Type 0} (G : Graph T) where
   -- a plan gives at most one value, so a node means at most one
   pub same : (p : Plan T) (v : T) → Gives G p v → (w : T) → Gives G p w → v ≡ w
@@ -456,6 +460,13 @@ module _ {T R : Type 0} {plan : R → Plan T} {G : Graph T} {now : ℕ} {nodes :
           let one : v ≡ u = cc in rw (← same, ← one) (w, a.before))
 
 -- ==== what holds of a table when nodes are made, set or ended
+
+-- a node keeps no questions, and no value but a source's, and has changed in this revision
+pub record IsReset {T R : Type 0} (plan : R → Plan T) (now : ℕ) (n : Node T R) : Type 0 where
+  pub asked : vec_items n.reads ≡ []
+  pub gives : (v : T) → n.value ≡ Some v → plan_by plan n.rule n.value ≡ Give v
+  pub changed : n.changed ≡ now
+  pub checked : n.checked ≤ now
 
 -- Each node is as it was, or was reset; no answer that is meant is that of a node which was reset, and
 -- answers that were meant are.

@@ -33,10 +33,6 @@ module _ {T : Type 0} (G : Graph T) where
   Needs j k = (answers : List (Asked T)) × (next : T → Plan T)
       × AllMean answers × Follows (G j) answers (Ask k next)
 
-  -- each of some nodes needs one of them: they are on a cycle, or lead to one
-  abbrev pub IsCyclic : (Key → Type 0) → Type 0
-  IsCyclic C = (j : Key) → C j → (k : Key) × C k × Needs j k
-
   -- what the nodes of a set need is in the set
   abbrev pub IsClosed : (Key → Type 0) → Type 0
   IsClosed D = (j k : Key) → D j → Needs j k → D k

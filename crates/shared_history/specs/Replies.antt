@@ -27,7 +27,7 @@ use Rattle.shared_records.specs.declared.step.StepReply.TheVariants as reply
 use Rattle.shared_records.specs.declared.step.Kind.{Kind}
 use Rattle.shared_records.specs.declared.step.Kind.TheVariants as kind
 use Rattle.shared_history.specs.Counts.{Counts, raised}
-use Rattle.shared_records.specs.Kinds.{step_kind, step_of}
+use Rattle.shared_records.specs.Kinds.{step_of}
 use Rattle.shared_records.specs.Letters.{Appends}
 
 module _ {T : Type 0} where
@@ -73,13 +73,10 @@ kind_in (Refused NumbersExhausted) = Some kind.Refused
 kind_in (Refused UnknownOwner) = Some kind.Refused
 kind_in _ = None
 
--- a tally after a step of a kind, if there is one, and after a call with this reply
+-- a tally after a step of a kind, if there is one
 abbrev pub raised_by : Option Kind → Counts → Counts
 raised_by None c = c
 raised_by (Some k) c = raised k c
-
-abbrev pub tallied : Option StepReply → Counts → Counts
-tallied r c = raised_by (option_map step_kind r) c
 
 -- whether two refusals of the store are the same
 abbrev pub same_error : StoreError → StoreError → Bool

@@ -1,11 +1,11 @@
 -- How many borrows stand in a state.
-use Rattle.std.specs.Prelude.{ℕ, ◌+◌, Bool, true, false, List, [], ◌∷◌, Option, None, Some, length}
+use Rattle.std.specs.Prelude.{ℕ, ◌+◌, Bool, true, false, List, [], ◌∷◌, Some, length}
 use Rattle.std.specs.FinMap as map
 use Rattle.generational_core.specs.Names.{Name}
 use Rattle.generational_core.specs.Cells.{Cell, content_of}
 use Rattle.generational_core.specs.State.{State, tickets_of}
 use Rattle.generational_core.specs.Machine.{Action, Answer}
-use Rattle.generational_core.specs.Machine.Answer.{Reads, Writes, BorrowRefused, Refused, Back, Flag}
+use Rattle.generational_core.specs.Machine.Answer.{BorrowRefused, Refused, Back, Flag}
 use Rattle.generational_core.specs.Machine.Action.{ReleaseReader, ReleaseWriter}
 use Rattle.shared_records.specs.declared.step.StepReply.{StepReply}
 use Rattle.shared_records.specs.declared.step.StepReply.TheVariants as reply
@@ -15,10 +15,6 @@ abbrev pub lent_by : StepReply → ℕ
 lent_by (reply.Reader t) = 1
 lent_by (reply.Writer t) = 1
 lent_by _ = 0
-
-abbrev pub lent_in : Option StepReply → ℕ
-lent_in None = 0
-lent_in (Some r) = lent_by r
 
 module _ {T : Type 0} where
   -- whether a call ends a borrow
@@ -40,12 +36,7 @@ module _ {T : Type 0} where
   abbrev pub borrows : State T → ℕ
   borrows S = borrows_in (map.entries S.cells)
 
-  -- how many borrows an answer gives, and whether it is one that leaves all as it was
-  abbrev pub given_by : Answer T → ℕ
-  given_by (Reads g) = 1
-  given_by (Writes g v) = 1
-  given_by _ = 0
-
+  -- whether an answer is one that leaves all as it was
   abbrev pub leaves : Answer T → Bool
   leaves (BorrowRefused t) = true
   leaves (Refused e) = true

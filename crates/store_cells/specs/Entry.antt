@@ -1,5 +1,5 @@
 -- A slot as contracts see it: its generation, and its live cell.
-use Rattle.std.specs.Prelude.{◌≡◌, ℕ, Bool, true, false, ◌&&◌, not, nat_eq, if◌then◌else◌, List, []}
+use Rattle.std.specs.Prelude.{◌≡◌, ℕ, Bool, true, false, not, nat_eq, if◌then◌else◌, List, []}
 use Rattle.std.specs.Prelude.{◌∷◌, ◌++◌, Option, Some, None, Result, Ok, Err, map as list_map}
 use Rattle.std.specs.Prelude.{is_none, is_some, slice_get, slice_set}
 use Rattle.std.specs.List.{filter}
@@ -89,10 +89,6 @@ module _ {T : Type 0} where
   is_live Empty = false
   is_live _ = true
 
-  -- whether the slot has a live cell, and that cell this generation
-  abbrev pub valid_at : ℕ → Entry T → Bool
-  valid_at g e = nat_eq e.generation g && is_live e.kept
-
   -- another content of a live cell
   abbrev pub with_content : (Content T → Content T) → Kept T → Kept T
   with_content f (Live k c l) = Live k (f c) l
@@ -123,11 +119,6 @@ module _ {T : Type 0} where
   abbrev pub has_no_borrow : Option (Content T) → Bool
   has_no_borrow (Some (Here v [])) = true
   has_no_borrow _ = false
-
-  -- whether a content is lent
-  abbrev pub is_lent : Option (Content T) → Bool
-  is_lent (Some (Lent w)) = true
-  is_lent _ = false
 
   -- the content lent to a writer
   abbrev pub lend_to : Borrow → Kept T → Kept T

@@ -1,5 +1,5 @@
 -- What is said of the borrows that stand at a cell.
-use Rattle.std.specs.Prelude.{◌≡◌, ◌≢◌, ◌<◌, ◌≤◌, ℕ, Bool, true, false, not, nat_eq}
+use Rattle.std.specs.Prelude.{◌≡◌, ◌≢◌, ◌<◌, ◌≤◌, ℕ, true, false, not, nat_eq}
 use Rattle.std.specs.Prelude.{List, [], ◌∷◌, length}
 use Rattle.std.specs.List.{list_any, filter}
 use Rattle.generational_core.specs.declared.borrow.Borrow.{Borrow}
@@ -26,11 +26,6 @@ IsFilled (Several queue) = 2 ≤ length queue.value
 abbrev pub IsOnly : ℕ → List Borrow → Type 0
 IsOnly t (b ∷ []) = nat_eq b.ticket t ≡ true
 IsOnly t _ = ⊥
-
--- whether the first of the borrows has this ticket
-abbrev pub is_first_of : ℕ → List Borrow → Bool
-is_first_of t [] = false
-is_first_of t (b ∷ bs) = nat_eq b.ticket t
 
 -- the borrows but the ticket's own, and there are some
 abbrev pub AreLeft : ℕ → List Borrow → List Borrow → Type 0

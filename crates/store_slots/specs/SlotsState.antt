@@ -1,9 +1,8 @@
 -- The state for which a list of slots stands, and what holds of every such list.
 use Rattle.std.specs.Prelude.{◌≡◌, ℕ, ◌+◌, ◌-◌, ◌≤◌, suc, zero, Bool, true, false, ◌&&◌, nat_eq}
-use Rattle.std.specs.Prelude.{nat_le, nat_lt, not, if◌then◌else◌, length, List, [], ◌∷◌, ◌++◌}
+use Rattle.std.specs.Prelude.{nat_lt, not, if◌then◌else◌, length, List, [], ◌∷◌, ◌++◌}
 use Rattle.std.specs.Prelude.{Option, None, Some, IfSome, IsTrue, Result, Ok, Err, is_ok, slice_get}
 use Rattle.std.specs.Prelude.{max, is_some}
-use Rattle.std.specs.List.{count_by}
 use Rattle.std.specs.Option.{option_or}
 use Rattle.std.specs.Ordering.{nat_cmp}
 use Rattle.std.specs.FinMap as map
@@ -182,11 +181,6 @@ module _ {T : Type 0} where
   refusal_to_refer_at S n l = option_or (refusal_to_read_at S n l)
       (if shared_reached S (reached S n) then None else Some (Dropped l))
 
-  -- whether a generation of a slot was given
-  abbrev pub given_in : ℕ → Option (Entry T) → ℕ → Bool
-  given_in start None g = false
-  given_in start (Some e) g = nat_le start g && nat_le g e.generation
-
   -- whether a slot is free: it has no cell, and its last generation wasn't the last of all
   abbrev pub is_spent : Entry T → Bool
   is_spent e = not (is_live e.kept) && nat_lt e.generation last_generation
@@ -241,11 +235,6 @@ module _ {T : Type 0} where
   count_less slots (Some m) =
       change_entry slots m.slot (λ e. record e { references = e.references - 1 })
 
-  -- a target that is live, and shared
-  abbrev pub shared_target : List (Entry T) → Option Name → Option Name
-  shared_target slots None = None
-  shared_target slots (Some m) = if is_shared (cell_under slots m) then Some m else None
-
   -- whether a name's slot counts another number of references
   abbrev pub has_other_count_in : ℕ → Option (Entry T) → Bool
   has_other_count_in last None = false
@@ -259,10 +248,6 @@ module _ {T : Type 0} where
   would_end named (Some (Value c l)) n = Some n
   would_end named (Some (Ref m l)) n = if named m then None else Some m
   would_end named _ n = None
-
-  -- how many of some names are of references to a cell
-  abbrev pub refers_among : List (Entry T) → List Name → Name → ℕ
-  refers_among slots names m = count_by (λ n. refers_to m (cell_under slots n)) names
 
   -- what hinders the end of a value, if there is one: a borrow of it
   abbrev pub refusal_of : NameMap (Cell T) → Option Name → Option BorrowRefusal

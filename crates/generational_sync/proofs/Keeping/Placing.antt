@@ -3,6 +3,7 @@ pub mod Weighing
 use Rattle.std.proofs.Common.{T as IsTrue}
 use Rattle.std.specs.FinMap as map
 use Rattle.std.specs.FinSet as set
+use Rattle.generational_core.specs.Borrowing.BorrowRefusal.{BeingRead, BeingWritten}
 use Rattle.generational_core.specs.declared.steps.StepCall.TheVariants as call
 unfoldable pub use Weighing.*
 
@@ -65,6 +66,37 @@ module _ {X Y : Type 0} (h : X → Y) where
       → each (change m n g) ≡ change (each m) n f
   unfolding change
   change_each m n f g same = grind (arith, get_each, insert_each, same)
+
+-- ---- refusals, calls and answers in which each location is turned
+
+module _ (p : Location → Location) where
+  abbrev place_refusal : BorrowRefusal → BorrowRefusal
+  place_refusal (Dropped l) = Dropped (p l)
+  place_refusal (BeingWritten l) = BeingWritten (p l)
+  place_refusal (BeingRead ls) = BeingRead (list_map p ls)
+
+  module _ {T : Type 0} where
+    abbrev place_action : Action T → Action T
+    place_action (Make o v l) = Make o v (p l)
+    place_action (MakeShared o v l) = MakeShared o v (p l)
+    place_action (Refer o b) = Refer o (place_box p b)
+    place_action (Read b l) = Read (place_box p b) (p l)
+    place_action (Write b l) = Write (place_box p b) (p l)
+    place_action (SetValue b v) = SetValue (place_box p b) v
+    place_action (End b) = End (place_box p b)
+    place_action (Point a b) = Point (place_box p a) (place_box p b)
+    place_action (CanRead b) = CanRead (place_box p b)
+    place_action (CanWrite b) = CanWrite (place_box p b)
+    place_action a = a
+
+    abbrev place_answer : Answer T → Answer T
+    place_answer (Made b) = Made (place_box p b)
+    place_answer (BorrowRefused t) = BorrowRefused (place_refusal t)
+    place_answer a = a
+
+  -- the test of two locations doesn't see the turn
+  abbrev KeepsTest : Type 0
+  KeepsTest = (a b : Location) → same_location (p a) (p b) ≡ same_location a b
 
 module _ (p : Location → Location) where
   abbrev refusal : Option BorrowRefusal → Option BorrowRefusal

@@ -18,9 +18,9 @@ pub use sessions.{found_sees, free_seen, fresh_sees, fresh_simple, made_simple, 
 pub use sessions.{others_left, reach_apart, same_id_reach, same_id_sees, seen_store, simple_still}
 pub use sessions.{stuck_unseen}
 pub use Rattle.generational_sessions.specs.PlainStores.{IsSimple}
-pub use Rattle.reactive.specs.Graphs.{GraphState, HasKind, HasPlan, IsKept, kind_by, kind_by_rule}
+pub use Rattle.reactive.specs.Graphs.{GraphState, IsKept, kind_by, kind_by_rule}
 pub use Rattle.reactive.specs.Graphs.{kind_in, kinds_of, plans_in, shown_in}
-pub use Rattle.reactive.specs.Meaning.{AllMean, Gives, gives, goes_on, Graph, IsCyclic, IsMute}
+pub use Rattle.reactive.specs.Meaning.{AllMean, Gives, gives, goes_on, Graph, IsMute}
 pub use Rattle.reactive.specs.Plans.{AreGiven, Ask, Asked, Follows, Give, Plan, Ran, Stop}
 pub use Rattle.reactive.specs.Refreshing.{Blames, IsAdvanced, IsOnTheWay, Refreshed}
 pub use Rattle.reactive.specs.Tables.{AllStand, AreKnown, asked_of, graph_of, IsKnown, IsPut}
@@ -29,10 +29,10 @@ pub use Rattle.reactive.specs.Tables.{plan_by, pointer_in, Shows, Stands, Table}
 pub use Rattle.reactive.specs.{Chains.AllGoOn, Hearing.AllHear, Chains.Chain}
 pub use Rattle.reactive.specs.{declared.effects.Effect.Effect, declared.fault.Fault.Fault}
 pub use Rattle.reactive.specs.{declared.look.Frame.Frame, Chains.GoesOn, Ending.HasLost}
-pub use Rattle.reactive.specs.{Hearing.Hears, Ending.IsAmong, Looks.IsAsked, Changing.IsReset}
+pub use Rattle.reactive.specs.{Hearing.Hears, Ending.IsAmong, Looks.IsAsked}
 pub use Rattle.reactive.specs.{Changing.IsResetTo, Settling.IsSettled, declared.key.Key.Key}
 pub use Rattle.reactive.specs.{Looks.LeadsTo, Settling.Leaves, Meaning.Means, Meaning.Needs}
-pub use Rattle.reactive.specs.{declared.node.Node.Node, Hearing.Says, Graphs.Kind.Source}
+pub use Rattle.reactive.specs.{declared.node.Node.Node, Hearing.Says}
 pub use Rattle.reactive.specs.{declared.look.Step.Step, Looks.Stepped, declared.effects.Told.Told}
 pub use Rattle.std.proofs.Common.{add-one, ap, append_assoc, arith, Bool, drop, eq-eqb, eqb-true}
 pub use Rattle.std.proofs.Common.{Err, false, get_or, inl, inr, length, List, None, Ok, Option}

@@ -36,6 +36,10 @@ apart_each n [] apart = tt
 apart_each n (q ∷ names) apart =
     (rw ((eq_by_cmp_equiv name_total).symm q n, apart.0) refl, apart_each n names apart.1)
 
+-- how many of some names are of references to a cell
+abbrev pub refers_among : {T : Type 0} → List (Entry T) → List Name → Name → ℕ
+refers_among slots names m = count_by (λ n. refers_to m (cell_under slots n)) names
+
 -- what is left of the slots where the cells of some names are taken away
 pub record IsAway {T : Type 0} (slots : List (Entry T)) (names : List Name) : Type 0 where
   pub left : List (Entry T)

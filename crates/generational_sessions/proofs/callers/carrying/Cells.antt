@@ -1,6 +1,8 @@
 -- Cells and calls that are carried.
 pub mod sessions
 use Rattle.std.specs.FinMap as map
+use Rattle.generational_core.specs.Machine.Action.{CanRead, CanWrite, Point, ReleaseReader, SetValue}
+use Rattle.generational_sessions.specs.Carrying.{Mapping, map_action, map_answer}
 unfoldable pub use sessions.*
 
 -- ==== what is asked of cells that are carried is answered alike, and what is done to them is
@@ -170,6 +172,56 @@ module _ {T U : Type 0} {f : Name → Name} {d : ℕ} {g : T → U} {Knows : Nam
 
 -- ==== a call is answered alike where one state carries another, and the states after it carry
 -- again
+
+-- ---- what is of a carried store, in calls and answers
+
+module _ {T U : Type 0} (f : Name → Name) (d : ℕ) (g : T → U) where
+  abbrev pub renaming : ℕ → Mapping T U
+  renaming number = record {
+    box = rename_box f d number;
+    guard = rename_guard f d number;
+    owner = shift_owner f d number;
+    value = g;
+  }
+
+  abbrev pub rename_action : ℕ → Action T → Action U
+  rename_action number = map_action (renaming number)
+
+  abbrev pub rename_answer : ℕ → Answer T → Answer U
+  rename_answer number = map_answer (renaming number)
+
+-- the names in a call are known
+abbrev pub KnowsCall : {T : Type 0} → (Name → Type 0) → ℕ → Action T → Type 0
+KnowsCall Knows number (Refer o b) = KnowsBox Knows number b
+KnowsCall Knows number (Read b l) = KnowsBox Knows number b
+KnowsCall Knows number (Write b l) = KnowsBox Knows number b
+KnowsCall Knows number (ReleaseReader g) = KnowsGuard Knows number g
+KnowsCall Knows number (ReleaseWriter g v) = KnowsGuard Knows number g
+KnowsCall Knows number (SetValue b v) = KnowsBox Knows number b
+KnowsCall Knows number (End b) = KnowsBox Knows number b
+KnowsCall Knows number (Point a b) = KnowsBox Knows number a × KnowsBox Knows number b
+KnowsCall Knows number (CanRead b) = KnowsBox Knows number b
+KnowsCall Knows number (CanWrite b) = KnowsBox Knows number b
+KnowsCall Knows number _ = Unit {0}
+
+-- the names in an answer are known
+abbrev pub KnowsAnswer : {T : Type 0} → (Name → Type 0) → ℕ → Answer T → Type 0
+KnowsAnswer Knows number (Made b) = KnowsBox Knows number b
+KnowsAnswer Knows number (Reads g) = KnowsGuard Knows number g
+KnowsAnswer Knows number (Writes g v) = KnowsGuard Knows number g
+KnowsAnswer Knows number _ = Unit {0}
+
+-- the new names that a call takes are known
+abbrev pub KnowsNewNames : {T : Type 0} → (Name → Type 0) → Action T → NewNames → Type 0
+KnowsNewNames Knows (Make o v l) new = Knows new.first
+KnowsNewNames Knows (MakeShared o v l) new = Knows new.first × Knows new.second
+KnowsNewNames Knows (Refer o b) new = Knows new.first
+KnowsNewNames Knows _ new = Unit {0}
+
+abbrev pub rename_new_names : (Name → Name) → NewNames → NewNames
+rename_new_names f new = record { first = f new.first; second = f new.second }
+
+-- ---- outcomes that match
 
 -- two outcomes, the first of which is the second one, renamed
 pub record Matched {T U : Type 0} (f : Name → Name) (d : ℕ) (g : T → U)

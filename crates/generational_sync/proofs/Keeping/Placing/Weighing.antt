@@ -2,11 +2,21 @@
 pub mod Common
 use Rattle.std.specs.Prelude.{map as list_map, T as IsTrue}
 use Rattle.std.specs.FinMap as map
+use Rattle.generational_core.specs.Machine.Answer.{Reads, Writes}
 use Rattle.generational_core.specs.declared.steps.StepCall.TheVariants as call
 use Rattle.generational_core.specs.declared.rows.BaseRow.TheVariants as row
 unfoldable pub use Common.*
 
--- ==== the borrows of finite maps of cells, added up
+-- ==== the borrows of finite maps of cells, added up, and those that an answer and a reply give
+
+abbrev pub given_by : {T : Type 0} → Answer T → ℕ
+given_by (Reads g) = 1
+given_by (Writes g v) = 1
+given_by _ = 0
+
+abbrev pub lent_in : Option StepReply → ℕ
+lent_in None = 0
+lent_in (Some r) = lent_by r
 
 module _ {T : Type 0} where
   -- the borrows at a cell that may be there

@@ -81,6 +81,11 @@ up_to : (start last g : ℕ)
     → (leb start g && ltb g (start + (last + 1 - start))) ≡ (leb start g && leb g last)
 up_to start last g = grind (arith, nat_tests)
 
+-- whether a generation of a slot was given
+abbrev pub given_in : {T : Type 0} → ℕ → Option (Entry T) → ℕ → Bool
+given_in start None g = false
+given_in start (Some e) g = leb start g && leb g e.generation
+
 module _ {T : Type 0} (start : ℕ) where
   pub any_of : (i : ℕ) (e : Entry T) (slots : List (Entry T)) (q : Name)
       → list_any (eq_by_cmp name_cmp q) (given_from start i (e ∷ slots))
@@ -578,6 +583,11 @@ pub record IsSeen {T : Type 0} (slots : List (Entry T)) (S : State T) (n : Name)
   pub held : IsHeld slots n
   pub open held use *
   pub seen : content_at S n ≡ Some content
+
+-- a target that is live, and shared
+abbrev pub shared_target : {T : Type 0} → List (Entry T) → Option Name → Option Name
+shared_target slots None = None
+shared_target slots (Some m) = cond (is_shared (cell_under slots m)) (Some m) None
 
 module _ {T : Type 0} {now : SlotsState T} {start peak spare : ℕ} (slots : List (Entry T))
     (view : record { state = state_of start peak slots; spare = spare } ≡ now) where

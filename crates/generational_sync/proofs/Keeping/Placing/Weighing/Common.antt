@@ -42,9 +42,8 @@ pub use Rattle.generational_sessions.specs.History.{plain_answer, plain_call}
 pub use Rattle.generational_sync.specs.Answering.{MayAnswer, TakesTicket}
 pub use Rattle.generational_sync.specs.Keeping.{HasEnded, IsAnswered, IsHindered, IsKept, IsSettled}
 pub use Rattle.generational_sync.specs.Keeping.{shared, WasAnswered, WasRefused}
-pub use Rattle.generational_sync.specs.Placing.{AreAlike, KeepsTest, LeadsTo, place_action}
-pub use Rattle.generational_sync.specs.Placing.{place_answer, place_borrow, place_cell}
-pub use Rattle.generational_sync.specs.Placing.{place_content, place_refusal}
+pub use Rattle.generational_sync.specs.Placing.{AreAlike, LeadsTo, place_borrow, place_cell}
+pub use Rattle.generational_sync.specs.Placing.{place_content}
 pub use Rattle.generational_sync.specs.Shared.{IsCheckpoint, IsHistory, IsStep, Replays}
 pub use Rattle.generational_sync.specs.Shared.{SharedState}
 pub use Rattle.shared_history.proofs.Appending.{all_kinds}
@@ -54,9 +53,9 @@ pub use Rattle.shared_history.specs.History.{guard_at, is_lawful, is_new, IsTake
 pub use Rattle.shared_history.specs.History.{names_of_reply, Plain, reader_cell, replay_from}
 pub use Rattle.shared_history.specs.History.{replay_on, start, step_by, writer_cell}
 pub use Rattle.shared_history.specs.Replies.{is_recorded, kind_in, raised_by, recorded_reply}
-pub use Rattle.shared_history.specs.Replies.{Records, same_reply, tallied}
+pub use Rattle.shared_history.specs.Replies.{Records, same_reply}
 pub use Rattle.shared_history.specs.Standing.{borrows, borrows_in, borrows_of, ends_borrow}
-pub use Rattle.shared_history.specs.Standing.{given_by, leaves, lent_in}
+pub use Rattle.shared_history.specs.Standing.{leaves, lent_by}
 pub use Rattle.shared_history.specs.declared.base.TrimmedSteps.{TrimmedSteps}
 pub use Rattle.shared_history.specs.{Logs.Bases, Counts.Counts, Logs.LogState, Bases.Trims}
 unfoldable pub use Rattle.shared_history.specs.History.{plain_step}

@@ -66,10 +66,10 @@ pub use Rattle.store_parts.specs.{Lists.how_many, CellNames.name_of_cell}
 pub use Rattle.store_slots.specs.Removal.{live_target}
 pub use Rattle.store_slots.specs.SlotRows.{all_slot_rows, entry_rows, rows_from}
 pub use Rattle.store_slots.specs.SlotsState.{AreReferred, borrowed_at, content_reached, Count}
-pub use Rattle.store_slots.specs.SlotsState.{count_less, count_more, count_of, given_from, given_in}
+pub use Rattle.store_slots.specs.SlotsState.{count_less, count_more, count_of, given_from}
 pub use Rattle.store_slots.specs.SlotsState.{has_other_count, HasBegun, is_reusable, is_spent}
 pub use Rattle.store_slots.specs.SlotsState.{IsReferred, IsSlotTable, IsTurned, live_from, names_up}
-pub use Rattle.store_slots.specs.SlotsState.{reached, refers, refers_among, refusal_of, Retirements}
-pub use Rattle.store_slots.specs.SlotsState.{shared_target, SlotsState, SlotTable, state_of}
+pub use Rattle.store_slots.specs.SlotsState.{reached, refers, refusal_of, Retirements}
+pub use Rattle.store_slots.specs.SlotsState.{SlotsState, SlotTable, state_of}
 pub use Rattle.store_slots.specs.SlotsState.{with_cell, with_records, would_end}
 unfoldable pub use Rattle.store_slots.specs.SlotsState.{cells_of, given_of}

@@ -52,10 +52,8 @@ pub use Rattle.generational_core.specs.{Machine.Action.LeakOwner, Machine.own_ce
 unfoldable pub use Rattle.generational_core.specs.{Slots.lasts, Seeing.value_in}
 pub use Rattle.generational_errors.specs.declared.error.StoreError.TheVariants.{OutOfMemory}
 use Rattle.generational_sessions.specs.Carrying
-pub use Carrying.{Carries, CarriesCells, KnowsAnswer, KnowsBox, KnowsCall, KnowsGuard}
-pub use Carrying.{KnowsNewNames, rename_action, rename_answer, rename_box, rename_cell}
-pub use Carrying.{rename_content, rename_guard, rename_new_names, rename_ownership, renaming}
-pub use Carrying.{shift_borrow, shift_owner}
+pub use Carrying.{Carries, CarriesCells, KnowsBox, KnowsGuard, rename_box, rename_cell}
+pub use Carrying.{rename_content, rename_guard, rename_ownership, shift_borrow, shift_owner}
 pub use Rattle.generational_sessions.specs.Disturbance.{AskedSets, IsUndisturbed, Undisturbed}
 pub use Rattle.generational_sessions.specs.History.{bare, plain, plain_answer, plain_call}
 pub use Rattle.generational_sessions.specs.History.{without_values}
