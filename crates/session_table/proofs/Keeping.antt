@@ -421,21 +421,12 @@ module _ {I K T : Type 0} (eq : I → I → Bool) (time : ℕ) where
     pub ticket : b.state.next ≡ a.state.next
 
 module _ {I K T : Type 0} {eq : I → I → Bool} {time : ℕ} where
-  pub sheds_none : (a : TableState I K T) → Sheds eq time 0 a a
-  sheds_none a = search (rules, arith)
-
   module _ {place : ℕ} {a b : TableState I K T} (s : Sheds eq time place a b) where
-    -- the session at the place is young
-    pub sheds_young : place < length b.sessions
-        → ((e : I × LiveSession K T) → slice_get b.sessions place ≡ Some e → is_young time e.1 ≡ true)
-        → Sheds eq time (place + 1) a b
-    sheds_young lt here = grind (arith, here, s.young, s.sessions, s.left)
-
     -- what an id has it had
     had : (id : I) (x : LiveSession K T) → session_in eq b id ≡ Some x → session_in eq a id ≡ Some x
     had id x is = grind (arith, s.sessions id)
 
-    -- or old, and ends
+    -- the session at the place is old, and ends
     pub sheds_old : IsEquivalence eq → {c : TableState I K T} → (e : EndsAt eq place b c)
         → is_young time e.ended.1 ≡ false → Sheds eq time place a c
     sheds_old laws {c} e old =
@@ -465,13 +456,6 @@ module _ {I K T : Type 0} {eq : I → I → Bool} {time : ℕ} where
       pub shed_kept : (id : I) (e : Entry T) → keeps eq a id e ≡ true → has_session eq b id ≡ true
           → shown_in b e ≡ shown_in a e
       shed_kept id e kept has = grind (arith, s.left e, keepers id)
-
-      pub shed_gone : IsOrderly eq b → (id : I) (e : Entry T) → keeps eq a id e ≡ true
-          → has_session eq b id ≡ false → shown_in b e ≡ None
-      shed_gone now id e kept hasnt = grind (arith, now.kept e, keepers id, had)
-
-      pub shed_none : (e : Entry T) → shown_in a e ≡ None → shown_in b e ≡ None
-      shed_none e none = grind (arith, s.left e)
 
 -- no rows are left where none are counted
 pub none_left : {I K T : Type 0} {eq : I → I → Bool} (S : State T) (rows : List (I × Session K T))

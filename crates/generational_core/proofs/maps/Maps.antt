@@ -252,10 +252,6 @@ same_ids a b = grind arith
 pub same_itself : (a : GenerationalPointer) → has_same_id a a ≡ true
 same_itself a = (same_ids a a).1 refl
 
-pub same_onward : (a b c : GenerationalPointer)
-    → has_same_id a b ≡ true → has_same_id b c ≡ true → has_same_id a c ≡ true
-same_onward a b c h k = (same_ids a c).1 ((same_ids a b).0 h ∙ (same_ids b c).0 k)
-
 pub same_turned : (a b : GenerationalPointer) → has_same_id a b ≡ has_same_id b a
 same_turned a b = grind arith
 

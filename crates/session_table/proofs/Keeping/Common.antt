@@ -29,7 +29,7 @@ pub use sessions.{release_next, seen_store, simple_taken, stays_listed, stays_pl
 pub use Rattle.generational_sessions.specs.PlainStores.{IsPlain, MakesNoReference}
 pub use Rattle.session_table.specs.Keeping.{Held, held_in, held_of, IsKept, IsOf}
 pub use Rattle.session_table.specs.Sessions.{if_young, is_young, LiveSession, names_in, names_of}
-pub use Rattle.session_table.specs.Sessions.{stores_of, with_entry, without_entry}
+pub use Rattle.session_table.specs.Sessions.{stores_of}
 pub use Rattle.session_table.specs.Tables.{EndsAt, has_session, IsOrderly, keeps, live, live_row}
 pub use Rattle.session_table.specs.Tables.{session_in, shown_in, table_of, TableState, WasPut}
 pub use Rattle.session_table.specs.declared.session.Session.{Session}

@@ -133,9 +133,6 @@ contains_own s i own k = grind (arith, nat_tests)
 
 -- a slot that is taken and put back is free as before
 module _ (pool : set.FinSet nat_cmp) (i : ℕ) (member : set.contains pool i ≡ true) where
-  pub not_left : set.contains (set.remove pool i) i ≡ false
-  not_left = rw (contains-remove_at, eq-eqb i i refl)
-
   pub put_back : set.insert (set.remove pool i) i ≡ pool
   put_back = set.same_set nat_cmp_total nat_cmp-IsAntisymmetric _ _ (λ k.
       rw (contains-insert_at, contains-remove_at) (grind (arith, nat_tests)))

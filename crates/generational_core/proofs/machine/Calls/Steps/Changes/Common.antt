@@ -10,7 +10,7 @@ pub use specs.Conditions.{fresh, IsBounded, IsEnded, IsLinked, IsLive, IsNamed, 
 pub use specs.Ending.{cells_after, close, first_hindrance, hindrance_at, hindrance_of}
 pub use specs.Machine.{act, Action, add_cell, add_to_list, Answer, cell_at, clone_owner, has_reader}
 pub use specs.Machine.{has_writer, is_known, knows_reader, knows_writer, make, NewNames, next_borrow}
-pub use specs.Machine.{next_guard, Outcome, own_name, OwnerName, ownership, point, read_at, refer}
+pub use specs.Machine.{Outcome, own_name, OwnerName, ownership, point, read_at, refer}
 pub use specs.Machine.{release_owner, remove_reader, set_at, set_ownership, unless, write_at}
 pub use specs.Machine.Action.{CloneOwner, End, Make, MakeShared, NewOwner, Point, Read, Refer}
 pub use specs.Machine.Action.{ReleaseOwner, ReleaseReader, ReleaseWriter, SetValue, Write}
@@ -38,7 +38,7 @@ use Rattle.std.proofs
 pub use proofs.Common.{ap, arith, Bool, cond, false, inl, inr, List, None, not, Option, refl, Some, subst}
 pub use proofs.Common.{sym, take, true, [], ℕ, ⊎_elim, ◌++◌, ◌+◌, ◌<◌, ◌||◌, ◌∙◌, ◌∷◌, ◌≡◌, ◌≢◌, ◌≤◌}
 pub use proofs.lemmas.Bool.{and_from, and_parts, cases_Bool, cases_lt, cond_both, eq-eqb, eqb-true}
-pub use proofs.lemmas.Bool.{false_from_ne_true, le-ltb, lt-ltb, not-true}
+pub use proofs.lemmas.Bool.{false_from_ne_true, le-ltb, lt-ltb}
 pub use proofs.lemmas.Bool.{or_cases, or_left, or_parts, or_right, true≢false}
 pub use proofs.{lemmas.Map.Keys.IsDistinct-push, lemmas.Map.Made.length-le_from_is_member}
 pub use proofs.{lemmas.List.length-map, lemmas.List.Folds.list_any-append}

@@ -60,5 +60,4 @@ pub use Rattle.std.specs.List.{AllByRecursion, flat_map, insert, list_any}
 pub use Rattle.std.specs.Prelude.{filter, IfOk, is_some, map, nat_eq, Result, slice_get}
 pub use Rattle.std.specs.Prelude.{slice_index_or, slice_set, ◌&&◌, ◌↔◌, ◌⊎◌}
 pub use Rattle.std.specs.{Ordering.nat_cmp, Cmp.nat_cmp_total, Option.option_map}
-pub use Rattle.std.specs.{Iterator.YieldsFirst}
 unfoldable pub use Rattle.std.specs.List.{IsDistinct}
