@@ -1,6 +1,6 @@
 //! Documents in which one part stands in several places.
 
-ghost use Rattle.std.specs.Prelude.{◌≡◌, ◌≢◌, ◌∷◌, None, Some, OnOk, OnErr, is_some};
+ghost use Rattle.std.specs.Prelude.{◌≡◌, ◌≢◌, ◌∷◌, None, Some, OnOk, is_some};
 ghost use Rattle.document_tree.specs.declared.place.Place.{Place};
 ghost use Rattle.document_tree.specs.Documents.{shown_in, part_in, content_of, with_children, Leaves, WasMade};
 ghost use Rattle.document_tree.specs.Places.{IsOther};

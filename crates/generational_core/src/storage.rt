@@ -1,6 +1,6 @@
 //! What every store does.
 
-ghost use Rattle.std.specs.Prelude.{◌≡◌, ◌≤◌, ◌+◌, ◌-◌, ◌↔◌, true, IsTrue, IfOk, IfErr, None};
+ghost use Rattle.std.specs.Prelude.{◌≡◌, ◌≤◌, ◌+◌, ◌-◌, ◌↔◌, true, IsTrue, IfOk, IfErr};
 ghost use Rattle.std.specs.Prelude.{IfNone, IfSome, is_some, option_copied, Some};
 ghost use Rattle.generational_core.specs.State.{State, IsSound};
 ghost use Rattle.std.specs.FinMap as map;

@@ -1,8 +1,8 @@
 //! The nodes of a store.
 
-ghost use Rattle.std.specs.Prelude.{◌≡◌, ◌≢◌, ◌≤◌, ◌<◌, ◌+◌, ◌^◌, ℕ, List, Option, Some, None, IfSome, IfNone, option_copied, take, IsTrue, slice_get};
+ghost use Rattle.std.specs.Prelude.{◌≡◌, ◌≢◌, ◌<◌, ◌+◌, ◌^◌, ℕ, List, Option, Some, None, IfSome, IfNone, option_copied, take, IsTrue, slice_get};
 ghost use Rattle.std.specs.Prelude.{[], true, is_some, Ok, IsOk, IfOk, IfErr, OnOk, OnErr};
-ghost use Rattle.std.specs.Prelude.{map as list_map, ◌⊎◌};
+ghost use Rattle.std.specs.Prelude.{map as list_map};
 ghost use Rattle.generational_core.specs.Slots.{free};
 ghost use Rattle.generational_sessions.specs.PlainStores.{IsSimple};
 ghost use Rattle.generational_errors.specs.declared.error.StoreError.TheVariants.{NumbersExhausted, OutOfMemory};

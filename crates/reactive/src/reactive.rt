@@ -1,6 +1,6 @@
 //! Graphs of sources and memos.
 
-ghost use Rattle.std.specs.Prelude.{◌≡◌, ◌≢◌, ℕ, Some, None, IsOk, IfOk, IfErr, IfSome, OnOk, OnErr, IsTrue, option_copied};
+ghost use Rattle.std.specs.Prelude.{◌≡◌, ◌≢◌, Some, None, IsOk, IfOk, IfErr, IfSome, OnOk, OnErr, IsTrue, option_copied};
 ghost use Rattle.generational_core.specs.Conditions.{IsFresh};
 ghost use Rattle.generational_core.specs.Slots.{free};
 ghost use Rattle.reactive.specs.declared.fault.Fault.TheVariants as fault;

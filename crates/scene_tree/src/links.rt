@@ -1,10 +1,10 @@
 //! The links of each slot's node: its parent, its first and last child, and the siblings beside it.
 
-ghost use Rattle.std.specs.Prelude.{◌≡◌, ◌≢◌, ◌<◌, ◌≤◌, ◌+◌, ◌++◌, ◌∷◌, [], ℕ, length, true, None, Some, IfOk, OnOk, OnErr, IsTrue, ◌↔◌, slice_get};
+ghost use Rattle.std.specs.Prelude.{◌≡◌, ◌≢◌, ◌<◌, ◌≤◌, ◌+◌, ◌++◌, ℕ, length, true, None, Some, IfOk, OnOk, OnErr, IsTrue, ◌↔◌, slice_get};
 ghost use Rattle.std.specs.Vec.{vec_capacity};
 ghost use Rattle.scene_tree.specs.Chains.{after_put, before_put, changed, noted, tie_of};
 ghost use Rattle.scene_tree.specs.Nodes.{slot_in, is_same};
-ghost use Rattle.scene_tree.specs.Families.{families, family_at, parent_at, children_at, above, alone};
+ghost use Rattle.scene_tree.specs.Families.{families, parent_at, children_at, above, alone};
 ghost use Rattle.scene_tree.specs.Families.{IsForest, IsLinked, IsInLevels, IsUnder, IsOpened, IsAttached};
 ghost use Rattle.scene_tree.specs.Families.{IsDetached, IsCleared, IsCut, IsRooted, count_at, slot_of, IsGap, IsSpotIn};
 ghost use Rattle.scene_tree.specs.Rows.{IsPlaced, IsRow, behind, rows_at, waiting};

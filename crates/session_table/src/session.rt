@@ -1,8 +1,7 @@
 //! Sessions: what a table keeps under an id, from its login to its end. They are a user's, and have
 //! nothing of the machine's runs, which `generational_sessions` calls so.
 
-ghost use Rattle.std.specs.Prelude.{◌≡◌, ◌⊎◌, ◌++◌, ◌∷◌, [], ℕ, true, Some, is_some, IfOk, IfErr, IsErrAnd, OnErr, IfNone};
-ghost use Rattle.std.specs.Iterator.{YieldsFirstBy, item_count};
+ghost use Rattle.std.specs.Prelude.{◌≡◌, ◌⊎◌, ◌++◌, ◌∷◌, [], true, Some, is_some, IfOk, IfErr, IsErrAnd, OnErr, IfNone};
 ghost use Rattle.std.specs.Map.{lookup, remove_entry};
 ghost use Rattle.generational_core.specs.Leaving.{HasNoBorrows};
 ghost use Rattle.generational_core.specs.Machine.{ownership};

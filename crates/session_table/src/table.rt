@@ -1,16 +1,14 @@
 //! Tables of sessions.
 
-ghost use Rattle.std.specs.Prelude.{◌≡◌, ◌≢◌, ◌↔◌, ◌⊎◌, ◌<◌, ◌≤◌, ◌+◌, [], true, false, length};
-ghost use Rattle.std.specs.Prelude.{None, Some, Err, is_some, option_map, option_copied, cond, IfOk, OnOk};
+ghost use Rattle.std.specs.Prelude.{◌≡◌, ◌↔◌, ◌⊎◌, ◌<◌, ◌+◌, [], true, false, length};
+ghost use Rattle.std.specs.Prelude.{None, Some, Err, is_some, option_map, option_copied, IfOk, OnOk};
 ghost use Rattle.std.specs.Prelude.{IfErr, IsErrAnd, OnErr, IsErr, IsTrue, IsFalse, IfNone, IsNone, IsSome, slice_get};
 ghost use Rattle.std.specs.Prelude.{if◌then◌else◌, not};
 ghost use Rattle.std.specs.Borrow.{MutBor};
 ghost use Rattle.std.specs.Fn.{FnOnceReturnsAtMut};
-ghost use Rattle.generational_core.specs.Boxes.{name_of};
 ghost use Rattle.generational_core.specs.Conditions.{IsFresh};
 ghost use Rattle.generational_core.specs.Leaving.{HasNoBorrows};
 ghost use Rattle.generational_core.specs.Machine.{OwnerName, ownership};
-ghost use Rattle.generational_core.specs.Names.{among};
 ghost use Rattle.generational_core.specs.Seeing.{value_in};
 ghost use Rattle.generational_errors.specs.declared.error.StoreError.{StoreError};
 ghost use Rattle.generational_errors.specs.declared.error.StoreError.TheVariants.{OutOfMemory};
@@ -21,7 +19,7 @@ ghost use Rattle.session_table.specs.declared.session.LoginError.TheVariants as 
 ghost use Rattle.session_table.specs.declared.session.RenameError.TheVariants as rename;
 ghost use Rattle.session_table.specs.Entries.{pointer_in, put_at, IsOther};
 ghost use Rattle.session_table.specs.Sessions.{LiveSession, begun, used, with_entry, without_entry, entry_in};
-ghost use Rattle.session_table.specs.Sessions.{is_young, if_young, names_of};
+ghost use Rattle.session_table.specs.Sessions.{is_young, if_young};
 ghost use Rattle.session_table.specs.Tables.{EndsAt, TableState, live, shown_in, keeps};
 ghost use Rattle.session_table.specs.Tables.{has_session, session_in, WasPut, IsOrderly};
 

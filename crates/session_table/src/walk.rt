@@ -1,6 +1,5 @@
 //! Walks over the sessions of a table, and over the entries of a session.
 
-ghost use Rattle.std.specs.Prelude.{◌≡◌};
 ghost use Rattle.std.specs.Prelude.{map as list_map};
 ghost use Rattle.std.specs.Iterator.{YieldsFirstBy, item_count};
 ghost use Rattle.session_table.specs.Tables.{live};

@@ -1,6 +1,6 @@
 //! The base of a history: the state from which it goes on, without values.
 
-ghost use Rattle.std.specs.Prelude.{◌≡◌, ◌+◌, ◌<◌, ◌^◌, [], IfOk};
+ghost use Rattle.std.specs.Prelude.{◌≡◌, ◌+◌, ◌<◌, ◌^◌, IfOk};
 ghost use Rattle.shared_history.specs.Bases.{all_trimmed, new_base, trimmed_of};
 
 use generational_core::BaseRow;

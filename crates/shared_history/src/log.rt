@@ -1,7 +1,7 @@
 //! The history of a store, with its books.
 
 ghost use Rattle.std.specs.Prelude.{◌≡◌, ◌+◌, ◌^◌, ◌<◌, ◌≤◌, [], IfOk, IfSome, OnOk};
-ghost use Rattle.std.specs.Prelude.{OnErr, OnSome, IfNone, if◌then◌else◌, is_some, length, unwrap_or};
+ghost use Rattle.std.specs.Prelude.{OnErr, OnSome, IfNone, length};
 ghost use Rattle.std.specs.Bool.{OnFalse, OnTrue};
 ghost use Rattle.shared_history.specs.Bases.{IsCounted, Trims, all_trimmed, counts_of, new_base};
 ghost use Rattle.shared_history.specs.Counts.{raised};

@@ -2,7 +2,7 @@
 
 ghost use Rattle.std.specs.Prelude.{◌≡◌, ◌+◌, ◌↔◌, ◌<◌, ◌≤◌, IsTrue, MatchResult, IfOk, IfErr};
 ghost use Rattle.generational_errors.specs.declared.error.StoreError.TheVariants.{OutOfMemory};
-ghost use Rattle.shared_history.specs.Counts.{Counts, raised, merged, new_tallies};
+ghost use Rattle.shared_history.specs.Counts.{Counts, merged, new_tallies};
 
 use generational_core::StoreError;
 use std::alloc::Global;

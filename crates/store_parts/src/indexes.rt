@@ -1,6 +1,6 @@
 //! Indexes that are free again.
 
-ghost use Rattle.std.specs.Prelude.{◌≡◌, ℕ, ◌<◌, ◌≤◌, false, true, IfSome, IfNone, IfErr, OnOk};
+ghost use Rattle.std.specs.Prelude.{◌≡◌, ◌<◌, ◌≤◌, false, true, IfSome, IfNone, IfErr, OnOk};
 ghost use Rattle.std.specs.Prelude.{max, vec_capacity};
 ghost use Rattle.std.specs.FinSet as set;
 ghost use Rattle.generational_errors.specs.declared.error.StoreError.TheVariants.{OutOfMemory};

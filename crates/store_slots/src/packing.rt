@@ -1,7 +1,7 @@
 //! The rows of slots, packed.
 
-ghost use Rattle.std.specs.Prelude.{◌≡◌, ◌<◌, ◌≤◌, ◌+◌, ◌++◌, ◌∷◌, [], ℕ, IfOk, IfSome, OnOk};
-ghost use Rattle.std.specs.Prelude.{length, slice_get, take};
+ghost use Rattle.std.specs.Prelude.{◌≡◌, ◌<◌, ◌≤◌, [], IfOk, IfSome, OnOk};
+ghost use Rattle.std.specs.Prelude.{length, slice_get};
 ghost use Rattle.std.specs.Bool.{OnTrue};
 ghost use Rattle.store_slots.specs.Packing.{ArePacked, ArePastOf, AreRenewed, IsPacked, IsPastOf};
 ghost use Rattle.store_slots.specs.Packing.{IsSmall, Packs, WasMadeIn};

@@ -1,8 +1,6 @@
 //! What references lead to and name, and the counts of references at the slots of their targets.
 
 ghost use Rattle.std.specs.Prelude.{◌≡◌, ◌<◌, IfSome, is_some, length, option_map, slice_get};
-ghost use Rattle.generational_core.specs.Borrowing.{leads_to};
-ghost use Rattle.generational_core.specs.Cells.{is_shared};
 ghost use Rattle.generational_core.specs.Keeping.{boxed_at};
 ghost use Rattle.store_parts.specs.CellNames.{name_of_cell};
 ghost use Rattle.store_cells.specs.Entry.{cell_under};

@@ -1,6 +1,6 @@
 //! The slots of a store with the pool of the free ones.
 
-ghost use Rattle.std.specs.Prelude.{◌≡◌, ◌+◌, ◌-◌, ◌<◌, ◌≤◌, ◌∷◌, ◌++◌, [], true, Some, None};
+ghost use Rattle.std.specs.Prelude.{◌≡◌, ◌+◌, ◌-◌, ◌<◌, ◌≤◌, ◌∷◌, [], true, Some, None};
 ghost use Rattle.std.specs.Prelude.{Err, IfSome, IfOk, IfErr, IsSome, OnOk, OnErr, IsTrue, ◌↔◌};
 ghost use Rattle.std.specs.Prelude.{is_none, is_ok, option_copied, option_map, length, not};
 ghost use Rattle.std.specs.Prelude.{IfNone, false, is_some};
@@ -27,7 +27,7 @@ ghost use Rattle.generational_core.specs.Names.{is_name};
 ghost use Rattle.generational_core.specs.Seeing.{unborrowed_value, value_reached};
 ghost use Rattle.generational_core.specs.Slots.{slots, free, retired};
 ghost use Rattle.generational_core.specs.State.{content_at, is_named};
-ghost use Rattle.generational_core.specs.StepCalls.{is_hindered, may_set, tells_of_borrow};
+ghost use Rattle.generational_core.specs.StepCalls.{is_hindered};
 ghost use Rattle.store_cells.specs.declared.entry.StorageEntryData.TheVariants as content;
 ghost use Rattle.store_parts.specs.Borrows.{AreBelow};
 ghost use Rattle.store_cells.specs.Data.{data_in};
@@ -39,7 +39,6 @@ ghost use Rattle.store_parts.specs.CellNames.{name_of_cell};
 ghost use Rattle.store_cells.specs.Entry.{target_in, value_for};
 ghost use Rattle.store_slots.specs.SlotsState.{change_content, content_reached, reached};
 ghost use Rattle.store_slots.specs.SlotsState.{refusal_to_read_at, refusal_to_refer_at};
-ghost use Rattle.store_slots.specs.SlotsState.{refusal_to_write_at};
 ghost use Rattle.store_slots.specs.SlotsState.{would_end, Finds, HasEnded, IsMade, IsReadable, IsWritable};
 ghost use Rattle.store_slots.specs.SlotsState.{IsTurned};
 ghost use Rattle.store_slots.specs.Removal.{live_target};

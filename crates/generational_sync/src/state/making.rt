@@ -1,6 +1,6 @@
 //! Calls that make boxes and owners.
 
-ghost use Rattle.std.specs.Prelude.{◌≡◌, true, None, Some, IfOk, IfErr, is_some, option_copied};
+ghost use Rattle.std.specs.Prelude.{◌≡◌, true, None, Some, IfErr, is_some, option_copied};
 ghost use Rattle.generational_core.specs.declared.steps.StepCall.TheVariants as call;
 ghost use Rattle.generational_core.specs.Answers.{box_answer, owner_answer, pointer_of};
 ghost use Rattle.generational_core.specs.Answers.{reference_box_answer};
