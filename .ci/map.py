@@ -7,8 +7,9 @@
 
 The page has the crates of crates.txt in lists, one for each kind; a crate's name tells its kind. What
 users take, and what stores are made of, stands there with its sources, in the order in which they are
-read. Each source, definition and file of lemmas says in its first line what it is. And each test that
-.ci/planted.md names as what refuses a bug is there.
+read. Each source, definition and file of lemmas says in its first line what it is. A clause reaches each
+definition of specs/, by its name, or by that of one that it reaches: what proofs alone cite stands with
+them. And each test that .ci/planted.md names as what refuses a bug is there.
 """
 import os
 import re
@@ -29,6 +30,11 @@ KINDS = {
 # The kinds whose lists have the sources too, in the order of reading.
 ORDERED = ("### What users take", "### What stores are made of")
 TESTS = "test_"
+# A definition, by its name, and the words of a text. Operators are left out.
+DEFINITION = re.compile(r"\s*(?:abbrev pub|unfoldable pub|pub record|pub data) (?!use\b)([\w'-]+)")
+WORD = re.compile(r"[\w'-]+")
+# What only imports names.
+IMPORT = re.compile(r"\s*(ghost |pub )?use ")
 # Files that only name others, or answer the goals of one function.
 PLAIN = re.compile(r"(/|^)(Lib|Answers|Invariants)\.antt$")
 
@@ -150,6 +156,41 @@ def compare_files():
                 first_line(crate, file)
 
 
+def words_of(line, comment):
+    """The words of a line, but for a comment and imports."""
+    return set() if IMPORT.match(line) else set(WORD.findall(line.partition(comment)[0]))
+
+
+def definitions():
+    """The words of each definition of specs/, by its name."""
+    found = {}
+    for crate in all_crates():
+        for file in files_of(crate, "specs"):
+            name = None
+            for line in read(crate, file).splitlines():
+                opening = DEFINITION.match(line)
+                name = opening[1] if opening else name
+                if name:
+                    found.setdefault(name, set()).update(words_of(line, "--"))
+    return found
+
+
+def words_of_sources():
+    files = ((crate, file) for crate in all_crates() for file in files_of(crate, "src"))
+    texts = (read(crate, file) for crate, file in files if file.endswith(".rt"))
+    return set().union(*(words_of(line, "//") for text in texts for line in text.splitlines()))
+
+
+def compare_definitions(defined):
+    """The definitions, each of which a clause names, or one that a clause reaches."""
+    left = set(defined)
+    reached = left & words_of_sources()
+    while reached:
+        left -= reached
+        reached = left & set().union(*(defined[name] for name in reached))
+    wanted(not left, f"no clause reaches {' '.join(sorted(left))}")
+
+
 def tests_there():
     """Each function of the crates of tests, as `module::function`."""
     found = set()
@@ -208,16 +249,18 @@ def main():
         for crate in words[1:]:
             print_files(crate)
         return
-    page, planted = text_of(PAGE), text_of(PLANTED)
+    page, planted, defined = text_of(PAGE), text_of(PLANTED), definitions()
     compare(page)
     compare_files()
+    compare_definitions(defined)
     compare_planted(planted)
     if words == ["--try"]:
         for wrong in wrong_pages(page):
             refuse(compare, page, wrong)
         refuse(compare_planted, planted, planted.replace("`pairs::", "`peers::"))
+        refuse(compare_definitions, defined, {**defined, "named_by_itself": {"named_by_itself"}})
         refuse(compare_planted, planted, planted.replace("::words_that_are_no_list`", "::words_that_are_none`"))
-    print("docs/maintaining/map.md and .ci/planted.md are what the sources say")
+    print("docs/maintaining/map.md and .ci/planted.md are what the sources say; clauses reach each definition")
 
 
 if __name__ == "__main__":
