@@ -159,9 +159,9 @@ impl<T: Drop, P: SlotPool> Store<T, P> {
     ghost use Rattle.generational_errors.specs.declared.error.StoreError.TheVariants.{OutOfMemory};
 
     /// Makes room for this many cells more, where there isn't, and for no more than these. After it so
-    /// many makings without an owner take no memory, where a shared value is two cells. Their contracts
-    /// don't say so, since they allow a refusal wherever no slot is free: it is proved of the slots
-    /// beneath, and tested.
+    /// many insertions without an owner take no memory, where a shared value is two cells. Their
+    /// contracts don't say so, since they allow a refusal wherever no slot is free: it is proved of
+    /// the slots beneath, and tested.
     ///
     /// Refused by `OutOfMemory` alone. The state stays as it was, carried out or refused. Takes memory
     /// where there isn't room, and O(n) time for n slots that are moved then.

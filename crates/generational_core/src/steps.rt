@@ -8,21 +8,21 @@ use generational_errors::Location;
 /// owner by its id.
 #[derive(Clone, Copy, Debug, PartialEq)]
 pub enum StepCall {
-    /// A making of a value, at a location.
+    /// An insertion of a value, at a location.
     Leak(Location),
-    /// A making of a shared value and its first reference, at a location.
+    /// An insertion of a shared value and its first reference, at a location.
     LeakRc(Location),
-    /// A making of a reference to what a box reaches.
+    /// An insertion of a reference to what a box reaches.
     LeakReference(GenerationalPointer),
-    /// A making of an owner.
+    /// A new owner.
     Owner,
     /// Another owner value of a record.
     CloneOwner(OwnerId),
-    /// A making of a value by an owner, at a location.
+    /// An insertion of a value by an owner, at a location.
     Insert(OwnerId, Location),
-    /// A making of a shared value and its first reference by an owner, at a location.
+    /// An insertion of a shared value and its first reference by an owner, at a location.
     InsertRc(OwnerId, Location),
-    /// A making of a reference by an owner, to what a box reaches.
+    /// An insertion of a reference by an owner, to what a box reaches.
     InsertReference(OwnerId, GenerationalPointer),
     /// A read of a box, at a location.
     Read(GenerationalPointer, Location),

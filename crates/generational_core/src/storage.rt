@@ -148,9 +148,9 @@ pub trait AnyStorage<T> {
 
     // ---- What the shared store alone asks of a storage.
 
-    /// Whether the call would be answered without telling of a borrow in its way. A read, or a
-    /// making of a reference, meets no writer; a write, or another value, no borrow; the end of a
-    /// box or of an owner's boxes, and a reference that is pointed elsewhere, no borrow of a value
+    /// Whether the call would be answered without telling of a borrow in its way. A read, or an
+    /// insertion of a reference, meets no writer; a write, or another value, no borrow; the end of
+    /// a box or of an owner's boxes, and a reference that is pointed elsewhere, no borrow of a value
     /// that would end. Takes no memory.
     fn ready(&self, call: &StepCall) -> bool
         ensures { result ≡ is_ready (state self.now) call.now };

@@ -213,7 +213,7 @@ impl fmt::Display for AlreadyBorrowedError {
 
 impl Error for AlreadyBorrowedError {}
 
-/// Why a read or a making of a reference was refused.
+/// Why a read or an insertion of a reference was refused.
 #[derive(Clone, Debug, PartialEq, Drop)]
 pub enum BorrowError {
     /// The value is gone.
@@ -372,7 +372,7 @@ impl<T> fmt::Display for Refusal<T> {
 
 impl<T: fmt::Debug + Drop> Error for Refusal<T> {}
 
-/// What a read or a making of a reference answers.
+/// What a read or an insertion of a reference answers.
 pub type BorrowResult<T> = Result<T, Refused<BorrowError>>;
 
 /// What a write, an end or a new target of a reference answers.

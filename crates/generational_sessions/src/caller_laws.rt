@@ -287,9 +287,9 @@ pub fn boxes_reach_their_own_cells<T>()
         Meets S call answer R → MakesNoReference call → IsPlain S → IsPlain R }
 {}
 
-/// What a store lacks that refuses a call by itself: memory, or a ticket where all were given. A
-/// making lacks memory alone, where its owner is known, and a read where no borrow stands a ticket
-/// alone.
+/// What a store lacks that refuses a call by itself: memory, or a ticket where all were given. An
+/// insertion lacks memory alone, where its owner is known, and a read where no borrow stands a
+/// ticket alone.
 pub fn refusals_tell_what_lacks<T>()
     ensures owner { (S R : State T) (e : StoreError) →
         Meets S NewOwner (Answer.Refused e) R → Lacks S e }
@@ -304,13 +304,12 @@ pub fn refusals_tell_what_lacks<T>()
         (e ≡ NumbersExhausted) × (S.next ≡ last_ticket) }
 {}
 
-/// How many slots and tickets the calls of new boxes take. A making by no owner is refused only where
-/// no slot is free, or where fewer than two are, of a shared value. That takes two at most and no
-/// ticket, and gives the box of a reference; no box whose name was given before reaches what that
-/// one reaches. A reference to a value that no writer has is refused only
-/// where no slot is free, and takes no ticket; where the value may be written, it may be written
-/// through the new box. A write and a read where no borrow stands are refused only where all tickets
-/// were given.
+/// How many slots and tickets the calls of new boxes take. An insertion by no owner is refused only
+/// where no slot is free, or where fewer than two are, of a shared value. That takes two at most and
+/// no ticket, and gives the box of a reference; no box whose name was given before reaches what that
+/// one reaches. A reference to a value that no writer has is refused only where no slot is free, and
+/// takes no ticket; where the value may be written, it may be written through the new box. A write
+/// and a read where no borrow stands are refused only where all tickets were given.
 pub fn new_boxes_take_slots_and_tickets<T>()
     ensures make { (S R : State T) (v : T) (l : Location) (e : StoreError) →
         Meets S (Make None v l) (Answer.Refused e) R → (e ≡ OutOfMemory) × (free S ≡ 0) }

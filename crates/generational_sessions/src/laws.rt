@@ -203,7 +203,7 @@ pub fn undisturbed_values_stay<T>()
 {}
 
 /// A box sees the value that a read of it would show: that at the cell which it reaches, unless a
-/// writer has it. A box that a making gives sees the value that was handed in; one of a reference
+/// writer has it. A box that was inserted sees the value that was handed in; one of a reference
 /// reaches and sees what the box sees from which it was made. No box has the name of a new one that
 /// saw a value before. A reference that was pointed elsewhere reaches what the other box reaches.
 pub fn made_boxes_see_their_values<T>()
@@ -274,7 +274,7 @@ pub fn guards_hold_what_boxes_see<T>()
 {}
 
 /// A box that may be written reaches a value at which no borrow stands. It sees that value, and may
-/// be read; its end is never refused. So it is of each box that a making gives, and it stays so,
+/// be read; its end is never refused. So it is of each box that was inserted, and it stays so,
 /// unless a call ends the box, points it elsewhere, or begins a borrow of what it reaches
 /// (`LeavesUnborrowed`). A read that was released leaves the state as it was, but for a ticket.
 pub fn unborrowed_boxes_are_free<T>()
