@@ -161,24 +161,29 @@ def words_of(line, comment):
     return set() if IMPORT.match(line) else set(WORD.findall(line.partition(comment)[0]))
 
 
+def texts_of(folder, ending):
+    """The texts of the files in a folder of each crate."""
+    for crate in all_crates():
+        for file in (it for it in files_of(crate, folder) if it.endswith(ending)):
+            yield read(crate, file)
+
+
 def definitions():
     """The words of each definition of specs/, by its name."""
     found = {}
-    for crate in all_crates():
-        for file in files_of(crate, "specs"):
-            name = None
-            for line in read(crate, file).splitlines():
-                opening = DEFINITION.match(line)
-                name = opening[1] if opening else name
-                if name:
-                    found.setdefault(name, set()).update(words_of(line, "--"))
+    for text in texts_of("specs", ".antt"):
+        name = None
+        for line in text.splitlines():
+            opening = DEFINITION.match(line)
+            name = opening[1] if opening else name
+            found.setdefault(name, set()).update(words_of(line, "--"))
+    found.pop(None, None)
     return found
 
 
 def words_of_sources():
-    files = ((crate, file) for crate in all_crates() for file in files_of(crate, "src"))
-    texts = (read(crate, file) for crate, file in files if file.endswith(".rt"))
-    return set().union(*(words_of(line, "//") for text in texts for line in text.splitlines()))
+    lines = (line for text in texts_of("src", ".rt") for line in text.splitlines())
+    return set().union(*(words_of(line, "//") for line in lines))
 
 
 def compare_definitions(defined):
