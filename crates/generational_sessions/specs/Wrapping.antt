@@ -8,7 +8,7 @@ use Rattle.generational_core.specs.Machine.{Answer, OwnerName}
 use Rattle.generational_core.specs.Machine.Answer.{Made, Owned, Refused}
 
 module _ {T W : Type 0} where
-  -- a making of a value, of a reference, and of an owner
+  -- a making of a value, and of an owner
   abbrev pub wrapped_answer : (W → GenerationalPointer) → Result W (Refusal T) → Answer T
   wrapped_answer box (Ok w) = Made (box w)
   wrapped_answer box (Err r) = Refused r.cause
