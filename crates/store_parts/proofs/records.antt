@@ -330,7 +330,7 @@ pub vacant_through : (xs : List Place) (n : ℕ) (x : Place)
 vacant_through xs n x before there vacant i within = grind (arith, before i)
 
 -- a record stands under its key
-pub held_record : (P : KeyedOwnership → Type 0) (o : Option Place) → Holds P o
+pub held_record : (P : KeyedOwnership → Type 0) (o : Option Place) → IsFilledWith P o
     → HasRecord (key_at o) o
 held_record P (Some (Some r)) held = rw (eq-eqb r.key r.key refl) refl
 held_record P _ held = absurd held

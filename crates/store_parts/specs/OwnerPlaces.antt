@@ -1,6 +1,6 @@
 -- The places at which a store keeps the records of owners, and the map for which they stand.
 use Rattle.std.specs.Prelude.{◌≡◌, ◌≤◌, ◌<◌, ℕ, Bool, true, false, nat_eq, if◌then◌else◌, is_some}
-use Rattle.std.specs.Prelude.{Option, None, Some, List, [], ◌∷◌, length, slice_get, slice_set}
+use Rattle.std.specs.Prelude.{IsSomeAnd, Option, None, Some, List, [], ◌∷◌, length, slice_get, slice_set}
 use Rattle.std.specs.Ordering.{nat_cmp}
 use Rattle.std.specs.FinMap as map
 use Rattle.std.specs.FinSet as set
@@ -75,20 +75,19 @@ pub record ArePlaced (vacant : set.FinSet nat_cmp) (rooms : ℕ) (places : List 
   pub roomy : length places ≤ rooms
   pub apart : HasDistinctKeys places
 
--- a record of which P holds
-abbrev pub Holds : (KeyedOwnership → Type 0) → Option Place → Type 0
-Holds P (Some (Some r)) = P r
-Holds P _ = ⊥
+-- a place with a record of which P holds
+abbrev pub IsFilledWith : (KeyedOwnership → Type 0) → Option Place → Type 0
+IsFilledWith P place = IsSomeAnd place (λ kept. IsSomeAnd kept P)
 
--- a record
+-- a place with a record
 abbrev pub IsFilled : Option Place → Type 0
-IsFilled place = Holds (λ r. Unit {0}) place
+IsFilled place = IsFilledWith (λ r. Unit {0}) place
 
--- a record that has room for a name more on its list
+-- a place with a record that has room for a name more on its list
 abbrev pub HasRoom : Option Place → Type 0
-HasRoom place = Holds (λ r. length r.ownership.names < r.rooms) place
+HasRoom place = IsFilledWith (λ r. length r.ownership.names < r.rooms) place
 
--- its key, and for how many names its list has room
+-- the key of the record at a place, and for how many names its list has room
 abbrev pub key_at : Option Place → ℕ
 key_at (Some (Some r)) = r.key
 key_at _ = 0

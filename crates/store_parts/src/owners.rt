@@ -13,7 +13,7 @@ ghost use Rattle.store_parts.specs.OwnerRecords.{knows, permits, record_of};
 ghost use Rattle.store_parts.specs.OwnerRecords.{add_to_list_in, IsRefusal};
 ghost use Rattle.store_parts.specs.OwnerPlaces.{with_ownership, with_rooms};
 ghost use Rattle.store_parts.specs.OwnerPlaces.{change_place, change_record, key_at, rooms_at};
-ghost use Rattle.store_parts.specs.OwnerPlaces.{HasRoom, Holds, IsFilled, IsReserved};
+ghost use Rattle.store_parts.specs.OwnerPlaces.{HasRoom, IsFilled, IsFilledWith, IsReserved};
 ghost use Rattle.generational_core.specs.Machine.{OwnerName};
 ghost use Rattle.store_parts.specs.OwnerPlaces.{owners_of};
 ghost use Rattle.store_parts.specs.OwnerPlaces.{record_at, HasRecord};
@@ -319,7 +319,7 @@ impl OwnerRecords {
 
     /// One owner value more of the record at a place.
     pub fn count_up(&mut self, place: usize)
-        requires { Holds (λ r. r.ownership.count < 18446744073709551615)
+        requires { IsFilledWith (λ r. r.ownership.count < 18446744073709551615)
             (slice_get self.old.places place) }
         ensures { self.new.owners
             ≡ change self.old.owners (key_at (slice_get self.old.places place)) one_more }
@@ -329,7 +329,7 @@ impl OwnerRecords {
 
     /// One owner value less of the record at a place.
     pub fn count_down(&mut self, place: usize)
-        requires { Holds (λ r. 0 < r.ownership.count) (slice_get self.old.places place) }
+        requires { IsFilledWith (λ r. 0 < r.ownership.count) (slice_get self.old.places place) }
         ensures { self.new.owners
             ≡ change self.old.owners (key_at (slice_get self.old.places place)) one_less }
     {
@@ -420,7 +420,7 @@ fn list_at(places: &mut Vec<Option<OwnerRecord>>, place: usize, name: CellName)
 
 // One owner value more of the record at a place.
 fn count_up_at(places: &mut Vec<Option<OwnerRecord>>, place: usize)
-    requires { Holds (λ r. r.ownership.count < 18446744073709551615)
+    requires { IsFilledWith (λ r. r.ownership.count < 18446744073709551615)
         (slice_get places.old.items place) }
     ensures { places.new.items ≡ change_place places.old.items place one_more }
 {
@@ -432,7 +432,7 @@ fn count_up_at(places: &mut Vec<Option<OwnerRecord>>, place: usize)
 
 // One owner value less of the record at a place.
 fn count_down_at(places: &mut Vec<Option<OwnerRecord>>, place: usize)
-    requires { Holds (λ r. 0 < r.ownership.count) (slice_get places.old.items place) }
+    requires { IsFilledWith (λ r. 0 < r.ownership.count) (slice_get places.old.items place) }
     ensures { places.new.items ≡ change_place places.old.items place one_less }
 {
     match &mut places[place] {

@@ -30,8 +30,8 @@ pub use Rattle.std.specs.List.Sorted.{IsBinarySearchResult, IsNonDecreasingBy}
 pub use specs.{Borrows.AreBelow, declared.names.CellName.CellName, CellNames.name_of_cell}
 pub use specs.{Lists.how_many, Pools.chain, Pools.IsPool, Pools.last_of}
 pub use specs.OwnerPlaces.{ArePlaced, change_place, change_record, change_record_if}
-pub use specs.OwnerPlaces.{HasDistinctKeys, HasRecord, HasRoom, Holds, is_vacant, key_at, IsPlaceOf, IsReserved}
-pub use specs.OwnerPlaces.{keyed_ownerships, KeyedOwnership, Place, place_rows, record_at}
+pub use specs.OwnerPlaces.{HasDistinctKeys, HasRecord, HasRoom, is_vacant, key_at, IsPlaceOf, IsReserved}
+pub use specs.OwnerPlaces.{IsFilledWith, keyed_ownerships, KeyedOwnership, Place, place_rows, record_at}
 pub use specs.OwnerPlaces.{record_in, Records, with_ownership, with_rooms}
 pub use specs.OwnerRecords.{add_to_list_in, record_of}
 pub use specs.Queues.{HasTicketAt, AreKept, IsOwnPlace, IsQueue, standing_at, StandsAt}
