@@ -20,8 +20,8 @@ pub use crate::unsync::{Numbers, Store, UnsyncStorage};
 pub use generational_core::{
     AlreadyBorrowedError, AlreadyBorrowedMutError, AnyStorage, BaseRow, BorrowError,
     BorrowMutError, BorrowMutResult, BorrowResult, GenerationalBox, GenerationalBoxId,
-    GenerationalPointer, GenerationalRef, GenerationalRefMut, Location, Mut, MutPart, Owner,
-    OwnerId, Ref, Refusal, Refused, StepCall, Storage, StoreError, ValueDroppedError,
+    GenerationalPointer, GenerationalRef, GenerationalRefMut, HandedBack, Location, Mut, MutPart,
+    Owner, OwnerId, Ref, Refusal, Refused, StepCall, Storage, StoreError, ValueDroppedError,
 };
 pub use generational_sessions::{BoxAt, Call, Reply, Session, caller_laws, laws};
 pub use store_parts::pool::{LastFirst, OldestFirst, SlotPool};

@@ -25,5 +25,5 @@ pub use crate::steps::StepCall;
 pub use crate::storage::{AnyStorage, Storage};
 pub use generational_errors::{
     AlreadyBorrowedError, AlreadyBorrowedMutError, BorrowError, BorrowMutError, BorrowMutResult,
-    BorrowResult, Location, Refusal, Refused, StoreError, ValueDroppedError,
+    BorrowResult, HandedBack, Location, Refusal, Refused, StoreError, ValueDroppedError,
 };

@@ -352,12 +352,14 @@ impl From<Refused<BorrowError>> for Refused<BorrowMutError> {
     }
 }
 
-/// A value that a store didn't take in, handed back, and why.
-#[derive(Debug, Drop)]
+/// A value that a store didn't keep, handed back, and why.
+///
+/// It is an error whatever the value is, so `?` takes it where the value can be dropped.
+#[derive(Drop)]
 pub struct Refusal<T> {
     /// The value that was handed in.
     pub value: T,
-    /// Why it wasn't taken in.
+    /// Why it wasn't kept.
     pub cause: StoreError,
 }
 
@@ -370,7 +372,67 @@ impl<T> fmt::Display for Refusal<T> {
     }
 }
 
-impl<T: fmt::Debug + Drop> Error for Refusal<T> {}
+/// Prints the cause, and of the value nothing: it needn't be `Debug`.
+impl<T> fmt::Debug for Refusal<T> {
+    fn fmt<W: fmt::Write>(&self, f: &mut fmt::Formatter<W>) -> fmt::Result {
+        f.debug_struct("Refusal")
+            .field("cause", &self.cause)
+            .finish_non_exhaustive()
+    }
+}
+
+impl<T: Drop> Error for Refusal<T> {}
+
+/// A value that a call of a library above the boxes didn't keep, handed back, and why.
+///
+/// It is an error whatever the value is, so `?` takes it where the value can be dropped.
+#[derive(Drop)]
+pub struct HandedBack<T, E> {
+    /// The value that was handed in.
+    pub value: T,
+    /// Why it wasn't kept.
+    pub cause: E,
+}
+
+/// Prints the text of the cause.
+impl<T, E: fmt::Display> fmt::Display for HandedBack<T, E> {
+    ghost output = { λ it. E.output it.cause };
+
+    fn fmt<W: fmt::Write>(&self, f: &mut fmt::Formatter<W>) -> fmt::Result {
+        write!(f, "{}", self.cause)
+    }
+}
+
+/// Prints the cause, and of the value nothing: it needn't be `Debug`.
+impl<T, E: fmt::Debug> fmt::Debug for HandedBack<T, E> {
+    fn fmt<W: fmt::Write>(&self, f: &mut fmt::Formatter<W>) -> fmt::Result {
+        f.debug_struct("HandedBack")
+            .field("cause", &self.cause)
+            .finish_non_exhaustive()
+    }
+}
+
+impl<T: Drop, E: Error> Error for HandedBack<T, E> {}
+
+/// Keeps both parts, as of the pair that a signal's `set` fails with. Takes no memory.
+impl<T, E> From<(T, E)> for HandedBack<T, E> {
+    ghost from_gives = { λ pair r. r ≡ record { value = pair.0; cause = pair.1 } };
+
+    fn from(pair: (T, E)) -> HandedBack<T, E> {
+        let (value, cause) = pair;
+        HandedBack { value, cause }
+    }
+}
+
+/// Keeps both parts. Takes no memory.
+impl<T> From<Refusal<T>> for HandedBack<T, StoreError> {
+    ghost from_gives = { λ refusal r. r ≡ record { value = refusal.value; cause = refusal.cause } };
+
+    fn from(refusal: Refusal<T>) -> HandedBack<T, StoreError> {
+        let Refusal { value, cause } = refusal;
+        HandedBack { value, cause }
+    }
+}
 
 /// What a read or an insertion of a reference answers.
 pub type BorrowResult<T> = Result<T, Refused<BorrowError>>;

@@ -8,5 +8,5 @@ mod error;
 
 pub use crate::error::{
     AlreadyBorrowedError, AlreadyBorrowedMutError, BorrowError, BorrowMutError, BorrowMutResult,
-    BorrowResult, Location, Refusal, Refused, StoreError, ValueDroppedError,
+    BorrowResult, HandedBack, Location, Refusal, Refused, StoreError, ValueDroppedError,
 };
