@@ -4,9 +4,9 @@
     .ci/api.py          writes all pages anew
     .ci/api.py --try    compares them, and shows that a source that says otherwise is found
 
-A page has each public item of its crate, also one that it hands on from another: its signature, the
-first paragraph of its comment, its clauses by their names, and a link to its source. A clause without
-a name stands there itself. Sources are in rt fmt's layout.
+A page has each public item of its crate, also one that it re-exports: its signature, its comment
+without the example, the names of all its clauses, and a link to its source. A clause without a name is
+printed itself. Sources are in rt fmt's layout.
 """
 import pathlib
 import re
@@ -26,6 +26,8 @@ CLAUSE = re.compile(r"(requires|ensures)\*? ?(\w+)? ?\{")
 LONGEST = 200
 # What every type of a kind has, and no user asks for.
 PLAIN_TRAITS = {"Model", "Drop"}
+# A line of a comment that isn't joined to the line before it: of a list or of a table.
+OWN_LINE = re.compile(r"[-*|]|\d+\. ")
 
 
 class Failure(Exception):
@@ -76,14 +78,37 @@ def home(sources, crate, path, name):
 
 
 def comment_above(lines, at):
-    """The first paragraph of an item's comment."""
+    """An item's comment, without its examples: its paragraphs."""
     while at > 0 and re.match(r" *(#\[|//(?!/))", lines[at - 1]):
         at -= 1
     end = at
     while at > 0 and lines[at - 1].lstrip().startswith("///"):
         at -= 1
-    said = [line.strip().removeprefix("///").strip() for line in lines[at:end]]
-    return " ".join(said[: said.index("")] if "" in said else said)
+    return paragraphs([line.strip().removeprefix("///").strip() for line in lines[at:end]])
+
+
+def paragraphs(said):
+    """The paragraphs of a comment's lines, each a line, without code blocks. A list or a table keeps its
+    lines, and a heading is set in bold, since a page has headings for items only."""
+    found, is_code, is_new = [], False, True
+    for line in said:
+        is_code ^= line.startswith("```")
+        if is_code or not line or line.startswith("```"):
+            is_new = True
+        elif line.startswith("#"):
+            found.append(f"**{line.lstrip('#').strip()}**")
+            is_new = True
+        elif is_new:
+            found.append(line)
+            is_new = False
+        else:
+            found[-1] += ("\n" if OWN_LINE.match(line) else " ") + line
+    return found
+
+
+def parted(said):
+    """Paragraphs as lines of a page, each with a blank line after it."""
+    return [line for paragraph in said for line in (paragraph, "")]
 
 
 def derived_above(lines, at):
@@ -97,20 +122,24 @@ def derived_above(lines, at):
 
 
 def head_at(lines, at):
-    """The lines of a function's head, with its clauses and without its body."""
+    """The lines of a function's head, with its clauses and without its body and comments. A function
+    without a body ends with the `;` that is in no bracket: one in a clause's `record {..;}` ends nothing."""
     indent = len(lines[at]) - len(lines[at].lstrip())
-    head = []
+    head, depth = [], 0
     for line in lines[at:]:
         if line == " " * indent + "{":
-            break
+            return head
+        if line.lstrip().startswith("//"):
+            continue
         head.append(line[indent:])
         if line.endswith((" {", "{}")) and len(line) - len(line.lstrip()) == indent:
             head[-1] = head[-1].removesuffix("{}").removesuffix("{").rstrip()
-            break
-        if line.endswith(";") and not line.lstrip().startswith("ghost "):
+            return head
+        depth += sum(line.count(it) for it in "([{") - sum(line.count(it) for it in ")]}")
+        if line.endswith(";") and depth == 0:
             head[-1] = head[-1].removesuffix(";")
-            break
-    return head
+            return head
+    raise Failure(f"the head of {lines[at].strip()!r} has no end")
 
 
 def split_head(head):
@@ -142,8 +171,7 @@ def function_lines(lines, at, title):
     """What a page says of a function."""
     signature, clauses = split_head(head_at(lines, at))
     yield from ["", title, "", "```rust", *signature, "```", ""]
-    said = comment_above(lines, at)
-    yield from [said, ""] if said else []
+    yield from parted(comment_above(lines, at))
     yield from (" ".join(clause_lines(clauses)) or "No clause beyond safety.",)
 
 
@@ -209,12 +237,17 @@ def link(crate, module):
     return f"[source](../../crates/{crate}/src/{module}.rt)"
 
 
+def linked_to(crate, module, said):
+    """The paragraphs of a comment as lines, the first with a link to the source."""
+    first = f"{said[0]} ({link(crate, module)})" if said else link(crate, module)
+    return parted([first, *said[1:]])[:-1]
+
+
 def type_lines(sources, kind, name, crate, module, at):
     """What a page says of a type or a trait."""
     lines = sources.lines(crate, module)
     yield from ["", f"## {name}", "", "```rust", *declaration(kind, lines, at), "```", ""]
-    said = comment_above(lines, at)
-    yield f"{said} ({link(crate, module)})" if said else f"{link(crate, module)}"
+    yield from linked_to(crate, module, comment_above(lines, at))
     blocks = list(blocks_of(sources, crate, name))
     traits = {*derived_above(lines, at), *(of for of, *_ in blocks if of)} - PLAIN_TRAITS
     if traits:
@@ -237,8 +270,7 @@ def functions_between(lines, begin, end, owner):
 def module_lines(sources, module, crate):
     """What a page says of a public module of functions."""
     lines = sources.lines(crate, module)
-    first = " ".join(line.removeprefix("//!").strip() for line in lines[: lines.index("")])
-    yield from ["", f"## The module {module}", "", f"{first} ({link(crate, module)})"]
+    yield from ["", f"## The module {module}", "", *linked_to(crate, module, root_comment(lines))]
     for at, line in enumerate(lines):
         used = re.match(r"pub use crate::([\w:]+)::(\w+);", line)
         if used:
@@ -264,16 +296,15 @@ def item_lines(sources, name, crate, module, mark="## "):
     raise Failure(f"crates/{crate}/src/{module}.rt has no public item {name}")
 
 
-def about(sources, crate):
-    """The first paragraph of what a crate's root says of it."""
-    lines = sources.lines(crate, "lib")
-    said = [line.removeprefix("//!").strip() for line in lines if line.startswith("//!")]
-    return " ".join(said[: said.index("")] if "" in said else said)
+def root_comment(lines):
+    """The paragraphs of a module's comment on itself."""
+    return paragraphs([line.removeprefix("//!").strip() for line in lines if line.startswith("//!")])
 
 
 def page_of(sources, crate):
     """The page of a crate."""
-    text = [f"# {crate}", "", about(sources, crate), "", "Written by `.ci/api.py` from the sources."]
+    about = parted(root_comment(sources.lines(crate, "lib")))
+    text = [f"# {crate}", "", *about, "Written by `.ci/api.py` from the sources."]
     found = exports(sources, crate)
     for name, where, module in found:
         if module is not None and not is_module(sources, where, module, name):
@@ -285,8 +316,11 @@ def page_of(sources, crate):
 
 
 def linked(text):
-    """A page's text in which rustdoc's links to items of the crate lead to the items' headings."""
-    return re.sub(r"\]\(crate::([\w:]+)\)", lambda it: f"](#{it[1].replace(':', '').lower()})", text)
+    """A page's text in which rustdoc's links lead to the items' headings, if the page has them."""
+    titles = set(re.findall(r"(?m)^##+ ([\w:]+)$", text))
+    anchor = lambda name: f"(#{name.replace(':', '').lower()})"
+    text = re.sub(r"\]\(crate::([\w:]+)\)", lambda it: f"]{anchor(it[1])}", text)
+    return re.sub(r"\[(`([\w:]+)`)\](?!\()", lambda it: f"[{it[1]}]{anchor(it[2])}" if it[2] in titles else it[1], text)
 
 
 def is_module(sources, crate, module, name):
@@ -297,7 +331,7 @@ def index_of(sources):
     """The page that leads to the others."""
     text = ["# What users call", "", "One page for each crate, written by `.ci/api.py` from the sources.", ""]
     for crate in CRATES:
-        first = re.split(r"(?<=[.])\s", about(sources, crate))[0]
+        first = re.split(r"(?<=[.])\s", root_comment(sources.lines(crate, "lib"))[0])[0]
         count = page_of(sources, crate).count("\n```rust\n")
         text.append(f"- [{crate}]({crate}.md), {count} items: {first}")
     return "\n".join(text) + "\n"
@@ -328,8 +362,79 @@ def change(old, new):
     return changed
 
 
+# A source with what is easily missed, and what a page says of its functions: a clause with a `;` inside,
+# those after it, a comment with a list, an example and a paragraph after them, and a function of a trait.
+SAMPLE = """
+    /// Adds a node, and
+    /// returns it.
+    ///
+    /// # Errors
+    /// 1. `Stale`;
+    /// 2. `Full`, if
+    ///    no slot is free.
+    ///
+    /// ```rust
+    /// let node = tree.add(1)?;
+    /// ```
+    /// Amortised O(1).
+    pub fn add(&mut self, value: u64) -> Node
+        requires { value < 9 }
+        // What stands where.
+        ensures family { f self.new ≡ record {
+          parent = None;
+          children = [];
+        } }
+        ensures { g self.new
+            ≡ 1 }
+        ensures* others { h self.old self.new }
+    {
+        add(value);
+    }
+
+    /// How many there are.
+    fn len(&self) -> usize
+        ensures count { result ≡ k (record { n = 1; }) }
+        ensures { result < 9 };
+
+    fn clear(&mut self);
+"""
+SAMPLE_PAGE = """
+add
+
+```rust
+pub fn add(&mut self, value: u64) -> Node
+```
+
+Adds a node, and returns it.
+
+**Errors**
+
+1. `Stale`;
+2. `Full`, if no slot is free.
+
+Amortised O(1).
+
+Requires: `value < 9`. Ensures: `family`, `g self.new ≡ 1`, `others`.
+
+len
+
+```rust
+fn len(&self) -> usize
+```
+
+How many there are.
+
+Ensures: `count`, `result < 9`.
+
+clear
+
+```rust
+fn clear(&mut self)
+```
+
+No clause beyond safety."""
 # Sources that say otherwise than the pages: a signature, a clause's name, a clause without one, a
-# comment, a function that is private, and a name that isn't handed on any more.
+# comment, a function that is private, and a name that isn't re-exported any more.
 CHANGES = [
     ("session_table/src/table.rt", change("pub fn login(&mut self, id: I, now: u64", "pub fn login(&mut self, id: I, now: u32")),
     ("session_table/src/table.rt", change("ensures opened {", "ensures began {")),
@@ -341,6 +446,11 @@ CHANGES = [
 
 
 def try_itself(written):
+    lines = SAMPLE.splitlines()
+    heads = [at for at, line in enumerate(lines) if METHOD.match(line)]
+    page = "\n".join(it for at in heads for it in function_lines(lines, at, METHOD.match(lines[at])[1]))
+    if page != SAMPLE_PAGE:
+        raise Failure(f"--try: of a sample a page says {page}")
     for path, edit in CHANGES:
         if pages(Sources({path: edit})) == written:
             raise Failure(f"--try: a changed crates/{path} leaves the pages")
