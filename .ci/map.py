@@ -3,14 +3,17 @@
 
     .ci/map.py                   compares, and fails where the pages and the sources differ
     .ci/map.py --try             does so, and shows that pages with a wrong line are refused
-    .ci/map.py --files CRATE..   prints each file of these crates with its first line, and what it uses
+    .ci/map.py --files CRATE..   prints each file of these crates with its first line; of a source what it
+                                 uses, and of a file of lemmas the headings of its sections
 
 The page has the crates of crates.txt in lists, one for each kind; a crate's name tells its kind. What
 users take, and what stores are made of, stands there with its sources, in the order in which they are
-read. Each source, definition and file of lemmas says in its first line what it is. A clause reaches each
-definition of specs/, by its name, or by that of one that it reaches: what proofs alone cite stands with
-them. And each test that .ci/planted.md names as what refuses a bug is there.
+read. Each source, definition and file of lemmas says in its first line what it is, also one with a folder
+of its name. A clause reaches each definition of specs/, by its name, or by that of one that it reaches:
+what proofs alone cite stands with them. And each function in which .ci/planted.md has a bug is there, and
+each test that it names as what refuses one.
 """
+import functools
 import os
 import re
 import sys
@@ -33,6 +36,10 @@ TESTS = "test_"
 # A definition, by its name, and the words of a text. Operators are left out.
 DEFINITION = re.compile(r"\s*(?:abbrev pub|unfoldable pub|pub record|pub data) (?!use\b)([\w'-]+)")
 WORD = re.compile(r"[\w'-]+")
+# A heading of a section in a file of lemmas: the larger ones have ====.
+HEADING = re.compile(r" *-- (====|----) (.+)")
+# The functions in which a bug is planted: the names right behind the crate's.
+PLANT = re.compile(r"`(\w+)`:((?:(?: |, | or |, then )`[\w:]+`)+)")
 # What only imports names.
 IMPORT = re.compile(r"\s*(ghost |pub )?use ")
 # Files that only name others, or answer the goals of one function.
@@ -74,18 +81,32 @@ def text_of(path):
         return text.read()
 
 
-def first_line(crate, file):
+def first_line(crate, file, text):
     """What a file says that it is. The first sentence may go over several lines."""
     mark = "//!" if file.endswith(".rt") else "--"
     lines = []
-    for line in read(crate, file).splitlines():
-        if not line.startswith(mark):
+    for line in text.splitlines():
+        if not line.startswith(mark) or HEADING.match(line):
             break
         lines.append(line.removeprefix(mark).strip())
-    text = " ".join(lines)
-    if not text:
-        raise Failure(f"crates/{crate}/{file} doesn't say in its first line what it is")
-    return re.split(r"(?<=[.:])\s", text)[0].rstrip(".:")
+    said = " ".join(lines)
+    wanted(said, f"crates/{crate}/{file} doesn't say in its first line what it is")
+    return re.split(r"(?<=[.])\s", said)[0].rstrip(".:")
+
+
+def headings(text):
+    """The headings of a file of lemmas, each with what it is under. One may go over several lines, as
+    far as a comment goes."""
+    lines = text.splitlines()
+    for at, line in enumerate(lines):
+        found = HEADING.match(line)
+        if found:
+            said, mark = [found[2]], line.partition("--")[0] + "-- "
+            for more in lines[at + 1 :]:
+                if not more.startswith(mark) or HEADING.match(more):
+                    break
+                said.append(more.removeprefix(mark))
+            yield found[1], " ".join(said)
 
 
 def uses_of(crate, file):
@@ -149,11 +170,17 @@ def compare(page):
         wanted(on_page == there, f"{crate} has the sources {there}, and on the page {on_page}")
 
 
-def compare_files():
+def told_files(crate):
+    """The files of a crate that say what they are."""
+    files = files_of(crate, "src", "specs", "proofs")
+    return [it for it in files if it.endswith((".rt", ".antt")) and not PLAIN.search(it)]
+
+
+def compare_files(text_in):
+    """The files, each of which says what it is; `text_in` gives a file's text."""
     for crate in all_crates():
-        for file in files_of(crate, "src", "specs", "proofs"):
-            if file.endswith((".rt", ".antt")) and not PLAIN.search(file) and not is_list(crate, file):
-                first_line(crate, file)
+        for file in told_files(crate):
+            first_line(crate, file, text_in(crate, file))
 
 
 def words_of(line, comment):
@@ -206,26 +233,45 @@ def tests_there():
     return found
 
 
+@functools.cache
+def declared(crate):
+    """What a crate's sources declare: functions, and types, traits and modules."""
+    modules = [f"{it}.rt" for it in [*sources_of(crate), "lib", "main"]]
+    files = [it for it in files_of(crate, "src") if it.removeprefix("src/") in modules]
+    texts = [read(crate, it) for it in files]
+    functions = {name for text in texts for name in re.findall(r"\bfn (\w+)", text)}
+    types = {name for text in texts for name in re.findall(r"\b(?:struct|enum|trait|mod) (\w+)", text)}
+    return functions, types | {it.removesuffix(".rt").rpartition("/")[2] for it in modules}
+
+
+def is_declared(crate, name):
+    """Whether a crate has `function`, `Type`, or `Type::function` (`module::function`)."""
+    functions, types = declared(crate)
+    owner, _, last = name.rpartition("::")
+    return last in functions and (not owner or owner in types) or not owner and last in types
+
+
 def compare_planted(page):
-    """The tests that refuse planted bugs, each of which must be there."""
+    """The functions in which bugs are planted, and the tests that refuse them: each must be there."""
     bugs = rows(page)
     wanted(bugs and all(len(it) == 3 for it in bugs), "a planted bug has a row of three cells")
+    for bug in bugs:
+        place = PLANT.match(bug[1])
+        wanted(place and place[1] in all_crates(), f"planted.md doesn't say where this bug is: {bug[1]}")
+        gone = [it for it in names(place[2]) if not is_declared(place[1], it)]
+        wanted(not gone, f"planted.md has a bug in {', '.join(gone)}, which {place[1]} hasn't")
     named = {name for bug in bugs for name in re.findall(r"`(\w+::\w+)`", bug[2])}
     gone = sorted(named - tests_there())
     wanted(not gone, f"planted.md names tests that aren't there: {' '.join(gone)}")
 
 
-def is_list(crate, file):
-    """Whether a file of lemmas only names those of its folder."""
-    return file.endswith(".antt") and os.path.isdir(os.path.join(ROOT, "crates", crate, file.removesuffix(".antt")))
-
-
 def print_files(crate):
-    for file in files_of(crate, "src", "specs", "proofs"):
-        if file.endswith(".rt"):
-            print(f"{crate}/{file}: {first_line(crate, file)} [{', '.join(uses_of(crate, file)) or 'nothing'}]")
-        elif file.endswith(".antt") and not PLAIN.search(file) and not is_list(crate, file):
-            print(f"{crate}/{file}: {first_line(crate, file)}")
+    for file in told_files(crate):
+        text = read(crate, file)
+        uses = f" [{', '.join(uses_of(crate, file)) or 'nothing'}]" if file.endswith(".rt") else ""
+        print(f"{crate}/{file}: {first_line(crate, file, text)}{uses}")
+        for mark, heading in headings(text) if file.startswith("proofs/") else ():
+            print(f"{'  - ' if mark == '====' else '    - '}{heading}")
 
 
 def wrong_pages(page):
@@ -248,6 +294,26 @@ def refuse(compared, page, wrong):
     raise Failure("a wrong page isn't refused")
 
 
+def without_first_line(crate, file):
+    """A file's text, but for the first line of one file of lemmas, which has a folder of its name."""
+    text = read(crate, file)
+    return text.partition("\n")[2] if (crate, file) == ("store_slots", "proofs/states.antt") else text
+
+
+# A file of lemmas, and its headings.
+SAMPLE = """-- What is said.
+-- ==== one, and
+-- two
+
+  -- ---- three
+  -- of a lemma
+lemma : A
+
+  -- what a lemma says
+"""
+SAMPLE_HEADINGS = [("====", "one, and two"), ("----", "three of a lemma")]
+
+
 def main():
     words = sys.argv[1:]
     if words[:1] == ["--files"]:
@@ -256,13 +322,18 @@ def main():
         return
     page, planted, defined = text_of(PAGE), text_of(PLANTED), definitions()
     compare(page)
-    compare_files()
+    compare_files(read)
     compare_definitions(defined)
     compare_planted(planted)
     if words == ["--try"]:
         for wrong in wrong_pages(page):
             refuse(compare, page, wrong)
+        refuse(compare_files, read, without_first_line)
+        wanted(list(headings(SAMPLE)) == SAMPLE_HEADINGS, "a sample has other headings")
         refuse(compare_planted, planted, planted.replace("`pairs::", "`peers::"))
+        refuse(compare_planted, planted, planted.replace("`Queue::push`", "`Queue::shove`"))
+        refuse(compare_planted, planted, planted.replace("`Queue::push`", "`Row::push`"))
+        refuse(compare_planted, planted, planted.replace("| `store_parts`: `Queue::push`", "| `Queue::push`"))
         refuse(compare_definitions, defined, {**defined, "named_by_itself": {"named_by_itself"}})
         refuse(compare_planted, planted, planted.replace("::words_that_are_no_list`", "::words_that_are_none`"))
     print("docs/maintaining/map.md and .ci/planted.md are what the sources say; clauses reach each definition")

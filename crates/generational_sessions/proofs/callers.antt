@@ -1,4 +1,4 @@
--- What the proofs of callers cite.
+-- What code over a store cites: lists, boxes, refusals, rows, tickets, owners' lists.
 pub mod carrying
 use Rattle.generational_core.proofs
 use proofs.machine.{quiet_free, quiet_fresh, quiet_sees, quiet_stays, same_reach}

@@ -1,4 +1,4 @@
--- Records of owners.
+-- Records of owners: in few bytes, as a map, and as rows.
 pub mod lists
 use Rattle.std.proofs.Common.{is_ok, map as list_map, OnOk}
 use Rattle.std.proofs.lemmas.List.{drop-append-le, length-drop, nil_from_length, take-append-le}
