@@ -11,11 +11,15 @@ Each public function of a block must be called in a crate that the gate runs. An
 the comment of a public item must stand in one of those files too, whatever its indent. Each link to a
 file or a heading must lead there, on the pages of docs/api too, a line of `crates.txt` on a page must
 be that of the file, and what a page says that its program prints must be what the guide's programs
-print. What is wrong is printed, and the exit status is 1 then.
+print. The commands and the replies of docs/script.md must be those that the gate runs, and so must what a
+page pipes into `rt try`, and what that prints (script_page.py). What is wrong is printed, and the exit
+status is 1 then.
 """
 import pathlib
 import re
 import sys
+
+import script_page
 
 ROOT = pathlib.Path(__file__).resolve().parent.parent
 # Those of docs/api are written from the sources (`.ci/api.py`), and only their links are looked at.
@@ -154,14 +158,16 @@ def written_faults():
 
 
 def crate_faults(text):
-    """The lines of `crates.txt` in a text that aren't those of the file."""
+    """The lines of `crates.txt` in a text that aren't those of the file. What the program `boxes` tells of
+    a fault looks like one."""
     lines = lines_of(ROOT / "crates.txt")
+    faults = {said for said, _ in script_page.faults().values()}
     known = {line.split(":")[0].split()[0]: line for line in lines if line and line[0] != "#"}
     told = re.findall(r"(?:^    |`)([a-z_]+:(?: [a-z_]+)*)(?:$|`)", text, re.M)
     return [
         f"{line!r} isn't the line of crates.txt"
         for line in told
-        if line.split(":")[0] in known and line != known[line.split(":")[0]]
+        if line.split(":")[0] in known and line not in {known[line.split(":")[0]], *faults}
     ]
 
 
@@ -169,8 +175,8 @@ def print_faults(text):
     """What a page says that its program prints, and the guide's programs don't: `It prints` comes
     before the lines, or before one in the same sentence."""
     printed = lines_of(ROOT / "crates/example_guide/stdout")
-    faults = []
-    for one, block in re.findall(r"^It prints(?: `([^`]+)`|\n\n((?:    .*\n)+))", text, re.M):
+    faults = script_page.run_faults(text)
+    for one, block in re.findall(r"^It prints(?: `([^`]+)`|\n\n((?:    .*\n)+))", script_page.RUN.sub("", text), re.M):
         said = [line.strip() for line in (one or block).splitlines()]
         if missing_piece(said, printed):
             faults.append(f"no program of the guide prints {said[0]!r} and what follows")
@@ -188,6 +194,8 @@ def are_wrong_tellings_found():
     page = ROOT / "README.md"
     wrong = [link_faults(page, text) for text in ("[a](docs/none.md)", "[a](docs/maintaining/map.md#none)")]
     wrong += [print_faults(text) for text in ("It prints `none`.\n", "It prints\n\n    none\n")]
+    run = next(script_page.RUN.finditer("\n".join(lines_of(page))))[0]
+    wrong += [print_faults(run.replace(old, new)) for old, new in (("end 1", "end 2"), ("    reader\n", ""))]
     return all(wrong) and bool(crate_faults("    signals: generational_core"))
 
 
@@ -229,7 +237,7 @@ def main(words):
                         print(f"{page}: a changed copy isn't refused: {block[0]}", file=sys.stderr)
                         status = 1
     faults, count = example_faults(sources)
-    for fault in written_faults() + (faults or ["the calls have no examples"] * (count == 0)):
+    for fault in written_faults() + script_page.page_faults(words == ["--try"]) + (faults or ["the calls have no examples"] * (count == 0)):
         print(fault, file=sys.stderr)
         status = 1
     if words == ["--try"] and not example_faults({path: [] for path in sources})[0]:

@@ -268,6 +268,8 @@ const SCRIPTS: [Script; 17] = [
             "show 8 -> value b",
             "set 1 -> bad line",
             "set 9 c -> no such",
+            "release 8 -> ok",
+            "can_write 1 -> true",
         ],
     ),
     // What was set is what a writer has, and what the writer puts in is what is read.
