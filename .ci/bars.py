@@ -34,7 +34,7 @@ class Picture:
             cells = [cell.strip(" *`") for cell in line.strip("|").split("|")]
             names, numbers = cells[: self.names()], cells[self.names() :][: len(self.subjects)]
             before = names[0] or before
-            yield ", ".join([before, *names[1:]]), [float(number) for number in numbers]
+            yield ", ".join([before, *names[1:]]), [span(number) for number in numbers]
 
     def names(self):
         """How many columns name a row."""
@@ -53,8 +53,9 @@ class Picture:
         y = TOP
         for name, numbers in rows:
             lines.append(f'  <text x="{LEFT - 10}" y="{y + 2 * BAR + 4}" text-anchor="end" font-size="13">{name}</text>')
-            for (_, color), number in zip(self.subjects, numbers):
-                lines += bar(LEFT, y, number * scale, color, f"{number:.{self.decimals}f}")
+            for (_, color), (least, most) in zip(self.subjects, numbers):
+                said = " to ".join(f"{it:.{self.decimals}f}" for it in dict.fromkeys([least, most]))
+                lines += bar(LEFT, y, least * scale, most * scale, color, said)
                 y += BAR
             y += GAP
         return "\n".join(lines + ["</svg>", ""])
@@ -75,15 +76,25 @@ PICTURES = (
             1, 400),
     Picture("shared.svg", "The shared store", "| list | workers |",
             "Nanoseconds a call of the shared store, by the wall, for 1, 2 and 4 workers",
-            "Bars of the table of the shared store.",
+            "Bars of the table of the shared store; from the least to the most of a range they are pale.",
             (("shared store", OWN), ("trimmed", "#8fb4dc"), ("floor", LEAST), ("upstream with locations", LOCATIONS)),
             0, 300),
 )
 
 
-def bar(x, y, length, color, text):
-    return [f'  <rect x="{x:g}" y="{y:g}" width="{length:.1f}" height="{BAR - 2}" fill="{color}"/>',
-            f'  <text x="{x + length + 5:.1f}" y="{y + BAR - 4:g}" font-size="11">{text}</text>']
+def span(cell):
+    """The least and the most of a cell: `32`, or `32 to 51`."""
+    numbers = [float(it) for it in cell.split(" to ")]
+    return numbers[0], numbers[-1]
+
+
+def bar(x, y, least, most, color, text):
+    """A bar, which is pale from the least on, and the numbers behind it."""
+    pale = [f'  <rect x="{x + least:.1f}" y="{y:g}" width="{most - least:.1f}" height="{BAR - 2}" fill="{color}" '
+            f'fill-opacity="0.4"/>'] if most > least else []
+    return [f'  <rect x="{x:g}" y="{y:g}" width="{least:.1f}" height="{BAR - 2}" fill="{color}"/>',
+            *pale,
+            f'  <text x="{x + most + 5:.1f}" y="{y + BAR - 4:g}" font-size="11">{text}</text>']
 
 
 def main():
