@@ -2,9 +2,11 @@
 """Draws docs/instructions.svg and docs/shared.svg from tables of docs/PERFORMANCE.md.
 
     .ci/bars.py          writes the pictures
+    .ci/bars.py --try    compares them with the tables
 """
 import dataclasses
 import os
+import sys
 
 DOCS = os.path.join(os.path.dirname(os.path.abspath(__file__)), "..", "docs")
 OWN, UPSTREAM, LOCATIONS, LEAST = "#2f6fb0", "#c9c9c9", "#8f8f8f", "#e3c77a"
@@ -97,15 +99,23 @@ def bar(x, y, least, most, color, text):
             f'  <text x="{x + most + 5:.1f}" y="{y + BAR - 4:g}" font-size="11">{text}</text>']
 
 
-def main():
-    with open(os.path.join(DOCS, "PERFORMANCE.md"), encoding="utf-8") as file:
-        page = file.read()
+def read(file):
+    with open(os.path.join(DOCS, file), encoding="utf-8") as text:
+        return text.read()
+
+
+def main(words):
+    page = read("PERFORMANCE.md")
     for picture in PICTURES:
         rows = list(picture.rows(page))
         assert rows, f"{picture.file}: the page has no such table"
-        with open(os.path.join(DOCS, picture.file), "w", encoding="utf-8") as out:
-            out.write(picture.draw(rows))
+        drawn = picture.draw(rows)
+        if words != ["--try"]:
+            with open(os.path.join(DOCS, picture.file), "w", encoding="utf-8") as out:
+                out.write(drawn)
+        elif read(picture.file) != drawn:
+            sys.exit(f"bars: docs/{picture.file} isn't the table's: run .ci/bars.py")
 
 
 if __name__ == "__main__":
-    main()
+    main(sys.argv[1:])
