@@ -159,8 +159,8 @@ impl<T, S: Storage<Part<T>>> Document<T, S> {
         }
     }
 
-    /// Whether a place shows a part: false where it was removed, or is another document's. Takes no
-    /// memory, and is O(1).
+    /// Whether a place shows a part: false if it was removed, or if it is of another document whose
+    /// store has another number. Takes no memory, and is O(1).
     ///
     /// ```rust
     /// let is_there = document.is_alive(heading);

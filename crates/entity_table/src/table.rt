@@ -281,8 +281,8 @@ impl<T, S: Storage<T>> EntityTable<T, S> {
         }
     }
 
-    /// Whether an entity is live: false where it was despawned, or is another table's. Takes no
-    /// memory, and is O(1).
+    /// Whether an entity is live: false if it was despawned, or if it is of another table whose store
+    /// has another number. Takes no memory, and is O(1).
     ///
     /// ```rust
     /// let is_there = table.is_alive(entity);

@@ -199,8 +199,8 @@ impl<I: Eq + Hash, K: Eq + Hash, T, S: Storage<T>> SessionTable<I, K, T, S> {
         self.session(id)?.entry(key)
     }
 
-    /// Whether an entry shows a value: false once its session is gone, and of another table's. Takes
-    /// no memory, and is O(1).
+    /// Whether an entry shows a value: false once its session is gone, and if it is of another table
+    /// whose store has another number. Takes no memory, and is O(1).
     ///
     /// ```rust
     /// let is_there = table.shows(basket);
