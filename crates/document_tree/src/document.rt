@@ -18,7 +18,7 @@ ghost use Rattle.document_tree.specs.Places.{made_at, IsSame, IsOther};
 
 use crate::part::Part;
 use crate::place::{Gone, Place, PlaceError};
-use generational_core::{Location, Refusal, Refused, Storage};
+use generational_core::{HandedBack, Location, Refusal, Refused, Storage};
 use std::alloc::{AllocError, Global};
 use std::marker::{Model, PhantomData};
 use std::mem;
@@ -259,11 +259,11 @@ impl<T, S: Storage<Part<T>>> Document<T, S> {
     /// document is unchanged. Takes no memory, and is O(1), but for letting the old content go.
     ///
     /// ```rust
-    /// if let Err((content, gone)) = document.set(heading, 11) {
-    ///     println!(rt; "{gone}, and {content} comes back")?;
+    /// if let Err(refusal) = document.set(heading, 11) {
+    ///     println!(rt; "{refusal}, and {} comes back", refusal.value)?;
     /// }
     /// ```
-    pub fn set(&mut self, place: Place, content: T) -> Result<(), (T, Gone)>
+    pub fn set(&mut self, place: Place, content: T) -> Result<(), HandedBack<T, Gone>>
     where
         T: Drop,
         ensures shown { OnOk result ((q : Place) →
@@ -274,12 +274,15 @@ impl<T, S: Storage<Part<T>>> Document<T, S> {
         ensures parts { (q : Place) → part_in self.new q ≡ part_in self.old q }
         ensures kept { (q : Place) → WasMade self.old q → WasMade self.new q }
         ensures gone { IsErr result ↔ shown_in self.old place ≡ None }
-        ensures told { IfErr result (λ back. back.1.made_at ≡ made_at place) }
-        ensures back { IfErr result (λ back. back.0 ≡ content) }
+        ensures told { IfErr result (λ refusal. refusal.cause.made_at ≡ made_at place) }
+        ensures back { IfErr result (λ refusal. refusal.value ≡ content) }
         ensures refused { OnErr result (self.new ≡ self.old) }
     {
-        if let Err(gone) = self.find(place) {
-            return Err((content, gone));
+        if let Err(cause) = self.find(place) {
+            return Err(HandedBack {
+                value: content,
+                cause,
+            });
         }
         self.store
             .change_value(place.raw, |part: &mut Part<T>| put_content(part, content));

@@ -14,3 +14,4 @@ pub use crate::document::Document;
 pub use crate::laws::{depths_are_steps, outlines_stay_below};
 pub use crate::part::Part;
 pub use crate::place::{Gone, Place, PlaceError};
+pub use generational_core::HandedBack;

@@ -19,7 +19,7 @@ ghost use Rattle.entity_table.specs.Sweeping.{Sweeps};
 use crate::entity::{Entity, Stale};
 use crate::table::EntityTable;
 use crate::walk::{ComponentIter, Join};
-use generational_core::{GenerationalBox, Location, Refusal, Storage, StoreError};
+use generational_core::{GenerationalBox, HandedBack, Location, Refusal, Storage, StoreError};
 use std::alloc::{AllocError, Global};
 use std::error::Error;
 use std::fmt;
@@ -50,29 +50,6 @@ impl fmt::Display for AttachError {
 }
 
 impl Error for AttachError {}
-
-/// A component that wasn't given, handed back, and why.
-#[derive(Debug, Drop)]
-pub struct AttachRefusal<C> {
-    /// The component that was handed in.
-    pub value: C,
-    /// Why it wasn't given.
-    pub cause: AttachError,
-}
-
-/// Prints the text of the cause.
-impl<C> fmt::Display for AttachRefusal<C> {
-    ghost use Rattle.std.specs.Prelude.{Some};
-    ghost use Rattle.entity_table.specs.Texts.{attach_error_text};
-
-    ghost output = { λ it. Some (attach_error_text it.cause) };
-
-    fn fmt<W: fmt::Write>(&self, f: &mut fmt::Formatter<W>) -> fmt::Result {
-        write!(f, "{}", self.cause)
-    }
-}
-
-impl<C: fmt::Debug + Drop> Error for AttachRefusal<C> {}
 
 /// An entity's component.
 pub(crate) struct Part<T, C> {
@@ -205,7 +182,7 @@ impl<T, C, S: Storage<C>> ComponentTable<T, C, S> {
         entity: Entity<T>,
         component: C,
         here: Location,
-    ) -> Result<(), AttachRefusal<C>>
+    ) -> Result<(), HandedBack<C, AttachError>>
     where
         C: Drop,
         ensures shown { OnOk result (component_in self.new entity ≡ Some component) }
@@ -229,14 +206,14 @@ impl<T, C, S: Storage<C>> ComponentTable<T, C, S> {
             let stale = Stale {
                 spawned_at: entity.spawned_at(),
             };
-            return Err(AttachRefusal {
+            return Err(HandedBack {
                 value: component,
                 cause: AttachError::Stale(stale),
             });
         }
         match self.insert(entity, component, here) {
             Ok(()) => Ok(()),
-            Err(Refusal { value, cause }) => Err(AttachRefusal {
+            Err(Refusal { value, cause }) => Err(HandedBack {
                 value,
                 cause: AttachError::Store(cause),
             }),

@@ -14,8 +14,9 @@ mod rows;
 mod table;
 mod walk;
 
-pub use crate::components::{AttachError, AttachRefusal, ComponentTable};
+pub use crate::components::{AttachError, ComponentTable};
 pub use crate::entity::{Entity, Stale};
 pub use crate::laws::equal_entities_show_the_same;
 pub use crate::table::EntityTable;
 pub use crate::walk::{ComponentIter, Iter, Join};
+pub use generational_core::HandedBack;

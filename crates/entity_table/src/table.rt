@@ -15,7 +15,7 @@ ghost use Rattle.entity_table.specs.Tables.{IsSifted, Sifts};
 use crate::entity::{Entity, Stale};
 use crate::rows::{entity_at, remove_row, reserve_row};
 use crate::walk::Iter;
-use generational_core::{GenerationalBox, Location, Refusal, Storage, StoreError};
+use generational_core::{GenerationalBox, HandedBack, Location, Refusal, Storage, StoreError};
 use std::alloc::Global;
 use std::marker::Model;
 
@@ -181,11 +181,11 @@ impl<T, S: Storage<T>> EntityTable<T, S> {
     /// table is unchanged. Takes no memory, and is O(1), but for letting the old element go.
     ///
     /// ```rust
-    /// if let Err((element, stale)) = table.set(entity, 9) {
-    ///     println!(rt; "{stale}, and {element} comes back")?;
+    /// if let Err(refusal) = table.set(entity, 9) {
+    ///     println!(rt; "{refusal}, and {} comes back", refusal.value)?;
     /// }
     /// ```
-    pub fn set(&mut self, entity: Entity<T>, element: T) -> Result<(), (T, Stale)>
+    pub fn set(&mut self, entity: Entity<T>, element: T) -> Result<(), HandedBack<T, Stale>>
     where
         T: Drop,
         ensures shown { OnOk result (element_in self.new entity ≡ Some element) }
@@ -194,15 +194,18 @@ impl<T, S: Storage<T>> EntityTable<T, S> {
         ensures rows { self.new.rows ≡ self.old.rows }
         ensures kept { (f : Entity T) → WasSpawned self.old f → WasSpawned self.new f }
         ensures stale { IsErr result ↔ element_in self.old entity ≡ None }
-        ensures told { IfErr result (λ back. back.1.spawned_at ≡ spawned_at entity) }
-        ensures back { IfErr result (λ back. back.0 ≡ element) }
+        ensures told { IfErr result (λ refusal. refusal.cause.spawned_at ≡ spawned_at entity) }
+        ensures back { IfErr result (λ refusal. refusal.value ≡ element) }
         ensures refused { OnErr result (self.new ≡ self.old) }
     {
         if !self.is_alive(entity) {
-            let stale = Stale {
+            let cause = Stale {
                 spawned_at: entity.spawned_at(),
             };
-            return Err((element, stale));
+            return Err(HandedBack {
+                value: element,
+                cause,
+            });
         }
         entity.raw.set(&mut self.store, element);
         Ok(())

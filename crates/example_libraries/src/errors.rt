@@ -50,3 +50,18 @@ pub fn moved_and_listed<N: Storage<u64>, P: Storage<Part<u64>>>(
     document.append(places.0, places.1)?;
     Ok(())
 }
+
+/// Spawns an entity and replaces its element. The values needn't print: what a call hands back goes with
+/// the error.
+pub fn replaced<T: Drop, S: Storage<T>>(
+    table: &mut EntityTable<T, S>,
+    element: T,
+    other: T,
+    here: Location,
+) -> Result<Entity<T>>
+    ensures { IfOk result (λ e. element_in table.new e ≡ Some other) }
+{
+    let entity = table.spawn(element, here)?;
+    table.set(entity, other)?;
+    Ok(entity)
+}

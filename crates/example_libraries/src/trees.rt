@@ -7,7 +7,7 @@ ghost use Rattle.scene_tree.specs.declared.node.Node.{Node};
 ghost use Rattle.scene_tree.specs.Nodes.{IsOther, made_at, without};
 ghost use Rattle.scene_tree.specs.Trees.{IsBelow, NodeIsUnchanged, WasMade, children_of, outline_of, parent_of, value_of};
 
-use generational_box::{Location, Storage};
+use generational_box::{HandedBack, Location, Storage};
 use scene_tree::{Node, SceneTree, Spot, Stale, TreeError};
 
 /// Removes a node with all below it, adds another, and looks at the first: the answer is that the first
@@ -141,7 +141,7 @@ pub fn twin_before<S: Storage<u64>>(
     node: Node<u64>,
     value: u64,
     here: Location,
-) -> Result<Node<u64>, (u64, TreeError)>
+) -> Result<Node<u64>, HandedBack<u64, TreeError>>
     ensures { IfOk result (λ twin. parent_of tree.new twin ≡ parent_of tree.old node) }
 {
     tree.add_at(Spot::Before(node), value, here)

@@ -19,14 +19,13 @@ fn draw<R: Print, S: Storage<u64>>(rt: &R, scene: &mut SceneTree<u64, S>) -> Res
     end(rt, scene, list, button)
 }
 
-// A last child of a node. Where it is refused, the value comes back beside the cause.
+// A last child of a node.
 fn add<S: Storage<u64>>(
     scene: &mut SceneTree<u64, S>,
     parent: Node<u64>,
     value: u64,
 ) -> Result<Node<u64>> {
-    let added = scene.add_child(parent, value, Location::new("window.rt", 28, 23));
-    Ok(added.map_err(|(_, cause)| cause)?)
+    Ok(scene.add_child(parent, value, Location::new("window.rt", 28, 14))?)
 }
 
 fn show<R: Print, S: Storage<u64>>(

@@ -18,3 +18,4 @@ pub use crate::nodes::Nodes;
 pub use crate::spot::Spot;
 pub use crate::tree::SceneTree;
 pub use crate::walk::{Ancestors, Children, Outline};
+pub use generational_core::HandedBack;

@@ -2,7 +2,7 @@
 
 ghost use Rattle.std.specs.Prelude.{ℕ, ◌<◌, ◌≤◌, ◌+◌, true, List, length, slice_get};
 ghost use Rattle.std.specs.Prelude.{◌≡◌, ◌↔◌, ◌⊎◌, ◌++◌, ◌∷◌, [], None, Some, Err};
-ghost use Rattle.std.specs.Prelude.{IfOk, OnOk, IfErr, OnErr, IsErr};
+ghost use Rattle.std.specs.Prelude.{IfOk, OnOk, IfErr, OnErr, IsErr, IsErrAnd};
 ghost use Rattle.std.specs.Borrow.{MutBor};
 ghost use Rattle.std.specs.Fn.{FnOnceReturnsAtMut};
 ghost use Rattle.generational_core.specs.Conditions.{IsFresh};
@@ -26,7 +26,7 @@ use crate::links::{
 use crate::node::{Node, Stale, TreeError};
 use crate::spot::Spot;
 use crate::walk::{Ancestors, Children, Outline};
-use generational_core::{GenerationalBox, Location, Refusal, Storage, StoreError};
+use generational_core::{GenerationalBox, HandedBack, Location, Refusal, Storage, StoreError};
 use std::alloc::Global;
 use std::marker::Model;
 
@@ -122,14 +122,14 @@ impl<T, S: Storage<T>> SceneTree<T, S> {
     /// links have no room, or no slot is free. O(1), but for finding room.
     ///
     /// ```rust
-    /// let child = tree.add_child(root, 2, here).map_err(|(_, cause)| cause)?;
+    /// let child = tree.add_child(root, 2, here)?;
     /// ```
     pub fn add_child(
         &mut self,
         parent: Node<T>,
         value: T,
         here: Location,
-    ) -> Result<Node<T>, (T, TreeError)>
+    ) -> Result<Node<T>, HandedBack<T, TreeError>>
         ensures shown { IfOk result (λ n. value_of self.new n ≡ Some value) }
         ensures below { IfOk result (λ n. family_of self.new n
             ≡ record { parent = Some parent; children = [] }) }
@@ -146,10 +146,10 @@ impl<T, S: Storage<T>> SceneTree<T, S> {
         ensures here { IfOk result (λ n. made_at n ≡ here) }
         ensures kept { (f : Node T) → WasMade self.old f → WasMade self.new f }
         ensures stale { value_of self.old parent ≡ None →
-            result ≡ Err (value, error.Stale (made_at parent)) }
-        ensures short { IfErr result (λ back. (value_of self.old parent ≡ None)
-            ⊎ (back.1 ≡ error.Store OutOfMemory)) }
-        ensures back { IfErr result (λ back. back.0 ≡ value) }
+            IsErrAnd result (λ refusal. refusal.cause ≡ error.Stale (made_at parent)) }
+        ensures short { IfErr result (λ refusal. (value_of self.old parent ≡ None)
+            ⊎ (refusal.cause ≡ error.Store OutOfMemory)) }
+        ensures back { IfErr result (λ refusal. refusal.value ≡ value) }
         ensures refused { OnErr result (self.new ≡ self.old) }
     {
         self.add_at(Spot::LastOf(parent), value, here)
@@ -164,15 +164,14 @@ impl<T, S: Storage<T>> SceneTree<T, S> {
     /// finding room.
     ///
     /// ```rust
-    /// let first = tree.add_at(Spot::Before(child), 3, here);
-    /// let first = first.map_err(|(_, cause)| cause)?;
+    /// let first = tree.add_at(Spot::Before(child), 3, here)?;
     /// ```
     pub fn add_at(
         &mut self,
         spot: Spot<T>,
         value: T,
         here: Location,
-    ) -> Result<Node<T>, (T, TreeError)>
+    ) -> Result<Node<T>, HandedBack<T, TreeError>>
         ensures shown { IfOk result (λ n. value_of self.new n ≡ Some value) }
         ensures below { IfOk result (λ n. family_of self.new n
             ≡ record { parent = parent_for self.old spot; children = [] }) }
@@ -190,25 +189,29 @@ impl<T, S: Storage<T>> SceneTree<T, S> {
         ensures here { IfOk result (λ n. made_at n ≡ here) }
         ensures kept { (f : Node T) → WasMade self.old f → WasMade self.new f }
         ensures stale { value_of self.old (named spot) ≡ None →
-            result ≡ Err (value, error.Stale (made_at (named spot))) }
+            IsErrAnd result (λ refusal. refusal.cause ≡ error.Stale (made_at (named spot))) }
         ensures root { is_live self.old (named spot) ≡ true → parent_for self.old spot ≡ None →
-            result ≡ Err (value, error.NoParent (made_at (named spot))) }
-        ensures short { IfErr result (λ back. (value_of self.old (named spot) ≡ None)
+            IsErrAnd result (λ refusal. refusal.cause ≡ error.NoParent (made_at (named spot))) }
+        ensures short { IfErr result (λ refusal. (value_of self.old (named spot) ≡ None)
             ⊎ (parent_for self.old spot ≡ None)
-            ⊎ (back.1 ≡ error.Store OutOfMemory)) }
-        ensures back { IfErr result (λ back. back.0 ≡ value) }
+            ⊎ (refusal.cause ≡ error.Store OutOfMemory)) }
+        ensures back { IfErr result (λ refusal. refusal.value ≡ value) }
         ensures refused { OnErr result (self.new ≡ self.old) }
     {
         let parent = match self.parent_for(spot) {
             Ok(parent) => parent,
-            Err(error) => return Err((value, error)),
+            Err(cause) => return Err(HandedBack { value, cause }),
         };
         if !reserve_one(&mut self.links) {
-            return Err((value, TreeError::Store(StoreError::OutOfMemory)));
+            let cause = TreeError::Store(StoreError::OutOfMemory);
+            return Err(HandedBack { value, cause });
         }
         let raw = match GenerationalBox::leak(&mut self.store, value, here) {
             Ok(raw) => raw,
-            Err(refusal) => return Err((refusal.value, TreeError::Store(refusal.cause))),
+            Err(Refusal { value, cause }) => {
+                let cause = TreeError::Store(cause);
+                return Err(HandedBack { value, cause });
+            }
         };
         let child = Node { raw };
         open_slot(&mut self.links, child);
@@ -276,11 +279,11 @@ impl<T, S: Storage<T>> SceneTree<T, S> {
     /// unchanged. Takes no memory, and is O(1), but for letting the old value go.
     ///
     /// ```rust
-    /// if let Err((value, stale)) = tree.set(child, 9) {
-    ///     println!(rt; "{stale}, and {value} comes back")?;
+    /// if let Err(refusal) = tree.set(child, 9) {
+    ///     println!(rt; "{refusal}, and {} comes back", refusal.value)?;
     /// }
     /// ```
-    pub fn set(&mut self, node: Node<T>, value: T) -> Result<(), (T, Stale)>
+    pub fn set(&mut self, node: Node<T>, value: T) -> Result<(), HandedBack<T, Stale>>
     where
         T: Drop,
         ensures shown { OnOk result (value_of self.new node ≡ Some value) }
@@ -289,15 +292,15 @@ impl<T, S: Storage<T>> SceneTree<T, S> {
         ensures others { (f : Node T) → IsOther node f → NodeIsUnchanged self.old f self.new }
         ensures kept { (f : Node T) → WasMade self.old f → WasMade self.new f }
         ensures stale { IsErr result ↔ value_of self.old node ≡ None }
-        ensures told { IfErr result (λ back. back.1.made_at ≡ made_at node) }
-        ensures back { IfErr result (λ back. back.0 ≡ value) }
+        ensures told { IfErr result (λ refusal. refusal.cause.made_at ≡ made_at node) }
+        ensures back { IfErr result (λ refusal. refusal.value ≡ value) }
         ensures refused { OnErr result (self.new ≡ self.old) }
     {
         if !self.is_alive(node) {
-            let stale = Stale {
+            let cause = Stale {
                 made_at: node.made_at(),
             };
-            return Err((value, stale));
+            return Err(HandedBack { value, cause });
         }
         node.raw.set(&mut self.store, value);
         Ok(())

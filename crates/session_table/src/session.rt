@@ -14,7 +14,7 @@ ghost use Rattle.session_table.specs.Entries.{pointer_in};
 
 use crate::entry::{Entry, PutError};
 use crate::walk::Entries;
-use generational_core::{Location, Owner, Refusal, Storage, StoreError};
+use generational_core::{HandedBack, Location, Owner, Refusal, Storage, StoreError};
 use indexmap::IndexMap;
 use std::error::Error;
 use std::fmt;
@@ -69,14 +69,14 @@ impl<K: Eq + Hash, T> Session<K, T> {
         }
     }
 
-    /// Keeps a value under a key that has none. One that isn't kept comes back.
+    /// Keeps a value under a key that has none. What isn't kept comes back.
     pub(crate) fn keep<S: Storage<T>>(
         &mut self,
         store: &mut S,
         key: K,
         value: T,
         here: Location,
-    ) -> Result<Entry<T>, (T, PutError)>
+    ) -> Result<Entry<T>, HandedBack<(K, T), PutError>>
     where
         K: Drop,
         requires { is_some (ownership (S.state store.old) self.old.owner) ≡ true }
@@ -88,23 +88,26 @@ impl<K: Eq + Hash, T> Session<K, T> {
             (Make (Some self.old.owner) value here) (Made (pointer_in e)) (S.state store.new)) }
         ensures here { IfOk result (λ e. (pointer_in e).created_at ≡ here) }
         ensures in_use { is_some (lookup (K.eq key) self.old.entries.entries) ≡ true →
-            IsErrAnd result (λ refusal. refusal.1 ≡ put.KeyInUse) }
+            IsErrAnd result (λ refusal. refusal.cause ≡ put.KeyInUse) }
         ensures short { IfErr result (λ refusal.
             (is_some (lookup (K.eq key) self.old.entries.entries) ≡ true)
-            ⊎ (refusal.1 ≡ put.Store OutOfMemory)) }
-        ensures back { IfErr result (λ refusal. refusal.0 ≡ value) }
+            ⊎ (refusal.cause ≡ put.Store OutOfMemory)) }
+        ensures back { IfErr result (λ refusal. refusal.value ≡ (key, value)) }
         ensures same { OnErr result (self.new.entries.entries ≡ self.old.entries.entries) }
         ensures refused { OnErr result (S.state store.new ≡ S.state store.old) }
     {
         if self.entries.contains_key(&key) {
-            return Err((value, PutError::KeyInUse));
+            return Err(not_put(key, value, PutError::KeyInUse));
         }
         if self.entries.reserve(1).is_err() {
-            return Err((value, PutError::Store(StoreError::OutOfMemory)));
+            let cause = PutError::Store(StoreError::OutOfMemory);
+            return Err(not_put(key, value, cause));
         }
         let raw = match self.owner.insert(store, value, here) {
             Ok(raw) => raw,
-            Err(Refusal { value, cause }) => return Err((value, PutError::Store(cause))),
+            Err(Refusal { value, cause }) => {
+                return Err(not_put(key, value, PutError::Store(cause)));
+            }
         };
         let entry = Entry { raw };
         match self.entries.insert(key, entry) {
@@ -145,6 +148,14 @@ impl<K: Eq + Hash, T> Session<K, T> {
             Err(_) => unreachable!(),
         }
     }
+}
+
+/// A key and a value that weren't put, and why.
+pub(crate) fn not_put<K, T>(key: K, value: T, cause: PutError) -> HandedBack<(K, T), PutError>
+    ensures { result ≡ record { value = (key, value); cause = cause } }
+{
+    let value = (key, value);
+    HandedBack { value, cause }
 }
 
 /// Why an id can't be logged in.

@@ -1,7 +1,7 @@
 //! Tables of sessions.
 
 ghost use Rattle.std.specs.Prelude.{◌≡◌, ◌↔◌, ◌⊎◌, ◌<◌, ◌+◌, [], true, false, length};
-ghost use Rattle.std.specs.Prelude.{None, Some, Err, is_some, option_map, option_copied, IfOk, OnOk};
+ghost use Rattle.std.specs.Prelude.{None, Some, is_some, option_map, option_copied, IfOk, OnOk};
 ghost use Rattle.std.specs.Prelude.{IfErr, IsErrAnd, OnErr, IsErr, IsTrue, IsFalse, IfNone, IsNone, IsSome, slice_get};
 ghost use Rattle.std.specs.Prelude.{if◌then◌else◌, not};
 ghost use Rattle.std.specs.Borrow.{MutBor};
@@ -23,10 +23,10 @@ ghost use Rattle.session_table.specs.Sessions.{is_young, if_young};
 ghost use Rattle.session_table.specs.Tables.{EndsAt, TableState, live, shown_in, keeps};
 ghost use Rattle.session_table.specs.Tables.{has_session, session_in, WasPut, IsOrderly};
 
-use crate::entry::{Entry, PutError, PutRefusal, Stale};
-use crate::session::{LoginError, RenameError, Session};
+use crate::entry::{Entry, PutError, Stale};
+use crate::session::{LoginError, RenameError, Session, not_put};
 use crate::walk::Sessions;
-use generational_core::{Location, Storage, StoreError};
+use generational_core::{HandedBack, Location, Storage, StoreError};
 use indexmap::IndexMap;
 use std::alloc::Global;
 use std::hash::Hash;
@@ -81,14 +81,14 @@ impl<I: Eq + Hash, K: Eq + Hash, T, S: Storage<T>> SessionTable<I, K, T, S> {
     ///
     /// Refused, in this order: `IdInUse`, where the id has a session; `Store` of `OutOfMemory`, where
     /// the rows find no room; of `NumbersExhausted`, where the store gave all its tickets, of which a
-    /// login uses one; of `OutOfMemory`, where the session's owner finds no room. The table stays as
-    /// it was then. Takes memory where the rows have no room, and for the session's owner. O(1), but
-    /// for finding room.
+    /// login uses one; of `OutOfMemory`, where the session's owner finds no room. The id comes back
+    /// then, and the table stays as it was. Takes memory where the rows have no room, and for the
+    /// session's owner. O(1), but for finding room.
     ///
     /// ```rust
     /// table.login(7, 1000)?;
     /// ```
-    pub fn login(&mut self, id: I, now: u64) -> Result<(), LoginError>
+    pub fn login(&mut self, id: I, now: u64) -> Result<(), HandedBack<I, LoginError>>
     where
         I: Drop,
         ensures opened { OnOk result (session_in I.eq self.new id ≡ Some (begun now)) }
@@ -98,20 +98,28 @@ impl<I: Eq + Hash, K: Eq + Hash, T, S: Storage<T>> SessionTable<I, K, T, S> {
         ensures shown { (e : Entry T) → shown_in self.new e ≡ shown_in self.old e }
         ensures put { (e : Entry T) → WasPut self.old e → WasPut self.new e }
         ensures ticket { OnOk result (self.new.state.next ≡ self.old.state.next + 1) }
-        ensures in_use { IsTrue (has_session I.eq self.old id) → result ≡ Err login.IdInUse }
-        ensures short { IfErr result (λ e. (has_session I.eq self.old id ≡ true)
-            ⊎ ((cause : StoreError) × (e ≡ login.Store cause) × Lacks self.old.state cause)) }
+        ensures in_use { IsTrue (has_session I.eq self.old id) →
+            IsErrAnd result (λ refusal. refusal.cause ≡ login.IdInUse) }
+        ensures short { IfErr result (λ refusal. (has_session I.eq self.old id ≡ true)
+            ⊎ ((cause : StoreError) × (refusal.cause ≡ login.Store cause)
+            × Lacks self.old.state cause)) }
+        ensures back { IfErr result (λ refusal. refusal.value ≡ id) }
         ensures refused { OnErr result (self.new ≡ self.old) }
     {
         if self.has(&id) {
-            return Err(LoginError::IdInUse);
+            let cause = LoginError::IdInUse;
+            return Err(HandedBack { value: id, cause });
         }
         if self.rows.reserve(1).is_err() {
-            return Err(LoginError::Store(StoreError::OutOfMemory));
+            let cause = LoginError::Store(StoreError::OutOfMemory);
+            return Err(HandedBack { value: id, cause });
         }
         let owner = match self.store.owner() {
             Ok(owner) => owner,
-            Err(cause) => return Err(LoginError::Store(cause)),
+            Err(cause) => {
+                let cause = LoginError::Store(cause);
+                return Err(HandedBack { value: id, cause });
+            }
         };
         let session = Session {
             used_at: now,
@@ -129,9 +137,9 @@ impl<I: Eq + Hash, K: Eq + Hash, T, S: Storage<T>> SessionTable<I, K, T, S> {
     /// given, every other entry shows what it showed, and every other session is unchanged.
     ///
     /// Refused, in this order: `NoSession`, where the id has none; `KeyInUse`, where the session has an
-    /// entry under the key; `Store` of `OutOfMemory`. The value comes back then, and the table stays as
-    /// it was. Takes memory where no slot is free, or the session has no room. O(1), but for finding
-    /// room.
+    /// entry under the key; `Store` of `OutOfMemory`. The key and the value come back then, and the table
+    /// stays as it was. Takes memory where no slot is free, or the session has no room. O(1), but for
+    /// finding room.
     ///
     /// ```rust
     /// let basket = table.put(&7, 1, 42, here)?;
@@ -142,7 +150,7 @@ impl<I: Eq + Hash, K: Eq + Hash, T, S: Storage<T>> SessionTable<I, K, T, S> {
         key: K,
         value: T,
         here: Location,
-    ) -> Result<Entry<T>, PutRefusal<T>>
+    ) -> Result<Entry<T>, HandedBack<(K, T), PutError>>
     where
         K: Drop,
         ensures shown { IfOk result (λ e. shown_in self.new e ≡ Some value) }
@@ -172,17 +180,13 @@ impl<I: Eq + Hash, K: Eq + Hash, T, S: Storage<T>> SessionTable<I, K, T, S> {
         ensures short { IfErr result (λ refusal. (has_session I.eq self.old id.now ≡ false)
             ⊎ ((is_some (entry_in K.eq (session_in I.eq self.old id.now) key) ≡ true)
             ⊎ (refusal.cause ≡ put.Store OutOfMemory))) }
-        ensures back { IfErr result (λ refusal. refusal.value ≡ value) }
+        ensures back { IfErr result (λ refusal. refusal.value ≡ (key, value)) }
         ensures refused { OnErr result (self.new ≡ self.old) }
     {
         let Some(session) = self.rows.get_mut(id) else {
-            let cause = PutError::NoSession;
-            return Err(PutRefusal { value, cause });
+            return Err(not_put(key, value, PutError::NoSession));
         };
-        let entry = match session.keep(&mut self.store, key, value, here) {
-            Ok(entry) => entry,
-            Err((value, cause)) => return Err(PutRefusal { value, cause }),
-        };
+        let entry = session.keep(&mut self.store, key, value, here)?;
         Ok(entry)
     }
 
@@ -238,11 +242,11 @@ impl<I: Eq + Hash, K: Eq + Hash, T, S: Storage<T>> SessionTable<I, K, T, S> {
     /// table is unchanged. Takes no memory, and is O(1), but for letting the old value go.
     ///
     /// ```rust
-    /// if let Err((value, stale)) = table.set(basket, 43) {
-    ///     println!(rt; "{stale}, and {value} comes back")?;
+    /// if let Err(refusal) = table.set(basket, 43) {
+    ///     println!(rt; "{refusal}, and {} comes back", refusal.value)?;
     /// }
     /// ```
-    pub fn set(&mut self, entry: Entry<T>, value: T) -> Result<(), (T, Stale)>
+    pub fn set(&mut self, entry: Entry<T>, value: T) -> Result<(), HandedBack<T, Stale>>
     where
         T: Drop,
         ensures shown { OnOk result (shown_in self.new entry ≡ Some value) }
@@ -252,15 +256,15 @@ impl<I: Eq + Hash, K: Eq + Hash, T, S: Storage<T>> SessionTable<I, K, T, S> {
         ensures put { (f : Entry T) → WasPut self.old f → WasPut self.new f }
         ensures ticket { self.new.state.next ≡ self.old.state.next }
         ensures stale { IsErr result ↔ shown_in self.old entry ≡ None }
-        ensures told { IfErr result (λ back. back.1.put_at ≡ put_at entry) }
-        ensures back { IfErr result (λ back. back.0 ≡ value) }
+        ensures told { IfErr result (λ refusal. refusal.cause.put_at ≡ put_at entry) }
+        ensures back { IfErr result (λ refusal. refusal.value ≡ value) }
         ensures refused { OnErr result (self.new ≡ self.old) }
     {
         if !self.shows(entry) {
-            let stale = Stale {
+            let cause = Stale {
                 put_at: entry.put_at(),
             };
-            return Err((value, stale));
+            return Err(HandedBack { value, cause });
         }
         entry.raw.set(&mut self.store, value);
         Ok(())
@@ -376,13 +380,13 @@ impl<I: Eq + Hash, K: Eq + Hash, T, S: Storage<T>> SessionTable<I, K, T, S> {
     /// user proved who they are goes on under an id that nobody knew before.
     ///
     /// Refused, in this order: `NoSession`, where the id has none; `IdInUse`, where the new id has one,
-    /// also where both are one; `Store` of `OutOfMemory`. The table is unchanged then. Takes memory
-    /// where the rows have no room. O(1), but for finding room.
+    /// also where both are one; `Store` of `OutOfMemory`. The new id comes back then, and the table is
+    /// unchanged. Takes memory where the rows have no room. O(1), but for finding room.
     ///
     /// ```rust
     /// table.rename(&visitor, user).ok()?;
     /// ```
-    pub fn rename(&mut self, id: &I, to: I) -> Result<(), RenameError>
+    pub fn rename(&mut self, id: &I, to: I) -> Result<(), HandedBack<I, RenameError>>
     where
         I: Drop,
         ensures moved { OnOk result (session_in I.eq self.new to
@@ -392,21 +396,28 @@ impl<I: Eq + Hash, K: Eq + Hash, T, S: Storage<T>> SessionTable<I, K, T, S> {
             session_in I.eq self.new other ≡ session_in I.eq self.old other }
         ensures count { length self.new.sessions ≡ length self.old.sessions }
         ensures state { self.new.state ≡ self.old.state }
-        ensures unknown { has_session I.eq self.old id.now ≡ false → result ≡ Err rename.NoSession }
+        ensures unknown { has_session I.eq self.old id.now ≡ false →
+            IsErrAnd result (λ refusal. refusal.cause ≡ rename.NoSession) }
         ensures in_use { has_session I.eq self.old id.now ≡ true →
-            has_session I.eq self.old to ≡ true → result ≡ Err rename.IdInUse }
-        ensures short { IfErr result (λ e. (has_session I.eq self.old id.now ≡ false)
-            ⊎ ((has_session I.eq self.old to ≡ true) ⊎ (e ≡ rename.Store OutOfMemory))) }
+            has_session I.eq self.old to ≡ true →
+            IsErrAnd result (λ refusal. refusal.cause ≡ rename.IdInUse) }
+        ensures short { IfErr result (λ refusal. (has_session I.eq self.old id.now ≡ false)
+            ⊎ ((has_session I.eq self.old to ≡ true)
+            ⊎ (refusal.cause ≡ rename.Store OutOfMemory))) }
+        ensures back { IfErr result (λ refusal. refusal.value ≡ to) }
         ensures refused { OnErr result (self.new ≡ self.old) }
     {
         if !self.has(id) {
-            return Err(RenameError::NoSession);
+            let cause = RenameError::NoSession;
+            return Err(HandedBack { value: to, cause });
         }
         if self.has(&to) {
-            return Err(RenameError::IdInUse);
+            let cause = RenameError::IdInUse;
+            return Err(HandedBack { value: to, cause });
         }
         if self.rows.reserve(1).is_err() {
-            return Err(RenameError::Store(StoreError::OutOfMemory));
+            let cause = RenameError::Store(StoreError::OutOfMemory);
+            return Err(HandedBack { value: to, cause });
         }
         let Some(moved) = self.rows.swap_remove(id) else {
             unreachable!();

@@ -2,7 +2,7 @@
 
 use crate::document_acts::{added_at, document_over, has_content};
 use crate::document_memory::{add_or_again, append_or_again, repeat_or_again};
-use crate::expected::{assert_same, given};
+use crate::expected::{answered, assert_same, given};
 use crate::fresh::{Scene, play, play_at_ticket};
 use document_tree::{Document, Gone, Part, Place, PlaceError};
 use example_libraries::documents::change_heading;
@@ -27,7 +27,7 @@ impl Scene<Part<u64>> for HeadingGoes {
             made_at: added_at(8),
         };
         assert_same(rt, &document.get(heading).copied(), &Err(gone));
-        assert_same(rt, &document.set(heading, 6), &Err((6, gone)));
+        assert_same(rt, &answered(rt, document.set(heading, 6), &6), &Err(gone));
         let refused = document.append(heading, heading);
         assert_same(rt, &refused, &Err(PlaceError::Gone(gone)));
     }

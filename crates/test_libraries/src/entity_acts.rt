@@ -1,6 +1,6 @@
 //! What is done to a table of entities, one act a line, with what must come of it.
 
-use crate::expected::{assert_same, given};
+use crate::expected::{answered, assert_same, given};
 use entity_table::{ComponentTable, Entity, EntityTable, Stale};
 use generational_box::{Location, Storage};
 use std::alloc::Global;
@@ -141,13 +141,7 @@ fn set<S: Storage<u64>>(
     entity: Entity<u64>,
     element: u64,
 ) -> Result<(), Stale> {
-    match table.set(entity, element) {
-        Ok(()) => Ok(()),
-        Err((back, stale)) => {
-            assert_same(rt, &back, &element);
-            Err(stale)
-        }
-    }
+    answered(rt, table.set(entity, element), &element)
 }
 
 /// Adds to an entity's element in its place. The closure is called only where it is carried out.

@@ -1,5 +1,6 @@
 //! What a test finds beside what it wants.
 
+use generational_box::HandedBack;
 use std::alloc::Global;
 use std::fmt::{Debug, Display};
 use std::process::Abort;
@@ -15,6 +16,21 @@ pub(crate) fn given<T, E: Drop>(rt: &impl Abort, answer: Result<T, E>) -> T {
     match answer {
         Ok(given) => given,
         Err(_) => panic!(rt; "it was refused"),
+    }
+}
+
+/// What a call answered that hands back what it doesn't keep: that must be what was handed in.
+pub(crate) fn answered<A, T: PartialEq + Debug + Drop, E>(
+    rt: &impl Abort,
+    answer: Result<A, HandedBack<T, E>>,
+    handed_in: &T,
+) -> Result<A, E> {
+    match answer {
+        Ok(kept) => Ok(kept),
+        Err(HandedBack { value, cause }) => {
+            assert_same(rt, &value, handed_in);
+            Err(cause)
+        }
     }
 }
 

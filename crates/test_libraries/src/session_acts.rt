@@ -1,6 +1,6 @@
 //! What is done to a table of sessions, one act a line, with what must come of it.
 
-use crate::expected::{assert_same, given};
+use crate::expected::{answered, assert_same, given};
 use generational_box::{Location, Storage};
 use session_table::{Entry, LoginError, PutError, RenameError, SessionTable, Stale};
 use std::alloc::Global;
@@ -103,7 +103,7 @@ fn answer<S: Storage<u64>>(
     act: Act,
 ) -> Reply {
     match act {
-        Act::Login(id, now) => logged_in(table.login(id, now)),
+        Act::Login(id, now) => logged_in(answered(rt, table.login(id, now), &id)),
         Act::Put(id, value) => {
             let key = entries.len() as u64;
             put(rt, table, entries, (id, key), value)
@@ -113,7 +113,7 @@ fn answer<S: Storage<u64>>(
         Act::Add(number, more) => add(rt, table, entry_at(rt, entries, number), number, more),
         Act::Remove(id, key) => took(rt, table, id, key),
         Act::Touch(id, now) => known(table.touch(&id, now)),
-        Act::Rename(id, to) => renamed(table.rename(&id, to)),
+        Act::Rename(id, to) => renamed(answered(rt, table.rename(&id, to), &to)),
         Act::Logout(id) => known(table.logout(&id)),
         Act::Expire(before) => Reply::Ended(table.expire(before)),
     }
@@ -143,7 +143,7 @@ fn known(had: bool) -> Reply {
     if had { Reply::Done } else { Reply::NoSession }
 }
 
-/// Puts a value under a key, by which its entry is found. One that isn't put comes back.
+/// Puts a value under a key, by which its entry is found. Both come back where that is refused.
 fn put<S: Storage<u64>>(
     rt: &impl Abort,
     table: &mut SessionTable<u64, u64, u64, S>,
@@ -151,19 +151,16 @@ fn put<S: Storage<u64>>(
     at: (u64, u64),
     value: u64,
 ) -> Reply {
-    let refusal = match table.put(&at.0, at.1, value, put_at(entries.len())) {
+    let answer = table.put(&at.0, at.1, value, put_at(entries.len()));
+    match answered(rt, answer, &(at.1, value)) {
         Ok(entry) => {
             assert_same(rt, &table.entry(&at.0, &at.1), &Some(entry));
             given(rt, entries.push(entry));
-            return Reply::Done;
+            Reply::Done
         }
-        Err(refusal) => refusal,
-    };
-    assert_same(rt, &refusal.value, &value);
-    match refusal.cause {
-        PutError::NoSession => Reply::NoSession,
-        PutError::KeyInUse => Reply::KeyInUse,
-        PutError::Store(_) => Reply::Lacks,
+        Err(PutError::NoSession) => Reply::NoSession,
+        Err(PutError::KeyInUse) => Reply::KeyInUse,
+        Err(PutError::Store(_)) => Reply::Lacks,
     }
 }
 
@@ -175,13 +172,10 @@ fn set<S: Storage<u64>>(
     number: usize,
     value: u64,
 ) -> Reply {
-    let Err(back) = table.set(entry, value) else {
+    let Err(cause) = answered(rt, table.set(entry, value), &value) else {
         return Reply::Done;
     };
-    let stale = Stale {
-        put_at: put_at(number),
-    };
-    assert_same(rt, &back, &(value, stale));
+    assert_same(rt, &cause.put_at, &put_at(number));
     Reply::Stale
 }
 

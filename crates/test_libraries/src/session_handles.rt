@@ -5,7 +5,7 @@ use crate::fresh::{Scene, SceneOfTwo, play, play_two};
 use crate::session_acts::{put_at, sessions_over};
 use crate::session_limits::{log_in, put};
 use generational_box::{Storage, StoreError};
-use session_table::{Entry, LoginError, PutError, PutRefusal, RenameError, Stale};
+use session_table::{Entry, HandedBack, LoginError, PutError, RenameError, Stale};
 use std::alloc::Global;
 use std::collections::HashMap;
 use std::process::Abort;
@@ -73,8 +73,8 @@ impl Scene<u64> for RefusalsPrint {
         assert_prints(rt, alloc, &PutError::NoSession, "the id has no session");
         let text = "the new id has a session already";
         assert_prints(rt, alloc, &RenameError::IdInUse, text);
-        let in_use = PutRefusal {
-            value: 6,
+        let in_use = HandedBack {
+            value: (1, 6),
             cause: PutError::KeyInUse,
         };
         let text = "the session has an entry under the key already";

@@ -1,7 +1,7 @@
 //! Tables of sessions whose store has given all its tickets, values that are let go, and callers.
 
 use crate::counted::{Counted, another, assert_count, new_counted};
-use crate::expected::{assert_same, given};
+use crate::expected::{answered, assert_same, given};
 use crate::fresh::{Scene, play, play_at_ticket};
 use crate::session_acts::{put_at, sessions_over};
 use example_libraries::sessions::{
@@ -40,8 +40,8 @@ impl Scene<u64> for TicketsAreUsedUp {
         let mut table = sessions_over(rt, alloc, store);
         log_in(rt, &mut table, 1);
         let entry = put(rt, &mut table, (1, 1), 5);
-        let short = StoreError::NumbersExhausted;
-        assert_same(rt, &table.login(2, 0), &Err(LoginError::Store(short)));
+        let short = LoginError::Store(StoreError::NumbersExhausted);
+        assert_same(rt, &answered(rt, table.login(2, 0), &2), &Err(short));
         given(rt, table.set(entry, 6));
         assert_same(rt, &table.get(entry).copied().ok(), &Some(6));
         assert!(rt; table.logout(&1));

@@ -1,7 +1,7 @@
 //! Tables where memory runs out. The test passes whichever one allocation is refused: what lacks
 //! memory changes nothing, and is tried a second time.
 
-use crate::expected::{assert_same, given};
+use crate::expected::{answered, assert_same, given};
 use crate::fresh::{Scene, play_both};
 use crate::session_acts::{put_at, sessions_over};
 use generational_box::{Storage, StoreError};
@@ -20,7 +20,7 @@ fn log_in_or_again<S: Storage<u64>>(
     id: u64,
 ) {
     let before = table.len();
-    if let Err(cause) = table.login(id, id) {
+    if let Err(cause) = answered(rt, table.login(id, id), &id) {
         assert_same(rt, &cause, &LoginError::Store(StoreError::OutOfMemory));
         assert_same(rt, &table.len(), &before);
         given(rt, table.login(id, id));
@@ -28,26 +28,22 @@ fn log_in_or_again<S: Storage<u64>>(
     assert!(rt; table.has(&id));
 }
 
-/// Puts a value. One that lacks memory comes back, and the session is as it was.
+/// Puts a value. Where memory lacks, it comes back with its key, and the session is as it was.
 fn put_or_again<S: Storage<u64>>(
     rt: &impl Abort,
     table: &mut SessionTable<u64, u64, u64, S>,
     id: u64,
     value: u64,
 ) {
-    let refusal = match table.put(&id, value, value, put_at(0)) {
+    let answer = table.put(&id, value, value, put_at(0));
+    let cause = match answered(rt, answer, &(value, value)) {
         Ok(entry) => {
             assert!(rt; table.shows(entry));
             return;
         }
-        Err(refusal) => refusal,
+        Err(cause) => cause,
     };
-    assert_same(rt, &refusal.value, &value);
-    assert_same(
-        rt,
-        &refusal.cause,
-        &PutError::Store(StoreError::OutOfMemory),
-    );
+    assert_same(rt, &cause, &PutError::Store(StoreError::OutOfMemory));
     given(rt, table.put(&id, value, value, put_at(0)));
 }
 
@@ -58,7 +54,7 @@ fn rename_or_again<S: Storage<u64>>(
     id: u64,
     to: u64,
 ) {
-    if let Err(cause) = table.rename(&id, to) {
+    if let Err(cause) = answered(rt, table.rename(&id, to), &to) {
         assert_same(rt, &cause, &RenameError::Store(StoreError::OutOfMemory));
         assert!(rt; table.has(&id) && !table.has(&to));
         given(rt, table.rename(&id, to));

@@ -1,6 +1,6 @@
 //! What is done to a tree, one act a line, with what must come of it.
 
-use crate::expected::{assert_same, given};
+use crate::expected::{answered, assert_same, given};
 use generational_box::{Location, Storage};
 use scene_tree::{Node, SceneTree, Spot, Stale, TreeError};
 use std::alloc::Global;
@@ -184,13 +184,7 @@ fn add_at<S: Storage<u64>>(
     value: u64,
     number: usize,
 ) -> Result<Node<u64>, TreeError> {
-    match tree.add_at(spot, value, made_at(number)) {
-        Ok(child) => Ok(child),
-        Err((back, error)) => {
-            assert_same(rt, &back, &value);
-            Err(error)
-        }
-    }
+    answered(rt, tree.add_at(spot, value, made_at(number)), &value)
 }
 
 /// Makes a child. Its value comes back where that is refused.
@@ -201,13 +195,7 @@ fn add_child<S: Storage<u64>>(
     value: u64,
     number: usize,
 ) -> Result<Node<u64>, TreeError> {
-    match tree.add_child(parent, value, made_at(number)) {
-        Ok(child) => Ok(child),
-        Err((back, error)) => {
-            assert_same(rt, &back, &value);
-            Err(error)
-        }
-    }
+    answered(rt, tree.add_child(parent, value, made_at(number)), &value)
 }
 
 /// Sets a value. It comes back where that is refused.
@@ -217,13 +205,8 @@ fn set<S: Storage<u64>>(
     node: Node<u64>,
     value: u64,
 ) -> Result<(), TreeError> {
-    match tree.set(node, value) {
-        Ok(()) => Ok(()),
-        Err((back, stale)) => {
-            assert_same(rt, &back, &value);
-            Err(TreeError::Stale(stale.made_at))
-        }
-    }
+    let answer = answered(rt, tree.set(node, value), &value);
+    answer.map_err(TreeError::from)
 }
 
 /// A node by its number.

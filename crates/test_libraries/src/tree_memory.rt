@@ -40,11 +40,11 @@ pub(crate) fn child_or_again<S: Storage<u64>>(
     let before = tree.len();
     let made = match tree.add_child(parent, value, made_at(1)) {
         Ok(child) => Ok(child),
-        Err((back, error)) => {
-            assert_same(rt, &back, &value);
-            assert_same(rt, &error, &LACKING);
+        Err(refusal) => {
+            assert_same(rt, &refusal.value, &value);
+            assert_same(rt, &refusal.cause, &LACKING);
             assert_same(rt, &tree.len(), &before);
-            tree.add_child(parent, back, made_at(1))
+            tree.add_child(parent, value, made_at(1))
         }
     };
     given(rt, made)
@@ -60,10 +60,10 @@ fn child_at_or_again<S: Storage<u64>>(
     let before = tree.len();
     let made = match tree.add_at(spot, value, made_at(1)) {
         Ok(child) => Ok(child),
-        Err((back, error)) => {
-            assert_same(rt, &error, &LACKING);
+        Err(refusal) => {
+            assert_same(rt, &refusal.cause, &LACKING);
             assert_same(rt, &tree.len(), &before);
-            tree.add_at(spot, back, made_at(1))
+            tree.add_at(spot, refusal.value, made_at(1))
         }
     };
     given(rt, made)
