@@ -404,15 +404,107 @@ pub taken_before : {X : Type 0} (xs : List X) (i : ℕ) (d : X) → i < length x
     → take i (swap_remove xs i d) ≡ take i xs
 taken_before xs i d lt = take-take i (length xs - 1) _ (omega (arith, lt)) ∙ take-set xs i _
 
+-- behind a row
+swap_cons : {X : Type 0} (x y : X) (ys : List X) (i : ℕ) (d : X)
+    → swap_remove (x ∷ y ∷ ys) (suc i) d ≡ x ∷ swap_remove (y ∷ ys) i d
+swap_cons x y ys i d = simp sub-one
+
+-- what stands from a place on goes as the whole would
+pub dropped_from : {X : Type 0} (xs : List X) (i : ℕ) (d : X) → i < length xs
+    → drop i (swap_remove xs i d) ≡ swap_remove (drop i xs) 0 d
+dropped_from [] i d lt = absurd (omega (arith, lt))
+dropped_from (x ∷ xs) zero d lt = refl
+dropped_from (x ∷ []) (suc i) d lt = absurd (omega (arith, lt))
+dropped_from (x ∷ y ∷ ys) (suc i) d lt = ap (drop (suc i)) (swap_cons x y ys i d) ∙ dropped_from (y ∷ ys) i d (omega (arith, lt))
+
+-- the row at a place
+row_within : {X : Type 0} (xs : List X) (i : ℕ) → i < length xs → (x : X) × (slice_get xs i ≡ Some x)
+row_within [] i lt = absurd (omega (arith, lt))
+row_within (x ∷ xs) zero lt = (x, refl)
+row_within (x ∷ xs) (suc i) lt = row_within xs i (omega (arith, lt))
+
+cut_at : {X : Type 0} (xs : List X) (i : ℕ) (x : X) → slice_get xs i ≡ Some x → drop i xs ≡ x ∷ drop (i + 1) xs
+cut_at xs i x is = rw add-one (drop-cons xs i x (slice_get_within xs i x is)
+    ∙ ap (λ v. v ∷ drop (suc i) xs) (get_or_from_slice_get xs i x x is))
+
+-- a look at the first row
+first_old : {X : Type 0} (test : X → Bool) (n : ℕ) (x : X) (xs : List X) → test x ≡ false
+    → swap_retain test (suc n) (x ∷ xs) ≡ swap_retain test n (swap_remove (x ∷ xs) 0 x)
+first_old test n x xs old = rw old refl
+
+first_young : {X : Type 0} (test : X → Bool) (n : ℕ) (x : X) (xs : List X) → test x ≡ true
+    → swap_retain test (suc n) (x ∷ xs) ≡ x ∷ swap_retain test n xs
+first_young test n x xs young = rw young refl
+
+module _ {X : Type 0} (test : X → Bool) (xs : List X) (i : ℕ) where
+  pub retained_old : (x : X) (ys : List X) → slice_get xs i ≡ Some x → test x ≡ false
+      → length ys + 1 ≡ length xs → ys ≡ swap_remove xs i x
+      → take i xs ++ swap_retain test (length xs - i) (drop i xs)
+      ≡ take i ys ++ swap_retain test (length ys - i) (drop i ys)
+  retained_old x ys is old fewer order =
+      let lt = slice_get_within xs i x is in
+      let n = length ys - i in
+      let count : length xs - i ≡ suc n = omega (arith, lt, fewer) in
+      let cut = cut_at xs i x is in
+      let rest = drop (i + 1) xs in
+      let left : swap_remove (x ∷ rest) 0 x ≡ drop i ys =
+      ap (λ l. swap_remove l 0 x) (sym cut) ∙ (sym (dropped_from xs i x lt) ∙ ap (drop i) (sym order)) in
+      let front : take i xs ≡ take i ys = sym (taken_before xs i x lt) ∙ ap (take i) (sym order) in
+      let back : swap_retain test (length xs - i) (drop i xs) ≡ swap_retain test n (drop i ys) =
+      (λ j. swap_retain test (count j) (cut j))
+      ∙ (first_old test n x rest old ∙ ap (swap_retain test n) left) in
+      λ j. front j ++ back j
+
+  pub retained_young : (x : X) → slice_get xs i ≡ Some x → test x ≡ true
+      → take i xs ++ swap_retain test (length xs - i) (drop i xs)
+      ≡ take (i + 1) xs ++ swap_retain test (length xs - (i + 1)) (drop (i + 1) xs)
+  retained_young x is young =
+      let lt = slice_get_within xs i x is in
+      let n = length xs - (i + 1) in
+      let count : length xs - i ≡ suc n = omega (arith, lt) in
+      let cut = cut_at xs i x is in
+      let rest = drop (i + 1) xs in
+      let front : take (i + 1) xs ≡ take i xs ++ x ∷ [] = rw add-one (take-suc xs i x lt
+      ∙ ap (λ v. take i xs ++ v ∷ []) (get_or_from_slice_get xs i x x is)) in
+      let back : swap_retain test (length xs - i) (drop i xs) ≡ x ∷ swap_retain test n rest =
+      (λ j. swap_retain test (count j) (cut j)) ∙ first_young test n x rest young in
+      ap (λ l. take i xs ++ l) back ∙ (sym (append_assoc (take i xs) (x ∷ []) (swap_retain test n rest))
+      ∙ ap (λ l. l ++ swap_retain test n rest) (sym front))
+
+  pub retained_all : length xs ≤ i → take i xs ++ swap_retain test (length xs - i) (drop i xs) ≡ xs
+  retained_all all =
+      let none : length xs - i ≡ 0 = omega (arith, all) in
+      ap (λ n. take i xs ++ swap_retain test n (drop i xs)) none ∙ (append-nil (take i xs) ∙ take_all i xs all)
+
+-- what a caller sees of rows of which one was taken out, by its place or by its id
+module _ {I K T : Type 0} where
+  pub live_swapped : (rows : List (I × Session K T)) (i : ℕ) (e : I × Session K T) → i < length rows
+      → map live_row (swap_remove rows i e) ≡ swap_remove (map live_row rows) i (live_row e)
+  live_swapped rows i e lt = map-swap_remove live_row rows i e (omega (arith, lt))
+
+  pub live_removed : (test : I → Bool) (rows : List (I × Session K T))
+      → map live_row (swap_remove_entry test rows) ≡ swap_remove_entry test (map live_row rows)
+  live_removed test [] = refl
+  live_removed test (e ∷ es) =
+      let keys = ap (position test) (keys_of-map_values live (e ∷ es)) in
+      by_option (position test (keys_of (e ∷ es)))
+      (λ none. ap (map live_row) (swap_remove_entry-missing test (e ∷ es) none)
+      ∙ sym (swap_remove_entry-missing test (map live_row (e ∷ es)) (keys ∙ none)))
+      (λ i is. ap (map live_row) (swap_remove_entry-found test (e ∷ es) i e is)
+      ∙ (map-swap_remove live_row (e ∷ es) i e (omega arith)
+      ∙ sym (swap_remove_entry-found test (map live_row (e ∷ es)) i (live_row e) (keys ∙ is))))
+
 module _ {I K T : Type 0} (eq : I → I → Bool) (time : ℕ) where
-  -- from the one table to the other some old sessions have ended: those before a place are young, an
-  -- id has the session that it had, or has none where that was old, and an entry shows what it showed,
-  -- but for those that such an id kept
+  -- from the one table to the other some old sessions have ended: those before a place are young, and
+  -- the others are still to be looked at; an id has the session that it had, or has none where that was
+  -- old, and an entry shows what it showed, but for those that such an id kept
   pub record Sheds (place : ℕ) (a b : TableState I K T) : Type 0 where
     pub within : place ≤ length b.sessions
     pub fewer : length b.sessions ≤ length a.sessions
     pub young : (i : ℕ) (e : I × LiveSession K T) → i < place → slice_get b.sessions i ≡ Some e
         → is_young time e.1 ≡ true
+    pub order : swap_retain (λ row. is_young time row.1) (length a.sessions) a.sessions
+        ≡ take place b.sessions ++ swap_retain (λ row. is_young time row.1) (length b.sessions - place) (drop place b.sessions)
     pub sessions : (id : I) → (session_in eq b id ≡ session_in eq a id)
         ⊎ ((session_in eq b id ≡ None) × (if_young time (session_in eq a id) ≡ None))
     pub left : (e : Entry T) → (shown_in b e ≡ shown_in a e)
@@ -436,9 +528,25 @@ module _ {I K T : Type 0} {eq : I → I → Bool} {time : ℕ} where
         let own = laws.refl e.ended.0 in
         let before = get_take b.sessions place in
         let after = get_take c.sessions place in
-        grind (arith, e.sessions, s.sessions, was, alike, own, e.gone, e.left, s.left, s.young, before, after, within)
+        let front = ap (take place) e.order ∙ taken_before b.sessions place e.ended within in
+        let order = s.order ∙ retained_old (λ (row : I × LiveSession K T). is_young time row.1) b.sessions place e.ended
+        c.sessions e.there old e.fewer e.order in
+        grind (arith, e.sessions, s.sessions, was, alike, own, e.gone, e.left, s.left, s.young, before, after, within, front, order)
+
+    -- the session at the place is young, and stays
+    pub sheds_young : place < length b.sessions → ((e : I × LiveSession K T)
+        → slice_get b.sessions place ≡ Some e → is_young time e.1 ≡ true) → Sheds eq time (place + 1) a b
+    sheds_young within young =
+        let (e, there) = row_within b.sessions place within in
+        let now = young e there in
+        let order = s.order ∙ retained_young (λ (row : I × LiveSession K T). is_young time row.1) b.sessions place e there now in
+        grind (arith, s.young, s.sessions, s.left, s.fewer, within, order, there, now)
 
     -- ---- once each session is young
+
+    pub shed_order : length b.sessions ≤ place
+        → b.sessions ≡ swap_retain (λ row. is_young time row.1) (length a.sessions) a.sessions
+    shed_order all = sym (s.order ∙ retained_all (λ (row : I × LiveSession K T). is_young time row.1) b.sessions place all)
 
     pub shed_ids : length b.sessions ≤ place → (id : I)
         → session_in eq b id ≡ if_young time (session_in eq a id)
@@ -456,6 +564,14 @@ module _ {I K T : Type 0} {eq : I → I → Bool} {time : ℕ} where
       pub shed_kept : (id : I) (e : Entry T) → keeps eq a id e ≡ true → has_session eq b id ≡ true
           → shown_in b e ≡ shown_in a e
       shed_kept id e kept has = grind (arith, s.left e, keepers id)
+
+-- a session that begins, or gets another id, comes last
+pub begun_last : {I K T : Type 0} (eq : I → I → Bool) (old : List (I × Session K T)) {new : List (I × Session K T)}
+    (k : I) (s : Session K T) → lookup (eq k) old ≡ None → new ≡ insert_entry eq old k s
+    → map live_row new ≡ map live_row old ++ (k, live s) ∷ []
+begun_last eq old k s none is =
+    ap (map live_row) (is ∙ insert_entry-absent eq k s old (absent_from_lookup (eq k) old none))
+    ∙ map-append live_row old ((k, s) ∷ [])
 
 -- no rows are left where none are counted
 pub none_left : {I K T : Type 0} {eq : I → I → Bool} (S : State T) (rows : List (I × Session K T))

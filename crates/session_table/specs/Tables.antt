@@ -1,6 +1,7 @@
 -- What a caller sees of a table of sessions.
-use Rattle.std.specs.Prelude.{◌≡◌, ℕ, ◌+◌, Bool, true, false, cond, List, Option, None, Some, is_some}
-use Rattle.std.specs.Prelude.{length, slice_get, take, map as list_map}
+use Rattle.std.specs.Prelude.{◌≡◌, ℕ, zero, suc, ◌+◌, Bool, true, false, cond, if◌then◌else◌, is_some}
+use Rattle.std.specs.Prelude.{List, [], ◌∷◌, Option, None, Some, length, slice_get, swap_remove}
+use Rattle.std.specs.Prelude.{map as list_map}
 use Rattle.std.specs.List.{IsDistinct}
 use Rattle.std.specs.Map.{keys_of, lookup}
 use Rattle.generational_core.specs.Boxes.{name_of}
@@ -16,6 +17,14 @@ use Rattle.session_table.specs.Sessions.{LiveSession, names_in, names_of}
 pub record TableState (I K T : Type 0) : Type 0 where
   pub state : State T
   pub sessions : List (I × LiveSession K T)
+
+-- the rows that pass a test: from the front on, the last one takes the place of each that doesn't. So
+-- many are looked at as are left, or as the number says
+abbrev pub swap_retain : {X : Type 0} → (X → Bool) → ℕ → List X → List X
+swap_retain test zero rows = []
+swap_retain test (suc n) [] = []
+swap_retain test (suc n) (r ∷ rows) = if test r then r ∷ swap_retain test n rows
+    else swap_retain test n (swap_remove (r ∷ rows) 0 r)
 
 -- what a row is to a caller
 abbrev pub live : {K T : Type 0} → Session K T → LiveSession K T
@@ -57,13 +66,13 @@ module _ {I K T : Type 0} where
       pub live : (id : I) (e : Entry T) → keeps t id e ≡ true
           → (pointer_in e).id.store ≡ t.state.number → is_some (shown_in t e) ≡ true
 
-    -- the session at a place ends, and nothing else; those before it keep their places
+    -- the session at a place ends, and nothing else; the last one takes its place
     pub record EndsAt (place : ℕ) (t u : TableState I K T) : Type 0 where
       pub ended : I × LiveSession K T
       pub there : slice_get t.sessions place ≡ Some ended
       pub found : session_in t ended.0 ≡ Some ended.1
       pub sessions : (id : I) → session_in u id ≡ cond (eq ended.0 id) None (session_in t id)
-      pub before : take place u.sessions ≡ take place t.sessions
+      pub order : u.sessions ≡ swap_remove t.sessions place ended
       pub fewer : length u.sessions + 1 ≡ length t.sessions
       pub gone : (e : Entry T) → among (names_of ended.1.entries) (name_of (pointer_in e)) ≡ true
           → shown_in u e ≡ None

@@ -1,6 +1,6 @@
 //! Tables of sessions.
 
-ghost use Rattle.std.specs.Prelude.{◌≡◌, ◌↔◌, ◌⊎◌, ◌<◌, ◌+◌, [], true, false, length};
+ghost use Rattle.std.specs.Prelude.{◌≡◌, ◌↔◌, ◌⊎◌, ◌<◌, ◌+◌, ◌++◌, ◌∷◌, [], true, false, length};
 ghost use Rattle.std.specs.Prelude.{None, Some, is_some, option_map, option_copied, IfOk, OnOk};
 ghost use Rattle.std.specs.Prelude.{IfErr, IsErrAnd, OnErr, IsErr, IsTrue, IsFalse, IfNone, IsNone, IsSome, slice_get};
 ghost use Rattle.std.specs.Prelude.{if◌then◌else◌, not};
@@ -20,7 +20,8 @@ ghost use Rattle.session_table.specs.declared.session.RenameError.TheVariants as
 ghost use Rattle.session_table.specs.Entries.{pointer_in, put_at, IsOther};
 ghost use Rattle.session_table.specs.Sessions.{LiveSession, begun, used, with_entry, without_entry, entry_in};
 ghost use Rattle.session_table.specs.Sessions.{is_young, if_young};
-ghost use Rattle.session_table.specs.Tables.{EndsAt, TableState, live, shown_in, keeps};
+ghost use Rattle.session_table.specs.Tables.{EndsAt, TableState, live, shown_in, keeps, swap_retain};
+ghost use Rattle.indexmap.specs.IndexMap.{swap_remove_entry};
 ghost use Rattle.session_table.specs.Tables.{has_session, session_in, WasPut, IsOrderly};
 
 use crate::entry::{Entry, PutError, Stale};
@@ -76,8 +77,8 @@ impl<I: Eq + Hash, K: Eq + Hash, T, S: Storage<T>> SessionTable<I, K, T, S> {
         }
     }
 
-    /// Begins a session of an id, which was last used now and keeps nothing yet. Every entry shows
-    /// what it showed, and every other session is unchanged.
+    /// Begins a session of an id, which was last used now and keeps nothing yet. It comes last; the others
+    /// are unchanged and keep their places, and every entry shows what it showed.
     ///
     /// Refused, in this order: `IdInUse`, where the id has a session; `Store` of `OutOfMemory`, where
     /// the rows find no room; of `NumbersExhausted`, where the store gave all its tickets, of which a
@@ -94,7 +95,7 @@ impl<I: Eq + Hash, K: Eq + Hash, T, S: Storage<T>> SessionTable<I, K, T, S> {
         ensures opened { OnOk result (session_in I.eq self.new id ≡ Some (begun now)) }
         ensures others { (other : I) → I.eq id other ≡ false →
             session_in I.eq self.new other ≡ session_in I.eq self.old other }
-        ensures count { OnOk result (length self.new.sessions ≡ length self.old.sessions + 1) }
+        ensures order { OnOk result (self.new.sessions ≡ self.old.sessions ++ (id, begun now) ∷ []) }
         ensures shown { (e : Entry T) → shown_in self.new e ≡ shown_in self.old e }
         ensures put { (e : Entry T) → WasPut self.old e → WasPut self.new e }
         ensures ticket { OnOk result (self.new.state.next ≡ self.old.state.next + 1) }
@@ -375,9 +376,10 @@ impl<I: Eq + Hash, K: Eq + Hash, T, S: Storage<T>> SessionTable<I, K, T, S> {
         true
     }
 
-    /// Gives an id's session another id: what it keeps, and the time of its last use, stay. Every other
-    /// session is unchanged, and every entry shows what it showed. So a session that was begun before a
-    /// user proved who they are goes on under an id that nobody knew before.
+    /// Gives an id's session another id: what it keeps, and the time of its last use, stay. It comes last,
+    /// after the last session has taken its place. Every other session is unchanged, and every entry shows
+    /// what it showed. So a session that was begun before a user proved who they are goes on under an id
+    /// that nobody knew before.
     ///
     /// Refused, in this order: `NoSession`, where the id has none; `IdInUse`, where the new id has one,
     /// also where both are one; `Store` of `OutOfMemory`. The new id comes back then, and the table is
@@ -394,6 +396,10 @@ impl<I: Eq + Hash, K: Eq + Hash, T, S: Storage<T>> SessionTable<I, K, T, S> {
         ensures gone { OnOk result (session_in I.eq self.new id.now ≡ None) }
         ensures others { (other : I) → I.eq id.now other ≡ false → I.eq to other ≡ false →
             session_in I.eq self.new other ≡ session_in I.eq self.old other }
+        ensures order { OnOk result ((session : LiveSession K T) →
+            session_in I.eq self.old id.now ≡ Some session →
+            self.new.sessions ≡ swap_remove_entry (I.eq id.now) self.old.sessions
+            ++ (to, session) ∷ []) }
         ensures count { length self.new.sessions ≡ length self.old.sessions }
         ensures state { self.new.state ≡ self.old.state }
         ensures unknown { has_session I.eq self.old id.now ≡ false →
@@ -430,8 +436,9 @@ impl<I: Eq + Hash, K: Eq + Hash, T, S: Storage<T>> SessionTable<I, K, T, S> {
     }
 
     /// Ends an id's session, and all that it keeps: those entries show nothing from then on, and no
-    /// later value is mistaken for theirs. Every other session is unchanged, and what it keeps shows
-    /// what it showed. Answers whether the id had a session; where it had none, nothing changes.
+    /// later value is mistaken for theirs. The last session takes its place. Every other session is
+    /// unchanged, and what it keeps shows what it showed. Answers whether the id had a session; where it
+    /// had none, nothing changes.
     ///
     /// Never refused, since no borrow outlives a call of the table. Takes no memory. O(k) for k entries
     /// of this session.
@@ -447,6 +454,8 @@ impl<I: Eq + Hash, K: Eq + Hash, T, S: Storage<T>> SessionTable<I, K, T, S> {
         ensures ended { session_in I.eq self.new id.now ≡ None }
         ensures others { (other : I) → I.eq id.now other ≡ false →
             session_in I.eq self.new other ≡ session_in I.eq self.old other }
+        ensures order { self.new.sessions
+            ≡ swap_remove_entry (I.eq id.now) self.old.sessions }
         ensures count { length self.new.sessions + (if result then 1 else 0)
             ≡ length self.old.sessions }
         ensures gone { (e : Entry T) → keeps I.eq self.old id.now e ≡ true →
@@ -492,8 +501,9 @@ impl<I: Eq + Hash, K: Eq + Hash, T, S: Storage<T>> SessionTable<I, K, T, S> {
         }
     }
 
-    /// Ends every session that was last used before a time, and all that those keep. Every other
-    /// session is unchanged, and what it keeps shows what it showed. Answers how many ended.
+    /// Ends every session that was last used before a time, and all that those keep. From the front on,
+    /// the last session that is left takes the place of each that ends. Every other session is unchanged,
+    /// and what it keeps shows what it showed. Answers how many ended.
     ///
     /// Never refused, as `logout`. Takes no memory. O(n + k) for n sessions and k entries of those that
     /// end.
@@ -507,6 +517,8 @@ impl<I: Eq + Hash, K: Eq + Hash, T, S: Storage<T>> SessionTable<I, K, T, S> {
         K: Drop,
         ensures ids { (id : I) → session_in I.eq self.new id
             ≡ if_young before (session_in I.eq self.old id) }
+        ensures order { self.new.sessions ≡ swap_retain (λ row. is_young before row.1)
+            (length self.old.sessions) self.old.sessions }
         ensures count { result + length self.new.sessions ≡ length self.old.sessions }
         ensures gone { (id : I) (e : Entry T) → keeps I.eq self.old id e ≡ true →
             has_session I.eq self.new id ≡ false → shown_in self.new e ≡ None }
@@ -579,8 +591,8 @@ impl<I: Eq + Hash, K: Eq + Hash, T, S: Storage<T>> SessionTable<I, K, T, S> {
         self.rows.get(id)
     }
 
-    /// The sessions with their ids. A login comes last, and so does a session that gets another id. Where
-    /// one ends or gets another id, the last one takes its place. Takes no memory, and is O(1).
+    /// The sessions with their ids, in the order that `login`, `rename`, `logout` and `expire` state.
+    /// Takes no memory, and is O(1).
     ///
     /// ```rust
     /// for (id, session) in table.sessions() {

@@ -46,6 +46,16 @@ pub use Rattle.std.proofs.lemmas.Option.{none-some, same_Some, slice_get-map, sl
 pub use Rattle.std.proofs.{lemmas.Map.Views.All-map-remove_entry, lemmas.Cmp.eq_by_cmp_equiv}
 pub use Rattle.std.proofs.{lemmas.Map.Keys.IsDistinct-push, lemmas.List.Folds.list_any-append}
 pub use Rattle.std.proofs.{lemmas.Bool.true≢false}
+pub use Rattle.std.proofs.lemmas.List.{append-nil, take_all}
+pub use Rattle.std.proofs.Math.{Numerals.sub-one, Seq.take-suc}
+pub use Rattle.std.proofs.lemmas.Option.{get_or_from_slice_get}
+pub use Rattle.std.proofs.Common.{add-one, append_assoc, drop, drop-cons, suc, zero}
+pub use Rattle.std.specs.List.{position}
+pub use Rattle.indexmap.proofs.MapLemmas.{absent_from_lookup, insert_entry-absent}
+pub use Rattle.indexmap.proofs.MapLemmas.{swap_remove_entry-found, swap_remove_entry-missing}
+pub use Rattle.indexmap.proofs.SetLemmas.{map-swap_remove}
+pub use Rattle.indexmap.specs.IndexMap.{insert_entry, swap_remove_entry}
+pub use Rattle.session_table.specs.Tables.{swap_retain}
 pub use Rattle.std.specs.HashMap.Eq.{lookup_congr}
 pub use Rattle.std.specs.Map.{keys_of, lookup, remove_entry, set_value}
 pub use Rattle.std.specs.Prelude.{IfSome, is_some, nat_eq, not, option_map, slice_get, swap_remove}

@@ -1,7 +1,6 @@
-use Rattle.session_table.proofs.{ap, changed, ended_rows, length-map, live, live_row, lookup_from_place, map}
-use Rattle.session_table.proofs.{meets_given, now_session, option_map, release_next, row_ended, row_known}
-use Rattle.session_table.proofs.{row_left, session_of, slice_get-map, slice_get_within, sym, take, take-map}
-use Rattle.session_table.proofs.{taken_before, ◌∙◌}
+use Rattle.session_table.proofs.{ap, changed, ended_rows, length-map, live, live_row, live_swapped, lookup_from_place}
+use Rattle.session_table.proofs.{map, meets_given, now_session, option_map, release_next, row_ended, row_known}
+use Rattle.session_table.proofs.{row_left, session_of, slice_get-map, slice_get_within, sym, ◌∙◌}
 use Rattle.session_table.proofs.table.SessionTable.end_at.Goals as goal
 
 pub end-requires : goal.end-requires
@@ -29,8 +28,8 @@ returns g c =
       there = slice_get-map live_row rows c.args.place ∙ ap (option_map live_row) entry;
       found = session_of (g.I.PartialEq.eq id) rows found;
       sessions = now_session change;
-      before = simp take-map (ap (map live_row) (ap (take c.args.place) c.in-Some.ensures.entries
-          ∙ taken_before rows c.args.place _ (slice_get_within rows c.args.place _ entry)));
+      order = ap (map live_row) c.in-Some.ensures.entries
+          ∙ live_swapped rows c.args.place _ (slice_get_within rows c.args.place _ entry);
       fewer = simp length-map c.in-Some.ensures.len;
       gone = row_ended sound c.self.invariant change c.end.ensures;
       left = row_left sound c.self.invariant change c.end.ensures;

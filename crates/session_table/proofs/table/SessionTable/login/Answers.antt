@@ -1,5 +1,5 @@
-use Rattle.session_table.proofs.{ap, arith, changed, length, length-map, login_rows, no_row, none-some}
-use Rattle.session_table.proofs.{other_sessions, own_session, rules, same_value, Some, sym, ◌∙◌}
+use Rattle.session_table.proofs.{ap, begun_last, changed, live_row, login_rows, map, no_row, none-some}
+use Rattle.session_table.proofs.{other_sessions, own_session, rules, same_value, Some, sym, [], ◌++◌, ◌∙◌, ◌∷◌}
 use Rattle.session_table.proofs.table.SessionTable.login.Goals as goal
 
 pub unreachable-requires : goal.unreachable-requires
@@ -20,16 +20,17 @@ returns g c =
     let rows = c.self.inside.rows.entries in
     let none = no_row (g.I.PartialEq.eq c.args.id) rows (rw (← c.self.view_is) at (sym c.has.ensures ∙ c.if-has.false)) in
     let change = changed g.met.I.Eq.laws c.args.id none (rw c.reserve.ensures.entries at c.in-Ok-None.ensures.updates.0) in
-    let room = ap length c.reserve.ensures.entries in
-    let more = rw c.in-Ok-None.field-0-is at c.in-Ok-None.ensures.len in
+    let last = begun_last g.I.PartialEq.eq rows c.args.id _ none (rw c.reserve.ensures.entries at c.in-Ok-None.ensures.entries) in
     rw (← c.self.view_is) (record {
       opened = own_session change ∙ ap (λ es. Some (record { used_at = c.args.now; entries = es })) c.new.ensures.empty;
       others = other_sessions change;
-      count = simp length-map (omega (arith, room, more));
+      order = last ∙ ap (λ es. map live_row rows ++ (c.args.id, record { used_at = c.args.now; entries = es }) ∷ [])
+          c.new.ensures.empty;
       shown = λ e. same_value _ _ _ _ (g.met.S.AnyStorage.sound _) c.in-Ok.ensures _ tt tt;
       put = search rules;
       ticket = search rules;
       in_use = search rules;
       short = search rules;
+      back = search rules;
       refused = search rules;
     })

@@ -1,4 +1,5 @@
-use Rattle.session_table.proofs.{changed, ended_rows, kept_once, length-map, meets_given, other_sessions}
+use Rattle.session_table.proofs.{ap, changed, ended_rows, kept_once, length-map, live_removed, live_row, map}
+use Rattle.session_table.proofs.{meets_given, other_sessions}
 use Rattle.session_table.proofs.{own_session, refl, release_next, row_ended, row_known, row_left, rules}
 use Rattle.session_table.proofs.{session_of, sym, ◌∙◌}
 use Rattle.session_table.proofs.table.SessionTable.logout.Goals as goal
@@ -26,6 +27,7 @@ returns g c =
       had = refl;
       ended = own_session change;
       others = other_sessions change;
+      order = ap (map live_row) c.in-Some.ensures.entries ∙ live_removed (eq c.args.id.now) rows;
       count = simp length-map c.in-Some.ensures.len;
       gone = row_ended sound k change c.end.ensures;
       kept = λ other e ne kept. row_left sound k change c.end.ensures e (rw session at
@@ -40,4 +42,6 @@ returns g c =
 pub returns-in_default : goal.returns-in_default
 returns-in_default g c =
     let none = session_of (g.I.PartialEq.eq c.args.id.now) _ (sym c.in_default.ensures.value) in
-    rw (← c.self.view_is, c.in_default.ensures.unchanged, none) (search rules)
+    let order = ap (map live_row) (sym c.in_default.ensures.unchanged ∙ c.in_default.ensures.entries)
+    ∙ live_removed (g.I.PartialEq.eq c.args.id.now) c.self.inside.rows.entries in
+    rw (← c.self.view_is, c.in_default.ensures.unchanged, none) (search (rules, order))

@@ -11,15 +11,15 @@ pub invariant_of-self-2 : goal.invariant_of-self-2
 invariant_of-self-2 g c =
     let found = sym c.in-Some.ensures.value in
     put_rows (changed g.met.I.Eq.laws c.args.id.now found ((c.get_mut.follows.holds c.keep.new.self).3 (ap is_some found)).0)
-    c.args.key c.in-Ok.entry c.in-Ok.ensures.entries (g.met.S.AnyStorage.sound c.self.inside.store) c.self.invariant
-    c.keep.ensures.owner _ _ c.in-Ok.ensures.step
+    c.args.key c.in_ok-entry.entry c.in_ok-entry.ensures.entries (g.met.S.AnyStorage.sound c.self.inside.store) c.self.invariant
+    c.keep.ensures.owner _ _ c.in_ok-entry.ensures.step
 
-pub invariant_of-self-in-Err : goal.invariant_of-self-in-Err
-invariant_of-self-in-Err g c =
+pub invariant_of-self-in_err-entry : goal.invariant_of-self-in_err-entry
+invariant_of-self-in_err-entry g c =
     let found = sym c.in-Some.ensures.value in
-    rw c.in-Err.ensures.refused (same_rows (changed g.met.I.Eq.laws c.args.id.now found
+    rw c.in_err-entry.ensures.refused (same_rows (changed g.met.I.Eq.laws c.args.id.now found
     ((c.get_mut.follows.holds c.keep.new.self).3 (ap is_some found)).0) c.self.invariant
-    (same_held c.in-Some.session.now c.keep.new.self c.keep.ensures.owner c.in-Err.ensures.same))
+    (same_held c.in-Some.session.now c.keep.new.self c.keep.ensures.owner c.in_err-entry.ensures.same))
 
 pub returns : goal.returns
 returns g c =
@@ -27,9 +27,9 @@ returns g c =
     let sound = g.met.S.AnyStorage.sound c.self.inside.store in
     let change = changed g.met.I.Eq.laws c.args.id.now found
     ((c.get_mut.follows.holds c.keep.new.self).3 (ap is_some found)).0 in
-    let step = c.in-Ok.ensures.step in
-    let entry = c.in-Ok.entry in
-    let entries = c.in-Ok.ensures.entries in
+    let step = c.in_ok-entry.ensures.step in
+    let entry = c.in_ok-entry.entry in
+    let entries = c.in_ok-entry.ensures.entries in
     rw (← c.self.view_is, session_of (g.I.PartialEq.eq c.args.id.now) _ found) (record {
       shown = made _ _ _ (Ok entry.raw) step;
       kept = own_session change
@@ -49,16 +49,16 @@ returns g c =
       given = (made_new _ _ _ _ step).2;
       ticket = put_next _ _ _ _ _ _ step;
       unknown = search rules;
-      in_use = c.in-Ok.ensures.in_use;
+      in_use = c.in_ok-entry.ensures.in_use;
       short = search rules;
       back = search rules;
       refused = search rules;
     })
 
-pub returns-in-Err : goal.returns-in-Err
-returns-in-Err g c =
+pub returns-in_err-entry : goal.returns-in_err-entry
+returns-in_err-entry g c =
     let found = sym c.in-Some.ensures.value in
-    let why = c.in-Err.ensures in
+    let why = c.in_err-entry.ensures in
     let same = ap (map live_row) (c.get_mut.follows.holds c.keep.new.self).0
     ∙ same_sessions (g.I.PartialEq.eq c.args.id.now) _ _ c.keep.new.self found
     (λ j. record { used_at = c.keep.ensures.used j; entries = why.same j }) in

@@ -1,6 +1,7 @@
-use Rattle.session_table.proofs.{ap, arith, changed, is_some, left_none, length, length-map, no_row, none-some}
-use Rattle.session_table.proofs.{other_sessions, own_session, refl, renamed_rows, session_of, still_none, sym}
-use Rattle.session_table.proofs.{true≢false, ◌∙◌}
+use Rattle.session_table.proofs.{ap, arith, begun_last, changed, is_some, left_none, length, length-map}
+use Rattle.session_table.proofs.{live_removed, live_row, map, no_row, none-some, other_sessions, own_session}
+use Rattle.session_table.proofs.{refl, renamed_rows, same_Some, session_of, still_none, sym, true≢false}
+use Rattle.session_table.proofs.{[], ◌++◌, ◌∙◌, ◌∷◌}
 use Rattle.session_table.proofs.table.SessionTable.rename.Goals as goal
 
 pub unreachable-requires : goal.unreachable-requires
@@ -54,3 +55,15 @@ returns-clause-count g c =
     let less = c.in-Some.ensures.len in
     let more = rw c.in-Ok-None.field-0-is at c.in-Ok-None.ensures.len in
     rw (← c.self.view_is) (simp length-map (omega (arith, room, less, more)))
+
+pub returns-clause-order : goal.returns-clause-order
+returns-clause-order g c = rw (← c.self.view_is) (λ session is.
+    let eq = g.I.PartialEq.eq in
+    let rows = c.self.inside.rows.entries in
+    let free = no_row (eq c.args.to) rows (rw (← c.self.view_is) at (sym c.has-2.ensures ∙ c.if-has.false)) in
+    let gone = changed g.met.I.Eq.laws c.args.id.now refl (rw c.reserve.ensures.entries at c.in-Some.ensures.updates.0) in
+    let moved = session_of (eq c.args.id.now) rows (sym (rw c.reserve.ensures.entries at c.in-Some.ensures.value)) in
+    let others = ap (map live_row) (rw c.reserve.ensures.entries at c.in-Some.ensures.entries)
+    ∙ live_removed (eq c.args.id.now) rows in
+    begun_last eq _ c.args.to _ (still_none gone c.args.to free) c.in-Ok-None.ensures.entries
+    ∙ (λ j. others j ++ (c.args.to, same_Some _ _ (sym moved ∙ is) j) ∷ []))
