@@ -1,7 +1,8 @@
 //! Walks over the live entities with their elements, and over components with their entities.
 
-ghost use Rattle.std.specs.Prelude.{◌≡◌, ◌∷◌, [], MatchOption};
-ghost use Rattle.std.specs.Iterator.{YieldsFirstBy, item_count};
+ghost use Rattle.std.specs.Prelude.{◌≡◌, ◌∷◌, [], IfSome, MatchOption, Some, length};
+ghost use Rattle.std.specs.Iterator.{UpTo, YieldsFirstBy, item_count};
+ghost use Rattle.std.specs.Iterator.SizeHint.{IsWithinCount};
 ghost use Rattle.entity_table.specs.Components.{box_of_part, entity_of_part, listed_parts};
 ghost use Rattle.entity_table.specs.Entities.{pointer_in};
 ghost use Rattle.entity_table.specs.Tables.{element_in};
@@ -61,7 +62,11 @@ impl<'a, T, S: Storage<T>> Iterator for Iter<'a, T, S> {
         }
     }
 
-    fn size_hint(&self) -> (usize, Option<usize>) {
+    fn size_hint(&self) -> (usize, Option<usize>)
+        ensures lower { IsWithinCount result.0 (item_count (λ left. left) self.now) }
+        ensures upper { IfSome result.1 (UpTo (item_count (λ left. left) self.now)) }
+        ensures exact { result ≡ (length self.now, Some (length self.now)) }
+    {
         let left = self.rows.len();
         (left, Some(left))
     }

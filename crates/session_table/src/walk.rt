@@ -1,7 +1,8 @@
 //! Walks over the sessions of a table, and over the entries of a session.
 
-ghost use Rattle.std.specs.Prelude.{map as list_map};
-ghost use Rattle.std.specs.Iterator.{YieldsFirstBy, item_count};
+ghost use Rattle.std.specs.Prelude.{◌≡◌, IfSome, Some, length};
+ghost use Rattle.std.specs.Iterator.{UpTo, YieldsFirstBy, item_count};
+ghost use Rattle.std.specs.Iterator.SizeHint.{IsWithinCount};
 ghost use Rattle.session_table.specs.Tables.{live};
 
 use crate::entry::Entry;
@@ -41,7 +42,11 @@ impl<'a, I, K: Eq + Hash, T> Iterator for Sessions<'a, I, K, T> {
         self.rows.next()
     }
 
-    fn size_hint(&self) -> (usize, Option<usize>) {
+    fn size_hint(&self) -> (usize, Option<usize>)
+        ensures lower { IsWithinCount result.0 (item_count (λ left. left) self.now) }
+        ensures upper { IfSome result.1 (UpTo (item_count (λ left. left) self.now)) }
+        ensures exact { result ≡ (length self.now, Some (length self.now)) }
+    {
         let left = self.rows.len();
         (left, Some(left))
     }
@@ -84,7 +89,11 @@ impl<'a, K, T> Iterator for Entries<'a, K, T> {
         Some((key, *entry))
     }
 
-    fn size_hint(&self) -> (usize, Option<usize>) {
+    fn size_hint(&self) -> (usize, Option<usize>)
+        ensures lower { IsWithinCount result.0 (item_count (λ left. left) self.now) }
+        ensures upper { IfSome result.1 (UpTo (item_count (λ left. left) self.now)) }
+        ensures exact { result ≡ (length self.now, Some (length self.now)) }
+    {
         let left = self.pairs.len();
         (left, Some(left))
     }
