@@ -117,12 +117,12 @@ pub enum PlaceError {
     Gone(Gone),
     /// Memory lacked.
     OutOfMemory,
-    /// The index is past the children.
+    /// The part has fewer children than the index, or none at it.
     OutOfRange,
 }
 
-/// Prints as `Gone` does where a place is gone, that memory ran out, or that the index is past the
-/// children.
+/// Prints `the place of the part added at FILE:LINE:COLUMN is gone`, like `Gone`, `out of memory`, or `the
+/// index is past the children`.
 impl fmt::Display for PlaceError {
     ghost use Rattle.document_tree.specs.Texts.{place_error_text};
 

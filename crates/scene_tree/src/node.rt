@@ -136,16 +136,16 @@ impl Error for Stale {}
 pub enum TreeError {
     /// The node is gone; it was made here.
     Stale(Location),
-    /// The node has no parent, so no sibling; it was made here.
+    /// The node that the spot names has no parent, so no sibling; it was made here.
     NoParent(Location),
-    /// The node would be below itself.
+    /// The node would be its own child or sibling, or below itself.
     Cycle,
     /// The store refused, or memory lacks.
     Store(StoreError),
 }
 
-/// Prints as `Stale` does where the node is gone, that a node has no parent and where it was made, that
-/// the node would be below itself, or the text of the store's refusal.
+/// Prints `the node made at FILE:LINE:COLUMN is gone`, like `Stale`, `the node made at FILE:LINE:COLUMN has
+/// no parent`, `the node would be below itself`, or the text of the `StoreError`.
 impl fmt::Display for TreeError {
     ghost use Rattle.scene_tree.specs.Texts.{tree_error_text};
 

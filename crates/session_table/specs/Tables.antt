@@ -37,7 +37,7 @@ module _ {I K T : Type 0} where
   abbrev pub table_of : State T → List (I × Session K T) → TableState I K T
   table_of S rows = record { state = S; sessions = list_map live_row rows }
 
-  -- what an entry shows: its value, or nothing once its session is gone
+  -- what an entry shows: its value, or nothing once it was removed or its session has ended
   abbrev pub shown_in : TableState I K T → Entry T → Option T
   shown_in t e = value_in t.state (pointer_in e)
 

@@ -10,7 +10,7 @@ use Rattle.session_table.specs.declared.session.RenameError.{RenameError}
 use Rattle.session_table.specs.declared.session.RenameError.TheVariants as rename
 
 abbrev pub stale_text : Location → List ℕ
-stale_text l = codes "the session of the value put at " ++ (location_text l ++ codes " is gone")
+stale_text l = codes "the entry put at " ++ (location_text l ++ codes " is gone")
 
 abbrev pub put_error_text : PutError → List ℕ
 put_error_text put.NoSession = codes "the id has no session"

@@ -167,7 +167,7 @@ pub enum LoginError {
     Store(StoreError),
 }
 
-/// Prints that the id has a session already, or the text of the store's refusal.
+/// Prints `the id has a session already`, or the text of the `StoreError`.
 impl fmt::Display for LoginError {
     ghost use Rattle.session_table.specs.Texts.{login_error_text};
 
@@ -194,7 +194,7 @@ pub enum RenameError {
     Store(StoreError),
 }
 
-/// Prints which id is why, or the text of the store's refusal.
+/// Prints `the id has no session`, `the new id has a session already`, or the text of the `StoreError`.
 impl fmt::Display for RenameError {
     ghost use Rattle.session_table.specs.Texts.{rename_error_text};
 

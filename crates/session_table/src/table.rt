@@ -204,8 +204,8 @@ impl<I: Eq + Hash, K: Eq + Hash, T, S: Storage<T>> SessionTable<I, K, T, S> {
         self.session(id)?.entry(key)
     }
 
-    /// Whether an entry shows a value: false once its session is gone, and if it is of another table
-    /// whose store has another number. Takes no memory, and is O(1).
+    /// Whether an entry is live: false once it was removed or its session has ended, and if it is of
+    /// another table whose store has another number. Doesn't allocate, and is O(1).
     ///
     /// ```rust
     /// let is_there = table.shows(basket);
@@ -218,7 +218,7 @@ impl<I: Eq + Hash, K: Eq + Hash, T, S: Storage<T>> SessionTable<I, K, T, S> {
 
     /// An entry's value. The table is lent meanwhile.
     ///
-    /// Refused where the entry's session is gone, or is another table's. Takes no memory, and is O(1).
+    /// Fails if the entry is gone, or is another table's. Takes no memory, and is O(1).
     ///
     /// ```rust
     /// let count = *table.get(basket)?;
@@ -239,8 +239,8 @@ impl<I: Eq + Hash, K: Eq + Hash, T, S: Storage<T>> SessionTable<I, K, T, S> {
     /// Puts another value in the place of an entry's, which is let go. Every other entry shows what it
     /// showed, and the sessions stay.
     ///
-    /// Refused where the entry's session is gone, or is another table's: the value comes back, and the
-    /// table is unchanged. Takes no memory, and is O(1), but for letting the old value go.
+    /// Fails if the entry is gone, or is another table's: the value comes back, and the table is
+    /// unchanged. Takes no memory, and is O(1), but for dropping the old value.
     ///
     /// ```rust
     /// if let Err(refusal) = table.set(basket, 43) {
@@ -274,8 +274,8 @@ impl<I: Eq + Hash, K: Eq + Hash, T, S: Storage<T>> SessionTable<I, K, T, S> {
     /// Changes an entry's value in its place by a closure, which is called once on it, and answers what
     /// that answers. Every other entry shows what it showed, and the sessions stay.
     ///
-    /// Refused where the entry's session is gone, or is another table's: the closure isn't called, and
-    /// the table is unchanged. Takes no memory of its own, and is O(1), but for the closure.
+    /// Fails if the entry is gone, or is another table's: the closure isn't called, and the table is
+    /// unchanged. Takes no memory of its own, and is O(1), but for the closure.
     ///
     /// ```rust
     /// let more = table.update(basket, |count: &mut u64| {

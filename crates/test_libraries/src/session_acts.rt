@@ -40,7 +40,7 @@ pub(crate) enum Reply {
     NoSession,
     /// The session has an entry under the key.
     KeyInUse,
-    /// The entry's session is gone.
+    /// The entry is gone.
     Stale,
     /// The value that was under the key.
     Took(u64),

@@ -84,7 +84,7 @@ impl Scene<u64> for RefusalsPrint {
         let stale = Stale {
             put_at: entry.put_at(),
         };
-        let text = "the session of the value put at p.rs:3:1 is gone";
+        let text = "the entry put at p.rs:3:1 is gone";
         assert_prints(rt, alloc, &stale, text);
         let _left = table.finish();
     }
