@@ -4,6 +4,7 @@ ghost use Rattle.std.specs.Prelude.{◌≡◌, ◌≢◌, ◌↔◌, ◌⊎◌, 
 ghost use Rattle.std.specs.Prelude.{Err, IfOk, OnOk, IfErr, OnErr, IsErr, IsTrue, IsFalse, ◌++◌, ◌∷◌, ◌<◌, ◌≤◌, map, reverse};
 ghost use Rattle.std.specs.Prelude.{List, length, slice_get, IfNone, IfSome};
 ghost use Rattle.std.specs.List.{insert, remove};
+ghost use Rattle.std.specs.Borrow.{MutBor};
 ghost use Rattle.std.specs.Fn.{FnOnceReturnsAtMut};
 ghost use Rattle.generational_core.specs.Slots.{free};
 ghost use Rattle.generational_core.specs.Conditions.{IsFresh};
@@ -303,7 +304,8 @@ impl<T, S: Storage<Part<T>>> Document<T, S> {
     /// )?;
     /// ```
     pub fn update<R, F: FnOnce(&mut T) -> R>(&mut self, place: Place, f: F) -> Result<R, Gone>
-        requires { F.IsAlwaysCallable f }
+        requires { (content : MutBor T) →
+            content_of (shown_in self.old place) ≡ Some content.now → F.pre f content }
         ensures changed { IfOk result (λ answer. (old : T) × (changed : T) ×
             (content_of (shown_in self.old place) ≡ Some old) ×
             FnOnceReturnsAtMut F.FnOnce f old answer changed ×
@@ -700,7 +702,7 @@ fn put_content<T: Drop>(part: &mut Part<T>, content: T)
 
 // Changes the content of a part by a closure, which is called once.
 fn change_content<T, R, F: FnOnce(&mut T) -> R>(part: &mut Part<T>, f: F) -> R
-    requires { F.IsAlwaysCallable f }
+    requires { (content : MutBor T) → part.old.content ≡ content.now → F.pre f content }
     ensures { ChangesContent F.FnOnce f part.old result part.new }
 {
     f(&mut part.content)

@@ -9,9 +9,10 @@ ghost use Rattle.entity_table.specs.Texts.{stale_text};
 use anyhow::Result;
 use document_tree::{Document, Part, Place};
 use entity_table::{Entity, EntityTable};
-use generational_box::{Location, Storage};
+use generational_box::{HandedBack, Location, Storage};
 use scene_tree::{Node, SceneTree};
 use session_table::SessionTable;
+use signals::Signal;
 
 /// An entity's element, or the text of why there is none.
 pub fn element_or_text<S: Storage<u64>>(
@@ -48,6 +49,17 @@ pub fn moved_and_listed<N: Storage<u64>, P: Storage<Part<u64>>>(
 ) -> Result<()> {
     tree.move_to(nodes.0, nodes.1)?;
     document.append(places.0, places.1)?;
+    Ok(())
+}
+
+/// Sets a signal's value, of any type.
+pub fn set_signal<T: Drop, S: Storage<T>>(
+    signal: Signal<T>,
+    store: &mut S,
+    value: T,
+    here: Location,
+) -> Result<()> {
+    signal.set(store, value, here).map_err(HandedBack::from)?;
     Ok(())
 }
 
