@@ -23,6 +23,7 @@ use generational_core::{HandedBack, Location, Refusal, Refused, Storage};
 use std::alloc::{AllocError, Global};
 use std::marker::{Model, PhantomData};
 use std::mem;
+use store_room::reserve_more;
 
 /// A document. Contracts see the machine's state, which says what each place shows.
 #[derive(Drop)]
@@ -659,7 +660,11 @@ fn push_place(places: &mut Vec<Place>, place: Place) -> bool
     ensures pushed { IsTrue result → places.new.items ≡ places.old.items ++ place ∷ [] }
     ensures same { IsFalse result → places.new.items ≡ places.old.items }
 {
-    places.push(place).is_ok()
+    if reserve_more(places, 1).is_err() {
+        return false;
+    }
+    places.push_reserved(place);
+    true
 }
 
 // Puts a place at an index of a list. Whether there was room.
@@ -668,7 +673,7 @@ fn insert_place(places: &mut Vec<Place>, index: usize, place: Place) -> bool
     ensures inserted { IsTrue result → places.new.items ≡ insert places.old.items index place }
     ensures same { IsFalse result → places.new.items ≡ places.old.items }
 {
-    places.insert(index, place).is_ok()
+    reserve_more(places, 1).is_ok() && places.insert(index, place).is_ok()
 }
 
 // Takes the child at an index out of a part's, if there is one.

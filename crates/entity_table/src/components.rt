@@ -24,6 +24,7 @@ use std::alloc::{AllocError, Global};
 use std::error::Error;
 use std::fmt;
 use std::marker::Model;
+use store_room::reserve_more;
 
 /// Why a component isn't given.
 #[derive(Clone, Copy, Debug, PartialEq, Eq)]
@@ -416,6 +417,9 @@ fn reserve_part<T, C>(parts: &mut Vec<Option<Part<T, C>>>, slot: usize) -> bool
     let Some(room) = slot.checked_add(1) else {
         return false;
     };
+    if reserve_more(parts, room - parts.len()).is_err() {
+        return false;
+    }
     parts.resize(room, None).is_ok()
 }
 

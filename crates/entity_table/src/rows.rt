@@ -5,6 +5,7 @@ ghost use Rattle.std.specs.Vec.{vec_capacity};
 ghost use Rattle.entity_table.specs.Rows.{ArePlaced, KeepsPlaces};
 
 use crate::entity::Entity;
+use store_room::reserve_more;
 
 /// Room for one row more, and for the place of a slot past those that there are.
 pub(crate) fn reserve_row<T>(
@@ -35,17 +36,18 @@ fn grow<T>(rows: &mut Vec<Entity<T>>, places: &mut Vec<usize>, slots: usize) -> 
     let Some(room) = slots.checked_add(1) else {
         return false;
     };
-    if rows.reserve(1).is_err() {
+    if reserve_more(rows, 1).is_err() {
         return false;
     }
-    if room <= places.len() {
+    let missing = room.saturating_sub(places.len());
+    if missing == 0 {
         return true;
     }
-    if places.reserve(1).is_err() {
+    if reserve_more(places, missing).is_err() {
         return false;
     }
     // All that there is room for: so most spawns find their place there. No row is as far behind.
-    let all = places.capacity().max(room);
+    let all = places.capacity();
     places.resize(all, all).is_ok()
 }
 

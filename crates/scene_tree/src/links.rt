@@ -15,6 +15,7 @@ use crate::node::Node;
 use crate::spot::Spot;
 use crate::walk::Children;
 use std::alloc::{AllocError, Global};
+use store_room::reserve_more;
 
 /// The node of a slot, its parent, and by their slots its first and last child and the siblings before
 /// and after it.
@@ -51,12 +52,12 @@ impl<T> Link<T> {
     }
 }
 
-/// Room for one more in a list.
+/// Room for one more in a list, and mostly for many.
 pub(crate) fn reserve_one<X>(list: &mut Vec<X>) -> bool
     ensures same { list.new.items ≡ list.old.items }
     ensures room { result ≡ true → length list.new.items < vec_capacity list.new }
 {
-    list.reserve(1).is_ok()
+    reserve_more(list, 1).is_ok()
 }
 
 /// Opens the slot of a new node, where it is the next one, and notes the node there.
