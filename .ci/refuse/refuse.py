@@ -34,7 +34,8 @@ in `drawn_memory` run the same lists, and compare all replies before the refusal
 that is refused nothing.
 
 The tests in the modules `memory`, `scarcity` and `shortage`, and in `entity_memory` and its like, are run so.
-They ask again what lacked memory, and pass.
+They ask again what lacked memory, and pass. Those in `steps` ask once: where one allocation is refused a smaller step
+follows, and every call is carried out.
 
 Whatever is refused, at its end a run has given back all memory. So has each of the tests where nothing is refused, but
 for what the C library keeps of each thread for the next one. Those that show how something grows, one that
@@ -114,6 +115,7 @@ FRUGAL_TESTS = {
 TIGHT_TESTS = {"chunks::tight::room_for_what_is_needed": 3_000 * 8}
 LITTLE_MORE = 64
 MODULES = ("memory", "scarcity", "shortage")
+STEPS = "steps"
 WRONG = "every_command.row"
 # A line that is no command, and in what steps a row has less and less memory, in bytes.
 BAD_LINE = "leek"
@@ -390,6 +392,15 @@ def refuse_in_tests(tests):
         print(f"{name}: {met[0]} allocations refused, {met[1]} with what is less")
 
 
+def refuse_steps_in(tests):
+    found = [(it, name) for it in tests for name in names_of(it) if kind_of(name) == STEPS]
+    wanted(found, f"no test is listed in {STEPS}")
+    for it, name in found:
+        met = refuse_in_test(it, name)
+        wanted(met > 0, f"{name}: nothing was refused")
+        print(f"{name}: {met} allocations refused, each followed by a smaller one")
+
+
 def refuse_nothing_in(tests):
     """The runs of the tests, which give back all memory, as `run` wants."""
     names = names_of(tests)
@@ -549,6 +560,7 @@ def drive(path, *tests):
         refuse_in_drawn_lists(program)
         tests = [Program(os.path.abspath(it), library, room, of_a_thread(it)) for it in tests]
         refuse_in_tests(tests)
+        refuse_steps_in(tests)
         runs = {}
         for it in tests:
             runs |= refuse_nothing_in(it)

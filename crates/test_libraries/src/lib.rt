@@ -4,6 +4,8 @@
 #![tactic(auto)]
 
 #[cfg(test)]
+mod adding;
+#[cfg(test)]
 mod counted;
 #[cfg(test)]
 mod document_acts;
@@ -26,6 +28,8 @@ mod expected;
 #[cfg(test)]
 mod fresh;
 #[cfg(test)]
+mod gauge;
+#[cfg(test)]
 mod graph_calls;
 #[cfg(test)]
 mod graph_costs;
@@ -44,6 +48,8 @@ mod graph_plain;
 #[cfg(test)]
 mod growth;
 #[cfg(test)]
+mod leaps;
+#[cfg(test)]
 mod let_go;
 #[cfg(test)]
 mod session_acts;
@@ -59,6 +65,8 @@ mod session_memory;
 mod signal_calls;
 #[cfg(test)]
 mod signal_rows;
+#[cfg(test)]
+mod steps;
 #[cfg(test)]
 mod tree_acts;
 #[cfg(test)]

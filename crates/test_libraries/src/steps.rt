@@ -1,0 +1,59 @@
+//! Lists that grow where a step is refused: a smaller one follows, so that each call is carried out,
+//! whichever one allocation is refused.
+
+use crate::adding::{append_all, insert_all, page_and_part, root_all, spawn_all};
+use crate::document_acts::document_over;
+use crate::entity_acts::{components_over, entities_over};
+use crate::fresh::{SceneOfTwo, play_two};
+use crate::tree_acts::tree_over;
+use document_tree::Part;
+use generational_box::Storage;
+use std::alloc::Global;
+use std::process::Abort;
+
+/// Spawns some entities with components.
+struct SpawnSome;
+
+impl SceneOfTwo<u64, u64> for SpawnSome {
+    fn play<R: Abort, S: Storage<u64> + Drop, P: Storage<u64> + Drop>(
+        &self,
+        rt: &R,
+        alloc: Global,
+        store: S,
+        parts: P,
+    ) {
+        let mut entities = entities_over(rt, alloc, store);
+        let mut components = components_over(rt, alloc, parts);
+        spawn_all(rt, &mut entities, &mut components, 20);
+    }
+}
+
+#[test]
+fn rows_and_components(rt: HostRuntime) {
+    play_two::<u64, u64, SpawnSome>(&rt, rt.alloc(), &SpawnSome);
+}
+
+/// Adds some nodes to a tree, and some children to a document's page.
+struct AddSome;
+
+impl SceneOfTwo<u64, Part<u64>> for AddSome {
+    fn play<R: Abort, S: Storage<u64> + Drop, P: Storage<Part<u64>> + Drop>(
+        &self,
+        rt: &R,
+        alloc: Global,
+        store: S,
+        parts: P,
+    ) {
+        let mut tree = tree_over(rt, alloc, store);
+        root_all(rt, &mut tree, 20);
+        let mut document = document_over(rt, alloc, parts);
+        let (page, part) = page_and_part(rt, &mut document);
+        append_all(rt, &mut document, (page, part), 20);
+        insert_all(rt, &mut document, (part, page), 0, 20);
+    }
+}
+
+#[test]
+fn links_and_children(rt: HostRuntime) {
+    play_two::<u64, Part<u64>, AddSome>(&rt, rt.alloc(), &AddSome);
+}
