@@ -10,6 +10,7 @@ pub mod errors;
 pub mod memory;
 pub mod memos;
 pub mod pages;
+pub mod phrases;
 pub mod prices;
 pub mod proving;
 pub mod scopes;

@@ -162,17 +162,6 @@ same_key : (j k : Key) → j.id ≡ k.id → j ≡ k
 same_key j k e = λ i. record { id = e i }
 
 module _ {T R : Type 0} where
-  pub some_blank : (old new : Table T R) (k : Key) (blank : Node T R) (was : Option (Node T R))
-      → IfSome was (λ _. IsPut old k blank new) → IfSome was (λ _. (b : Node T R) × IsPut old k b new)
-  some_blank old new k blank None put = tt
-  some_blank old new k blank (Some n) put = (blank, put)
-
-  -- a node that was taken out is put back in its place
-  pub put_twice : (old mid new : Table T R) (k : Key) (blank n : Node T R) (back : Option (Node T R))
-      → IsPut old k blank mid → IfSome back (λ _. IsPut mid k n new) → IfNone back (mid k ≡ None)
-      → IsPut old k n new
-  put_twice old mid new k blank n back first second none = grind arith
-
   -- a making puts a node where none was
   module _ {S Q : State (Node T R)} (s : IsSoundStore S) (n : Node T R) (l : Location)
       (b : GenerationalBox (Node T R)) (k : Key) (is : (pointer_of b).id ≡ k.id)

@@ -18,6 +18,7 @@ mod reactive;
 mod reader;
 mod rule;
 mod scope;
+mod values;
 
 pub use crate::effects::{Effect, Effects, Told};
 pub use crate::fault::Fault;
@@ -25,5 +26,6 @@ pub use crate::key::Key;
 pub use crate::node::Node;
 pub use crate::reactive::Reactive;
 pub use crate::reader::Reader;
-pub use crate::rule::{Reads, Rule, Value};
+pub use crate::rule::{Reads, Rule};
 pub use crate::scope::Scope;
+pub use crate::values::{Items, Text, Value};

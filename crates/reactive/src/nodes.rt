@@ -1,7 +1,7 @@
 //! The nodes of a store.
 
 ghost use Rattle.std.specs.Prelude.{◌≡◌, ◌≢◌, ◌<◌, ◌+◌, ◌^◌, ℕ, List, Option, Some, None, IfSome, IfNone, option_copied, take, IsTrue, slice_get};
-ghost use Rattle.std.specs.Prelude.{[], true, is_some, Ok, IsOk, IfOk, IfErr, OnOk, OnErr};
+ghost use Rattle.std.specs.Prelude.{[], true, false, is_some, Ok, IsOk, IfOk, IfErr, OnOk, OnErr};
 ghost use Rattle.std.specs.Prelude.{map as list_map};
 ghost use Rattle.generational_core.specs.Slots.{free};
 ghost use Rattle.generational_sessions.specs.PlainStores.{IsSimple};
@@ -9,7 +9,7 @@ ghost use Rattle.generational_errors.specs.declared.error.StoreError.TheVariants
 ghost use Rattle.reactive.specs.declared.fault.Fault.TheVariants as fault;
 ghost use Rattle.reactive.specs.declared.key.Key.{Key};
 ghost use Rattle.reactive.specs.declared.node.Node.{Node};
-ghost use Rattle.reactive.specs.Changing.{IsResetTo};
+ghost use Rattle.reactive.specs.Changing.{IsChanged, IsResetTo};
 ghost use Rattle.reactive.specs.Chains.{GoesOn};
 ghost use Rattle.reactive.specs.Ending.{HasLost};
 ghost use Rattle.reactive.specs.Graphs.{IsUnruled, kinds_of};
@@ -28,7 +28,8 @@ use crate::key::Key;
 use crate::look::{Frame, Look, Run, Step, Verdict};
 use crate::node::Node;
 use crate::reader::Reader;
-use crate::rule::{Rule, Value};
+use crate::rule::Rule;
+use crate::values::Value;
 use generational_core::{GenerationalBox, Location, Refusal, Storage, StoreError};
 use std::alloc::Global;
 use std::marker::PhantomData;
@@ -72,12 +73,13 @@ pub(crate) fn known_value<'a, T: 'a, R: 'a, S: Storage<Node<T, R>>>(
 }
 
 impl<T: Value + Drop, R: Rule<T>, S: Storage<Node<T, R>>> Nodes<T, R, S> {
-    // Puts another node in the place of a key's, and gives that one back.
-    pub(crate) fn replace(&mut self, key: Key, node: Node<T, R>) -> Option<Node<T, R>>
+    // Changes a key's node in its place, by a closure. None if there is no such node: the closure isn't
+    // called then.
+    fn change<U, F: FnOnce(&mut Node<T, R>) -> U>(&mut self, key: Key, f: F) -> Option<U>
         requires simple { IsSimple (S.state self.old.store) }
+        requires callable { F.IsAlwaysCallable f }
         ensures simple { IsSimple (S.state self.new.store) }
-        ensures old { IfSome result (λ old. nodes_in (S.state self.old.store) key ≡ Some old) }
-        ensures put { IfSome result (λ old. IsPut (nodes_in (S.state self.old.store)) key node
+        ensures changed { IfSome result (λ u. IsChanged F.FnOnce f (nodes_in (S.state self.old.store)) key u
             (nodes_in (S.state self.new.store))) }
         ensures none { IfNone result (nodes_in (S.state self.old.store) key ≡ None) }
         ensures refused { IfNone result (S.state self.new.store ≡ S.state self.old.store) }
@@ -89,28 +91,7 @@ impl<T: Value + Drop, R: Rule<T>, S: Storage<Node<T, R>>> Nodes<T, R, S> {
         if !self.store.can_write(pointer) {
             return None;
         }
-        Some(self.store.replace_value(pointer, node))
-    }
-
-    // Takes a key's node out. It must be put back.
-    fn take(&mut self, key: Key) -> Option<Node<T, R>>
-        requires simple { IsSimple (S.state self.old.store) }
-        ensures simple { IsSimple (S.state self.new.store) }
-        ensures old { IfSome result (λ old. nodes_in (S.state self.old.store) key ≡ Some old) }
-        ensures put { IfSome result (λ old. (blank : Node T R)
-            × IsPut (nodes_in (S.state self.old.store)) key blank (nodes_in (S.state self.new.store))) }
-        ensures none { IfNone result (nodes_in (S.state self.old.store) key ≡ None) }
-        ensures refused { IfNone result (S.state self.new.store ≡ S.state self.old.store) }
-        ensures revision { self.new.revision ≡ self.old.revision }
-    {
-        let blank = Node {
-            rule: None,
-            value: None,
-            reads: Vec::new(self.alloc),
-            changed: 0,
-            checked: 0,
-        };
-        self.replace(key, blank)
+        Some(self.store.change_value(pointer, f))
     }
 
     // Notes that what a key's node keeps was found to be right.
@@ -123,11 +104,10 @@ impl<T: Value + Drop, R: Rule<T>, S: Storage<Node<T, R>>> Nodes<T, R, S> {
         ensures kinds { kinds_of (nodes_in (S.state self.new.store)) ≡ kinds_of (nodes_in (S.state self.old.store)) }
         ensures revision { self.new.revision ≡ self.old.revision }
     {
-        let Some(mut node) = self.take(key) else {
+        let revision = self.revision;
+        let Some(()) = self.change(key, |node: &mut Node<T, R>| node.confirm(revision)) else {
             return;
         };
-        node.checked = self.revision;
-        let _ = self.replace(key, node);
     }
 
     // Keeps what a key's node was found to mean, and the questions by which.
@@ -140,11 +120,12 @@ impl<T: Value + Drop, R: Rule<T>, S: Storage<Node<T, R>>> Nodes<T, R, S> {
         ensures kinds { kinds_of (nodes_in (S.state self.new.store)) ≡ kinds_of (nodes_in (S.state self.old.store)) }
         ensures revision { self.new.revision ≡ self.old.revision }
     {
-        let Some(node) = self.take(key) else {
+        let revision = self.revision;
+        let Some(()) = self.change(key, |node: &mut Node<T, R>| {
+            node.settle(value, reads, revision)
+        }) else {
             return;
         };
-        let settled = node.settled(value, reads, self.revision);
-        let _ = self.replace(key, settled);
         self.runs = self.runs.wrapping_add(1);
     }
 
@@ -173,7 +154,7 @@ impl<T: Value + Drop, R: Rule<T>, S: Storage<Node<T, R>>> Nodes<T, R, S> {
     // Runs a rule over what is known.
     fn run(&self, rule: &R) -> Run<T>
         ensures { (answers : List (Asked T)) × (list_map (λ a. a.key) answers ≡ result.reads.items)
-            × Ran (R.plan rule.now) answers result.lacks result.result
+            × (result.is_full ≡ false → Ran (R.plan rule.now) answers result.lacks result.result)
             × AreKnown (nodes_in (S.state self.now.store)) self.now.revision answers }
     {
         let mut reader = Reader {
@@ -453,7 +434,7 @@ impl<T: Value + Drop, R: Rule<T>, S: Storage<Node<T, R>>> Nodes<T, R, S> {
         }
     }
 
-    // Puts a new node in the place of a key's, in a new revision.
+    // Gives a key's node a rule or a value, in a new revision.
     pub(crate) fn reset(&mut self, key: Key, rule: Option<R>, value: Option<T>) -> Result<(), Fault>
         requires simple { IsSimple (S.state self.old.store) }
         ensures simple { IsSimple (S.state self.new.store) }
@@ -468,14 +449,10 @@ impl<T: Value + Drop, R: Rule<T>, S: Storage<Node<T, R>>> Nodes<T, R, S> {
         let Some(next) = self.revision.checked_add(1) else {
             return Err(Fault::Store(StoreError::NumbersExhausted));
         };
-        let node = Node {
-            rule,
-            value,
-            reads: Vec::new(self.alloc),
-            changed: next,
-            checked: 0,
-        };
-        let Some(_) = self.replace(key, node) else {
+        let reads = Vec::new(self.alloc);
+        let Some(()) = self.change(key, |node: &mut Node<T, R>| {
+            node.reset(rule, value, reads, next)
+        }) else {
             return Err(Fault::Gone(key));
         };
         self.revision = next;

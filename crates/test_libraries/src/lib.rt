@@ -46,6 +46,8 @@ mod graph_memory;
 #[cfg(test)]
 mod graph_plain;
 #[cfg(test)]
+mod graph_texts;
+#[cfg(test)]
 mod growth;
 #[cfg(test)]
 mod leaps;

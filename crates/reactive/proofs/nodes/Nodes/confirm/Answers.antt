@@ -1,13 +1,16 @@
-use Rattle.reactive.proofs.{put_kinds, put_twice, refl, same_Some, sym, ◌∙◌}
+use Rattle.reactive.proofs.{ap, kind_by_rule, none-some, put_kinds, rules, same_Some, sym, ◌∙◌, ◌≡◌}
 use Rattle.reactive.proofs.nodes.Nodes.confirm.Goals as goal
+
+pub returns-in_default-clause-confirmed : goal.returns-in_default-clause-confirmed
+returns-in_default-clause-confirmed g c = λ old at. absurd (none-some old (sym c.in_default.ensures.none ∙ at))
 
 pub returns : goal.returns
 returns g c =
-    let put = put_twice _ _ _ c.args.key c.in-Some.ensures.put.0 _ c.replace.result c.in-Some.ensures.put.1
-    c.replace.ensures.put c.replace.ensures.none in record {
-      simple = c.replace.ensures.simple;
-      confirmed = λ old at. let same = same_Some c.in-Some.node old (sym c.in-Some.ensures.old ∙ at) in
-          rw (← same, ← c.in-Some.ensures.revision) put;
-      kinds = put_kinds _ _ c.args.key c.in-Some.node _ c.in-Some.ensures.old refl put;
-      revision = c.replace.ensures.revision ∙ c.in-Some.ensures.revision;
+    let done = c.in-Some.ensures.changed in
+    let called = done.called in
+    let told : done.is ≡ record done.was { checked = c.args.self.now.revision } = search rules in record {
+      simple = c.change.ensures.simple;
+      confirmed = λ old at. let same = same_Some done.was old (sym done.had ∙ at) in rw (← same, ← told) done.put;
+      kinds = put_kinds _ _ c.args.key done.was done.is done.had (ap (λ n. kind_by_rule n.rule) told) done.put;
+      revision = c.change.ensures.revision;
     }

@@ -1,19 +1,17 @@
-use Rattle.reactive.proofs.{ap, kind_by_rule, put_kinds, put_twice, same_Some, sym, ◌∙◌}
+use Rattle.reactive.proofs.{ap, IsSettled, kind_by_rule, none-some, put_kinds, rules, same_Some, sym, ◌∙◌, ◌≡◌}
 use Rattle.reactive.proofs.nodes.Nodes.keep.Goals as goal
+
+pub returns-in_default-clause-kept : goal.returns-in_default-clause-kept
+returns-in_default-clause-kept g c = λ old at. absurd (none-some old (sym c.in_default.ensures.none ∙ at))
 
 pub returns : goal.returns
 returns g c =
-    let n = c.settled-settled.result in
-    let put = put_twice _ _ _ c.args.key c.in-Some.ensures.put.0 n c.replace.result c.in-Some.ensures.put.1
-    c.replace.ensures.put c.replace.ensures.none in record {
-      simple = c.replace.ensures.simple;
-      kept = λ old at. (
-        n,
-        (let same = same_Some c.in-Some.node old (sym c.in-Some.ensures.old ∙ at) in
-            rw (← same, ← c.in-Some.ensures.revision) c.settled-settled.ensures),
-        put,
-      );
-      kinds = put_kinds _ _ c.args.key c.in-Some.node n c.in-Some.ensures.old
-          (ap kind_by_rule c.settled-settled.ensures.rule) put;
-      revision = c.replace.ensures.revision ∙ c.in-Some.ensures.revision;
+    let done = c.in-Some.ensures.changed in
+    let called = done.called in
+    let told : IsSettled done.was c.args.value c.args.reads c.args.self.now.revision done.is = search rules in record {
+      simple = c.change.ensures.simple;
+      kept = λ old at.
+          let same = same_Some done.was old (sym done.had ∙ at) in (done.is, rw same at told, done.put);
+      kinds = put_kinds _ _ c.args.key done.was done.is done.had (ap kind_by_rule told.rule) done.put;
+      revision = c.change.ensures.revision;
     }
