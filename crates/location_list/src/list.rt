@@ -1,0 +1,167 @@
+//! Locations by their numbers.
+
+ghost use Rattle.std.specs.Prelude.{◌≡◌, ◌+◌, ◌≤◌, false, length, map, slice_get, [], OnOk, OnErr, IfOk};
+ghost use Rattle.std.specs.Bool.{OnTrue};
+ghost use Rattle.generational_errors.specs.Texts.{same_location};
+ghost use Rattle.location_list.specs.Locations.{IsAt, is_among, location_of, with_location};
+ghost use Rattle.location_list.specs.declared.list.Key.{Key};
+
+use generational_errors::Location;
+use indexmap::IndexSet;
+use std::alloc::{AllocError, Global};
+use std::marker::Model;
+
+/// Locations with the numbers from 0 to `LAST` at most, in the order in which they came. Contracts see
+/// them in that order. A location that is there by its letters isn't put there again.
+///
+/// Each takes some 50 bytes, and its number is found in the same time however many there are.
+#[derive(Drop)]
+pub struct LocationList<const LAST: u32> {
+    kept: IndexSet<Key>,
+    // where a location is looked for first, by its line and column; what stands there may be wrong
+    guesses: [u32; 64],
+}
+
+// A location's parts.
+#[derive(Clone, Copy, PartialEq, Eq, Hash, Drop)]
+struct Key {
+    file: &'static str,
+    line: u32,
+    column: u32,
+}
+
+impl<const LAST: u32> Model for LocationList<LAST> {
+    ghost use Rattle.std.specs.Prelude.{List, ◌+◌, ◌≤◌, length, map};
+    ghost use Rattle.generational_errors.specs.declared.error.Location.{Location};
+
+    ghost Value = { List Location };
+
+    ghost use Rattle.location_list.specs.Locations.{location_of};
+
+    ghost view = { λ l. map location_of l.kept.keys };
+
+    ghost invariant = { λ l. length l.kept.keys ≤ LAST + 1 };
+}
+
+impl<const LAST: u32> LocationList<LAST> {
+    /// No locations. Takes no memory.
+    pub fn new(alloc: Global) -> Self
+        ensures { result ≡ [] }
+    {
+        LocationList {
+            kept: IndexSet::new(alloc),
+            guesses: [0; 64],
+        }
+    }
+
+    /// How many there are. Takes no memory.
+    pub fn len(&self) -> usize
+        ensures length { result ≡ length self.now }
+        ensures most { length self.now ≤ LAST + 1 }
+    {
+        self.kept.len()
+    }
+
+    /// The location with a number, if there is one. Takes no memory.
+    #[inline(always)]
+    pub fn get(&self, number: u32) -> Option<Location>
+        ensures { result ≡ slice_get self.now number }
+    {
+        let key = self.kept.as_slice().get(number as usize)?;
+        Some(key.location())
+    }
+
+    /// The number of a location with the same letters, line and column. If there is none, this one is
+    /// added at the end.
+    ///
+    /// # Errors
+    ///
+    /// If memory is refused, or if all numbers are given. The list is as it was then, and a location that
+    /// it has never fails.
+    #[inline(always)]
+    pub fn find_or_add(&mut self, at: Location) -> Result<u32, AllocError>
+        ensures added { OnOk result (self.new ≡ with_location self.old at) }
+        ensures found { IfOk result (λ number. IsAt self.new number at) }
+        ensures err { OnErr result (self.new ≡ self.old) }
+        ensures absent { OnErr result (is_among self.old at ≡ false) }
+    {
+        let place = ((at.line() ^ at.column()) & 63) as usize;
+        let guess = self.guesses[place];
+        if is_at(self.kept.as_slice(), guess, at) {
+            return Ok(guess);
+        }
+        let number = find_or_add::<LAST>(&mut self.kept, at)?;
+        self.guesses[place] = number;
+        Ok(number)
+    }
+}
+
+impl Key {
+    // The parts of a location.
+    #[inline(always)]
+    fn of(at: Location) -> Key
+        ensures { location_of result ≡ at }
+    {
+        Key {
+            file: at.file(),
+            line: at.line(),
+            column: at.column(),
+        }
+    }
+
+    // The location of these parts.
+    #[inline(always)]
+    fn location(&self) -> Location
+        ensures { result ≡ location_of self.now }
+    {
+        Location::new(self.file, self.line, self.column)
+    }
+}
+
+// Whether the location with this number is this one by its letters.
+#[inline(always)]
+fn is_at(kept: &[Key], number: u32, at: Location) -> bool
+    ensures { OnTrue result (IsAt (map location_of kept.now) number at) }
+{
+    match kept.get(number as usize) {
+        Some(key) => is_same(at, key.location()),
+        None => false,
+    }
+}
+
+// Whether two locations are the same by their letters, as `==` says. The numbers are looked at first,
+// without a call.
+#[inline(always)]
+fn is_same(one: Location, other: Location) -> bool
+    ensures { result ≡ same_location one other }
+{
+    one.line() == other.line() && one.column() == other.column() && one.file() == other.file()
+}
+
+// The number of such a location, which is added if there is none.
+#[cold]
+#[inline(never)]
+fn find_or_add<const LAST: u32>(
+    kept: &mut IndexSet<Key>,
+    at: Location,
+) -> Result<u32, AllocError>
+    requires { length kept.old.keys ≤ LAST + 1 }
+    ensures most { length kept.new.keys ≤ LAST + 1 }
+    ensures added { OnOk result
+        (map location_of kept.new.keys ≡ with_location (map location_of kept.old.keys) at) }
+    ensures found { IfOk result (λ number. IsAt (map location_of kept.new.keys) number at) }
+    ensures err { OnErr result (kept.new.keys ≡ kept.old.keys) }
+    ensures absent { OnErr result (is_among (map location_of kept.old.keys) at ≡ false) }
+{
+    let key = Key::of(at);
+    if let Some(number) = kept.get_index_of(&key) {
+        return Ok(number as u32);
+    }
+    if kept.len() > LAST as usize {
+        return Err(AllocError);
+    }
+    match kept.insert_full(key) {
+        Ok((number, _)) => Ok(number as u32),
+        Err(_) => Err(AllocError),
+    }
+}
