@@ -1,7 +1,8 @@
 -- What holds of keys holds of their locations.
 use Rattle.std.proofs.Common.{◌≡◌, ℕ, Bool, true, false, ◌||◌, List, [], ◌∷◌, ◌++◌, map, slice_get, Some}
 use Rattle.std.proofs.Common.{get_or, length, refl, subst, sym, ap, ◌∙◌, if◌then◌else◌, position, ◌<◌}
-use Rattle.std.proofs.lemmas.List.{map-append}
+use Rattle.std.proofs.Common.{arith, take, ◌+◌, ◌≤◌}
+use Rattle.std.proofs.lemmas.List.{length-map, map-append, take_more}
 use Rattle.std.proofs.lemmas.List.Folds.{list_any_at}
 use Rattle.std.proofs.lemmas.List.Quantifiers.{position-Some}
 use Rattle.std.proofs.lemmas.Option.{get_or_from_slice_get, slice_get-get_or, slice_get-map, slice_get_read}
@@ -67,3 +68,16 @@ compared keys i k at true within there same = record {
   alike = sym same;
 }
 compared keys i k at false within there same = tt
+
+pub numbered : (keys other : List Key) (i n : ℕ) (at : Location) → other ≡ keys → length keys ≤ n + 1
+    → IsAt (map location_of other) i at → i ≤ n
+numbered keys other i n at same most h =
+    let within = slice_get_within (map location_of other) i h.kept h.there in
+    omega (arith, length-map other location_of, ap length same)
+
+-- a copy, one more
+pub copied : (keys : List Key) (all more : List Location) (i : ℕ) (d : Key) (at : Location)
+    → all ≡ map location_of (take i keys) → i < length keys → at ≡ location_of (get_or keys i d)
+    → more ≡ all ++ at ∷ [] → more ≡ map location_of (take (i + 1) keys)
+copied keys all more i d at so_far within is one =
+    one ∙ rw (take_more keys i d within, map-append, so_far, is) refl

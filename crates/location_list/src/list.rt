@@ -14,7 +14,7 @@ use std::marker::Model;
 /// Locations with the numbers from 0 to `LAST` at most, in the order in which they came. Contracts see
 /// them in that order. A location that is there by its letters isn't put there again.
 ///
-/// Each takes some 50 bytes, and its number is found in the same time however many there are.
+/// Each takes 40 to 80 bytes, and is found in the same time however many there are.
 #[derive(Drop)]
 pub struct LocationList<const LAST: u32> {
     kept: IndexSet<Key>,
@@ -71,6 +71,18 @@ impl<const LAST: u32> LocationList<LAST> {
         Some(key.location())
     }
 
+    /// A copy of the locations, in order.
+    pub fn to_vec(&self, alloc: Global) -> Result<Vec<Location>, AllocError>
+        ensures { IfOk result (λ all. all.items ≡ self.now) }
+    {
+        let keys = self.kept.as_slice();
+        let mut all = Vec::with_capacity(alloc, keys.len())?;
+        for key in keys.iter() {
+            all.push(key.location())?;
+        }
+        Ok(all)
+    }
+
     /// The number of a location with the same letters, line and column. If there is none, this one is
     /// added at the end.
     ///
@@ -82,17 +94,16 @@ impl<const LAST: u32> LocationList<LAST> {
     pub fn find_or_add(&mut self, at: Location) -> Result<u32, AllocError>
         ensures added { OnOk result (self.new ≡ with_location self.old at) }
         ensures found { IfOk result (λ number. IsAt self.new number at) }
+        ensures fits { IfOk result (λ number. number ≤ LAST) }
         ensures err { OnErr result (self.new ≡ self.old) }
         ensures absent { OnErr result (is_among self.old at ≡ false) }
     {
         let place = ((at.line() ^ at.column()) & 63) as usize;
-        let guess = self.guesses[place];
-        if is_at(self.kept.as_slice(), guess, at) {
-            return Ok(guess);
+        let guess = &mut self.guesses[place];
+        if is_at(self.kept.as_slice(), *guess, at) {
+            return Ok(*guess);
         }
-        let number = find_or_add::<LAST>(&mut self.kept, at)?;
-        self.guesses[place] = number;
-        Ok(number)
+        find_or_add::<LAST>(&mut self.kept, guess, at)
     }
 }
 
@@ -138,11 +149,12 @@ fn is_same(one: Location, other: Location) -> bool
     one.line() == other.line() && one.column() == other.column() && one.file() == other.file()
 }
 
-// The number of such a location, which is added if there is none.
+// The number of such a location, which is added if there is none. It is guessed from then on.
 #[cold]
 #[inline(never)]
 fn find_or_add<const LAST: u32>(
     kept: &mut IndexSet<Key>,
+    guess: &mut u32,
     at: Location,
 ) -> Result<u32, AllocError>
     requires { length kept.old.keys ≤ LAST + 1 }
@@ -150,6 +162,24 @@ fn find_or_add<const LAST: u32>(
     ensures added { OnOk result
         (map location_of kept.new.keys ≡ with_location (map location_of kept.old.keys) at) }
     ensures found { IfOk result (λ number. IsAt (map location_of kept.new.keys) number at) }
+    ensures fits { IfOk result (λ number. number ≤ LAST) }
+    ensures guessed { IfOk result (λ number. guess.new ≡ number) }
+    ensures err { OnErr result (kept.new.keys ≡ kept.old.keys) }
+    ensures absent { OnErr result (is_among (map location_of kept.old.keys) at ≡ false) }
+{
+    let number = number_of::<LAST>(kept, at)?;
+    *guess = number;
+    Ok(number)
+}
+
+// The number of such a location, which is added if there is none.
+fn number_of<const LAST: u32>(kept: &mut IndexSet<Key>, at: Location) -> Result<u32, AllocError>
+    requires { length kept.old.keys ≤ LAST + 1 }
+    ensures most { length kept.new.keys ≤ LAST + 1 }
+    ensures added { OnOk result
+        (map location_of kept.new.keys ≡ with_location (map location_of kept.old.keys) at) }
+    ensures found { IfOk result (λ number. IsAt (map location_of kept.new.keys) number at) }
+    ensures fits { IfOk result (λ number. number ≤ LAST) }
     ensures err { OnErr result (kept.new.keys ≡ kept.old.keys) }
     ensures absent { OnErr result (is_among (map location_of kept.old.keys) at ≡ false) }
 {

@@ -1,6 +1,6 @@
 use Rattle.std.proofs.Common.{ap, is_some, refl, sym, ◌∙◌}
 use Rattle.location_list.proofs.Keys.{among, found, inserted, placed, stays}
-use Rattle.location_list.proofs.list.find_or_add.Goals as goal
+use Rattle.location_list.proofs.list.number_of.Goals as goal
 
 pub returns-in-Some-clause-found : goal.returns-in-Some-clause-found
 returns-in-Some-clause-found g c = rw (← c.of-key.ensures) (found _ _ _ (sym c.in-Some.ensures.index))
