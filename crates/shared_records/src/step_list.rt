@@ -18,6 +18,10 @@ use generational_core::StepCall;
 use shared_chunks::Chunks;
 use std::alloc::{AllocError, Global};
 use std::marker::Model;
+use std::mem;
+
+// With how many locations at most the next history begins: half of those that can be numbered.
+const MANY_PLACES: usize = 32768;
 
 // How many long steps there are at most: as many as their items can number.
 const MOST_LONG: usize = 281474976710656;
@@ -156,11 +160,12 @@ impl<const NUMBER: u64> StepList<NUMBER> {
     {
         let long = self.long.to_vec()?;
         let short = self.short.to_vec()?;
+        let places = self.places.to_vec(self.alloc)?;
         let mut all = Vec::with_capacity(self.alloc, steps_among(short.as_slice()))?;
         decode_all(
             &mut all,
             NUMBER,
-            self.places.as_slice(),
+            places.as_slice(),
             long.as_slice(),
             Reached::first(self.start),
             short.as_slice(),
@@ -168,9 +173,9 @@ impl<const NUMBER: u64> StepList<NUMBER> {
         Ok(all)
     }
 
-    /// Takes all steps away, where `next` is the next ticket, and keeps the room and the locations.
-    /// What is kept no more is answered, so that who holds a lock can let it go when it is open.
-    /// Where memory is refused nothing changes.
+    /// Takes all steps away, where `next` is the next ticket, and keeps the room, and the locations
+    /// unless there are more than 32,768. What is kept no more is returned, so that who holds a lock can
+    /// drop it when it is open. If memory is refused nothing changes.
     pub fn empty(&mut self, next: u64) -> Result<OldSteps, AllocError>
         ensures steps { OnOk result (self.new.steps ≡ []) }
         ensures room { OnOk result (self.old.room ≤ self.new.room) }
@@ -182,7 +187,12 @@ impl<const NUMBER: u64> StepList<NUMBER> {
         let long = self.long.empty(no_long);
         self.start = next;
         self.reached = Reached::first(next);
-        Ok(OldSteps { short, long })
+        let places = forget_many(&mut self.places, self.alloc);
+        Ok(OldSteps {
+            short,
+            long,
+            places,
+        })
     }
 }
 
@@ -191,6 +201,21 @@ impl<const NUMBER: u64> StepList<NUMBER> {
 pub struct OldSteps {
     short: Vec<Vec<Short>>,
     long: Vec<Vec<Step>>,
+    places: Places,
+}
+
+// Takes the locations away if there are many, and returns them.
+fn forget_many(places: &mut Places, alloc: Global) -> Places
+    ensures few { length places.old ≤ 32768 → places.new ≡ places.old }
+    ensures many { 32768 < length places.old → places.new ≡ [] }
+    ensures old { 32768 < length places.old → result ≡ places.old }
+{
+    let none = Places::new(alloc);
+    if places.len() > MANY_PLACES {
+        mem::replace(places, none)
+    } else {
+        none
+    }
 }
 
 // Appends a worker's step to the short steps, where decoding begins at `start` and has come to `reached`.
