@@ -1,11 +1,10 @@
 //! The base of a history: the state from which it goes on, without values.
 
-ghost use Rattle.std.specs.Prelude.{◌≡◌, ◌+◌, ◌<◌, ◌^◌, IfOk};
-ghost use Rattle.shared_history.specs.Bases.{all_trimmed, new_base, trimmed_of};
+ghost use Rattle.std.specs.Prelude.{◌≡◌, ◌+◌, ◌<◌, ◌^◌};
+ghost use Rattle.shared_history.specs.Bases.{all_trimmed, trimmed_of};
 
 use generational_core::BaseRow;
 use shared_records::Kind;
-use std::alloc::{AllocError, Global};
 use std::marker::Model;
 
 /// Where a kept history begins: the state of the store at its last checkpoint, without values, and
@@ -54,19 +53,6 @@ impl Model for Base {
 }
 
 impl Base {
-    // The base of a new store with this number. Takes no memory.
-    pub fn new(alloc: Global, number: u64) -> Base
-        ensures { result ≡ new_base number }
-    {
-        let trimmed = TrimmedSteps {
-            made: 0,
-            lent: 0,
-            changed: 0,
-            refused: 0,
-        };
-        Base::of(number, 0, 0, trimmed, Vec::new(alloc))
-    }
-
     // The base of these parts, whose counts together are below 2 ^ 64.
     pub fn of(
         number: u64,
@@ -94,20 +80,6 @@ impl Base {
             trimmed,
             rows,
         }
-    }
-
-    // A copy of the base.
-    pub fn copy(&self, alloc: Global) -> Result<Base, AllocError>
-        ensures { IfOk result (λ base. base ≡ self.now) }
-    {
-        let rows = Vec::from_slice(alloc, self.rows.as_slice())?;
-        Ok(Base {
-            number: self.number,
-            next: self.next,
-            peak: self.peak,
-            trimmed: self.trimmed,
-            rows,
-        })
     }
 
     /// The store's number. Takes no memory.
