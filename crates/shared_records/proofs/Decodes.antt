@@ -1,7 +1,6 @@
 -- Records, written and read back.
 use Rattle.generational_errors.specs.{declared.error.Location.Location, Texts.same_location}
 use Rattle.location_list.specs.Locations as found
-use Rattle.location_list.specs.Locations.{is_among, with_location}
 use Rattle.shared_records.specs
 use specs.Decoding.{after, AreWithin, decode, Extends, IsAt, IsNaming, IsWithin, name_item}
 use specs.Decoding.{name_items, naming_all, no_step, nowhere, reached_by, step_at}
@@ -11,7 +10,6 @@ use specs.{declared.short.ShortName.ShortName, declared.step.Step.Step}
 use Rattle.std.proofs.Common.{ap, append_assoc, arith, get_or, length, length-append, List, None}
 use Rattle.std.proofs.Common.{Option, option_map, option_to_list, refl, rules, Some, suc, true}
 use Rattle.std.proofs.Common.{zero, ℕ, [], ◌%◌, ◌*◌, ◌++◌, ◌+◌, ◌/◌, ◌<◌, ◌∙◌, ◌∷◌, ◌≡◌, ◌≤◌}
-use Rattle.std.proofs.Common.{Bool, false, if◌then◌else◌, sym}
 use Rattle.std.proofs.lemmas.List.{append-nil, get_or_append_left}
 use Rattle.std.proofs.lemmas.Option.{get_or_from_slice_get, slice_get_within}
 use Rattle.std.proofs.lemmas.Slice.Eq.{bytes_eq-Decides}
@@ -26,22 +24,14 @@ locations_decide a b = grind (arith, common_steps, bytes_eq-Decides a.file.now b
 
 -- a location that is found in a list is in the table
 pub found_place : (places : List Location) (i : ℕ) (at : Location) → found.IsAt places i at → IsAt places i at
-found_place places i at h = grind (arith, common_steps, locations_decide at h.kept,
-    get_or_from_slice_get places i h.kept nowhere h.there, slice_get_within places i h.kept h.there, h.alike)
-
--- and the table is the one before or has it at its end
-pub extended : (places other wider : List Location) (at : Location) → other ≡ places
-    → wider ≡ with_location other at → Extends places wider
-extended places other wider at same is =
-    let one = by (is_among other at) in
-    record { more = one.0; is = is ∙ one.1 ∙ ap (λ l. l ++ one.0) same }
-  where
-    by : (b : Bool) → (more : List Location) × ((if b then other else other ++ at ∷ []) ≡ other ++ more)
-    by true = ([], sym (append-nil other))
-    by false = (at ∷ [], refl)
-
-pub unextended : (places other wider : List Location) → other ≡ places → wider ≡ other → Extends places wider
-unextended places other wider same is = record { more = []; is = is ∙ same ∙ sym (append-nil places) }
+found_place places i at h = grind (
+  arith,
+  common_steps,
+  locations_decide at h.kept,
+  get_or_from_slice_get places i h.kept nowhere h.there,
+  slice_get_within places i h.kept h.there,
+  h.alike,
+)
 
 -- ==== decoding, one item more, and where the tables grow
 
