@@ -98,7 +98,12 @@ fn play_with<
     let mut all = Vec::new(alloc);
     for tally in tallies {
         let store = store.try_clone()?;
-        if all.push(Handle { store, tally }).is_err() {
+        let handle = Handle {
+            store,
+            tally,
+            together: false,
+        };
+        if all.push(handle).is_err() {
             return Err(StoreError::OutOfMemory);
         }
     }

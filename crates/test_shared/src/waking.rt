@@ -58,3 +58,19 @@ fn an_owners_reference_wakes(rt: HostRuntime) {
 fn a_release_wakes_all_that_wait(rt: HostRuntime) {
     plays(&rt, rt.alloc(), 3, Scenario::WakeAll);
 }
+
+/// Each step that frees a call, under a lock of several calls: they are woken at its end.
+#[test]
+fn what_is_done_together_wakes(rt: HostRuntime) {
+    for step in [
+        Freeing::ReaderReleased,
+        Freeing::WriterReleased,
+        Freeing::BoxEnded,
+        Freeing::OwnerReleased,
+        Freeing::PointedElsewhere,
+        Freeing::ReferenceMade,
+        Freeing::ReferenceInserted,
+    ] {
+        plays(&rt, rt.alloc(), 3, Scenario::WakeTogether(step));
+    }
+}

@@ -15,6 +15,7 @@ mod recorder;
 mod rows;
 mod scenes;
 mod strangers;
+mod together;
 mod unshared;
 mod waking;
 mod workers;

@@ -521,6 +521,11 @@ impl<W: Worker> Recorder<W> {
         }
     }
 
+    /// From now on each step that may free another's call is made under a lock of several calls.
+    pub(crate) fn call_together(&mut self) {
+        self.worker.call_together();
+    }
+
     /// Waits, for a bounded number of turns, until so many calls of the store wait.
     pub(crate) fn waits_for(&self, rt: &(impl Wait + Judge), calls: usize) {
         for _ in 0..TURNS {

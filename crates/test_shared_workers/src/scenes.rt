@@ -4,7 +4,7 @@ use crate::beside::{crowd, read_beside, write_beside};
 use crate::judge::{Judge, present};
 use crate::recorder::Recorder;
 use crate::rows::*;
-use crate::waking::{Freeing, trim_beside, wake_after, wake_all};
+use crate::waking::{Freeing, trim_beside, wake_after, wake_all, wake_together};
 use crate::workers::Worker;
 use generational_box::StoreError;
 use std::alloc::Global;
@@ -34,6 +34,7 @@ pub enum Scenario {
     TrimBeside,
     Crowd,
     Wake(Freeing),
+    WakeTogether(Freeing),
     WakeAll,
 }
 
@@ -104,6 +105,9 @@ fn act_beside<W: Worker, H: Threads + Wait + Judge + Sync>(
             let first = present(rt, workers.pop(), "three workers");
             match scenario {
                 Scenario::Wake(step) => wake_after(rt, alloc, first, before, last, step),
+                Scenario::WakeTogether(step) => {
+                    wake_together(rt, alloc, first, before, last, step);
+                }
                 _ => wake_all(rt, first, before, last),
             }
         }

@@ -238,6 +238,19 @@ pub(crate) fn wake_after<W: Worker, H: Threads + Wait + Judge + Sync>(
     first.audit(rt, 3);
 }
 
+/// The same, where the first worker takes the step under a lock of several calls.
+pub(crate) fn wake_together<W: Worker, H: Threads + Wait + Judge + Sync>(
+    rt: &H,
+    alloc: Global,
+    mut first: Recorder<W>,
+    second: Recorder<W>,
+    third: Recorder<W>,
+    step: Freeing,
+) {
+    first.call_together();
+    wake_after(rt, alloc, first, second, third, step);
+}
+
 // Writes the value until two calls wait, and releases it.
 fn frees_two_reads<W: Worker>(
     rt: &(impl Wait + Judge),

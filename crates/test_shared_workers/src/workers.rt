@@ -2,6 +2,7 @@
 //! answers.
 
 use crate::audits::audited;
+use crate::together;
 use generational_box::{
     BorrowMutError, BorrowMutResult, BorrowResult, GenerationalBox, GenerationalRef,
     GenerationalRefMut, Location, Owner, Refusal, Refused, StoreError,
@@ -14,6 +15,9 @@ use std::sync::Wait;
 pub trait Worker: Drop + Send {
     /// Which worker it is, from 0.
     fn number(&self) -> usize;
+
+    /// From now on each step that may free another's call is made under a lock of several calls.
+    fn call_together(&mut self);
 
     /// Makes a box.
     fn leak(&mut self, rt: &impl Wait, value: String, at: Location) -> MadeOrBack;
@@ -153,6 +157,8 @@ pub struct Handle<A: Count, B: Count, C: Count, D: Count> {
     pub store: SyncStorage<String, 7, A, B, C, D>,
     /// What counts the worker's steps.
     pub tally: Tally<A, B, C, D>,
+    /// Whether steps that may free others are made under a lock of several calls.
+    pub together: bool,
 }
 
 impl<
@@ -163,6 +169,10 @@ impl<
 > Worker for Handle<A, B, C, D> {
     fn number(&self) -> usize {
         self.tally.worker()
+    }
+
+    fn call_together(&mut self) {
+        self.together = true;
     }
 
     fn leak(&mut self, rt: &impl Wait, value: String, at: Location) -> MadeOrBack {
@@ -178,6 +188,12 @@ impl<
         rt: &impl Wait,
         of: GenerationalBox<String>,
     ) -> BorrowResult<GenerationalBox<String>> {
+        if self.together {
+            let Handle { store, tally, .. } = self;
+            return store
+                .together()
+                .run(rt, |state| together::leak_reference(state, tally, of));
+        }
         self.store.leak_reference(rt, of, &mut self.tally)
     }
 
@@ -209,6 +225,13 @@ impl<
         owner: &Owner,
         of: GenerationalBox<String>,
     ) -> BorrowResult<GenerationalBox<String>> {
+        if self.together {
+            let Handle { store, tally, .. } = self;
+            return store.together().run(
+                rt,
+                |state| together::insert_reference(state, tally, owner, of),
+            );
+        }
         self.store.insert_reference(rt, owner, of, &mut self.tally)
     }
 
@@ -249,6 +272,18 @@ impl<
     }
 
     fn release_read(&mut self, rt: &impl Wait, guard: GenerationalRef<String>) -> bool {
+        if self.together {
+            let Handle { store, tally, .. } = self;
+            let mut held = Some(guard);
+            let known = store.together().run(
+                rt,
+                |state| together::release_read(state, tally, &mut held),
+            );
+            return match held {
+                Some(guard) => store.release_read(rt, guard, tally),
+                None => known,
+            };
+        }
         self.store.release_read(rt, guard, &mut self.tally)
     }
 
@@ -257,6 +292,18 @@ impl<
         rt: &impl Wait,
         guard: GenerationalRefMut<String>,
     ) -> Result<(), String> {
+        if self.together {
+            let Handle { store, tally, .. } = self;
+            let mut held = Some(guard);
+            let released = store.together().run(
+                rt,
+                |state| together::release_write(state, tally, &mut held),
+            );
+            return match held {
+                Some(guard) => store.release_write(rt, guard, tally),
+                None => released,
+            };
+        }
         self.store.release_write(rt, guard, &mut self.tally)
     }
 
@@ -274,6 +321,12 @@ impl<
         rt: &impl Wait,
         asked: GenerationalBox<String>,
     ) -> BorrowMutResult<()> {
+        if self.together {
+            let Handle { store, tally, .. } = self;
+            return store
+                .together()
+                .run(rt, |state| together::end(state, tally, asked));
+        }
         self.store.manually_drop(rt, asked, &mut self.tally)
     }
 
@@ -283,6 +336,12 @@ impl<
         asked: GenerationalBox<String>,
         other: GenerationalBox<String>,
     ) -> BorrowMutResult<()> {
+        if self.together {
+            let Handle { store, tally, .. } = self;
+            return store
+                .together()
+                .run(rt, |state| together::point_to(state, tally, asked, other));
+        }
         self.store.point_to(rt, asked, other, &mut self.tally)
     }
 
@@ -291,6 +350,15 @@ impl<
         rt: &impl Wait,
         owner: Owner,
     ) -> Result<(), (Owner, Refused<BorrowMutError>)> {
+        if self.together {
+            let Handle { store, tally, .. } = self;
+            let mut released = Err((owner, Refused::Store(StoreError::OutOfMemory)));
+            store.together().run(
+                rt,
+                |state| together::release_owner(state, tally, &mut released),
+            );
+            return released;
+        }
         self.store.release_owner(rt, owner, &mut self.tally)
     }
 

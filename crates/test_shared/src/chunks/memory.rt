@@ -21,7 +21,7 @@ fn reserve_or_again(rt: &impl Abort, list: &mut Chunks<u64>, more: usize)
 }
 
 /// Appends the numbers from this one up, room being made for each.
-fn append(rt: &impl Abort, list: &mut Chunks<u64>, from: u64, count: u64) {
+pub(crate) fn append(rt: &impl Abort, list: &mut Chunks<u64>, from: u64, count: u64) {
     for more in 0..count {
         reserve_or_again(rt, list, 1);
         list.push(from.wrapping_add(more));
@@ -41,7 +41,7 @@ fn assert_counts_up(rt: &impl Abort, list: &Chunks<u64>, count: u64) {
 }
 
 /// Takes all away, and asserts that nothing is left.
-fn empty_all(rt: &impl Abort, list: &mut Chunks<u64>, alloc: Global) {
+pub(crate) fn empty_all(rt: &impl Abort, list: &mut Chunks<u64>, alloc: Global) {
     let anew = match Vec::with_capacity(alloc, 1) {
         Ok(anew) => anew,
         Err(_) => Vec::with_capacity(alloc, 1).expect(rt, "memory"),
