@@ -8,9 +8,11 @@ PROGRAM is `bench_shared`, as `rt ci` leaves it in its crate's out/. It prints a
 a line each. The machine takes the steps one after another, and a step whose reply isn't its own is the end. So is a
 base that isn't where the steps before it led: in its rows, its next ticket, its peak, or its counts of each kind. The
 first base is a new store's, unless checkpoints were made while the workers drew their calls: then it need only be
-sound. In the short lists each call, each reply and each row has to come. Then each planted difference must be found:
-a reply, a box, an owner, a location or a base changed, steps left out, exchanged, or there twice. Which worker took a
-step isn't tried: no reply depends on it.
+sound. In the short lists each call, each reply and each row has to come, and a base with fewer live cells than its peak,
+with a shared cell that is read or written and wasn't two bases before, and with an owner that stood there then; and
+locations that differ in their files alone. Then each planted difference must be found: a reply, a box, an owner, a
+location or a base changed, steps left out, exchanged, or there twice. Which worker took a step isn't tried: no reply
+depends on it.
 """
 import os
 import random
@@ -27,6 +29,7 @@ BASE = re.compile(
     r"changed: (\d+), refused: (\d+) \}, rows: \[(.*)\] \}$"
 )
 ROW = re.compile(r"(\w+)\(([^()]*)\)")
+PLACE = re.compile(r'Location \{ file: "([^"]*)", (line: \d+, column: \d+) \}')
 STEP = re.compile(r"(\d+) (\w+)(?:\(([^()]*)\))? (\w+)(?:\(([^()]*)\))? \[(.*)\]$")
 OWNER = re.compile(r"OwnerId \{ store: (\d+), key: (\d+) \}(?:, (.*))?$")
 ORIGIN = re.compile(rf"None|Some\(\((\d+), ({LOCATION})\)\)")
@@ -39,6 +42,8 @@ SEEN = {
     " PointTo ReleaseRead ReleaseWrite ReleaseOwner",
     "replies": "Made MadeShared Owner Reader Writer Done Dropped Store",
     "rows": "Slot Value Shared Ref Reader Writer Owner Owned",
+    "bases": "below_peak kept_shared_read kept_shared_written kept_value_read kept_value_written kept_owner",
+    "files": "drawn.rs board.rs",
 }
 
 
@@ -435,6 +440,10 @@ class Replay:
         self.machine = None
         self.steps = self.bases = 0
         self.seen = {what: set() for what in SEEN}
+        # the lines and columns of places, by their files
+        self.places = {}
+        # of each base the rows without borrows of its values, and the keys of its owners
+        self.quiet, self.owners = [], []
 
     def line(self, line):
         """Takes a line: a base, a step, or the last one, which tells how many steps there were."""
@@ -455,6 +464,10 @@ class Replay:
         self.steps += 1
         self.seen["calls"].add(call)
         self.seen["replies"].add(reply)
+        for file, place in PLACE.findall(line):
+            self.places.setdefault(file, set()).add(place)
+            if any(place in others for other, others in self.places.items() if other != file):
+                self.seen["files"].add(file)
 
     def base(self, line):
         """A base is what the machine has. The first one is what it begins with."""
@@ -480,6 +493,24 @@ class Replay:
                 raise Differs(f"row {at} of the base is {row}, and the machine has {wanted}")
         self.bases += 1
         self.seen["rows"].update(row.partition("(")[0] for row in rows)
+        self.look_at_base()
+
+    def look_at_base(self):
+        """Notes what a base has that the one two before it can tell wrongly, into whose rows it is packed."""
+        cells, owners = self.machine.cells, self.machine.owners
+        if len(cells) < self.machine.peak:
+            self.seen["bases"].add("below_peak")
+        if len(self.quiet) > 1:
+            for name in self.quiet[-2].intersection(cells):
+                kind = cells[name].kind.lower()
+                if cells[name].readers:
+                    self.seen["bases"].add(f"kept_{kind}_read")
+                if cells[name].writer is not None:
+                    self.seen["bases"].add(f"kept_{kind}_written")
+            if self.owners[-2].intersection(owners):
+                self.seen["bases"].add("kept_owner")
+        self.quiet.append({name for name, cell in cells.items() if cell.kind != "Ref" and not cell.is_borrowed()})
+        self.owners.append(set(owners))
 
     def begin(self, following, peak, counts, rows):
         """The machine begins with a base."""
@@ -528,6 +559,13 @@ def next_number(text, which=0):
     """The text with one of its numbers changed."""
     found = list(re.finditer(r"\d+", text))[which]
     return text[: found.start()] + str(int(found.group()) + 1) + text[found.end() :]
+
+
+def other_file(text, place):
+    """The text with another file in the first location after a place."""
+    found = PLACE.search(text, place)
+    other = "board.rs" if found[1] == "drawn.rs" else "drawn.rs"
+    return text[: found.start(1)] + other + text[found.end(1) :]
 
 
 class Planting:
@@ -597,6 +635,9 @@ class Planting:
         for call in ("Leak", "LeakRc", "Insert", "InsertRc"):
             at = self.step_with(call, 2)
             yield f"the location of {call} changed", self.changed(at, self.lines[at].index("line: "))
+        for what, at in (("Leak", self.step_with("Leak", 2)), ("a box", self.step_with("Reader", 4))):
+            place = self.lines[at].index("Some((") if what == "a box" else 0
+            yield f"the file of the location of {what} changed", self.with_line(at, other_file(self.lines[at], place))
         at = self.step_with("Dropped", 4)
         reply = STEP.match(self.lines[at]).start(4)
         yield "the location in Dropped changed", self.changed(at, self.lines[at].index("line: ", reply))

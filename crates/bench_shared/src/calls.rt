@@ -5,6 +5,9 @@ use std::sync::Wait;
 
 /// What a worker of the workload calls. A call that isn't carried out answers None or false.
 pub(crate) trait Calls {
+    /// Says where the calls are made from now on.
+    fn move_to(&mut self, at: Location);
+
     /// Makes a box.
     fn leak(&mut self, rt: &impl Wait, value: u64) -> Option<GenerationalBox<u64>>;
 

@@ -9,9 +9,6 @@ use std::sync::{Arc, Mutex, Wait};
 
 /// What is drawn besides the calls of the lists.
 pub(crate) trait DrawnCalls: Calls {
-    /// Says where the calls are made from now on.
-    fn move_to(&mut self, at: Location);
-
     /// Makes another owner of the same record.
     fn clone_owner(&mut self, rt: &impl Wait, owner: &Owner) -> Option<Owner>;
 
@@ -114,7 +111,12 @@ impl<S: DrawnCalls> Drawing<S> {
     fn round(&mut self, rt: &impl Wait) {
         let lines = if self.draw(16) == 0 { 200_000 } else { 40 };
         let (line, column) = (self.draw(lines), self.draw(80));
-        self.calls.move_to(Location::new("drawn.rs", line, column));
+        let file = if self.draw(2) == 0 {
+            "drawn.rs"
+        } else {
+            "board.rs"
+        };
+        self.calls.move_to(Location::new(file, line, column));
         match self.draw(8) {
             0 => self.make(rt),
             1 => self.own(rt),
@@ -234,10 +236,40 @@ impl<S: DrawnCalls> Drawing<S> {
         };
     }
 
-    /// Begins a write of a new box, and two reads of another.
-    pub(crate) fn begin_borrows(&mut self, rt: &impl Wait) -> Option<Borrows> {
-        let written = self.calls.leak_rc(rt, 0)?;
-        let read = self.calls.leak(rt, 0)?;
+    /// Makes an owner, which stays, with a value and a shared value.
+    pub(crate) fn keep(&mut self, rt: &impl Wait) -> Option<Kept> {
+        let owner = self.calls.owner(rt)?;
+        let value = self.calls.insert(rt, &owner, 0);
+        let shared = self.calls.insert_rc(rt, &owner, 0);
+        owner.leak();
+        Some(Kept {
+            value: value?,
+            shared: shared?,
+        })
+    }
+
+    /// Ends the boxes of the board, so that fewer values live than before.
+    pub(crate) fn clear(&mut self, rt: &impl Wait) {
+        for place in 0..PLACES {
+            if let Some(asked) = self.board.at(rt, place) {
+                self.calls.end(rt, asked);
+            }
+        }
+    }
+
+    /// Begins a write of one box, and two reads of another: of new ones at first, and then of those that
+    /// were kept, which were there in the bases before, by turns.
+    pub(crate) fn begin_borrows(
+        &mut self,
+        rt: &impl Wait,
+        kept: Kept,
+        turn: u64,
+    ) -> Option<Borrows> {
+        let (written, read) = match turn {
+            0 | 1 => (self.calls.leak_rc(rt, 0)?, self.calls.leak(rt, 0)?),
+            2 => (kept.shared, kept.value),
+            _ => (kept.value, kept.shared),
+        };
         let writer = self.calls.write(rt, written)?;
         let first = self.calls.read(rt, read);
         let second = self.calls.read(rt, read);
@@ -259,6 +291,13 @@ impl<S: DrawnCalls> Drawing<S> {
         self.calls.release_write(rt, writer);
         self.end_read(rt, second);
     }
+}
+
+/// Boxes of an owner that live through all checkpoints.
+#[derive(Clone, Copy)]
+pub(crate) struct Kept {
+    value: GenerationalBox<u64>,
+    shared: GenerationalBox<u64>,
 }
 
 /// Borrows that stand while a checkpoint is made.

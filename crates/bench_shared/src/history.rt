@@ -28,8 +28,9 @@ pub(crate) struct Course {
 const CHECKPOINTS: u64 = 4;
 
 /// Lets the workers draw their calls in threads. Then one worker alone, with the counts of all, prints
-/// the audit, makes a checkpoint while borrows stand, and draws more calls, a few times over. So each
-/// base but the first is where the history before it led. The last history has no steps.
+/// the audit, makes a checkpoint while borrows stand and fewer values live than before, and draws more
+/// calls, a few times over. So each base but the first is where the history before it led. The last
+/// history has no steps.
 pub(crate) fn print_history<W: DrawnCalls + Drop + Send, H: Threads + Wait + Print + Sync>(
     rt: &H,
     alloc: Global,
@@ -38,8 +39,10 @@ pub(crate) fn print_history<W: DrawnCalls + Drop + Send, H: Threads + Wait + Pri
 ) -> Option<Done> {
     let mut last = draw_beside(rt, alloc, workers, course)?;
     let mut steps = 0usize;
-    for _ in 0..CHECKPOINTS {
-        let borrows = last.begin_borrows(rt)?;
+    let kept = last.keep(rt)?;
+    for turn in 0..CHECKPOINTS {
+        last.clear(rt);
+        let borrows = last.begin_borrows(rt, kept, turn)?;
         let printed = last.calls.print_audit(rt);
         let trimmed = last.calls.checkpoint(rt);
         last.end_borrows(rt, borrows);
@@ -119,10 +122,6 @@ impl<
     C: Count + Send + Sync,
     D: Count + Send + Sync,
 > DrawnCalls for Worker<A, B, C, D> {
-    fn move_to(&mut self, at: Location) {
-        self.at = at;
-    }
-
     fn clone_owner(&mut self, rt: &impl Wait, owner: &Owner) -> Option<Owner> {
         self.store.clone_owner(rt, owner, &mut self.tally).ok()
     }

@@ -16,6 +16,10 @@ pub(crate) struct Worker<A: Count, B: Count, C: Count, D: Count> {
 }
 
 impl<A: Count, B: Count, C: Count, D: Count> Calls for Worker<A, B, C, D> {
+    fn move_to(&mut self, at: Location) {
+        self.at = at;
+    }
+
     fn leak(&mut self, rt: &impl Wait, value: u64) -> Option<GenerationalBox<u64>> {
         self.store.leak(rt, value, self.at, &mut self.tally).ok()
     }

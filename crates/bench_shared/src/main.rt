@@ -1,7 +1,7 @@
 //! `bench_shared STORE LIST WORKERS ROUNDS [BETWEEN]`: so many workers in threads make a list of
 //! calls so many times over one store, each over boxes of its own; where BETWEEN is told and isn't 0,
 //! with a checkpoint after each so many rounds, or, where they are those of `keeps`, with so many
-//! checkpoints at the end. One line says how many calls that were, and how many steps an audit
+//! checkpoints at the end; of `places` it says at how many places the calls are made. One line says how many calls that were, and how many steps an audit
 //! answered. How long it takes, in processor time, is for who runs it to measure
 //! (`.ci/bench_shared.py`).
 //!
@@ -17,6 +17,8 @@
 //! | `together` | the same, under one lock |
 //! | `writes` | an owner's boxes are made, written and pointed elsewhere, and end with the owner: 12 calls |
 //! | `keeps`  | a box is made, and stays: 1 call                                       |
+//! | `places` | a box that stays is read, at each of BETWEEN places in turn, and then at the last 500 of them: 2 calls |
+//! | `forgotten` | the same, with a checkpoint once each place has come                |
 //! | a number | calls drawn from it, over boxes that workers of a shared store hand each other: a few a round |
 //!
 //! Of drawn calls the audits are printed, a base and each step a line (`.ci/replay.py` replays them).
@@ -117,6 +119,8 @@ impl Words {
             "together" => List::Together,
             "writes" => List::Writes,
             "keeps" => List::Keeps,
+            "places" => List::Places(false),
+            "forgotten" => List::Places(true),
             word => List::Drawn(word.parse::<u64>().ok()?),
         };
         let workers = words.next()?.parse::<usize>().ok()?;

@@ -3,7 +3,7 @@
 
 use crate::calls::{Calls, place};
 use generational_box::{
-    AnyStorage, GenerationalBox, GenerationalRef, GenerationalRefMut, Owner, Storage,
+    AnyStorage, GenerationalBox, GenerationalRef, GenerationalRefMut, Location, Owner, Storage,
 };
 use std::alloc::Global;
 use std::sync::{Arc, Mutex, Wait};
@@ -15,6 +15,11 @@ pub(crate) struct Plain<S> {
 }
 
 impl<S: Storage<u64> + Drop> Calls for Plain<S> {
+    // Each call is made at one place.
+    fn move_to(&mut self, at: Location) {
+        let _ = at;
+    }
+
     fn leak(&mut self, rt: &impl Wait, value: u64) -> Option<GenerationalBox<u64>> {
         let mut store = self.store.lock(rt);
         GenerationalBox::leak(&mut *store, value, place()).ok()

@@ -1,12 +1,15 @@
 //! What a worker does round after round.
 
+ghost use Rattle.std.specs.Prelude.{◌<◌};
+
 use crate::calls::Calls;
-use generational_box::{GenerationalBox, Owner};
+use generational_box::{GenerationalBox, Location, Owner};
 use std::sync::Wait;
 
 /// Runs so many rounds, and answers how many calls they made; None where a call wasn't carried out.
 /// A checkpoint, which isn't counted, comes after each so many rounds, and none where that is 0. Of
-/// `Keeps` all checkpoints come at the end, so many, each with a round more after it.
+/// `Keeps` all checkpoints come at the end, so many, each with a round more after it. Of `Places` that
+/// number says at how many places boxes are read.
 pub(crate) fn run<S: Calls>(
     store: &mut S,
     rt: &impl Wait,
@@ -14,8 +17,10 @@ pub(crate) fn run<S: Calls>(
     rounds: u64,
     between: u64,
 ) -> Option<u64> {
-    if let List::Keeps = list {
-        return keep(store, rt, rounds, between);
+    match list {
+        List::Keeps => return keep(store, rt, rounds, between),
+        List::Places(forgets) => return read_at_places(store, rt, rounds, between, forgets),
+        _ => {}
     }
     let mut calls = 0u64;
     let mut since = 0u64;
@@ -31,7 +36,7 @@ pub(crate) fn run<S: Calls>(
             List::Reads => reading_round(store, rt, value)?,
             List::Together => store.reads_together(rt, value)?,
             List::Writes => writing_round(store, rt, value)?,
-            List::Keeps | List::Drawn(_) => return None,
+            List::Keeps | List::Places(_) | List::Drawn(_) => return None,
         };
         calls = calls.wrapping_add(made);
     }
@@ -49,6 +54,9 @@ pub(crate) enum List {
     Writes,
     /// A box is made, and stays.
     Keeps,
+    /// A box that stays is read, at each of many places in turn, and then at the last ones; with a
+    /// checkpoint after the first turn, or with none.
+    Places(bool),
     /// Calls that are drawn from a number, which only a shared store has.
     Drawn(u64),
 }
@@ -88,6 +96,45 @@ fn keep<S: Calls>(store: &mut S, rt: &impl Wait, boxes: u64, checkpoints: u64) -
         store.leak(rt, value)?;
     }
     Some(boxes.wrapping_add(checkpoints))
+}
+
+// How many of the last places calls are made at once each place has come.
+const LATE: u64 = 500;
+
+// Makes a box and reads it so many times, at so many places. If the history is to forget them, a
+// checkpoint comes once each place has come.
+fn read_at_places<S: Calls>(
+    store: &mut S,
+    rt: &impl Wait,
+    rounds: u64,
+    places: u64,
+    forgets: bool,
+) -> Option<u64> {
+    let made = store.leak(rt, 0)?;
+    for round in 0..rounds {
+        if forgets && round == places && !store.checkpoint(rt) {
+            return None;
+        }
+        store.move_to(place_of(round, places.max(1)));
+        let guard = store.read(rt, made)?;
+        if !store.release_read(rt, guard) {
+            return None;
+        }
+    }
+    Some(rounds.wrapping_mul(2).wrapping_add(1))
+}
+
+// Where the calls of a round are made: at a place of its own, and once each has come at one of the last.
+fn place_of(round: u64, places: u64) -> Location
+    requires { 0 < places }
+{
+    let place = if round < places {
+        round
+    } else {
+        places - 1 - round % places.min(LATE)
+    };
+    let line = (place % 4_294_967_296) as u32;
+    Location::new("places.rs", line, 1)
 }
 
 // 12 calls, each of which is a step.
