@@ -1,6 +1,7 @@
 #!/usr/bin/env python3
 """Shows that a shared store with checkpoints runs in bounded memory, that its audit agrees at the end, that a later
-checkpoint goes into the memory of those before it, and that without checkpoints a step takes few bytes.
+checkpoint goes into the memory of those before it, that without checkpoints a step takes few bytes, and that one at many
+places takes little more time than at one.
 
     .ci/checkpoints.py PROGRAM
 
@@ -9,10 +10,13 @@ calls, with a checkpoint after every 100,000, and may have twice the memory that
 The audit at the end answers the steps since the last checkpoint, and no others. Of twelve checkpoints at 100,000
 values those after the first two may touch so many pages for the first time: no clause says that they make no room.
 Without checkpoints and an audit each step after the first four million may take so many bytes: no clause says that a
-step is kept in its short form. At the end a run without checkpoints is found out, a limit of bytes that is too low, and
-the pages of the first two.
+step is kept in its short form. Two million steps that read a box at many places in turn may take so many times the
+processor time that they take at one place: also at places that came after all numbers for them were given, and where a
+checkpoint forgot those. At the end a run without checkpoints is found out, a limit of bytes that is too low, the pages
+of the first two, steps at places that have no number, and a limit of time that is too low.
 """
 import os
+import statistics
 import subprocess
 import sys
 
@@ -23,6 +27,10 @@ STEPS, BETWEEN, FIRST = 10_000_000, 100_000, 200_000
 BYTES, HALF = {"reads": 10, "writes": 15}, 4_000_000
 # How many values there are where checkpoints are counted, and how many pages one of these may touch first.
 VALUES, PAGES = 100_000, 20
+# Lists of reads at so many places, and how many times the time at one place their steps may take; how often that is
+# measured; how many reads these are; and how many bytes a step may take where places have numbers.
+PLACES = (("places", 500, 1.5), ("places", 70_000, 3), ("forgotten", 70_000, 3))
+TURNS, READS, PLACED = 3, 1_000_000, 10
 
 
 class Failure(Exception):
@@ -82,6 +90,34 @@ def pages(program, checkpoints):
     return used.ru_minflt
 
 
+def reads(program, name, places, count):
+    """What the system says of a run that reads at each of so many places, and then so many times at the last ones."""
+    return run(program, "unaudited", name, "1", str(places + count), str(places))[1]
+
+
+def seconds(program, name, places):
+    """The processor seconds of READS reads, after each of so many places has come."""
+    before, after = (reads(program, name, places, it) for it in (0, READS))
+    return after.ru_utime + after.ru_stime - before.ru_utime - before.ru_stime
+
+
+def finds_places(program, name, places, limit):
+    ratios = [seconds(program, name, places) / seconds(program, "places", 1) for _ in range(TURNS)]
+    times = statistics.median(ratios)
+    if times > limit:
+        raise Failure(f"{name}: reads at {places} places take {times:.2f} times those at one, and not {limit}")
+    return f"{name}: reads at {places} places take {times:.2f} times those at one, of {limit}"
+
+
+def numbers_places(program, name, places):
+    """How many bytes a step takes after each of so many places has come."""
+    before, after = (reads(program, name, places, it * READS).ru_maxrss for it in (2, 3))
+    took = (after - before) * 1024 / (2 * READS)
+    if took > PLACED:
+        raise Failure(f"{name}: a step at {places} places takes {took:.1f} bytes, and not {PLACED}")
+    return f"{name}: a step at {places} places takes {took:.1f} bytes, of {PLACED}"
+
+
 def find_out(what, tried, *words):
     try:
         tried(*words)
@@ -96,6 +132,12 @@ def main(path):
         print(compare(program, name, STEPS, BETWEEN))
         print(is_short(program, name, BYTES[name]))
     print(touches_few(program, 2, 12))
+    for name, places, limit in PLACES:
+        print(finds_places(program, name, places, limit))
+    print(numbers_places(program, "places", 1000))
+    print(numbers_places(program, "forgotten", 70_000))
+    find_out("steps at places without numbers", numbers_places, program, "places", 70_000)
+    find_out("a third of the time", finds_places, program, "places", 500, 0.3)
     find_out("memory for the first two", touches_few, program, 0, 2)
     find_out("a run without checkpoints", compare, program, "reads", STEPS // 10, 0)
     find_out("a limit of 8 bytes", is_short, program, "reads", 8)
