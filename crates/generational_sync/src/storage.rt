@@ -43,7 +43,7 @@ pub struct SyncStorage<T, const NUMBER: u64, M: Count, L: Count, C: Count, R: Co
     shared: Arc<Shared<SyncState<T, NUMBER, M, L, C, R>>, Global>,
 }
 
-impl<T: Drop + Send, const NUMBER: u64, M: Count, L: Count, C: Count, R: Count> SyncStorage<
+impl<T: Drop, const NUMBER: u64, M: Count, L: Count, C: Count, R: Count> SyncStorage<
     T,
     NUMBER,
     M,
@@ -324,7 +324,7 @@ impl<T: Drop + Send, const NUMBER: u64, M: Count, L: Count, C: Count, R: Count> 
 }
 
 /// How many calls of the store wait: each sleeps, or is so far that a wake reaches it.
-pub fn waiting<T: Drop + Send, const NUMBER: u64, M: Count, L: Count, C: Count, R: Count>(
+pub fn waiting<T: Drop, const NUMBER: u64, M: Count, L: Count, C: Count, R: Count>(
     store: &SyncStorage<T, NUMBER, M, L, C, R>,
     rt: &impl Wait,
 ) -> usize {

@@ -14,7 +14,7 @@ use generational_box::{
 use shared_history::{Count, Tally};
 use std::sync::Wait;
 
-impl<T: Drop + Send, const NUMBER: u64, M: Count, L: Count, C: Count, R: Count> SyncStorage<
+impl<T: Drop, const NUMBER: u64, M: Count, L: Count, C: Count, R: Count> SyncStorage<
     T,
     NUMBER,
     M,
