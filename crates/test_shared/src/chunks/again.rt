@@ -8,7 +8,7 @@ use std::test::*;
 #[test]
 fn chunks_serve_again(rt: HostRuntime) {
     let mut list = Chunks::new(rt.alloc());
-    for _ in 0..100u64 {
+    for _ in 0..20u64 {
         append(&rt, &mut list, 0, 50_000);
         empty_all(&rt, &mut list, rt.alloc());
     }
