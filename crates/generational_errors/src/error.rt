@@ -414,7 +414,7 @@ impl<T, E: fmt::Debug> fmt::Debug for HandedBack<T, E> {
 
 impl<T: Drop, E: Error> Error for HandedBack<T, E> {}
 
-/// Keeps both parts, as of the pair that a signal's `set` fails with. Takes no memory.
+/// Keeps both parts, as of the pair that a signal's `set` fails with. Doesn't allocate.
 impl<T, E> From<(T, E)> for HandedBack<T, E> {
     ghost from_gives = { λ pair r. r ≡ record { value = pair.0; cause = pair.1 } };
 
@@ -424,7 +424,7 @@ impl<T, E> From<(T, E)> for HandedBack<T, E> {
     }
 }
 
-/// Keeps both parts. Takes no memory.
+/// Keeps both parts. Doesn't allocate.
 impl<T> From<Refusal<T>> for HandedBack<T, StoreError> {
     ghost from_gives = { λ refusal r. r ≡ record { value = refusal.value; cause = refusal.cause } };
 

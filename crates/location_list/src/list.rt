@@ -44,7 +44,7 @@ impl<const LAST: u32> Model for LocationList<LAST> {
 }
 
 impl<const LAST: u32> LocationList<LAST> {
-    /// No locations. Takes no memory.
+    /// No locations. Doesn't allocate.
     pub fn new(alloc: Global) -> Self
         ensures { result ≡ [] }
     {
@@ -54,7 +54,7 @@ impl<const LAST: u32> LocationList<LAST> {
         }
     }
 
-    /// How many there are. Takes no memory.
+    /// How many there are. Doesn't allocate.
     pub fn len(&self) -> usize
         ensures length { result ≡ length self.now }
         ensures most { length self.now ≤ LAST + 1 }
@@ -62,7 +62,7 @@ impl<const LAST: u32> LocationList<LAST> {
         self.kept.len()
     }
 
-    /// The location with a number, if there is one. Takes no memory.
+    /// The location with a number, if there is one. Doesn't allocate.
     #[inline(always)]
     pub fn get(&self, number: u32) -> Option<Location>
         ensures { result ≡ slice_get self.now number }
