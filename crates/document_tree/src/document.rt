@@ -162,7 +162,7 @@ impl<T, S: Storage<Part<T>>> Document<T, S> {
     }
 
     /// Whether a place shows a part: false if it was removed, or if it is of another document whose
-    /// store has another number. Takes no memory, and is O(1).
+    /// store has another number. Doesn't allocate, and is O(1).
     ///
     /// ```rust
     /// let is_there = document.is_alive(heading);

@@ -285,7 +285,7 @@ impl<T, S: Storage<T>> EntityTable<T, S> {
     }
 
     /// Whether an entity is live: false if it was despawned, or if it is of another table whose store
-    /// has another number. Takes no memory, and is O(1).
+    /// has another number. Doesn't allocate, and is O(1).
     ///
     /// ```rust
     /// let is_there = table.is_alive(entity);

@@ -17,7 +17,7 @@ pub trait Value: Sized {
         ensures is { result ≡ is_same self.now other.now }
         ensures right { IsTrue result → self.now ≡ other.now };
 
-    /// A copy of the value takes no memory. A type may leave this out: then it is said of none.
+    /// A copy of the value doesn't allocate. A type may leave this out: then it is said of none.
     ghost is_plain: { Self → Type 0 } = { λ _. ⊥ };
 
     /// The value once more. Fails if memory runs out.
@@ -109,7 +109,7 @@ impl Model for Text {
 }
 
 impl Text {
-    /// An empty text. Takes no memory.
+    /// An empty text. Doesn't allocate.
     ///
     /// ```rust
     /// let mut text = Text::new(*alloc);
@@ -202,7 +202,7 @@ impl<T> Model for Items<T> {
 }
 
 impl<T> Items<T> {
-    /// An empty list. Takes no memory.
+    /// An empty list. Doesn't allocate.
     ///
     /// ```rust
     /// let mut lengths = Items::new(*alloc);

@@ -358,7 +358,7 @@ impl<T, S: Storage<T>> SceneTree<T, S> {
     }
 
     /// Whether a node is live: false if it was removed, or if it is of another tree whose store has
-    /// another number. Takes no memory, and is O(1).
+    /// another number. Doesn't allocate, and is O(1).
     ///
     /// ```rust
     /// let is_there = tree.is_alive(child);

@@ -84,7 +84,7 @@ impl<I: Eq + Hash, K: Eq + Hash, T, S: Storage<T>> SessionTable<I, K, T, S> {
     /// the rows find no room; of `NumbersExhausted`, where the store gave all its tickets, of which a
     /// login uses one; of `OutOfMemory`, where the session's owner finds no room. The id comes back
     /// then, and the table stays as it was. Takes memory where the rows have no room, and for the
-    /// session's owner. O(1), but for finding room.
+    /// session's owner. Amortised O(1).
     ///
     /// ```rust
     /// table.login(7, 1000)?;
@@ -218,7 +218,7 @@ impl<I: Eq + Hash, K: Eq + Hash, T, S: Storage<T>> SessionTable<I, K, T, S> {
 
     /// An entry's value. The table is lent meanwhile.
     ///
-    /// Fails if the entry is gone, or is another table's. Takes no memory, and is O(1).
+    /// Fails if the entry is gone, or is another table's. Doesn't allocate, and is O(1).
     ///
     /// ```rust
     /// let count = *table.get(basket)?;
@@ -240,7 +240,7 @@ impl<I: Eq + Hash, K: Eq + Hash, T, S: Storage<T>> SessionTable<I, K, T, S> {
     /// showed, and the sessions stay.
     ///
     /// Fails if the entry is gone, or is another table's: the value comes back, and the table is
-    /// unchanged. Takes no memory, and is O(1), but for dropping the old value.
+    /// unchanged. Doesn't allocate, and is O(1), but for dropping the old value.
     ///
     /// ```rust
     /// if let Err(refusal) = table.set(basket, 43) {
@@ -383,7 +383,7 @@ impl<I: Eq + Hash, K: Eq + Hash, T, S: Storage<T>> SessionTable<I, K, T, S> {
     ///
     /// Refused, in this order: `NoSession`, where the id has none; `IdInUse`, where the new id has one,
     /// also where both are one; `Store` of `OutOfMemory`. The new id comes back then, and the table is
-    /// unchanged. Takes memory where the rows have no room. O(1), but for finding room.
+    /// unchanged. Takes memory where the rows have no room. Amortised O(1).
     ///
     /// ```rust
     /// table.rename(&visitor, user).ok()?;
@@ -592,7 +592,7 @@ impl<I: Eq + Hash, K: Eq + Hash, T, S: Storage<T>> SessionTable<I, K, T, S> {
     }
 
     /// The sessions with their ids, in the order that `login`, `rename`, `logout` and `expire` state.
-    /// Takes no memory, and is O(1).
+    /// Doesn't allocate, and is O(1).
     ///
     /// ```rust
     /// for (id, session) in table.sessions() {
