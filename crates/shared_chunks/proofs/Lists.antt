@@ -2,10 +2,11 @@
 use Rattle.std.proofs.Common.{◌≡◌, ℕ, ◌+◌, suc, ◌<◌, List, [], ◌∷◌, ◌++◌, length, take, sym, ap}
 use Rattle.std.proofs.Common.{◌∙◌, arith, length-append, get_or}
 use Rattle.std.specs.Global.{Vec}
+use Rattle.std.specs.Prelude.{◌≤◌, vec_capacity}
 use Rattle.std.specs.Vec.{vec_items}
 use Rattle.std.proofs.Math.Seq.{take-suc}
 use Rattle.std.proofs.lemmas.List.{append-nil, append_assoc}
-use Rattle.shared_chunks.specs.Listed.{joined}
+use Rattle.shared_chunks.specs.Listed.{AreLarge, joined}
 
 module _ {X : Type 0} where
   -- one chunk more
@@ -31,3 +32,9 @@ module _ {X : Type 0} where
       let all = ap (λ cs. length (joined cs)) is_more ∙ ap length (joined_snoc full last) in
       let both = length-append (joined full) (vec_items last) in
       omega arith
+
+  -- one large chunk more
+  pub large_snoc : (chunks : List (Vec X)) (chunk : Vec X) → AreLarge chunks → 1024 ≤ vec_capacity chunk
+      → AreLarge (chunks ++ chunk ∷ [])
+  large_snoc [] chunk l h = (h, tt)
+  large_snoc (c ∷ cs) chunk l h = (l.0, large_snoc cs chunk l.1 h)

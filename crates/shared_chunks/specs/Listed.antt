@@ -1,5 +1,5 @@
 -- A list in chunks, as contracts see it.
-use Rattle.std.specs.Prelude.{ℕ, List, [], ◌∷◌, ◌++◌}
+use Rattle.std.specs.Prelude.{ℕ, ◌≤◌, List, [], ◌∷◌, ◌++◌, vec_capacity}
 use Rattle.std.specs.Global.{Vec}
 use Rattle.std.specs.Vec.{vec_items}
 
@@ -12,3 +12,8 @@ pub record Listed (X : Type 0) : Type 0 where
 abbrev pub joined : {X : Type 0} → List (Vec X) → List X
 joined [] = []
 joined (chunk ∷ chunks) = vec_items chunk ++ joined chunks
+
+-- each of these chunks has room for 1024 items at least
+abbrev pub AreLarge : {X : Type 0} → List (Vec X) → Type 0
+AreLarge [] = Unit {0}
+AreLarge (chunk ∷ chunks) = (1024 ≤ vec_capacity chunk) × AreLarge chunks

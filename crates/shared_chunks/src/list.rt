@@ -1,7 +1,8 @@
 //! The list.
 
 ghost use Rattle.std.specs.Prelude.{◌≡◌, ◌+◌, ◌<◌, ◌≤◌, ◌^◌, [], ◌∷◌, ◌++◌, IfOk, IfSome, OnOk};
-ghost use Rattle.std.specs.Prelude.{OnErr, length, vec_len, vec_capacity};
+ghost use Rattle.std.specs.Prelude.{OnErr, length, max, vec_len, vec_capacity};
+ghost use Rattle.shared_chunks.specs.Listed.{AreLarge};
 
 use std::alloc::{AllocError, Global};
 use std::marker::Model;
@@ -192,8 +193,13 @@ fn take_free<X: Copy>(free: &mut Vec<Vec<X>>, least: usize, most: usize) -> Opti
     }
 }
 
-// Puts the largest chunks to the free ones, as long as these aren't too many and memory isn't refused.
-fn keep_free<X: Copy>(free: &mut Vec<Vec<X>>, chunks: &mut Vec<Vec<X>>) {
+// Puts the largest chunks to the free ones, as long as these aren't too many and memory isn't refused. Where
+// all free chunks were of the largest size, or larger, they still are.
+#[tactic(auto, using(crate::proofs::Lists::large_snoc))]
+fn keep_free<X: Copy>(free: &mut Vec<Vec<X>>, chunks: &mut Vec<Vec<X>>)
+    ensures large { AreLarge free.old.items → AreLarge free.new.items }
+    ensures few { length free.new.items ≤ max 128 (length free.old.items) }
+{
     for _ in free.len()..FREE {
         let Some(chunk) = chunks.pop() else {
             return;
