@@ -28,9 +28,8 @@ BYTES, HALF = {"reads": 10, "writes": 15}, 4_000_000
 # How many values there are where checkpoints are counted, and how many pages one of these may touch first.
 VALUES, PAGES = 100_000, 20
 # Lists of reads at so many places, and how many times the time at one place their steps may take; how often that is
-# measured; how many reads these are; and how many bytes a step may take where places have numbers. The second list's
-# steps are kept whole: 2.8 times was seen, and fresh pages cost more on some machines.
-PLACES = (("places", 500, 1.5), ("places", 70_000, 4), ("forgotten", 70_000, 3))
+# measured; how many reads these are; and how many bytes a step may take where places have numbers.
+PLACES = (("places", 500, 1.5), ("places", 70_000, 3), ("forgotten", 70_000, 3))
 TURNS, READS, PLACED = 3, 1_000_000, 10
 
 

@@ -2,20 +2,22 @@
 use Rattle.generational_errors.specs.{declared.error.Location.Location, Texts.same_location}
 use Rattle.location_list.specs.Locations as found
 use Rattle.shared_records.specs
-use specs.Decoding.{after, AreWithin, decode, Extends, IsAt, IsNaming, IsWithin, name_item}
-use specs.Decoding.{name_items, naming_all, no_step, nowhere, reached_by, step_at}
+use specs.Decoding.{advanced, after, AreOwn, AreWithin, decode, Extends, far_item, IsAt, IsApart, IsNaming, IsPlain, long_item}
+use specs.Decoding.{IsWithin, name_items, naming_all, no_far, no_step, nowhere, own_places}
+use specs.Decoding.{plain_step, reached_by, StandsFor, step_at, Tables, tables}
+use specs.declared.short.FarStep.{FarStep}
 use specs.Letters.{Appends, lettered, lettered_step}
 use specs.{declared.shorten.Names.Names, declared.short.Reached.Reached, declared.short.Short.Short}
 use specs.{declared.short.ShortName.ShortName, declared.step.Step.Step}
 use Rattle.std.proofs.Common.{ap, append_assoc, arith, get_or, length, length-append, List, None}
-use Rattle.std.proofs.Common.{Option, option_map, option_to_list, refl, rules, Some, suc, true}
-use Rattle.std.proofs.Common.{zero, ℕ, [], ◌%◌, ◌*◌, ◌++◌, ◌+◌, ◌/◌, ◌<◌, ◌∙◌, ◌∷◌, ◌≡◌, ◌≤◌}
+use Rattle.std.proofs.Common.{Option, option_map, option_to_list, refl, rules, Some, suc, sym}
+use Rattle.std.proofs.Common.{ℕ, [], ◌%◌, ◌*◌, ◌++◌, ◌+◌, ◌/◌, ◌<◌, ◌∙◌, ◌∷◌, ◌≡◌, ◌≤◌}
 use Rattle.std.proofs.lemmas.List.{append-nil, get_or_append_left}
 use Rattle.std.proofs.lemmas.Option.{get_or_from_slice_get, slice_get_within}
 use Rattle.std.proofs.lemmas.Slice.Eq.{bytes_eq-Decides}
 use Rattle.std.proofs.{lemmas.Grind.common_steps, Math.Seq.get_or-append_seam}
-use Rattle.std.specs.Bool.{Decides}
-use Rattle.shared_records.specs.declared.shorten.Names.TheVariants as names
+use Rattle.std.specs.{Bool.Decides, Option.unwrap_or}
+use Rattle.shared_records.specs.declared.short.Short.TheVariants as short
 
 -- ==== the test of two locations decides whether they are the same by their letters
 
@@ -33,50 +35,80 @@ found_place places i at h = grind (
   h.alike,
 )
 
+-- a list goes on from none; and two locations, the second of which may be the first, from what there is of them
+pub extends_none : (places : List Location) → Extends [] places
+extends_none places = record { more = places; is = refl }
+
+pub extends_own : (a b : Option Location) (x y : Location) → a ≡ Some x → y ≡ unwrap_or b x
+    → Extends (option_to_list a ++ option_to_list b) (x ∷ y ∷ [])
+extends_own a None x y is same = record { more = y ∷ []; is = rw is refl }
+extends_own a (Some z) x y is same = record { more = []; is = rw (is, same) refl }
+
 -- ==== decoding, one item more, and where the tables grow
 
--- within tables, and in longer ones
-pub within_grows : (p q r s : ℕ) (x : Short) → p ≤ r → q ≤ s → IsWithin p q x → IsWithin r s x
-within_grows p q r s x h k i = grind arith
+-- a table is another one with more at the end of each list
+pub record Grows (t u : Tables) : Type 0 where
+  pub places : List Location
+  pub long : List Step
+  pub far : List FarStep
+  pub is : u ≡ tables (t.places ++ places) (t.long ++ long) (t.far ++ far)
 
-all_within_grow : (p q r s : ℕ) (xs : List Short) → p ≤ r → q ≤ s → AreWithin p q xs → AreWithin r s xs
-all_within_grow p q r s [] h k w = tt
-all_within_grow p q r s (x ∷ xs) h k w = (within_grows p q r s x h k w.0, all_within_grow p q r s xs h k w.1)
+-- within a table, and in a longer one
+plain_grows : (p q : ℕ) (x : Short) → p ≤ q → IsPlain p x → IsPlain q x
+plain_grows p q x h w = grind arith
 
-within_both : (p q : ℕ) (xs ys : List Short) → AreWithin p q xs → AreWithin p q ys → AreWithin p q (xs ++ ys)
-within_both p q [] ys w v = v
-within_both p q (x ∷ xs) ys w v = (w.0, within_both p q xs ys w.1 v)
+within_grows : (t u : Tables) (x : Short) → Grows t u → IsWithin t x → IsWithin u x
+within_grows t u x g w =
+    let p = ap (λ (v : Tables). length v.places) g.is ∙ length-append t.places g.places in
+    let q = ap (λ (v : Tables). length v.long) g.is ∙ length-append t.long g.long in
+    let r = ap (λ (v : Tables). length v.far) g.is ∙ length-append t.far g.far in
+    grind (arith, plain_grows (length t.places) (length u.places) x)
 
-pub within_at : (p q : ℕ) (xs : List Short) (i : ℕ) (d : Short) → i < length xs → AreWithin p q xs
-    → IsWithin p q (get_or xs i d)
-within_at p q (x ∷ xs) (suc i) d h w = within_at p q xs i d (omega arith) w.1
-within_at p q xs i d h w = grind arith
+all_within_grow : (t u : Tables) (xs : List Short) → Grows t u → AreWithin t xs → AreWithin u xs
+all_within_grow t u [] g w = tt
+all_within_grow t u (x ∷ xs) g w = (within_grows t u x g w.0, all_within_grow t u xs g w.1)
+
+within_both : (t : Tables) (xs ys : List Short) → AreWithin t xs → AreWithin t ys → AreWithin t (xs ++ ys)
+within_both t [] ys w v = v
+within_both t (x ∷ xs) ys w v = (w.0, within_both t xs ys w.1 v)
+
+pub within_at : (t : Tables) (xs : List Short) (i : ℕ) (d : Short) → i < length xs → AreWithin t xs
+    → IsWithin t (get_or xs i d)
+within_at t (x ∷ xs) (suc i) d h w = within_at t xs i d (omega arith) w.1
+within_at t xs i d h w = grind arith
+
+-- far steps, one more of them, and one of them
+pub own_snoc : (fs : List FarStep) (f : FarStep) → AreOwn fs → IsPlain 2 f.short → AreOwn (fs ++ f ∷ [])
+own_snoc [] f o h = (h, tt)
+own_snoc (g ∷ fs) f o h = (o.0, own_snoc fs f o.1 h)
+
+pub own_at : (fs : List FarStep) (i : ℕ) (d : FarStep) → i < length fs → AreOwn fs
+    → IsPlain 2 (get_or fs i d).short
+own_at (f ∷ fs) (suc i) d h o = own_at fs i d (omega arith) o.1
+own_at fs i d h o = grind arith
 
 -- one item more, or some
-module _ (number : ℕ) (places : List Location) (long : List Step) where
-  decode_both : (r : Reached) (xs ys : List Short) → decode number places long r (xs ++ ys)
-      ≡ decode number places long r xs
-      ++ decode number places long (reached_by number places long r xs) ys
+module _ (number : ℕ) (t : Tables) where
+  decode_both : (r : Reached) (xs ys : List Short) → decode number t r (xs ++ ys)
+      ≡ decode number t r xs ++ decode number t (reached_by number t r xs) ys
   decode_both r [] ys = refl
-  decode_both r (x ∷ xs) ys = rw (decode_both (after number places long r x) xs ys) (simp append_assoc)
+  decode_both r (x ∷ xs) ys = rw (decode_both (after number t r x) xs ys) (simp append_assoc)
 
   pub decode_snoc : (r : Reached) (xs : List Short) (x : Short)
-      → decode number places long r (xs ++ x ∷ [])
-      ≡ decode number places long r xs
-      ++ option_to_list (step_at number places long (reached_by number places long r xs) x)
+      → decode number t r (xs ++ x ∷ [])
+      ≡ decode number t r xs ++ option_to_list (step_at number t (reached_by number t r xs) x)
   decode_snoc r xs x = rw (decode_both r xs (x ∷ []), append-nil) refl
 
   -- as many steps as items at most
-  pub decode_length : (r : Reached) (xs : List Short)
-      → length (decode number places long r xs) ≤ length xs
+  pub decode_length : (r : Reached) (xs : List Short) → length (decode number t r xs) ≤ length xs
   decode_length r [] = omega arith
   decode_length r (x ∷ xs) =
-      grind (arith, decode_length (after number places long r x) xs, length-append {A = Step})
+      grind (arith, decode_length (after number t r x) xs, length-append {A = Step})
 
-  pub reached_both : (r : Reached) (xs ys : List Short) → reached_by number places long r (xs ++ ys)
-      ≡ reached_by number places long (reached_by number places long r xs) ys
+  pub reached_both : (r : Reached) (xs ys : List Short)
+      → reached_by number t r (xs ++ ys) ≡ reached_by number t (reached_by number t r xs) ys
   reached_both r [] ys = refl
-  reached_both r (x ∷ xs) ys = reached_both (after number places long r x) xs ys
+  reached_both r (x ∷ xs) ys = reached_both (after number t r x) xs ys
 
 -- an item has the long step's number in two parts, and its name's slot
 pub long_is : (i : ℕ) → i / 4294967296 * 4294967296 + i % 4294967296 ≡ i
@@ -87,35 +119,37 @@ name_is : (n : ShortName)
 name_is n = grind arith
 
 -- names are no steps
-module _ (number : ℕ) (places : List Location) (long : List Step) (r : Reached) (xs : List Short) where
-  names_within : (p q : ℕ) (all : Names) → AreWithin p q xs → AreWithin p q (xs ++ name_items all)
-  names_within p q all w = within_both p q xs (name_items all) w (grind arith)
+module _ (number : ℕ) (t : Tables) (r : Reached) (xs : List Short) where
+  names_within : (all : Names) → AreWithin t xs → AreWithin t (xs ++ name_items all)
+  names_within all w = within_both t xs (name_items all) w (grind arith)
 
-  names_kept : (all : Names)
-      → decode number places long r (xs ++ name_items all) ≡ decode number places long r xs
+  names_kept : (all : Names) → decode number t r (xs ++ name_items all) ≡ decode number t r xs
   names_kept all = grind (arith, decode_both, append-nil)
 
   names_reached : (all : Names)
-      → reached_by number places long r (xs ++ name_items all)
-      ≡ naming_all (reached_by number places long r xs) all
+      → reached_by number t r (xs ++ name_items all) ≡ naming_all (reached_by number t r xs) all
   names_reached all = grind (arith, reached_both, name_is)
 
 -- where the tables grow
-module _ (number : ℕ) (places : List Location) (long : List Step) (more : List Location) (others : List Step) where
-  step_grows : (r : Reached) (x : Short) → IsWithin (length places) (length long) x
-      → step_at number (places ++ more) (long ++ others) r x ≡ step_at number places long r x
-  step_grows r x h = grind (arith, get_or_append_left)
+plain_stays : (number : ℕ) (places more : List Location) (r : Reached) (x : Short) → IsPlain (length places) x
+    → plain_step number (places ++ more) r x ≡ plain_step number places r x
+plain_stays number places more r x h = grind (arith, get_or_append_left)
 
-  decode_grows : (r : Reached) (xs : List Short) → AreWithin (length places) (length long) xs
-      → decode number (places ++ more) (long ++ others) r xs ≡ decode number places long r xs
+module _ (number : ℕ) (t u : Tables) (g : Grows t u) where
+  step_grows : (r : Reached) (x : Short) → IsWithin t x → step_at number u r x ≡ step_at number t r x
+  step_grows r x h = rw (g.is)
+      (grind (arith, get_or_append_left, plain_stays number t.places g.places r x))
+
+  decode_grows : (r : Reached) (xs : List Short) → AreWithin t xs
+      → decode number u r xs ≡ decode number t r xs
   decode_grows r [] h = refl
   decode_grows r (x ∷ xs) h =
-      rw (step_grows r x h.0, decode_grows (after number places long r x) xs h.1) refl
+      rw (step_grows r x h.0, decode_grows (after number t r x) xs h.1) refl
 
-  reached_grows : (r : Reached) (xs : List Short) → AreWithin (length places) (length long) xs
-      → reached_by number (places ++ more) (long ++ others) r xs ≡ reached_by number places long r xs
+  reached_grows : (r : Reached) (xs : List Short) → AreWithin t xs
+      → reached_by number u r xs ≡ reached_by number t r xs
   reached_grows r [] h = refl
-  reached_grows r (x ∷ xs) h = rw (step_grows r x h.0) (reached_grows (after number places long r x) xs h.1)
+  reached_grows r (x ∷ xs) h = rw (step_grows r x h.0) (reached_grows (after number t r x) xs h.1)
 
 -- a list that goes on by a step that is this one by its letters
 appends_one : (before longer : List Step) (o : Option Step) (step : Step)
@@ -125,42 +159,127 @@ appends_one before longer None step is same = cc
 appends_one before longer (Some s) step is same = record { last = s; is = is; same = search rules }
 
 -- names, and then one item more, after which the tables may be longer
-module _ (number : ℕ) (start : Reached) (long : List Step) {places wider : List Location} {longer : List Step}
-    {xs ys more : List Short} {r now : Reached} (x : Short) (names : IsNaming xs ys r now)
-    (table : Extends places wider) (others : List Step) (is_longer : longer ≡ long ++ others)
-    (is_more : more ≡ ys ++ x ∷ []) (within : AreWithin (length places) (length long) xs)
-    (is_r : r ≡ reached_by number places long start xs) where
-  named_within : AreWithin (length places) (length long) ys
-  named_within = rw names.items
-      (names_within number places long start xs (length places) (length long) names.all within)
+module _ (number : ℕ) (start : Reached) {t u : Tables} {xs ys more : List Short} {r now : Reached} (x : Short)
+    (names : IsNaming xs ys r now) (grows : Grows t u) (is_more : more ≡ ys ++ x ∷ [])
+    (within : AreWithin t xs) (is_r : r ≡ reached_by number t start xs) where
+  named_within : AreWithin t ys
+  named_within = rw names.items (names_within number t start xs names.all within)
 
-  kept_steps : decode number wider longer start ys ≡ decode number places long start xs
-  kept_steps = rw (table.is, is_longer, decode_grows number places long table.more others start ys named_within)
-      (rw (names.items, names_kept number places long start xs names.all) refl)
+  kept_steps : decode number u start ys ≡ decode number t start xs
+  kept_steps = rw (decode_grows number t u grows start ys named_within)
+      (rw (names.items, names_kept number t start xs names.all) refl)
 
-  kept_reached : now ≡ reached_by number wider longer start ys
-  kept_reached = rw (table.is, is_longer, reached_grows number places long table.more others start ys named_within)
-      (rw (names.items, names_reached number places long start xs names.all, ← is_r) names.reached)
+  kept_reached : now ≡ reached_by number u start ys
+  kept_reached = rw (reached_grows number t u grows start ys named_within)
+      (rw (names.items, names_reached number t start xs names.all, ← is_r) names.reached)
 
-  pub grown_within : IsWithin (length wider) (length longer) x
-      → AreWithin (length wider) (length longer) more
+  pub grown_within : IsWithin u x → AreWithin u more
   grown_within one =
-      let p = ap length table.is ∙ length-append places table.more in
-      let q = ap length is_longer ∙ length-append long others in
-      rw is_more (within_both (length wider) (length longer) ys (x ∷ [])
-      (all_within_grow (length places) (length long) (length wider) (length longer) ys
-      (omega arith) (omega arith) named_within) (one, tt))
+      rw is_more (within_both u ys (x ∷ []) (all_within_grow t u ys grows named_within) (one, tt))
 
-  pub grown_reached : after number wider longer now x ≡ reached_by number wider longer start more
-  grown_reached = rw (is_more, reached_both number wider longer start ys (x ∷ []), ← kept_reached) refl
+  pub grown_reached : after number u now x ≡ reached_by number u start more
+  grown_reached = rw (is_more, reached_both number u start ys (x ∷ []), ← kept_reached) refl
 
   pub grown_steps : (step : Step)
-      → option_map lettered_step (step_at number wider longer now x) ≡ Some (lettered_step step)
-      → Appends (decode number places long start xs) step (decode number wider longer start more)
-  grown_steps step same = appends_one _ _ (step_at number wider longer now x) step
-      (rw (is_more, decode_snoc number wider longer start ys x, ← kept_reached, kept_steps) refl) same
+      → option_map lettered_step (step_at number u now x) ≡ Some (lettered_step step)
+      → Appends (decode number t start xs) step (decode number u start more)
+  grown_steps step same = appends_one _ _ (step_at number u now x) step
+      (rw (is_more, decode_snoc number u start ys x, ← kept_reached, kept_steps) refl) same
 
--- the newest of the long steps
+-- ==== what a step is kept as
+
+-- an item that stands for a step by itself does so over more locations
+pub stands_wider : (number : ℕ) (places wider : List Location) (r : Reached) (step : Step) (x : Short)
+    → Extends places wider → StandsFor number places r step x → StandsFor number wider r step x
+stands_wider number places wider r step x table stands =
+    let longer = ap length table.is ∙ length-append places table.more in
+    let stays = plain_stays number places table.more r x stands.within in record {
+      within = plain_grows (length places) (length wider) x (omega arith) stands.within;
+      same = rw (table.is, stays) stands.same;
+      goes_on = rw (table.is, stays) stands.goes_on;
+    }
+
+-- the tables with more locations, with one more long step, and with one more far one
+module _ (t : Tables) {wider : List Location} (table : Extends t.places wider) where
+  pub grows_wider : Grows t (tables wider t.long t.far)
+  grows_wider = record {
+    places = table.more;
+    long = [];
+    far = [];
+    is = rw (table.is, append-nil t.long, append-nil t.far) refl;
+  }
+
+  pub grows_apart : {number : ℕ} {r : Reached} {step : Step} {longer : List Step} {farther : List FarStep}
+      {x : Short} → IsApart number r step t.long longer t.far farther x → Grows t (tables wider longer farther)
+  grows_apart a = record {
+    places = table.more;
+    long = a.more_long;
+    far = a.more_far;
+    is = rw (table.is, a.long_is, a.far_is) refl;
+  }
+
+-- an item that isn't kept elsewhere stands by itself
+pub stands_by_itself : (number : ℕ) (t : Tables) (r : Reached) (x : Short)
+    → ((high low : ℕ) → x ≡ short.Long high low → ⊥) → ((high low : ℕ) → x ≡ short.Far high low → ⊥)
+    → step_at number t r x ≡ plain_step number t.places r x
+stands_by_itself number t r (short.Long high low) long far = absurd (long high low refl)
+stands_by_itself number t r (short.Far high low) long far = absurd (far high low refl)
+stands_by_itself number t r x long far = grind arith
+
+-- an item that stands for a step by itself stands for it in any tables with these locations
+module _ (number : ℕ) (t : Tables) {r : Reached} {step : Step} {x : Short}
+    (stands : StandsFor number t.places r step x) where
+  pub plain_within : IsWithin t x
+  plain_within = grind (arith, stands.within, stands.same)
+
+  pub plain_same : option_map lettered_step (step_at number t r x) ≡ Some (lettered_step step)
+  plain_same = grind (arith, stands.same)
+
+  pub plain_goes_on : after number t r x ≡ advanced r (Some step)
+  plain_goes_on = grind (arith, stands.same, stands.goes_on)
+
+-- the newest of the long steps, and of the far ones
 pub long_last : (long longer : List Step) (step : Step) → longer ≡ long ++ step ∷ []
     → get_or longer (length long / 4294967296 * 4294967296 + length long % 4294967296) no_step ≡ step
 long_last long longer step is = rw (long_is (length long), is) (get_or-append_seam long step [] no_step)
+
+far_last : (far farther : List FarStep) (f : FarStep) → farther ≡ far ++ f ∷ []
+    → get_or farther (length far / 4294967296 * 4294967296 + length far % 4294967296) no_far ≡ f
+far_last far farther f is = rw (long_is (length far), is) (get_or-append_seam far f [] no_far)
+
+-- their items lie within them
+last_within : {A : Type 0} (xs more : List A) (x : A) → more ≡ xs ++ x ∷ []
+    → length xs / 4294967296 * 4294967296 + length xs % 4294967296 < length more
+last_within xs more x is =
+    let longer = ap length is ∙ length-append xs (x ∷ []) in
+    let whole = long_is (length xs) in
+    omega arith
+
+-- a step is kept apart whole, and with a table of its own
+module _ (number : ℕ) (r : Reached) {step : Step} where
+  pub is_whole : (long : List Step) {longer : List Step} (far : List FarStep) → longer ≡ long ++ step ∷ []
+      → IsApart number r step long longer far far (long_item (length long))
+  is_whole long {longer} far is =
+      let same = long_last long longer step is in record {
+        more_long = step ∷ [];
+        long_is = is;
+        more_far = [];
+        far_is = sym (append-nil far);
+        within = λ places. last_within long longer step is;
+        same = λ places. ap (λ (s : Step). Some (lettered_step s)) same;
+        goes_on = λ places. ap (λ (s : Step). advanced r (Some s)) same;
+      }
+
+  pub is_far : (long : List Step) (far : List FarStep) {farther : List FarStep} (f : FarStep)
+      → farther ≡ far ++ f ∷ [] → StandsFor number (own_places f) r step f.short
+      → IsApart number r step long long far farther (far_item (length far))
+  is_far long far {farther} f is stands =
+      let last = far_last far farther f is in record {
+        more_long = [];
+        long_is = sym (append-nil long);
+        more_far = f ∷ [];
+        far_is = is;
+        within = λ places. last_within far farther f is;
+        same = λ places. rw last stands.same;
+        goes_on = λ places. rw last (grind (arith, stands.same, stands.goes_on));
+      }

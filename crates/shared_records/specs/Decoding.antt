@@ -7,6 +7,7 @@ use Rattle.generational_core.specs.declared.owner.OwnerId.{OwnerId}
 use Rattle.generational_core.specs.declared.steps.StepCall.TheVariants as call
 use Rattle.generational_core.specs.Boxes.{box_of, id_of}
 use Rattle.generational_core.specs.Names.{Name}
+use Rattle.shared_records.specs.declared.short.FarStep.{FarStep}
 use Rattle.shared_records.specs.declared.short.Reached.{Reached}
 use Rattle.shared_records.specs.declared.short.Short.{Short}
 use Rattle.shared_records.specs.declared.short.Short.TheVariants as short
@@ -53,29 +54,58 @@ full n = record { slot = n.slot; generation = n.generation }
 abbrev pub name_item : ShortName → Short
 name_item n = short.Name (n.slot / 65536) (n.slot % 65536) n.generation
 
--- the item of the long step with a number, which it has in two parts too
+-- the items of the long step and of the far one with a number, which they have in two parts too
 abbrev pub long_item : ℕ → Short
 long_item i = short.Long (i / 4294967296) (i % 4294967296)
 
--- a short step's numbers lie in tables of these lengths
-abbrev pub IsWithin : ℕ → ℕ → Short → Type 0
-IsWithin p q (short.Long high low) = high * 4294967296 + low < q
-IsWithin p q (short.Leak w a) = a < p
-IsWithin p q (short.Insert w a back) = a < p
-IsWithin p q (short.LeakRc w a) = a < p
-IsWithin p q (short.InsertRc w a back) = a < p
-IsWithin p q (short.LeakReference w a b) = (a < p) × (b < p)
-IsWithin p q (short.Read w a b) = (a < p) × (b < p)
-IsWithin p q (short.Write w a b) = (a < p) × (b < p)
-IsWithin p q (short.ReadDropped w a b) = (a < p) × (b < p)
-IsWithin p q (short.Set w a) = a < p
-IsWithin p q (short.End w a) = a < p
-IsWithin p q (short.PointTo w a b) = (a < p) × (b < p)
-IsWithin p q x = Unit {0}
+abbrev pub far_item : ℕ → Short
+far_item i = short.Far (i / 4294967296) (i % 4294967296)
 
-abbrev pub AreWithin : ℕ → ℕ → List Short → Type 0
-AreWithin p q [] = Unit {0}
-AreWithin p q (x ∷ xs) = IsWithin p q x × AreWithin p q xs
+-- what items count on: locations by their numbers, steps that are kept whole, and steps with locations
+-- of their own
+pub record Tables : Type 0 where
+  pub places : List Location
+  pub long : List Step
+  pub far : List FarStep
+
+abbrev pub tables : List Location → List Step → List FarStep → Tables
+tables places long far = record { places = places; long = long; far = far }
+
+abbrev pub own_places : FarStep → List Location
+own_places f = f.first ∷ f.second ∷ []
+
+abbrev pub no_far : FarStep
+no_far = record { short = short.Name 0 0 0; first = nowhere; second = nowhere }
+
+-- an item's locations lie in a table of this length
+abbrev pub IsPlain : ℕ → Short → Type 0
+IsPlain p (short.Leak w a) = a < p
+IsPlain p (short.Insert w a back) = a < p
+IsPlain p (short.LeakRc w a) = a < p
+IsPlain p (short.InsertRc w a back) = a < p
+IsPlain p (short.LeakReference w a b) = (a < p) × (b < p)
+IsPlain p (short.Read w a b) = (a < p) × (b < p)
+IsPlain p (short.Write w a b) = (a < p) × (b < p)
+IsPlain p (short.ReadDropped w a b) = (a < p) × (b < p)
+IsPlain p (short.Set w a) = a < p
+IsPlain p (short.End w a) = a < p
+IsPlain p (short.PointTo w a b) = (a < p) × (b < p)
+IsPlain p x = Unit {0}
+
+-- an item's numbers lie in the tables
+abbrev pub IsWithin : Tables → Short → Type 0
+IsWithin t (short.Long high low) = high * 4294967296 + low < length t.long
+IsWithin t (short.Far high low) = high * 4294967296 + low < length t.far
+IsWithin t x = IsPlain (length t.places) x
+
+abbrev pub AreWithin : Tables → List Short → Type 0
+AreWithin t [] = Unit {0}
+AreWithin t (x ∷ xs) = IsWithin t x × AreWithin t xs
+
+-- the locations of far steps lie in their own tables
+abbrev pub AreOwn : List FarStep → Type 0
+AreOwn [] = Unit {0}
+AreOwn (f ∷ fs) = IsPlain 2 f.short × AreOwn fs
 
 -- what decoding has come to at first, where this is the next ticket; after a cell is named; after an
 -- item, which may be a name; and after a step, if it is one
@@ -105,57 +135,64 @@ module _ (number : ℕ) where
     abbrev pub box_at : ℕ → ShortName → GenerationalPointer
     box_at a n = box_of number (full n) (place_at places a)
 
-    module _ (long : List Step) where
-      -- The step for which a short one stands, and none for a name. A borrow that begins and a new
-      -- owner have the next ticket, and any other ticket and key are told by how much they are less.
-      -- A box is of the cell that was named last; of two cells, one is that which was named before.
-      abbrev pub step_at : Reached → Short → Option Step
-      step_at r (short.Name high low generation) = None
-      step_at r (short.Long high low) =
-          Some (slice_index_or long (high * 4294967296 + low) no_step)
-      step_at r (short.Leak w a) =
-          Some (step_of w (call.Leak (place_at places a)) (reply.Made (box_at a r.last)))
-      step_at r (short.Insert w a back) =
-          Some (step_of w (call.Insert (owner_id (r.next - back)) (place_at places a))
-          (reply.Made (box_at a r.last)))
-      step_at r (short.LeakRc w a) =
-          Some (step_of w (call.LeakRc (place_at places a))
-          (reply.MadeShared (id_of number (full r.before)) (box_at a r.last)))
-      step_at r (short.InsertRc w a back) =
-          Some (step_of w (call.InsertRc (owner_id (r.next - back)) (place_at places a))
-          (reply.MadeShared (id_of number (full r.before)) (box_at a r.last)))
-      step_at r (short.LeakReference w a b) =
-          Some (step_of w (call.LeakReference (box_at a r.before)) (reply.Made (box_at b r.last)))
-      step_at r (short.Owner w) = Some (step_of w call.Owner (reply.Owner (owner_id r.next)))
-      step_at r (short.ReleaseOwner w back) =
-          Some (step_of w (call.ReleaseOwner (owner_id (r.next - back))) reply.Done)
-      step_at r (short.Read w a b) =
-          Some (step_of w (call.Read (box_at a r.last) (place_at places b)) (reply.Reader r.next))
-      step_at r (short.Write w a b) =
-          Some (step_of w (call.Write (box_at a r.last) (place_at places b)) (reply.Writer r.next))
-      step_at r (short.ReadDropped w a b) =
-          Some (step_of w (call.Read (box_at a r.last) (place_at places b))
-          (reply.Dropped (place_at places a)))
-      step_at r (short.Set w a) = Some (step_of w (call.Set (box_at a r.last)) reply.Done)
-      step_at r (short.End w a) = Some (step_of w (call.ManuallyDrop (box_at a r.last)) reply.Done)
-      step_at r (short.PointTo w a b) =
-          Some (step_of w (call.PointTo (box_at a r.last) (box_at b r.before)) reply.Done)
-      step_at r (short.ReleaseRead w back) =
-          Some (step_of w (call.ReleaseRead (r.next - back)) reply.Done)
-      step_at r (short.ReleaseWrite w back) =
-          Some (step_of w (call.ReleaseWrite (r.next - back)) reply.Done)
+    -- The step for which an item stands by itself, and none for a name. A borrow that begins and a new
+    -- owner have the next ticket, and any other ticket and key are told by how much they are less.
+    -- A box is of the cell that was named last; of two cells, one is that which was named before.
+    abbrev pub plain_step : Reached → Short → Option Step
+    plain_step r (short.Leak w a) =
+        Some (step_of w (call.Leak (place_at places a)) (reply.Made (box_at a r.last)))
+    plain_step r (short.Insert w a back) =
+        Some (step_of w (call.Insert (owner_id (r.next - back)) (place_at places a))
+        (reply.Made (box_at a r.last)))
+    plain_step r (short.LeakRc w a) =
+        Some (step_of w (call.LeakRc (place_at places a))
+        (reply.MadeShared (id_of number (full r.before)) (box_at a r.last)))
+    plain_step r (short.InsertRc w a back) =
+        Some (step_of w (call.InsertRc (owner_id (r.next - back)) (place_at places a))
+        (reply.MadeShared (id_of number (full r.before)) (box_at a r.last)))
+    plain_step r (short.LeakReference w a b) =
+        Some (step_of w (call.LeakReference (box_at a r.before)) (reply.Made (box_at b r.last)))
+    plain_step r (short.Owner w) = Some (step_of w call.Owner (reply.Owner (owner_id r.next)))
+    plain_step r (short.ReleaseOwner w back) =
+        Some (step_of w (call.ReleaseOwner (owner_id (r.next - back))) reply.Done)
+    plain_step r (short.Read w a b) =
+        Some (step_of w (call.Read (box_at a r.last) (place_at places b)) (reply.Reader r.next))
+    plain_step r (short.Write w a b) =
+        Some (step_of w (call.Write (box_at a r.last) (place_at places b)) (reply.Writer r.next))
+    plain_step r (short.ReadDropped w a b) =
+        Some (step_of w (call.Read (box_at a r.last) (place_at places b))
+        (reply.Dropped (place_at places a)))
+    plain_step r (short.Set w a) = Some (step_of w (call.Set (box_at a r.last)) reply.Done)
+    plain_step r (short.End w a) = Some (step_of w (call.ManuallyDrop (box_at a r.last)) reply.Done)
+    plain_step r (short.PointTo w a b) =
+        Some (step_of w (call.PointTo (box_at a r.last) (box_at b r.before)) reply.Done)
+    plain_step r (short.ReleaseRead w back) =
+        Some (step_of w (call.ReleaseRead (r.next - back)) reply.Done)
+    plain_step r (short.ReleaseWrite w back) =
+        Some (step_of w (call.ReleaseWrite (r.next - back)) reply.Done)
+    plain_step r x = None
 
-      abbrev pub after : Reached → Short → Reached
-      after r x = advanced (named r x) (step_at r x)
+  module _ (t : Tables) where
+    -- the step for which an item stands
+    abbrev pub step_at : Reached → Short → Option Step
+    step_at r (short.Long high low) =
+        Some (slice_index_or t.long (high * 4294967296 + low) no_step)
+    step_at r (short.Far high low) =
+        let f = slice_index_or t.far (high * 4294967296 + low) no_far in
+        plain_step (own_places f) r f.short
+    step_at r x = plain_step t.places r x
 
-      -- the steps for which these stand in order, and what decoding has come to after them
-      abbrev pub decode : Reached → List Short → List Step
-      decode r [] = []
-      decode r (x ∷ xs) = option_to_list (step_at r x) ++ decode (after r x) xs
+    abbrev pub after : Reached → Short → Reached
+    after r x = advanced (named r x) (step_at r x)
 
-      abbrev pub reached_by : Reached → List Short → Reached
-      reached_by r [] = r
-      reached_by r (x ∷ xs) = reached_by (after r x) xs
+    -- the steps for which these stand in order, and what decoding has come to after them
+    abbrev pub decode : Reached → List Short → List Step
+    decode r [] = []
+    decode r (x ∷ xs) = option_to_list (step_at r x) ++ decode (after r x) xs
+
+    abbrev pub reached_by : Reached → List Short → Reached
+    reached_by r [] = r
+    reached_by r (x ∷ xs) = reached_by (after r x) xs
 
 -- what decoding has come to after these names, their items, and whether each fits into its item
 abbrev pub naming_all : Reached → Names → Reached
@@ -184,11 +221,24 @@ pub record AreNamed (number : ℕ) (r : Reached) (before last : Option Generatio
   pub before_is : IfSome before (λ id. id ≡ id_of number (full r.before))
   pub last_is : IfSome last (λ id. id ≡ id_of number (full r.last))
 
--- a short step that isn't a long one stands for this step, by letters, where decoding has come to this
+-- an item stands by itself for this step, by letters, where decoding has come to this
 pub record StandsFor (number : ℕ) (places : List Location) (r : Reached) (step : Step) (x : Short)
     : Type 0 where
-  pub within : IsWithin (length places) 0 x
-  pub same : (long : List Step)
-      → option_map lettered_step (step_at number places long r x) ≡ Some (lettered_step step)
-  pub goes_on : (long : List Step)
-      → after number places long r x ≡ advanced r (Some step)
+  pub within : IsPlain (length places) x
+  pub same : option_map lettered_step (plain_step number places r x) ≡ Some (lettered_step step)
+  pub goes_on : advanced (named r x) (plain_step number places r x) ≡ advanced r (Some step)
+
+-- a step is kept apart, with a table of its own or whole, where decoding has come to this: what is kept so
+-- goes on, and the item stands for the step, by letters, whatever locations have numbers
+pub record IsApart (number : ℕ) (r : Reached) (step : Step) (long longer : List Step) (far farther : List FarStep)
+    (x : Short) : Type 0 where
+  pub more_long : List Step
+  pub long_is : longer ≡ long ++ more_long
+  pub more_far : List FarStep
+  pub far_is : farther ≡ far ++ more_far
+  pub within : (places : List Location) → IsWithin (tables places longer farther) x
+  pub same : (places : List Location)
+      → option_map lettered_step (step_at number (tables places longer farther) r x)
+      ≡ Some (lettered_step step)
+  pub goes_on : (places : List Location)
+      → after number (tables places longer farther) r x ≡ advanced r (Some step)

@@ -10,7 +10,7 @@ ghost use Rattle.shared_records.specs.Decoding.{AreNamed, AreShort, Extends, Sta
 ghost use Rattle.shared_records.specs.Decoding.{naming_all};
 ghost use Rattle.shared_records.specs.Kinds.{made_by, referred_by, shared_by, step_of};
 
-use crate::places::Places;
+use crate::places::LocationTable;
 use crate::short::Short;
 use crate::shorten::{
     Names, Taken, back_to, insert, insert_rc, is_next, leak, leak_rc, leak_reference, name_one,
@@ -40,10 +40,10 @@ pub trait Entry: Copy {
 
     /// The step in 8 bytes, where its cells are named; None where it has no such form or a number doesn't
     /// fit.
-    fn form(self, taken: Taken, places: &mut Places) -> Option<Short>
+    fn form<P: LocationTable>(self, taken: Taken, places: &mut P) -> Option<Short>
         requires { AreNamed taken.number taken.reached (Self.before self) (Self.last self) }
-        ensures extends { Extends places.old places.new }
-        ensures form { IfSome result (StandsFor taken.number places.new taken.reached
+        ensures extends { Extends (P.locations places.old) (P.locations places.new) }
+        ensures form { IfSome result (StandsFor taken.number (P.locations places.new) taken.reached
             (step_of taken.worker (Self.as_call self) (Self.as_reply self))) };
 
     /// The call.
@@ -77,7 +77,7 @@ impl Entry for AnyEntry {
     }
 
     #[inline(always)]
-    fn form(self, _taken: Taken, _places: &mut Places) -> Option<Short> {
+    fn form<P: LocationTable>(self, _taken: Taken, _places: &mut P) -> Option<Short> {
         None
     }
 
@@ -148,7 +148,7 @@ impl Entry for BoxMade {
     }
 
     #[inline(always)]
-    fn form(self, taken: Taken, places: &mut Places) -> Option<Short> {
+    fn form<P: LocationTable>(self, taken: Taken, places: &mut P) -> Option<Short> {
         match self.owner {
             None => leak(taken, places, self.at, self.made),
             Some(owner) => insert(taken, places, owner, self.at, self.made),
@@ -189,7 +189,7 @@ impl Entry for ReadBegun {
     }
 
     #[inline(always)]
-    fn form(self, taken: Taken, places: &mut Places) -> Option<Short> {
+    fn form<P: LocationTable>(self, taken: Taken, places: &mut P) -> Option<Short> {
         read(taken, places, self.asked, self.at, self.ticket)
     }
 
@@ -226,7 +226,7 @@ impl Entry for ReadDropped {
     }
 
     #[inline(always)]
-    fn form(self, taken: Taken, places: &mut Places) -> Option<Short> {
+    fn form<P: LocationTable>(self, taken: Taken, places: &mut P) -> Option<Short> {
         read_dropped(taken, places, self.asked, self.at)
     }
 
@@ -264,7 +264,7 @@ impl Entry for WriteBegun {
     }
 
     #[inline(always)]
-    fn form(self, taken: Taken, places: &mut Places) -> Option<Short> {
+    fn form<P: LocationTable>(self, taken: Taken, places: &mut P) -> Option<Short> {
         write(taken, places, self.asked, self.at, self.ticket)
     }
 
@@ -300,7 +300,7 @@ impl Entry for BoxEnded {
     }
 
     #[inline(always)]
-    fn form(self, taken: Taken, places: &mut Places) -> Option<Short> {
+    fn form<P: LocationTable>(self, taken: Taken, places: &mut P) -> Option<Short> {
         let worker = worker_of(taken)?;
         let made = places.find_or_add(self.asked.created_at)?;
         Some(Short::End(worker, made))
@@ -338,7 +338,7 @@ impl Entry for ReadEnded {
     }
 
     #[inline(always)]
-    fn form(self, taken: Taken, _places: &mut Places) -> Option<Short> {
+    fn form<P: LocationTable>(self, taken: Taken, _places: &mut P) -> Option<Short> {
         let worker = worker_of(taken)?;
         let back = back_to(taken, self.ticket)?;
         Some(Short::ReleaseRead(worker, back))
@@ -376,7 +376,7 @@ impl Entry for WriteEnded {
     }
 
     #[inline(always)]
-    fn form(self, taken: Taken, _places: &mut Places) -> Option<Short> {
+    fn form<P: LocationTable>(self, taken: Taken, _places: &mut P) -> Option<Short> {
         let worker = worker_of(taken)?;
         let back = back_to(taken, self.ticket)?;
         Some(Short::ReleaseWrite(worker, back))
@@ -418,7 +418,7 @@ impl Entry for SharedMade {
     }
 
     #[inline(always)]
-    fn form(self, taken: Taken, places: &mut Places) -> Option<Short> {
+    fn form<P: LocationTable>(self, taken: Taken, places: &mut P) -> Option<Short> {
         match self.owner {
             None => leak_rc(taken, places, self.at, self.cell, self.made),
             Some(owner) => insert_rc(taken, places, owner, self.at, self.cell, self.made),
@@ -462,7 +462,7 @@ impl Entry for ReferenceMade {
     }
 
     #[inline(always)]
-    fn form(self, taken: Taken, places: &mut Places) -> Option<Short> {
+    fn form<P: LocationTable>(self, taken: Taken, places: &mut P) -> Option<Short> {
         match self.owner {
             None => leak_reference(taken, places, self.asked, self.made),
             Some(_) => None,
@@ -501,7 +501,7 @@ impl Entry for OwnerMade {
     }
 
     #[inline(always)]
-    fn form(self, taken: Taken, _places: &mut Places) -> Option<Short> {
+    fn form<P: LocationTable>(self, taken: Taken, _places: &mut P) -> Option<Short> {
         if self.owner.store != taken.number || !is_next(taken, self.owner.key) {
             return None;
         }
@@ -540,7 +540,7 @@ impl Entry for ValueSet {
     }
 
     #[inline(always)]
-    fn form(self, taken: Taken, places: &mut Places) -> Option<Short> {
+    fn form<P: LocationTable>(self, taken: Taken, places: &mut P) -> Option<Short> {
         let worker = worker_of(taken)?;
         let made = places.find_or_add(self.asked.created_at)?;
         Some(Short::Set(worker, made))
@@ -579,7 +579,7 @@ impl Entry for BoxPointed {
     }
 
     #[inline(always)]
-    fn form(self, taken: Taken, places: &mut Places) -> Option<Short> {
+    fn form<P: LocationTable>(self, taken: Taken, places: &mut P) -> Option<Short> {
         point_to(taken, places, self.asked, self.other)
     }
 
@@ -615,7 +615,7 @@ impl Entry for OwnerEnded {
     }
 
     #[inline(always)]
-    fn form(self, taken: Taken, _places: &mut Places) -> Option<Short> {
+    fn form<P: LocationTable>(self, taken: Taken, _places: &mut P) -> Option<Short> {
         if self.owner.store != taken.number {
             return None;
         }

@@ -1,13 +1,25 @@
 //! Locations by numbers that fit into a step's record.
 
-ghost use Rattle.std.specs.Prelude.{◌≡◌, [], IfOk, IfSome, length};
+ghost use Rattle.std.specs.Prelude.{◌≡◌, ◌∷◌, ◌++◌, [], IfOk, IfSome, List, length, option_to_list};
 ghost use Rattle.generational_errors.specs.Texts.{same_location};
+ghost use Rattle.generational_errors.specs.declared.error.Location.{Location};
 ghost use Rattle.shared_records.specs.Decoding.{Extends, IsAt};
 
 use generational_core::Location;
 use location_list::LocationList;
 use std::alloc::{AllocError, Global};
 use std::marker::Model;
+
+/// A table of locations, by whose numbers a step is kept.
+pub trait LocationTable {
+    ghost locations: { Self → List Location };
+
+    /// The number of a location with the same letters, line and column. It is added if there is none.
+    /// None if there is no room for it.
+    fn find_or_add(&mut self, at: Location) -> Option<u16>
+        ensures extends { Extends (Self.locations self.old) (Self.locations self.new) }
+        ensures found { IfSome result (λ i. IsAt (Self.locations self.new) i at) };
+}
 
 /// Locations, each with its number from 0 to 65535. Contracts see them in order. A location that is
 /// there by its letters isn't put there again.
@@ -48,19 +60,55 @@ impl Places {
     {
         self.list.to_vec(alloc)
     }
+}
 
-    /// The number of a location with the same letters, line and column. It is added if there is none.
-    /// None if memory is refused, or if there are 65536 locations.
+impl LocationTable for Places {
+    ghost locations = { λ p. p };
+
+    // None if memory is refused, or if there are 65536 locations.
     #[tactic(auto, using(crate::proofs::Decodes::found_place))]
     #[inline(always)]
-    pub fn find_or_add(&mut self, at: Location) -> Option<u16>
-        ensures extends { Extends self.old self.new }
-        ensures found { IfSome result (λ i. IsAt self.new i at) }
-    {
+    fn find_or_add(&mut self, at: Location) -> Option<u16> {
         let Ok(number) = self.list.find_or_add(at) else {
             return None;
         };
         Some(number as u16)
+    }
+}
+
+/// Two locations at most: a step's own table. Contracts see them in order.
+#[derive(Drop)]
+pub struct OwnPlaces {
+    pub first: Option<Location>,
+    pub second: Option<Location>,
+}
+
+impl Model for OwnPlaces {
+    ghost use Rattle.std.specs.Prelude.{List, ◌++◌, option_to_list};
+    ghost use Rattle.generational_errors.specs.declared.error.Location.{Location};
+
+    ghost Value = { List Location };
+
+    ghost view = { λ p. option_to_list p.first ++ option_to_list p.second };
+}
+
+impl LocationTable for OwnPlaces {
+    ghost locations = { λ p. p };
+
+    // None if there are two.
+    #[tactic(auto, using(crate::proofs::Decodes::extends_none))]
+    fn find_or_add(&mut self, at: Location) -> Option<u16> {
+        match (self.first, self.second) {
+            (None, None) => {
+                self.first = Some(at);
+                Some(0)
+            }
+            (Some(_), None) => {
+                self.second = Some(at);
+                Some(1)
+            }
+            (_, Some(_)) => None,
+        }
     }
 }
 

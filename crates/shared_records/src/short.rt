@@ -1,7 +1,8 @@
 //! Steps in 8 bytes, and the steps for which they stand.
 
 ghost use Rattle.std.specs.Prelude.{◌≡◌, ◌<◌, ◌++◌, OnOk, length, option_to_list};
-ghost use Rattle.shared_records.specs.Decoding.{AreWithin, IsWithin, advanced, box_at, decode};
+ghost use Rattle.shared_records.specs.Decoding.{AreOwn, AreWithin, IsPlain, IsWithin, advanced, box_at};
+ghost use Rattle.shared_records.specs.Decoding.{decode, plain_step, tables};
 ghost use Rattle.shared_records.specs.Decoding.{name_item, named, naming, next_after, owner_id};
 ghost use Rattle.shared_records.specs.Decoding.{reached_first, step_at};
 ghost use Rattle.shared_records.specs.Kinds.{step_of};
@@ -24,6 +25,9 @@ pub enum Short {
     /// Any step that has no other form: the one with this number among the long ones, in two parts, of
     /// which the first counts 2^32 each.
     Long(u16, u32),
+    /// A step at a location without a number: the one with this number among those that have a table of
+    /// locations of their own, in two parts likewise.
+    Far(u16, u32),
     /// A box of the named cell was made: worker, location.
     Leak(u16, u16),
     /// An owner's box of the named cell was made: worker, location, by how much the owner's key is less
@@ -58,6 +62,15 @@ pub enum Short {
     ReleaseRead(u16, u32),
     /// A writer was released: the same.
     ReleaseWrite(u16, u32),
+}
+
+/// A step with a table of its own, for locations that have no number: the short one that it is over
+/// these two locations.
+#[derive(Clone, Copy)]
+pub struct FarStep {
+    pub short: Short,
+    pub first: Location,
+    pub second: Location,
 }
 
 /// The name of a cell: its slot, below 2^24, and its generation.
@@ -128,8 +141,10 @@ impl Reached {
     }
 }
 
-// What a step takes of memory.
+// What an item takes of memory, and a step with a table of its own.
 const _: () = prove!(size_of::<Short>() == 8);
+
+const _: () = prove!(size_of::<FarStep>() == 56);
 
 // A worker's step.
 pub(crate) fn step(worker: u32, call: StepCall, reply: StepReply) -> Step
@@ -143,21 +158,38 @@ pub(crate) fn step(worker: u32, call: StepCall, reply: StepReply) -> Step
     }
 }
 
-/// The step for which a short one stands, where decoding has come so far; None for a name.
+/// The step for which an item stands, where decoding has come so far; None for a name.
 pub fn step_at(
     number: u64,
     places: &[Location],
     long: &[Step],
+    far: &[FarStep],
     reached: Reached,
     short: Short,
 ) -> Option<Step>
-    requires { IsWithin (length places.now) (length long.now) short }
-    ensures { result ≡ step_at number places.now long.now reached short }
+    requires within { IsWithin (tables places.now long.now far.now) short }
+    requires own { AreOwn far.now }
+    ensures { result ≡ step_at number (tables places.now long.now far.now) reached short }
+{
+    match short {
+        Short::Long(high, low) => Some(long[(high as usize) * 4294967296 + low as usize]),
+        Short::Far(high, low) => {
+            let step = far[(high as usize) * 4294967296 + low as usize];
+            let own = [step.first, step.second];
+            plain_step(number, &own, reached, step.short)
+        }
+        _ => plain_step(number, places, reached, short),
+    }
+}
+
+// The step for which an item stands that isn't kept elsewhere; None else.
+fn plain_step(number: u64, places: &[Location], reached: Reached, short: Short) -> Option<Step>
+    requires { IsPlain (length places.now) short }
+    ensures { result ≡ plain_step number places.now reached short }
 {
     let Reached { next, last, before } = reached;
     match short {
-        Short::Name(_, _, _) => None,
-        Short::Long(high, low) => Some(long[(high as usize) * 4294967296 + low as usize]),
+        Short::Name(_, _, _) | Short::Long(_, _) | Short::Far(_, _) => None,
         Short::Leak(worker, place) => {
             let call = StepCall::Leak(places[place as usize]);
             let made = box_at(number, places, place, last);
@@ -299,35 +331,26 @@ fn push_some(all: &mut Vec<Step>, step: Option<Step>) -> Result<(), AllocError>
     Ok(())
 }
 
-/// Appends the steps for which short ones stand in order, where decoding begins at `start`.
+/// Appends the steps for which items stand in order, where decoding begins at `start`.
 pub fn decode_all(
     all: &mut Vec<Step>,
     number: u64,
     places: &[Location],
     long: &[Step],
+    far: &[FarStep],
     start: Reached,
     short: &[Short],
 ) -> Result<(), AllocError>
-    requires { AreWithin (length places.now) (length long.now) short.now }
-    ensures { OnOk result (all.new.items ≡
-        all.old.items ++ decode number places.now long.now start short.now) }
+    requires within { AreWithin (tables places.now long.now far.now) short.now }
+    requires own { AreOwn far.now }
+    ensures { OnOk result (all.new.items ≡ all.old.items
+        ++ decode number (tables places.now long.now far.now) start short.now) }
 {
     let mut reached = start;
     for item in short.iter() {
-        let step = step_at(number, places, long, reached, *item);
+        let step = step_at(number, places, long, far, reached, *item);
         reached = go_on(reached, *item, step);
         push_some(all, step)?;
     }
     Ok(())
-}
-
-/// How many of the items are steps, and not names.
-pub fn steps_among(short: &[Short]) -> usize {
-    let mut steps = 0usize;
-    for item in short.iter() {
-        if !matches!(item, Short::Name(_, _, _)) {
-            steps = steps.wrapping_add(1);
-        }
-    }
-    steps
 }

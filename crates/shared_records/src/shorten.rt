@@ -5,12 +5,13 @@ ghost use Rattle.std.specs.Bool.{OnTrue};
 ghost use Rattle.generational_core.specs.declared.steps.StepCall.TheVariants as call;
 ghost use Rattle.generational_core.specs.Boxes.{id_of};
 ghost use Rattle.shared_records.specs.declared.step.StepReply.TheVariants as reply;
-ghost use Rattle.shared_records.specs.Decoding.{AreNamed, AreShort, Extends, IsAt, StandsFor, full};
-ghost use Rattle.shared_records.specs.Decoding.{naming_all, owner_id};
+ghost use Rattle.shared_records.specs.Decoding.{AreNamed, AreShort, Extends, IsAt, StandsFor};
+ghost use Rattle.shared_records.specs.Decoding.{full, naming_all, own_places, owner_id};
 ghost use Rattle.shared_records.specs.Kinds.{step_of};
 
-use crate::places::{Places, is_same};
-use crate::short::{Reached, Short, ShortName};
+use crate::entry::Entry;
+use crate::places::{LocationTable, OwnPlaces, is_same};
+use crate::short::{FarStep, Reached, Short, ShortName};
 use generational_core::{GenerationalBoxId, GenerationalPointer, Location, OwnerId};
 
 /// Where a step is taken: the store's number, what decoding comes to before it, and the worker.
@@ -27,6 +28,30 @@ pub enum Names {
     None,
     One(ShortName),
     Two(ShortName, ShortName),
+}
+
+/// A step with a table of locations of its own, if it has a form then, and what stands before it names
+/// its cells.
+#[cold]
+#[inline(never)]
+pub fn far_form<E: Entry>(taken: Taken, entry: E) -> Option<FarStep>
+    ensures { IfSome result (λ f. StandsFor taken.number (own_places f) taken.reached
+        (step_of taken.worker (E.as_call entry) (E.as_reply entry)) f.short) }
+{
+    let Some(Names::None) = entry.names(taken) else {
+        return None;
+    };
+    let mut own = OwnPlaces {
+        first: None,
+        second: None,
+    };
+    let short = entry.form(taken, &mut own)?;
+    let first = own.first?;
+    Some(FarStep {
+        short,
+        first,
+        second: own.second.unwrap_or(first),
+    })
 }
 
 // The name of a cell of the store, where its numbers fit.
@@ -90,15 +115,15 @@ pub fn worker_of(taken: Taken) -> Option<u16>
 }
 
 #[inline(always)]
-pub fn leak(
+pub fn leak<P: LocationTable>(
     taken: Taken,
-    places: &mut Places,
+    places: &mut P,
     at: Location,
     made: GenerationalPointer,
 ) -> Option<Short>
     requires { made.id ≡ id_of taken.number (full taken.reached.last) }
-    ensures extends { Extends places.old places.new }
-    ensures form { IfSome result (StandsFor taken.number places.new taken.reached
+    ensures extends { Extends (P.locations places.old) (P.locations places.new) }
+    ensures form { IfSome result (StandsFor taken.number (P.locations places.new) taken.reached
         (step_of taken.worker (call.Leak at) (reply.Made made))) }
 {
     if !is_same(made.created_at, at) {
@@ -110,16 +135,16 @@ pub fn leak(
 }
 
 #[inline(always)]
-pub fn insert(
+pub fn insert<P: LocationTable>(
     taken: Taken,
-    places: &mut Places,
+    places: &mut P,
     owner: OwnerId,
     at: Location,
     made: GenerationalPointer,
 ) -> Option<Short>
     requires { made.id ≡ id_of taken.number (full taken.reached.last) }
-    ensures extends { Extends places.old places.new }
-    ensures form { IfSome result (StandsFor taken.number places.new taken.reached
+    ensures extends { Extends (P.locations places.old) (P.locations places.new) }
+    ensures form { IfSome result (StandsFor taken.number (P.locations places.new) taken.reached
         (step_of taken.worker (call.Insert owner at) (reply.Made made))) }
 {
     if !is_same(made.created_at, at) {
@@ -132,16 +157,16 @@ pub fn insert(
 }
 
 #[inline(always)]
-pub fn read(
+pub fn read<P: LocationTable>(
     taken: Taken,
-    places: &mut Places,
+    places: &mut P,
     asked: GenerationalPointer,
     at: Location,
     ticket: u64,
 ) -> Option<Short>
     requires { asked.id ≡ id_of taken.number (full taken.reached.last) }
-    ensures extends { Extends places.old places.new }
-    ensures form { IfSome result (StandsFor taken.number places.new taken.reached
+    ensures extends { Extends (P.locations places.old) (P.locations places.new) }
+    ensures form { IfSome result (StandsFor taken.number (P.locations places.new) taken.reached
         (step_of taken.worker (call.Read asked at) (reply.Reader ticket))) }
 {
     if !is_next(taken, ticket) {
@@ -153,16 +178,16 @@ pub fn read(
 }
 
 #[inline(always)]
-pub fn write(
+pub fn write<P: LocationTable>(
     taken: Taken,
-    places: &mut Places,
+    places: &mut P,
     asked: GenerationalPointer,
     at: Location,
     ticket: u64,
 ) -> Option<Short>
     requires { asked.id ≡ id_of taken.number (full taken.reached.last) }
-    ensures extends { Extends places.old places.new }
-    ensures form { IfSome result (StandsFor taken.number places.new taken.reached
+    ensures extends { Extends (P.locations places.old) (P.locations places.new) }
+    ensures form { IfSome result (StandsFor taken.number (P.locations places.new) taken.reached
         (step_of taken.worker (call.Write asked at) (reply.Writer ticket))) }
 {
     if !is_next(taken, ticket) {
@@ -174,15 +199,15 @@ pub fn write(
 }
 
 #[inline(always)]
-pub fn read_dropped(
+pub fn read_dropped<P: LocationTable>(
     taken: Taken,
-    places: &mut Places,
+    places: &mut P,
     asked: GenerationalPointer,
     at: Location,
 ) -> Option<Short>
     requires { asked.id ≡ id_of taken.number (full taken.reached.last) }
-    ensures extends { Extends places.old places.new }
-    ensures form { IfSome result (StandsFor taken.number places.new taken.reached
+    ensures extends { Extends (P.locations places.old) (P.locations places.new) }
+    ensures form { IfSome result (StandsFor taken.number (P.locations places.new) taken.reached
         (step_of taken.worker (call.Read asked at) (reply.Dropped asked.created_at))) }
 {
     let worker = worker_of(taken)?;
@@ -191,16 +216,16 @@ pub fn read_dropped(
 }
 
 #[inline(always)]
-pub fn leak_rc(
+pub fn leak_rc<P: LocationTable>(
     taken: Taken,
-    places: &mut Places,
+    places: &mut P,
     at: Location,
     cell: GenerationalBoxId,
     made: GenerationalPointer,
 ) -> Option<Short>
     requires { AreNamed taken.number taken.reached (Some cell) (Some made.id) }
-    ensures extends { Extends places.old places.new }
-    ensures form { IfSome result (StandsFor taken.number places.new taken.reached
+    ensures extends { Extends (P.locations places.old) (P.locations places.new) }
+    ensures form { IfSome result (StandsFor taken.number (P.locations places.new) taken.reached
         (step_of taken.worker (call.LeakRc at) (reply.MadeShared cell made))) }
 {
     if !is_same(made.created_at, at) {
@@ -212,17 +237,17 @@ pub fn leak_rc(
 }
 
 #[inline(always)]
-pub fn insert_rc(
+pub fn insert_rc<P: LocationTable>(
     taken: Taken,
-    places: &mut Places,
+    places: &mut P,
     owner: OwnerId,
     at: Location,
     cell: GenerationalBoxId,
     made: GenerationalPointer,
 ) -> Option<Short>
     requires { AreNamed taken.number taken.reached (Some cell) (Some made.id) }
-    ensures extends { Extends places.old places.new }
-    ensures form { IfSome result (StandsFor taken.number places.new taken.reached
+    ensures extends { Extends (P.locations places.old) (P.locations places.new) }
+    ensures form { IfSome result (StandsFor taken.number (P.locations places.new) taken.reached
         (step_of taken.worker (call.InsertRc owner at) (reply.MadeShared cell made))) }
 {
     if !is_same(made.created_at, at) {
@@ -235,15 +260,15 @@ pub fn insert_rc(
 }
 
 #[inline(always)]
-pub fn leak_reference(
+pub fn leak_reference<P: LocationTable>(
     taken: Taken,
-    places: &mut Places,
+    places: &mut P,
     asked: GenerationalPointer,
     made: GenerationalPointer,
 ) -> Option<Short>
     requires { AreNamed taken.number taken.reached (Some asked.id) (Some made.id) }
-    ensures extends { Extends places.old places.new }
-    ensures form { IfSome result (StandsFor taken.number places.new taken.reached
+    ensures extends { Extends (P.locations places.old) (P.locations places.new) }
+    ensures form { IfSome result (StandsFor taken.number (P.locations places.new) taken.reached
         (step_of taken.worker (call.LeakReference asked) (reply.Made made))) }
 {
     let worker = worker_of(taken)?;
@@ -252,15 +277,15 @@ pub fn leak_reference(
 }
 
 #[inline(always)]
-pub fn point_to(
+pub fn point_to<P: LocationTable>(
     taken: Taken,
-    places: &mut Places,
+    places: &mut P,
     asked: GenerationalPointer,
     other: GenerationalPointer,
 ) -> Option<Short>
     requires { AreNamed taken.number taken.reached (Some other.id) (Some asked.id) }
-    ensures extends { Extends places.old places.new }
-    ensures form { IfSome result (StandsFor taken.number places.new taken.reached
+    ensures extends { Extends (P.locations places.old) (P.locations places.new) }
+    ensures form { IfSome result (StandsFor taken.number (P.locations places.new) taken.reached
         (step_of taken.worker (call.PointTo asked other) (reply.Done))) }
 {
     let worker = worker_of(taken)?;
@@ -287,9 +312,10 @@ pub fn back_to(taken: Taken, ticket: u64) -> Option<u32>
 
 // The numbers of two locations.
 #[inline(always)]
-fn find_two(places: &mut Places, one: Location, two: Location) -> Option<(u16, u16)>
-    ensures extends { Extends places.old places.new }
-    ensures found { IfSome result (λ r. IsAt places.new r.0 one × IsAt places.new r.1 two) }
+fn find_two<P: LocationTable>(places: &mut P, one: Location, two: Location) -> Option<(u16, u16)>
+    ensures extends { Extends (P.locations places.old) (P.locations places.new) }
+    ensures found { IfSome result (λ r. IsAt (P.locations places.new) r.0 one
+        × IsAt (P.locations places.new) r.1 two) }
 {
     let first = places.find_or_add(one)?;
     let second = places.find_or_add(two)?;

@@ -2,17 +2,18 @@
 
 ghost use Rattle.std.specs.Prelude.{◌≡◌, ◌+◌, ◌<◌, ◌≤◌, ◌^◌, [], ◌∷◌, ◌++◌, IfOk, OnOk, OnErr};
 ghost use Rattle.std.specs.Prelude.{IfSome, length};
-ghost use Rattle.shared_records.specs.Decoding.{AreShort, AreWithin, Extends, IsNaming, StandsFor};
-ghost use Rattle.shared_records.specs.Decoding.{decode, long_item, name_items};
-ghost use Rattle.shared_records.specs.Decoding.{naming_all, next_after, reached_by, reached_first};
+ghost use Rattle.shared_records.specs.Decoding.{AreOwn, AreShort, AreWithin, Extends, IsApart, IsNaming};
+ghost use Rattle.shared_records.specs.Decoding.{StandsFor, decode, far_item, long_item, name_items};
+ghost use Rattle.shared_records.specs.Decoding.{naming_all, next_after, reached_by, reached_first, tables};
+ghost use Rattle.shared_records.specs.declared.short.Short.{Short};
 ghost use Rattle.shared_records.specs.declared.shorten.Names.TheVariants as names;
 ghost use Rattle.shared_records.specs.Kinds.{step_of};
 ghost use Rattle.shared_records.specs.Letters.{Appends};
 
 use crate::entry::Entry;
 use crate::places::Places;
-use crate::short::{Reached, Short, ShortName, decode_all, step, steps_among};
-use crate::shorten::{Names, Taken};
+use crate::short::{FarStep, Reached, Short, ShortName, decode_all, step};
+use crate::shorten::{Names, Taken, far_form};
 use crate::step::{Step, StepReply};
 use generational_core::StepCall;
 use shared_chunks::Chunks;
@@ -23,11 +24,12 @@ use std::mem;
 // With how many locations at most the next history begins: half of those that can be numbered.
 const MANY_PLACES: usize = 32768;
 
-// How many long steps there are at most: as many as their items can number.
+// How many long steps there are at most, and far ones: as many as their items can number.
 const MOST_LONG: usize = 281474976710656;
 
-/// Steps of the store with this number, in 8 bytes each where they have a short form, with 8 more for
-/// a cell's name, and in 216 else. Contracts see the steps, and for how many more there is room.
+/// Steps of the store with this number, in 8 bytes each if they have a short form, with 8 more for a
+/// cell's name, in 64 if such a form lacks a location's number alone, and in 216 else. Contracts see the
+/// steps, and for how many more there is room.
 ///
 /// A location's text is kept once: a step comes back with the same letters, which may stand
 /// elsewhere in memory.
@@ -43,28 +45,32 @@ pub struct StepList<const NUMBER: u64> {
     start: u64,
     places: Places,
     long: Chunks<Step>,
+    far: Chunks<FarStep>,
     alloc: Global,
 }
 
 impl<const NUMBER: u64> Model for StepList<NUMBER> {
     ghost use Rattle.std.specs.Prelude.{◌≡◌, ◌+◌, ◌≤◌, ◌^◌, length};
-    ghost use Rattle.shared_records.specs.Decoding.{AreWithin, decode, reached_by, reached_first};
+    ghost use Rattle.shared_records.specs.Decoding.{AreOwn, AreWithin, decode, reached_by, reached_first};
+    ghost use Rattle.shared_records.specs.Decoding.{tables};
     ghost use Rattle.shared_records.specs.Lists.{StepsState};
 
     ghost Value = { StepsState };
 
     ghost view = { λ l. record {
-      steps = decode NUMBER l.places l.long.items (reached_first l.start)
-          l.short.items;
+      steps = decode NUMBER (tables l.places l.long.items l.far.items)
+          (reached_first l.start) l.short.items;
       room = l.room;
     } };
 
     ghost invariant = { λ l.
-        (AreWithin (length l.places) (length l.long.items) l.short.items)
-        × (l.reached ≡ reached_by NUMBER l.places l.long.items
+        (AreWithin (tables l.places l.long.items l.far.items) l.short.items)
+        × (AreOwn l.far.items)
+        × (l.reached ≡ reached_by NUMBER (tables l.places l.long.items l.far.items)
         (reached_first l.start) l.short.items)
-        × (l.room + l.room + l.room ≤ l.short.room) × (l.room ≤ l.long.room)
-        × (length l.long.items + l.room ≤ 2 ^ 48) };
+        × (l.room + l.room + l.room ≤ l.short.room)
+        × (l.room ≤ l.long.room) × (length l.long.items + l.room ≤ 2 ^ 48)
+        × (l.room ≤ l.far.room) × (length l.far.items + l.room ≤ 2 ^ 48) };
 }
 
 impl<const NUMBER: u64> StepList<NUMBER> {
@@ -80,6 +86,7 @@ impl<const NUMBER: u64> StepList<NUMBER> {
             places: Places::new(alloc),
             short: Chunks::new(alloc),
             long: Chunks::new(alloc),
+            far: Chunks::new(alloc),
         }
     }
 
@@ -105,8 +112,8 @@ impl<const NUMBER: u64> StepList<NUMBER> {
         self.grow(more)
     }
 
-    // Makes room for so many steps more, for which there wasn't yet: three short ones and a long one
-    // for each. A longer list has room for more long ones, so that it is seldom looked at.
+    // Makes room for so many steps more, for which there wasn't yet: three items, a long step and a far one
+    // for each. A longer list has room for more of these, so that it is seldom looked at.
     #[cold]
     #[inline(never)]
     fn grow(&mut self, more: usize) -> Result<(), AllocError>
@@ -118,7 +125,7 @@ impl<const NUMBER: u64> StepList<NUMBER> {
         let Some(items) = more.checked_mul(3) else {
             return Err(AllocError);
         };
-        let left = MOST_LONG.saturating_sub(self.long.len());
+        let left = MOST_LONG.saturating_sub(self.long.len().max(self.far.len()));
         if left < more {
             return Err(AllocError);
         }
@@ -127,12 +134,16 @@ impl<const NUMBER: u64> StepList<NUMBER> {
         if self.long.reserve(more.max(usual)).is_err() {
             self.long.reserve(more)?;
         }
-        self.room = self.long.room().min(self.short.room() / 3).min(left);
+        if self.far.reserve(more.max(usual)).is_err() {
+            self.far.reserve(more)?;
+        }
+        let kept = self.long.room().min(self.far.room());
+        self.room = kept.min(self.short.room() / 3).min(left);
         Ok(())
     }
 
-    /// Appends a worker's step, for which there is room. Takes no memory but for a location that
-    /// isn't kept yet, and where there is none, the step is kept in more bytes.
+    /// Appends a worker's step, for which there is room. Allocates only for a location that isn't kept yet; if
+    /// memory runs out there, the step is kept in more bytes.
     #[tactic(auto, using(crate::proofs::Decodes::decode_length))]
     #[inline(always)]
     pub fn append<E: Entry>(&mut self, worker: u32, entry: E)
@@ -150,6 +161,7 @@ impl<const NUMBER: u64> StepList<NUMBER> {
             &mut self.places,
             &mut self.short,
             &mut self.long,
+            &mut self.far,
             entry,
         );
     }
@@ -159,14 +171,20 @@ impl<const NUMBER: u64> StepList<NUMBER> {
         ensures { IfOk result (λ all. all.items ≡ self.now.steps) }
     {
         let long = self.long.to_vec()?;
+        let far = self.far.to_vec()?;
         let short = self.short.to_vec()?;
         let places = self.places.to_vec(self.alloc)?;
-        let mut all = Vec::with_capacity(self.alloc, steps_among(short.as_slice()))?;
+        let names = short
+            .iter()
+            .filter(|item| matches!(item, Short::Name(_, _, _)))
+            .count();
+        let mut all = Vec::with_capacity(self.alloc, short.len().saturating_sub(names))?;
         decode_all(
             &mut all,
             NUMBER,
             places.as_slice(),
             long.as_slice(),
+            far.as_slice(),
             Reached::first(self.start),
             short.as_slice(),
         )?;
@@ -183,14 +201,17 @@ impl<const NUMBER: u64> StepList<NUMBER> {
     {
         let no_short = Vec::with_capacity(self.alloc, 1)?;
         let no_long = Vec::with_capacity(self.alloc, 1)?;
+        let no_far = Vec::with_capacity(self.alloc, 1)?;
         let short = self.short.empty(no_short);
         let long = self.long.empty(no_long);
+        let far = self.far.empty(no_far);
         self.start = next;
         self.reached = Reached::first(next);
         let places = forget_many(&mut self.places, self.alloc);
         Ok(OldSteps {
             short,
             long,
+            far,
             places,
         })
     }
@@ -201,6 +222,7 @@ impl<const NUMBER: u64> StepList<NUMBER> {
 pub struct OldSteps {
     short: Vec<Vec<Short>>,
     long: Vec<Vec<Step>>,
+    far: Vec<Vec<FarStep>>,
     places: Places,
 }
 
@@ -218,8 +240,8 @@ fn forget_many(places: &mut Places, alloc: Global) -> Places
     }
 }
 
-// Appends a worker's step to the short steps, where decoding begins at `start` and has come to `reached`.
-// That is written in its place, so that a step which leaves it as it is doesn't write it.
+// Appends a worker's step to the items, where decoding begins at `start` and has come to `reached`.
+// That is written in place, so that a step which leaves it as it is doesn't write it.
 #[inline(always)]
 fn keep<const NUMBER: u64, E: Entry>(
     worker: u32,
@@ -228,24 +250,31 @@ fn keep<const NUMBER: u64, E: Entry>(
     places: &mut Places,
     list: &mut Chunks<Short>,
     long: &mut Chunks<Step>,
+    far: &mut Chunks<FarStep>,
     entry: E,
 )
-    requires within { AreWithin (length places.old) (length long.old.items) list.old.items }
-    requires reached { reached.old ≡
-        reached_by NUMBER places.old long.old.items (reached_first start) list.old.items }
-    requires room { (2 < list.old.room) × (0 < long.old.room) }
-    requires numbered { length long.old.items < 2 ^ 48 }
-    ensures within { AreWithin (length places.new) (length long.new.items) list.new.items }
-    ensures reached { reached.new ≡
-        reached_by NUMBER places.new long.new.items (reached_first start) list.new.items }
+    requires within { AreWithin (tables places.old long.old.items far.old.items) list.old.items }
+    requires own { AreOwn far.old.items }
+    requires reached { reached.old ≡ reached_by NUMBER
+        (tables places.old long.old.items far.old.items) (reached_first start) list.old.items }
+    requires room { (2 < list.old.room) × (0 < long.old.room) × (0 < far.old.room) }
+    requires numbered { (length long.old.items < 2 ^ 48) × (length far.old.items < 2 ^ 48) }
+    ensures within { AreWithin (tables places.new long.new.items far.new.items) list.new.items }
+    ensures own { AreOwn far.new.items }
+    ensures reached { reached.new ≡ reached_by NUMBER
+        (tables places.new long.new.items far.new.items) (reached_first start) list.new.items }
     ensures steps { Appends
-        (decode NUMBER places.old long.old.items (reached_first start) list.old.items)
+        (decode NUMBER (tables places.old long.old.items far.old.items) (reached_first start)
+        list.old.items)
         (step_of worker (E.as_call entry) (E.as_reply entry))
-        (decode NUMBER places.new long.new.items (reached_first start) list.new.items) }
+        (decode NUMBER (tables places.new long.new.items far.new.items) (reached_first start)
+        list.new.items) }
     ensures room { list.old.room ≤ list.new.room + 3 }
     ensures bounded { length list.new.items + list.new.room < 2 ^ 64 }
-    ensures long { long.old.room ≤ long.new.room + 1 }
-    ensures few { length long.new.items ≤ length long.old.items + 1 }
+    ensures long_room { long.old.room ≤ long.new.room + 1 }
+    ensures few_long { length long.new.items ≤ length long.old.items + 1 }
+    ensures far_room { far.old.room ≤ far.new.room + 1 }
+    ensures few_far { length far.new.items ≤ length far.old.items + 1 }
 {
     match shortened::<NUMBER, E>(worker, reached, places, list, entry) {
         Some(short) => {
@@ -253,13 +282,13 @@ fn keep<const NUMBER: u64, E: Entry>(
             advance(reached, entry);
         }
         None => {
-            keep_whole(worker, list, long, entry);
+            keep_apart::<NUMBER, E>(worker, *reached, list, long, far, entry);
             advance(reached, entry);
         }
     }
 }
 
-// Names the step's cells, where they fit, and answers the step's item, if it has one.
+// Names the step's cells, if their numbers fit, and returns the step's item, if it has one.
 #[inline(always)]
 fn shortened<const NUMBER: u64, E: Entry>(
     worker: u32,
@@ -288,6 +317,77 @@ fn shortened<const NUMBER: u64, E: Entry>(
         worker,
     };
     entry.form(taken, places)
+}
+
+// Appends a step that has no short form: with a table of its own, if it has a form then, or whole. It is a
+// function of its own that is inlined, so that what is handed to the other is put into memory here, and
+// not where a short step is kept.
+#[inline(always)]
+fn keep_apart<const NUMBER: u64, E: Entry>(
+    worker: u32,
+    reached: Reached,
+    list: &mut Chunks<Short>,
+    long: &mut Chunks<Step>,
+    far: &mut Chunks<FarStep>,
+    entry: E,
+)
+    requires numbered { (length long.old.items < 2 ^ 48) × (length far.old.items < 2 ^ 48) }
+    requires room { (0 < list.old.room) × (0 < long.old.room) × (0 < far.old.room) }
+    ensures kept { (x : Short) × (list.new.items ≡ list.old.items ++ x ∷ [])
+        × IsApart NUMBER reached
+        (step_of worker (E.as_call entry) (E.as_reply entry))
+        long.old.items long.new.items far.old.items far.new.items x }
+    ensures own { AreOwn far.old.items → AreOwn far.new.items }
+    ensures room { list.new.room + 1 ≡ list.old.room }
+    ensures bounded { length list.new.items + list.new.room < 2 ^ 64 }
+    ensures long_room { long.old.room ≤ long.new.room + 1 }
+    ensures few_long { length long.new.items ≤ length long.old.items + 1 }
+    ensures far_room { far.old.room ≤ far.new.room + 1 }
+    ensures few_far { length far.new.items ≤ length far.old.items + 1 }
+{
+    let taken = Taken {
+        number: NUMBER,
+        reached,
+        worker,
+    };
+    push_apart(taken, list, long, far, entry);
+}
+
+#[cold]
+#[inline(never)]
+fn push_apart<E: Entry>(
+    taken: Taken,
+    list: &mut Chunks<Short>,
+    long: &mut Chunks<Step>,
+    far: &mut Chunks<FarStep>,
+    entry: E,
+)
+    requires numbered { (length long.old.items < 2 ^ 48) × (length far.old.items < 2 ^ 48) }
+    requires room { (0 < list.old.room) × (0 < long.old.room) × (0 < far.old.room) }
+    ensures kept { (x : Short) × (list.new.items ≡ list.old.items ++ x ∷ [])
+        × IsApart taken.number taken.reached
+        (step_of taken.worker (E.as_call entry) (E.as_reply entry))
+        long.old.items long.new.items far.old.items far.new.items x }
+    ensures own { AreOwn far.old.items → AreOwn far.new.items }
+    ensures room { list.new.room + 1 ≡ list.old.room }
+    ensures bounded { length list.new.items + list.new.room < 2 ^ 64 }
+    ensures long_room { long.old.room ≤ long.new.room + 1 }
+    ensures few_long { length long.new.items ≤ length long.old.items + 1 }
+    ensures far_room { far.old.room ≤ far.new.room + 1 }
+    ensures few_far { length far.new.items ≤ length far.old.items + 1 }
+{
+    match far_form(taken, entry) {
+        Some(step) => {
+            let at = far.len();
+            far.push(step);
+            list.push(Short::Far((at / 4294967296) as u16, (at % 4294967296) as u32));
+        }
+        None => {
+            let at = long.len();
+            long.push(step(taken.worker, entry.call(), entry.reply()));
+            list.push(Short::Long((at / 4294967296) as u16, (at % 4294967296) as u32));
+        }
+    }
 }
 
 // Appends the names that stand before a step.
@@ -335,42 +435,4 @@ fn advance<E: Entry>(reached: &mut Reached, entry: E)
     ensures { reached.new ≡ record reached.old { next = next_after reached.old.next (E.as_reply entry) } }
 {
     *reached = reached.after(entry.reply());
-}
-
-// Appends a step that has no short form. It is a function of its own that is inlined, so that what is
-// handed to the other is put into memory here, and not where a short step is kept.
-#[inline(always)]
-fn keep_whole<E: Entry>(worker: u32, list: &mut Chunks<Short>, long: &mut Chunks<Step>, entry: E)
-    requires numbered { length long.old.items < 2 ^ 48 }
-    requires room { (0 < list.old.room) × (0 < long.old.room) }
-    ensures list { list.new.items ≡ list.old.items ++ long_item (length long.old.items) ∷ [] }
-    ensures room { list.new.room + 1 ≡ list.old.room }
-    ensures bounded { length list.new.items + list.new.room < 2 ^ 64 }
-    ensures long { long.new.items
-        ≡ long.old.items ++ step_of worker (E.as_call entry) (E.as_reply entry) ∷ [] }
-    ensures long_room { long.new.room + 1 ≡ long.old.room }
-{
-    push_whole(worker, list, long, entry.call(), entry.reply());
-}
-
-#[cold]
-#[inline(never)]
-fn push_whole(
-    worker: u32,
-    list: &mut Chunks<Short>,
-    long: &mut Chunks<Step>,
-    call: StepCall,
-    reply: StepReply,
-)
-    requires numbered { length long.old.items < 2 ^ 48 }
-    requires room { (0 < list.old.room) × (0 < long.old.room) }
-    ensures list { list.new.items ≡ list.old.items ++ long_item (length long.old.items) ∷ [] }
-    ensures room { list.new.room + 1 ≡ list.old.room }
-    ensures bounded { length list.new.items + list.new.room < 2 ^ 64 }
-    ensures long { long.new.items ≡ long.old.items ++ step_of worker call reply ∷ [] }
-    ensures long_room { long.new.room + 1 ≡ long.old.room }
-{
-    let at = long.len();
-    long.push(step(worker, call, reply));
-    list.push(Short::Long((at / 4294967296) as u16, (at % 4294967296) as u32));
 }

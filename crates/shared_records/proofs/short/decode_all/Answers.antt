@@ -1,12 +1,13 @@
 use Rattle.shared_records.proofs.{decode_snoc, reached_both, within_at}
-use Rattle.std.proofs.{Common.append_assoc, Common.length, Common.refl, lemmas.List.take_more}
+use Rattle.std.proofs.{Common.append_assoc, Common.refl, lemmas.List.take_more}
 use Rattle.shared_records.specs.declared.short.Short.TheVariants as short
+use Rattle.shared_records.specs.Decoding.{tables}
 use Rattle.shared_records.proofs.short.decode_all.Goals as goal
 
-pub step_at-step-requires : goal.step_at-step-requires
-step_at-step-requires c =
-    within_at (length c.args.places.now) (length c.args.long.now) c.args.short.now
-    c.loop-item.item-index (short.Name 0 0 0) c.loop-item-test.true c.requires
+pub step_at-step-requires-clause-within : goal.step_at-step-requires-clause-within
+step_at-step-requires-clause-within c =
+    within_at (tables c.args.places.now c.args.long.now c.args.far.now) c.args.short.now
+    c.loop-item.item-index (short.Name 0 0 0) c.loop-item-test.true c.requires.within
 
 pub loop-item-preserved : goal.loop-item-preserved
 loop-item-preserved c =
