@@ -50,7 +50,7 @@ impl<T, S: Storage<Part<T>>> Model for Document<T, S> {
 }
 
 impl<T, S: Storage<Part<T>>> Document<T, S> {
-    /// A document without parts, over a fresh store (`is_fresh` is the test). Takes no memory.
+    /// A document without parts, over a fresh store (`is_fresh` is the test). Doesn't allocate.
     ///
     /// ```rust
     /// let store = UnsyncStorage::<Part<u64>>::new(rt.alloc(), 1);
@@ -108,7 +108,7 @@ impl<T, S: Storage<Part<T>>> Document<T, S> {
     /// Another place that leads to the same part, and tells where that was added. It is none that was
     /// ever given, and every other place shows what it showed.
     ///
-    /// Refused, in this order: `Gone`, where the place is gone, or is another document's;
+    /// Refused, in this order: `Gone`, if the place is gone, or is of a store with another number;
     /// `OutOfMemory`. The document is unchanged then. Takes memory where no slot is free. O(1), but
     /// for finding room.
     ///
@@ -142,7 +142,7 @@ impl<T, S: Storage<Part<T>>> Document<T, S> {
 
     /// The content of a place's part. The document is lent meanwhile.
     ///
-    /// Refused where the place is gone, or is another document's. Takes no memory, and is O(1).
+    /// Fails if the place is gone, or is of a store with another number. Doesn't allocate, and is O(1).
     ///
     /// ```rust
     /// let content = *document.get(heading)?;
@@ -177,7 +177,7 @@ impl<T, S: Storage<Part<T>>> Document<T, S> {
 
     /// The children of a place's part, in order. The document is lent meanwhile.
     ///
-    /// Refused where the place is gone, or is another document's. Takes no memory, and is O(1).
+    /// Fails if the place is gone, or is of a store with another number. Doesn't allocate, and is O(1).
     ///
     /// ```rust
     /// for child in document.children(page)?.iter() {
@@ -226,8 +226,8 @@ impl<T, S: Storage<Part<T>>> Document<T, S> {
         Ok(places)
     }
 
-    /// The places of `outline`, each with how many steps it stands below the first: 0 for the first, 1 for
-    /// its children. Refused, and bounded, as `outline` is. Takes memory and time as that does.
+    /// The places of `outline`, each with how many steps it stands below the first: 0 for the first, 1
+    /// for its children. Refused, and bounded, as `outline` is. Takes memory and time as that does.
     ///
     /// ```rust
     /// for (depth, place) in document.outline_with_depth(page, 100)?.iter() {
@@ -257,8 +257,8 @@ impl<T, S: Storage<Part<T>>> Document<T, S> {
     /// Puts another content in the place of a part's, which is let go. It shows at each place that
     /// leads to the part, with the children that there were; every other place shows what it showed.
     ///
-    /// Refused where the place is gone, or is another document's: the content comes back, and the
-    /// document is unchanged. Takes no memory, and is O(1), but for letting the old content go.
+    /// Fails if the place is gone, or is of a store with another number: the content comes back, and
+    /// the document is unchanged. Doesn't allocate, and is O(1), but for letting the old content go.
     ///
     /// ```rust
     /// if let Err(refusal) = document.set(heading, 11) {
@@ -292,11 +292,11 @@ impl<T, S: Storage<Part<T>>> Document<T, S> {
     }
 
     /// Changes the content of a part in its place, by a closure, and answers what that answers. What it
-    /// leaves shows at each place that leads to the part, with the children that there were; every other
-    /// place shows what it showed.
+    /// leaves shows at each place that leads to the part, with the children that there were; every
+    /// other place shows what it showed.
     ///
-    /// Refused where the place is gone, or is another document's: the closure isn't called then, and the
-    /// document is unchanged. Takes no memory, and is O(1), but for the closure.
+    /// Fails if the place is gone, or is of a store with another number: the closure isn't called then,
+    /// and the document is unchanged. Doesn't allocate, and is O(1), but for the closure.
     ///
     /// ```rust
     /// document.update(
@@ -333,9 +333,9 @@ impl<T, S: Storage<Part<T>>> Document<T, S> {
     /// The child may be anything's child already, this part's as well. A document may have cycles:
     /// nothing keeps a part from standing below itself.
     ///
-    /// Refused, in this order: `Gone`, where the parent is gone, or is another document's, and then
-    /// where the child is; `OutOfMemory`. Every place shows what it showed then. Takes memory for the
-    /// list of children. O(1), but for finding room.
+    /// Refused, in this order: `Gone`, if the parent is gone, or is of a store with another number, and
+    /// then where the child is; `OutOfMemory`. Every place shows what it showed then. Takes memory for
+    /// the list of children. O(1), but for finding room.
     ///
     /// ```rust
     /// document.append(page, heading)?;
@@ -369,13 +369,13 @@ impl<T, S: Storage<Part<T>>> Document<T, S> {
         Ok(())
     }
 
-    /// The child becomes a child of the parent's part at an index, at each place that leads there: those
-    /// behind move up by one. Every other place shows what it showed.
+    /// The child becomes a child of the parent's part at an index, at each place that leads there:
+    /// those behind move up by one. Every other place shows what it showed.
     ///
-    /// Refused, in this order: `Gone`, where the parent is gone, or is another document's, and then
-    /// where the child is; `OutOfRange`, where the part has fewer children than the index; `OutOfMemory`.
-    /// Every place shows what it showed then. Takes memory for the list of children. O(c) for c children
-    /// behind, but for finding room.
+    /// Refused, in this order: `Gone`, if the parent is gone, or is of a store with another number, and
+    /// then where the child is; `OutOfRange`, where the part has fewer children than the index;
+    /// `OutOfMemory`. Every place shows what it showed then. Takes memory for the list of children.
+    /// O(c) for c children behind, but for finding room.
     ///
     /// ```rust
     /// document.insert(page, 0, again)?;
@@ -422,9 +422,9 @@ impl<T, S: Storage<Part<T>>> Document<T, S> {
     /// there, and answers it: those behind move down by one. The child shows what it showed, as does
     /// every other place.
     ///
-    /// Refused, in this order: `Gone`, where the parent is gone, or is another document's; `OutOfRange`,
-    /// where the part has no child at the index. The document is unchanged then. Takes no memory, and
-    /// O(c) time for c children behind.
+    /// Refused, in this order: `Gone`, if the parent is gone, or is of a store with another number;
+    /// `OutOfRange`, where the part has no child at the index. The document is unchanged then. Doesn't
+    /// allocate, and O(c) time for c children behind.
     ///
     /// ```rust
     /// let taken = document.take_child(page, 0)?;
@@ -462,11 +462,11 @@ impl<T, S: Storage<Part<T>>> Document<T, S> {
         }
     }
 
-    /// Takes those that are gone out of the children of the parent's part, at each place that leads there.
-    /// The others stay, in their order, and every other place shows what it showed.
+    /// Takes those that are gone out of the children of the parent's part, at each place that leads
+    /// there. The others stay, in their order, and every other place shows what it showed.
     ///
-    /// Refused where the parent is gone, or is another document's: the document is unchanged. Takes no
-    /// memory, and O(c) time for c children.
+    /// Fails if the parent is gone, or is of a store with another number: the document is unchanged.
+    /// Takes no memory, and O(c) time for c children.
     ///
     /// ```rust
     /// document.clear_gone(page)?;
@@ -497,8 +497,8 @@ impl<T, S: Storage<Part<T>>> Document<T, S> {
     /// it stands as a child. Every other place shows what it showed. The part to which it led before
     /// ends where no other place leads there.
     ///
-    /// Refused where the place is gone, or is another document's, and then where the other is. The
-    /// document is unchanged then. Takes no memory, and is O(1), but for letting the old part go.
+    /// Fails if the place is gone, or is of a store with another number, and then where the other is.
+    /// The document is unchanged then. Doesn't allocate, and is O(1), but for letting the old part go.
     ///
     /// ```rust
     /// let other = document.add(20, here)?;
@@ -528,8 +528,8 @@ impl<T, S: Storage<Part<T>>> Document<T, S> {
     /// Ends a place: it shows nothing from then on, and its part ends with it where no other place
     /// leads there. Every other place shows what it showed.
     ///
-    /// Refused where the place is gone, or is another document's; the document is unchanged then.
-    /// Takes no memory, and is O(1), but for letting the part go.
+    /// Fails if the place is gone, or is of a store with another number; the document is unchanged
+    /// then. Doesn't allocate, and is O(1), but for letting the part go.
     ///
     /// ```rust
     /// document.remove(heading)?;

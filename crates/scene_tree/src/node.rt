@@ -144,8 +144,8 @@ pub enum TreeError {
     Store(StoreError),
 }
 
-/// Prints `the node made at FILE:LINE:COLUMN is gone`, like `Stale`, `the node made at FILE:LINE:COLUMN has
-/// no parent`, `the node would be below itself`, or the text of the `StoreError`.
+/// Prints `the node made at FILE:LINE:COLUMN is gone`, like `Stale`, `the node made at FILE:LINE:COLUMN
+/// has no parent`, `the node would be below itself`, or the text of the `StoreError`.
 impl fmt::Display for TreeError {
     ghost use Rattle.scene_tree.specs.Texts.{tree_error_text};
 
@@ -165,7 +165,7 @@ impl fmt::Display for TreeError {
 
 impl Error for TreeError {}
 
-/// Keeps where the node was made. Takes no memory.
+/// Keeps where the node was made. Doesn't allocate.
 impl From<Stale> for TreeError {
     ghost use Rattle.scene_tree.specs.declared.node.TreeError.TheVariants as error;
 

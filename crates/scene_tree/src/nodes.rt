@@ -14,7 +14,7 @@ use std::marker::Model;
 
 impl<T, S: Storage<T>> SceneTree<T, S> {
     /// All nodes, each once, in no order that a caller can choose: a new node comes where one that was
-    /// removed stood. Takes no memory, and O(n) time for all, for as many slots as the tree ever had
+    /// removed stood. Doesn't allocate, and O(n) time for all, for as many slots as the tree ever had
     /// nodes at once.
     ///
     /// ```rust
@@ -28,7 +28,7 @@ impl<T, S: Storage<T>> SceneTree<T, S> {
         Nodes::new(&self.links, &self.store, false)
     }
 
-    /// The nodes without a parent, each once, in the order of `nodes`. Takes no memory, and O(n) time
+    /// The nodes without a parent, each once, in the order of `nodes`. Doesn't allocate, and O(n) time
     /// for all, for as many slots as the tree ever had nodes at once.
     ///
     /// ```rust

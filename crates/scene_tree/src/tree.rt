@@ -62,7 +62,7 @@ impl<T, S: Storage<T>> Model for SceneTree<T, S> {
 }
 
 impl<T, S: Storage<T>> SceneTree<T, S> {
-    /// A tree without nodes, over a fresh store (`is_fresh` is the test). Takes no memory.
+    /// A tree without nodes, over a fresh store (`is_fresh` is the test). Doesn't allocate.
     ///
     /// ```rust
     /// let store = UnsyncStorage::<u64>::new(rt.alloc(), 1);
@@ -117,9 +117,9 @@ impl<T, S: Storage<T>> SceneTree<T, S> {
     /// A new node with this value, as the last child of another, and without children. Its handle is
     /// none that was ever given, and every other node is unchanged.
     ///
-    /// Refused, in this order: `Stale`, where the parent is gone, or is another tree's; `Store` of
-    /// `OutOfMemory`. The value comes back then, and the tree is unchanged. Takes memory where the
-    /// links have no room, or no slot is free. O(1), but for finding room.
+    /// Refused, in this order: `Stale`, if the parent is gone, or is of a store with another number;
+    /// `Store` of `OutOfMemory`. The value comes back then, and the tree is unchanged. Takes memory
+    /// where the links have no room, or no slot is free. O(1), but for finding room.
     ///
     /// ```rust
     /// let child = tree.add_child(root, 2, here)?;
@@ -158,10 +158,10 @@ impl<T, S: Storage<T>> SceneTree<T, S> {
     /// A new node with this value, at a spot among the children of another, and without children. Its
     /// handle is none that was ever given, and every other node is unchanged.
     ///
-    /// Refused, in this order: `Stale`, where the node that the spot names is gone, or is another tree's;
-    /// `NoParent`, where it is to be a sibling and has no parent; `Store` of `OutOfMemory`. The value
-    /// comes back then, and the tree is unchanged. Takes memory as `add_child` does. O(1), but for
-    /// finding room.
+    /// Refused, in this order: `Stale`, if the node that the spot names is gone, or is of a store with
+    /// another number; `NoParent`, where it is to be a sibling and has no parent; `Store` of
+    /// `OutOfMemory`. The value comes back then, and the tree is unchanged. Takes memory as `add_child`
+    /// does. O(1), but for finding room.
     ///
     /// ```rust
     /// let first = tree.add_at(Spot::Before(child), 3, here)?;
@@ -275,8 +275,8 @@ impl<T, S: Storage<T>> SceneTree<T, S> {
     /// Puts another value in the place of a node's, which is let go. Every other node is unchanged, and
     /// the node has the family that it had.
     ///
-    /// Refused where the node is gone, or is another tree's: the value comes back, and the tree is
-    /// unchanged. Takes no memory, and is O(1), but for letting the old value go.
+    /// Fails if the node is gone, or is of a store with another number: the value comes back, and the
+    /// tree is unchanged. Doesn't allocate, and is O(1), but for letting the old value go.
     ///
     /// ```rust
     /// if let Err(refusal) = tree.set(child, 9) {
@@ -306,11 +306,11 @@ impl<T, S: Storage<T>> SceneTree<T, S> {
         Ok(())
     }
 
-    /// Changes a node's value in its place, by a closure that is called once on it, and answers what that
-    /// answers. Every other node is unchanged, and the node has the family that it had.
+    /// Changes a node's value in its place, by a closure that is called once on it, and answers what
+    /// that answers. Every other node is unchanged, and the node has the family that it had.
     ///
-    /// Refused where the node is gone, or is another tree's: the closure isn't called, and the tree is
-    /// unchanged. Takes no memory, and is O(1), but for the closure.
+    /// Fails if the node is gone, or is of a store with another number: the closure isn't called, and
+    /// the tree is unchanged. Doesn't allocate, and is O(1), but for the closure.
     ///
     /// ```rust
     /// tree.update(child, |value: &mut u64| *value = value.wrapping_add(1))?;
@@ -339,7 +339,7 @@ impl<T, S: Storage<T>> SceneTree<T, S> {
 
     /// A node's value. The tree is lent meanwhile.
     ///
-    /// Refused where the node is gone, or is another tree's. Takes no memory, and is O(1).
+    /// Fails if the node is gone, or is of a store with another number. Doesn't allocate, and is O(1).
     ///
     /// ```rust
     /// let value = *tree.get(child)?;
@@ -369,7 +369,7 @@ impl<T, S: Storage<T>> SceneTree<T, S> {
         node.raw.can_read(&self.store)
     }
 
-    /// How many nodes are live: as many as the store has live cells. Takes no memory, and is O(1).
+    /// How many nodes are live: as many as the store has live cells. Doesn't allocate, and is O(1).
     ///
     /// ```rust
     /// println!(rt; "{} nodes", tree.len())?;
@@ -382,7 +382,7 @@ impl<T, S: Storage<T>> SceneTree<T, S> {
 
     /// A node's parent, if it has one.
     ///
-    /// Refused where the node is gone, or is another tree's. Takes no memory, and is O(1).
+    /// Fails if the node is gone, or is of a store with another number. Doesn't allocate, and is O(1).
     ///
     /// ```rust
     /// let is_below = tree.parent(child)? == Some(root);
@@ -400,11 +400,11 @@ impl<T, S: Storage<T>> SceneTree<T, S> {
         Ok(parent_at(&self.links, node.slot()))
     }
 
-    /// The nodes above a node: its parent, the parent of that, and so on up to its root. The tree is lent
-    /// meanwhile.
+    /// The nodes above a node: its parent, the parent of that, and so on up to its root. The tree is
+    /// lent meanwhile.
     ///
-    /// Refused where the node is gone, or is another tree's. Takes no memory, and is O(1), as each of its
-    /// steps.
+    /// Fails if the node is gone, or is of a store with another number. Doesn't allocate, and is O(1),
+    /// as each of its steps.
     ///
     /// ```rust
     /// for above in tree.ancestors(child)? {
@@ -427,7 +427,8 @@ impl<T, S: Storage<T>> SceneTree<T, S> {
 
     /// How many steps a node is below its root: as many as it has ancestors, none at a root.
     ///
-    /// Refused where the node is gone, or is another tree's. Takes no memory, and O(d) time for d steps.
+    /// Fails if the node is gone, or is of a store with another number. Doesn't allocate, and O(d) time
+    /// for d steps.
     ///
     /// ```rust
     /// let steps = tree.depth(child)?;
@@ -448,8 +449,8 @@ impl<T, S: Storage<T>> SceneTree<T, S> {
 
     /// A node's children, in order. The tree is lent meanwhile.
     ///
-    /// Refused where the node is gone, or is another tree's. Takes no memory, and is O(1), as each of its
-    /// steps.
+    /// Fails if the node is gone, or is of a store with another number. Doesn't allocate, and is O(1),
+    /// as each of its steps.
     ///
     /// ```rust
     /// for node in tree.children(root)? {
@@ -474,8 +475,9 @@ impl<T, S: Storage<T>> SceneTree<T, S> {
     /// A node and all below it, each once, level by level: first the node, and then the children of
     /// each node of the list, in order. So parents stand before their children.
     ///
-    /// Refused, in this order: `Stale`, where the node is gone, or is another tree's; `Store` of
-    /// `OutOfMemory`. Takes memory for the list, and O(k) time for k nodes, but for finding room.
+    /// Refused, in this order: `Stale`, if the node is gone, or is of a store with another number;
+    /// `Store` of `OutOfMemory`. Takes memory for the list, and O(k) time for k nodes, but for finding
+    /// room.
     ///
     /// ```rust
     /// for node in tree.subtree(root)?.iter() {
@@ -499,11 +501,12 @@ impl<T, S: Storage<T>> SceneTree<T, S> {
     }
 
     /// A node and those below it, as they are read: each before its children, and these in their order,
-    /// each with how many steps it is below the node. The tree is lent meanwhile. At most `limit` of them,
-    /// so all of them where that is no less than `len`.
+    /// each with how many steps it is below the node. The tree is lent meanwhile. At most `limit` of
+    /// them, so all of them where that is no less than `len`.
     ///
-    /// Refused where the node is gone, or is another tree's. Takes no memory, and is O(1). A step is O(d) for
-    /// d steps from its node to the first, and all steps together are O(k) for k nodes.
+    /// Fails if the node is gone, or is of a store with another number. Doesn't allocate, and is O(1).
+    /// A step is O(d) for d steps from its node to the first, and all steps together are O(k) for k
+    /// nodes.
     ///
     /// ```rust
     /// for (depth, node) in tree.outline(root, 100)? {
@@ -528,9 +531,9 @@ impl<T, S: Storage<T>> SceneTree<T, S> {
     /// Moves a node with all below it: it becomes the last child of another. Its parent loses this
     /// one child, all below it stays where it is, and every node shows what it showed.
     ///
-    /// Refused, in this order: `Stale`, where the node is gone, or is another tree's; `Stale`, where
-    /// the parent is; `Cycle`, where the parent is the node or below it. The tree is unchanged then.
-    /// Takes no memory, and O(d) time for d steps from the parent to its root.
+    /// Refused, in this order: `Stale`, if the node is gone, or is of a store with another number;
+    /// `Stale`, where the parent is; `Cycle`, where the parent is the node or below it. The tree is
+    /// unchanged then. Doesn't allocate, and O(d) time for d steps from the parent to its root.
     ///
     /// ```rust
     /// tree.move_to(child, first)?;
@@ -564,11 +567,11 @@ impl<T, S: Storage<T>> SceneTree<T, S> {
     /// Moves a node with all below it to a spot among the children of another. Its parent loses this
     /// one child, all below it stays where it is, and every node shows what it showed.
     ///
-    /// Refused, in this order: `Stale`, where the node is gone, or is another tree's; `Stale`, where
-    /// the node that the spot names is; `Cycle`, where that is the node or below it; `NoParent`, where it
-    /// is to be a sibling and has no parent. The tree is unchanged then. Takes no memory, and O(d) time
-    /// for d steps from the spot to its root, or O(1) where it is among the node's siblings: so children
-    /// are put in another order.
+    /// Refused, in this order: `Stale`, if the node is gone, or is of a store with another number;
+    /// `Stale`, where the node that the spot names is; `Cycle`, where that is the node or below it;
+    /// `NoParent`, where it is to be a sibling and has no parent. The tree is unchanged then. Doesn't
+    /// allocate, and O(d) time for d steps from the spot to its root, or O(1) where it is among the
+    /// node's siblings: so children are put in another order.
     ///
     /// ```rust
     /// tree.move_at(child, Spot::FirstOf(root))?;
@@ -606,11 +609,11 @@ impl<T, S: Storage<T>> SceneTree<T, S> {
         Ok(())
     }
 
-    /// Makes a node a root, with all below it: its parent loses this one child, all below it stays where
-    /// it is, and every node shows what it showed. A root stays as it is.
+    /// Makes a node a root, with all below it: its parent loses this one child, all below it stays
+    /// where it is, and every node shows what it showed. A root stays as it is.
     ///
-    /// Refused where the node is gone, or is another tree's: the tree is unchanged. Takes no memory,
-    /// and is O(1).
+    /// Fails if the node is gone, or is of a store with another number: the tree is unchanged. Doesn't
+    /// allocate, and is O(1).
     ///
     /// ```rust
     /// tree.detach(child)?;
@@ -687,9 +690,9 @@ impl<T, S: Storage<T>> SceneTree<T, S> {
     /// nothing from then on, and no later node is mistaken for it. The node's parent loses this one
     /// child, and every other node is unchanged.
     ///
-    /// Refused, in this order: `Stale`, where the node is gone, or is another tree's; `Store` of
-    /// `OutOfMemory`. The tree is unchanged then. Takes memory for the list, and O(k) time for k nodes,
-    /// but for finding room and for letting the values go.
+    /// Refused, in this order: `Stale`, if the node is gone, or is of a store with another number;
+    /// `Store` of `OutOfMemory`. The tree is unchanged then. Takes memory for the list, and O(k) time
+    /// for k nodes, but for finding room and for letting the values go.
     ///
     /// ```rust
     /// let gone = tree.remove_subtree(root)?;
@@ -730,9 +733,9 @@ impl<T, S: Storage<T>> SceneTree<T, S> {
     /// Removes a node and all below it as `remove_subtree` does, and hands the node's value back. The
     /// values of those below are let go: `detach` or `move_to` keeps one of them from that.
     ///
-    /// Refused, in this order: `Stale`, where the node is gone, or is another tree's; `Store` of
-    /// `OutOfMemory`. The tree is unchanged then. Takes memory for a list of what goes, and O(k) time
-    /// for k nodes, but for finding room and for letting the values go.
+    /// Refused, in this order: `Stale`, if the node is gone, or is of a store with another number;
+    /// `Store` of `OutOfMemory`. The tree is unchanged then. Takes memory for a list of what goes, and
+    /// O(k) time for k nodes, but for finding room and for letting the values go.
     ///
     /// ```rust
     /// let value = tree.take(node).ok()?;

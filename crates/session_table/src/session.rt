@@ -41,7 +41,7 @@ impl<K: Eq + Hash, T> Session<K, T> {
         self.used_at
     }
 
-    /// The entry under a key, if there is one. Takes no memory, and is O(1).
+    /// The entry under a key, if there is one. Doesn't allocate, and is O(1).
     ///
     /// ```rust
     /// let found = table.session(&7).and_then(|session| session.entry(&1));
@@ -52,7 +52,7 @@ impl<K: Eq + Hash, T> Session<K, T> {
         self.entries.get(key).copied()
     }
 
-    /// The entries with their keys, in the order in which they were put. Takes no memory, and is O(1).
+    /// The entries with their keys, in the order in which they were put. Doesn't allocate, and is O(1).
     ///
     /// ```rust
     /// if let Some(session) = table.session(&7) {

@@ -59,7 +59,7 @@ impl<I: Eq + Hash, K: Eq + Hash, T, S: Storage<T>> Model for SessionTable<I, K, 
 }
 
 impl<I: Eq + Hash, K: Eq + Hash, T, S: Storage<T>> SessionTable<I, K, T, S> {
-    /// A table without sessions, over a fresh store (`is_fresh` is the test). Takes no memory.
+    /// A table without sessions, over a fresh store (`is_fresh` is the test). Doesn't allocate.
     ///
     /// ```rust
     /// let store = UnsyncStorage::<u64>::new(rt.alloc(), 1);
@@ -77,8 +77,8 @@ impl<I: Eq + Hash, K: Eq + Hash, T, S: Storage<T>> SessionTable<I, K, T, S> {
         }
     }
 
-    /// Begins a session of an id, which was last used now and keeps nothing yet. It comes last; the others
-    /// are unchanged and keep their places, and every entry shows what it showed.
+    /// Begins a session of an id, which was last used now and keeps nothing yet. It comes last; the
+    /// others are unchanged and keep their places, and every entry shows what it showed.
     ///
     /// Refused, in this order: `IdInUse`, where the id has a session; `Store` of `OutOfMemory`, where
     /// the rows find no room; of `NumbersExhausted`, where the store gave all its tickets, of which a
@@ -138,9 +138,9 @@ impl<I: Eq + Hash, K: Eq + Hash, T, S: Storage<T>> SessionTable<I, K, T, S> {
     /// given, every other entry shows what it showed, and every other session is unchanged.
     ///
     /// Refused, in this order: `NoSession`, where the id has none; `KeyInUse`, where the session has an
-    /// entry under the key; `Store` of `OutOfMemory`. The key and the value come back then, and the table
-    /// stays as it was. Takes memory where no slot is free, or the session has no room. O(1), but for
-    /// finding room.
+    /// entry under the key; `Store` of `OutOfMemory`. The key and the value come back then, and the
+    /// table stays as it was. Takes memory where no slot is free, or the session has no room. O(1), but
+    /// for finding room.
     ///
     /// ```rust
     /// let basket = table.put(&7, 1, 42, here)?;
@@ -191,7 +191,7 @@ impl<I: Eq + Hash, K: Eq + Hash, T, S: Storage<T>> SessionTable<I, K, T, S> {
         Ok(entry)
     }
 
-    /// The entry that an id's session has under a key, if it has one. Takes no memory, and is O(1).
+    /// The entry that an id's session has under a key, if it has one. Doesn't allocate, and is O(1).
     ///
     /// ```rust
     /// if let Some(entry) = table.entry(&7, &1) {
@@ -218,7 +218,7 @@ impl<I: Eq + Hash, K: Eq + Hash, T, S: Storage<T>> SessionTable<I, K, T, S> {
 
     /// An entry's value. The table is lent meanwhile.
     ///
-    /// Fails if the entry is gone, or is another table's. Doesn't allocate, and is O(1).
+    /// Fails if the entry is gone, or is of a store with another number. Doesn't allocate, and is O(1).
     ///
     /// ```rust
     /// let count = *table.get(basket)?;
@@ -239,8 +239,8 @@ impl<I: Eq + Hash, K: Eq + Hash, T, S: Storage<T>> SessionTable<I, K, T, S> {
     /// Puts another value in the place of an entry's, which is let go. Every other entry shows what it
     /// showed, and the sessions stay.
     ///
-    /// Fails if the entry is gone, or is another table's: the value comes back, and the table is
-    /// unchanged. Doesn't allocate, and is O(1), but for dropping the old value.
+    /// Fails if the entry is gone, or is of a store with another number: the value comes back, and the
+    /// table is unchanged. Doesn't allocate, and is O(1), but for dropping the old value.
     ///
     /// ```rust
     /// if let Err(refusal) = table.set(basket, 43) {
@@ -274,8 +274,8 @@ impl<I: Eq + Hash, K: Eq + Hash, T, S: Storage<T>> SessionTable<I, K, T, S> {
     /// Changes an entry's value in its place by a closure, which is called once on it, and answers what
     /// that answers. Every other entry shows what it showed, and the sessions stay.
     ///
-    /// Fails if the entry is gone, or is another table's: the closure isn't called, and the table is
-    /// unchanged. Takes no memory of its own, and is O(1), but for the closure.
+    /// Fails if the entry is gone, or is of a store with another number: the closure isn't called, and
+    /// the table is unchanged. Doesn't allocate of its own, and is O(1), but for the closure.
     ///
     /// ```rust
     /// let more = table.update(basket, |count: &mut u64| {
@@ -311,7 +311,7 @@ impl<I: Eq + Hash, K: Eq + Hash, T, S: Storage<T>> SessionTable<I, K, T, S> {
     /// order, every other session is unchanged, and every other entry shows what it showed.
     ///
     /// `None` where the id has no session, or the session no entry under the key: nothing changes then.
-    /// Takes no memory; the session's owner still lists what ended, until the session ends. O(k) for k
+    /// Doesn't allocate; the session's owner still lists what ended, until the session ends. O(k) for k
     /// entries of the session, since those behind this one move up.
     ///
     /// ```rust
@@ -355,7 +355,7 @@ impl<I: Eq + Hash, K: Eq + Hash, T, S: Storage<T>> SessionTable<I, K, T, S> {
     }
 
     /// Sets the time of a session's last use. Answers whether the id has a session; where it has none,
-    /// nothing changes. Never refused. Takes no memory, and is O(1).
+    /// nothing changes. Never refused. Doesn't allocate, and is O(1).
     ///
     /// ```rust
     /// let is_known = table.touch(&7, 1200);
@@ -376,10 +376,10 @@ impl<I: Eq + Hash, K: Eq + Hash, T, S: Storage<T>> SessionTable<I, K, T, S> {
         true
     }
 
-    /// Gives an id's session another id: what it keeps, and the time of its last use, stay. It comes last,
-    /// after the last session has taken its place. Every other session is unchanged, and every entry shows
-    /// what it showed. So a session that was begun before a user proved who they are goes on under an id
-    /// that nobody knew before.
+    /// Gives an id's session another id: what it keeps, and the time of its last use, stay. It comes
+    /// last, after the last session has taken its place. Every other session is unchanged, and every
+    /// entry shows what it showed. So a session that was begun before a user proved who they are goes
+    /// on under an id that nobody knew before.
     ///
     /// Refused, in this order: `NoSession`, where the id has none; `IdInUse`, where the new id has one,
     /// also where both are one; `Store` of `OutOfMemory`. The new id comes back then, and the table is
@@ -437,11 +437,11 @@ impl<I: Eq + Hash, K: Eq + Hash, T, S: Storage<T>> SessionTable<I, K, T, S> {
 
     /// Ends an id's session, and all that it keeps: those entries show nothing from then on, and no
     /// later value is mistaken for theirs. The last session takes its place. Every other session is
-    /// unchanged, and what it keeps shows what it showed. Answers whether the id had a session; where it
-    /// had none, nothing changes.
+    /// unchanged, and what it keeps shows what it showed. Answers whether the id had a session; where
+    /// it had none, nothing changes.
     ///
-    /// Never refused, since no borrow outlives a call of the table. Takes no memory. O(k) for k entries
-    /// of this session.
+    /// Never refused, since no borrow outlives a call of the table. Doesn't allocate. O(k) for k
+    /// entries of this session.
     ///
     /// ```rust
     /// let was_logged_in = table.logout(&7);
@@ -502,11 +502,11 @@ impl<I: Eq + Hash, K: Eq + Hash, T, S: Storage<T>> SessionTable<I, K, T, S> {
     }
 
     /// Ends every session that was last used before a time, and all that those keep. From the front on,
-    /// the last session that is left takes the place of each that ends. Every other session is unchanged,
-    /// and what it keeps shows what it showed. Answers how many ended.
+    /// the last session that is left takes the place of each that ends. Every other session is
+    /// unchanged, and what it keeps shows what it showed. Answers how many ended.
     ///
-    /// Never refused, as `logout`. Takes no memory. O(n + k) for n sessions and k entries of those that
-    /// end.
+    /// Never refused, as `logout`. Doesn't allocate. O(n + k) for n sessions and k entries of those
+    /// that end.
     ///
     /// ```rust
     /// let expired = table.expire(1100);
@@ -541,7 +541,7 @@ impl<I: Eq + Hash, K: Eq + Hash, T, S: Storage<T>> SessionTable<I, K, T, S> {
     }
 
     /// Ends all sessions and all that they keep, and hands back the store, which has nothing then: no
-    /// value, no borrow and no owner. Never refused. Takes no memory. O(n + k) for n sessions and k
+    /// value, no borrow and no owner. Never refused. Doesn't allocate. O(n + k) for n sessions and k
     /// entries.
     ///
     /// ```rust
@@ -567,7 +567,7 @@ impl<I: Eq + Hash, K: Eq + Hash, T, S: Storage<T>> SessionTable<I, K, T, S> {
         store
     }
 
-    /// Whether an id has a session. Takes no memory, and is O(1).
+    /// Whether an id has a session. Doesn't allocate, and is O(1).
     ///
     /// ```rust
     /// let is_logged_in = table.has(&7);
@@ -578,7 +578,7 @@ impl<I: Eq + Hash, K: Eq + Hash, T, S: Storage<T>> SessionTable<I, K, T, S> {
         self.session(id).is_some()
     }
 
-    /// The session of an id, if it has one. Takes no memory, and is O(1).
+    /// The session of an id, if it has one. Doesn't allocate, and is O(1).
     ///
     /// ```rust
     /// if let Some(session) = table.session(&7) {
@@ -607,7 +607,7 @@ impl<I: Eq + Hash, K: Eq + Hash, T, S: Storage<T>> SessionTable<I, K, T, S> {
         }
     }
 
-    /// How many sessions there are. Takes no memory, and is O(1).
+    /// How many sessions there are. Doesn't allocate, and is O(1).
     ///
     /// ```rust
     /// println!(rt; "{} sessions", table.len())?;

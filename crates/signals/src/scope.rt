@@ -60,7 +60,7 @@ impl fmt::Debug for Scope {
 }
 
 impl Scope {
-    /// The id of the scope, which no other ever has. Takes no memory.
+    /// The id of the scope, which no other ever has. Doesn't allocate.
     ///
     /// ```rust
     /// let key = page.id().key;
@@ -104,9 +104,9 @@ impl Scope {
     /// A new signal of a value, which ends with the scope and with no other. The signal sees the
     /// value, and each other box is unchanged.
     ///
-    /// Refused, in this order: `UnknownOwner`, where the scope is another store's; `OutOfMemory`.
-    /// The value comes back then, and the store is unchanged. Takes memory where fewer than two
-    /// slots are free, or the scope's list has no room. O(1), but for finding room.
+    /// Refused, in this order: `UnknownOwner`, if the scope is of a store with another number;
+    /// `OutOfMemory`. The value comes back then, and the store is unchanged. Takes memory where fewer
+    /// than two slots are free, or the scope's list has no room. O(1), but for finding room.
     ///
     /// ```rust
     /// let clicks = dialog.signal(store, 6, here)?;
@@ -147,10 +147,10 @@ impl Scope {
     /// does, and each other box is unchanged. It ends with the scope and with no other, and the
     /// value lives at least as long.
     ///
-    /// Refused, in this order: `UnknownOwner`, where the scope is another store's; `Dropped`, where
-    /// the other has ended; `AlreadyBorrowedMut`, where its value is being written; `OutOfMemory`.
-    /// The store is unchanged then. Takes memory where no slot is free, or the scope's list has no
-    /// room. O(1), but for finding room.
+    /// Refused, in this order: `UnknownOwner`, if the scope is of a store with another number;
+    /// `Dropped`, where the other has ended; `AlreadyBorrowedMut`, where its value is being written;
+    /// `OutOfMemory`. The store is unchanged then. Takes memory where no slot is free, or the scope's
+    /// list has no room. O(1), but for finding room.
     ///
     /// ```rust
     /// let clicks = dialog.signal(store, 6, here)?;
@@ -193,9 +193,9 @@ impl Scope {
     /// unchanged. A value ends with the last signal that leads to it, so one to which a signal of
     /// another scope leads lives on.
     ///
-    /// Refused, in this order: `UnknownOwner`, where the scope is another store's; the answer of a
-    /// write at the first signal of the scope, in the order in which they were made, whose value
-    /// would end and is borrowed. The scope comes back then, and the store is unchanged. Takes
+    /// Refused, in this order: `UnknownOwner`, if the scope is of a store with another number; the
+    /// answer of a write at the first signal of the scope, in the order in which they were made, whose
+    /// value would end and is borrowed. The scope comes back then, and the store is unchanged. Takes
     /// memory for a refusal's locations alone. O(k) for k signals.
     ///
     /// ```rust
@@ -232,7 +232,7 @@ impl Scope {
     }
 
     /// Spends the scope, and its signals are unchanged: they never end by a scope from then on. So it
-    /// lets go of a scope whose end was refused. Takes no memory, and is O(1).
+    /// lets go of a scope whose end was refused. Doesn't allocate, and is O(1).
     ///
     /// ```rust
     /// if let Err((dialog, _)) = dialog.end(store) {

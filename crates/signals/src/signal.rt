@@ -114,7 +114,8 @@ impl<T> Signal<T> {
         self.raw
     }
 
-    /// The id of the signal, which no other ever has. Copies of one signal have one id. Takes no memory.
+    /// The id of the signal, which no other ever has. Copies of one signal have one id. Doesn't
+    /// allocate.
     ///
     /// ```rust
     /// let id = kept.id();
@@ -268,7 +269,7 @@ impl<T> Signal<T> {
     /// answers: without a ticket or a location. The store is lent meanwhile.
     ///
     /// None where the signal has ended or is of another store, or a writer has the value: the closure
-    /// isn't called. Takes no memory of its own, and is O(1), but for the closure.
+    /// isn't called. Doesn't allocate of its own, and is O(1), but for the closure.
     ///
     /// ```rust
     /// let twice = kept.with(store, |count| count.wrapping_mul(2));
@@ -302,7 +303,7 @@ impl<T> Signal<T> {
     }
 
     /// Whether a read of the signal is free: false where it has ended or is of another store, or a
-    /// writer has the value. Takes no memory, and is O(1).
+    /// writer has the value. Doesn't allocate, and is O(1).
     ///
     /// ```rust
     /// if kept.is_readable(store) {
