@@ -109,6 +109,7 @@ FRUGAL_TESTS = {
     "memory::makings_in_reserved_room": (60, 50_000),
     "beside::a_crowd_of_workers": (4_200, 9_300_000),
     "unshared::calls_without_threads": (33, 8_000),
+    "chunks::again::chunks_serve_again": (540, 1_215_000),
 }
 # Tests that ask for room beyond what they need, and how many bytes that is: they pass with so many less than they have
 # at once, and not with more than these less.
