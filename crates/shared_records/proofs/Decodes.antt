@@ -2,7 +2,7 @@
 use Rattle.generational_errors.specs.{declared.error.Location.Location, Texts.same_location}
 use Rattle.location_list.specs.Locations as found
 use Rattle.shared_records.specs
-use specs.Decoding.{advanced, after, AreOwn, AreWithin, decode, Extends, far_item, IsAt, IsApart, IsNaming, IsPlain, long_item}
+use specs.Decoding.{advanced, after, AreOwn, AreWithin, decode, Extends, IsAt, IsApart, IsNaming, IsPlain}
 use specs.Decoding.{IsWithin, name_items, naming_all, no_far, no_step, nowhere, own_places}
 use specs.Decoding.{plain_step, reached_by, StandsFor, step_at, Tables, tables}
 use specs.declared.short.FarStep.{FarStep}
@@ -237,6 +237,13 @@ module _ (number : ℕ) (t : Tables) {r : Reached} {step : Step} {x : Short}
 
   pub plain_goes_on : after number t r x ≡ advanced r (Some step)
   plain_goes_on = grind (arith, stands.same, stands.goes_on)
+
+-- the items of the long step and of the far one with a number, which they have in two parts
+abbrev long_item : ℕ → Short
+long_item i = short.Long (i / 4294967296) (i % 4294967296)
+
+abbrev far_item : ℕ → Short
+far_item i = short.Far (i / 4294967296) (i % 4294967296)
 
 -- the newest of the long steps, and of the far ones
 pub long_last : (long longer : List Step) (step : Step) → longer ≡ long ++ step ∷ []

@@ -54,13 +54,6 @@ full n = record { slot = n.slot; generation = n.generation }
 abbrev pub name_item : ShortName → Short
 name_item n = short.Name (n.slot / 65536) (n.slot % 65536) n.generation
 
--- the items of the long step and of the far one with a number, which they have in two parts too
-abbrev pub long_item : ℕ → Short
-long_item i = short.Long (i / 4294967296) (i % 4294967296)
-
-abbrev pub far_item : ℕ → Short
-far_item i = short.Far (i / 4294967296) (i % 4294967296)
-
 -- what items count on: locations by their numbers, steps that are kept whole, and steps with locations
 -- of their own
 pub record Tables : Type 0 where

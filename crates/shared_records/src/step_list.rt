@@ -3,7 +3,7 @@
 ghost use Rattle.std.specs.Prelude.{◌≡◌, ◌+◌, ◌<◌, ◌≤◌, ◌^◌, [], ◌∷◌, ◌++◌, IfOk, OnOk, OnErr};
 ghost use Rattle.std.specs.Prelude.{IfSome, length};
 ghost use Rattle.shared_records.specs.Decoding.{AreOwn, AreShort, AreWithin, Extends, IsApart, IsNaming};
-ghost use Rattle.shared_records.specs.Decoding.{StandsFor, decode, far_item, long_item, name_items};
+ghost use Rattle.shared_records.specs.Decoding.{StandsFor, decode, name_items};
 ghost use Rattle.shared_records.specs.Decoding.{naming_all, next_after, reached_by, reached_first, tables};
 ghost use Rattle.shared_records.specs.declared.short.Short.{Short};
 ghost use Rattle.shared_records.specs.declared.shorten.Names.TheVariants as names;
