@@ -1,6 +1,14 @@
 -- What moves, what is walked, and what stays.
 pub mod Trees
 use Rattle.std.specs.FinMap as map
+use Rattle.std.specs.{Cmp.IsEquivalence, List.IsDistinct, Ordering.eq_by_cmp}
+use Rattle.std.specs.Prelude.{map as list_map}
+use Rattle.std.proofs.lemmas.Map.Made.{length-from_same_keys}
+use Rattle.generational_core.proofs.maps.Maps.{keys_apart, len_keys, name_test}
+use Rattle.generational_core.specs.{Cells.refers_to}
+unfoldable use Rattle.generational_core.specs.{Names.is_name, State.is_named}
+use Rattle.generational_core.specs.Cells.Cell.{Ref, Shared}
+use Rattle.generational_core.specs.Cells.Content.{Here, Lent}
 use Rattle.scene_tree.specs.declared.spot.Spot.TheVariants as spot
 unfoldable pub use Trees.*
 
@@ -102,6 +110,47 @@ module _ {T : Type 0} (S : State T) (roots : Bool) where
   met_some n None lt = absurd (omega (arith, lt))
   met_some n (Some l) lt = (l, refl, grind arith, grind arith)
 
+-- lists of nodes: one stands in a list if it stands there some times, and a list is of different nodes if
+-- each stands there once
+module _ {T : Type 0} where
+  same_equivalence : IsEquivalence (is_same {T = T})
+  same_equivalence = record {
+    refl = λ a. grind arith;
+    symm = λ a b. grind arith;
+    congr = λ a b c h. grind arith;
+  }
+
+  times_any : (n : Node T) (list : List (Node T)) → 0 < times n list → list_any (is_same n) list ≡ true
+  times_any n [] some = grind arith
+  times_any n (c ∷ list) some =
+      grind (arith, times_any n list, times_apart n c list, same_equivalence.symm n c)
+
+  any_times : (n : Node T) (list : List (Node T)) → list_any (is_same n) list ≡ true → 0 < times n list
+  any_times n [] some = grind arith
+  any_times n (c ∷ list) some = grind (
+    arith,
+    any_times n list,
+    times_apart n c list,
+    times_more n c list,
+    same_equivalence.symm n c,
+  )
+
+  once_apart : (list : List (Node T)) → ((n : Node T) → times n list ≤ 1) → IsDistinct is_same list
+  unfolding IsDistinct
+  once_apart [] once = tt
+  once_apart (c ∷ list) once = (
+    none c list (grind (arith, once c, times_more c c list, same_equivalence.refl c)),
+    once_apart list (λ n. grind (arith, once n, times_apart n c list, times_more n c list)),
+  )
+    where
+      none : (c : Node T) (list : List (Node T)) → times c list ≡ 0
+          → AllByRecursion (λ n. is_same c n ≡ false) list
+      none c [] absent = tt
+      none c (n ∷ list) absent = (
+        grind (arith, times_more c n list, same_equivalence.symm c n),
+        none c list (grind (arith, times_more c n list, times_apart c n list)),
+      )
+
 module _ {T : Type 0} {S : State T} (sound : IsSound S) (links : List (Link T)) (k : IsKept S (families links))
     (a : AreNoted S links) where
   abbrev met_tree : TreeState T
@@ -160,6 +209,94 @@ module _ {T : Type 0} {S : State T} (sound : IsSound S) (links : List (Link T)) 
     );
     once = λ n. grind (arith, met_is true n);
   }
+
+  -- ---- as many are met as cells are live
+
+  -- no cell is a reference, and so none is named by one
+  none_named : (q : Name) (ns : List Name)
+      → list_any (λ n. refers_to q (map.get S.cells n)) ns ≡ true → ⊥
+  none_named q [] named = grind arith
+  none_named q (n ∷ ns) named = grind (arith, none_named q ns, refers q n)
+    where
+      refers : (q n : Name) → refers_to q (map.get S.cells n) ≡ false
+      refers q n = grind (arith, k.simple.plain.none n)
+
+  -- the node with a name
+  abbrev node_named : Name → Node T
+  node_named q = record {
+    raw = record {
+      raw = record {
+        id = record { store = S.number; slot = q.slot; generation = q.generation };
+        created_at = record { file = record { ref_ptr = (0, 0); now = [] }; line = 0; column = 0 };
+      };
+      marker = record {};
+    };
+  }
+
+  -- it is live if its cell is there
+  named_live : (q : Name) → map.contains_key S.cells q ≡ true → IsLiveIn S (node_named q)
+  unfolding value_in reach is_named
+  named_live q there = at (map.get S.cells q) refl there
+    where
+      at : (c : Option (Cell T)) → map.get S.cells q ≡ c → is_some c ≡ true → IsLiveIn S (node_named q)
+      at None is some = absurd (true≢false (sym some))
+      at (Some (Value (Here v readers) l)) is some = grind arith
+      at (Some (Value (Lent w) l)) is some = grind (arith, k.simple.unborrowed.none q)
+      at (Some (Shared c l)) is some =
+          absurd (none_named q (map.keys S.cells) (sound.shared q (grind arith)))
+      at (Some (Ref m l)) is some = absurd (k.simple.plain.none q m l is)
+
+  -- a live node is in a list of nodes with names if its name is in theirs
+  in_named : (n : Node T) (qs : List Name) → (pointer_in n).id.store ≡ S.number
+      → list_any (is_same n) (list_map node_named qs)
+      ≡ list_any (eq_by_cmp name_cmp (name_of (pointer_in n))) qs
+  unfolding is_name
+  in_named n [] own = refl
+  in_named n (q ∷ qs) own = grind (arith, in_named n qs own, name_test (name_of (pointer_in n)) q)
+
+  not_in_named : (n : Node T) (qs : List Name) → (pointer_in n).id.store ≢ S.number
+      → list_any (is_same n) (list_map node_named qs) ≡ false
+  not_in_named n [] other = refl
+  not_in_named n (q ∷ qs) other = grind (arith, not_in_named n qs other)
+
+  named_apart : (qs : List Name) → IsDistinct is_name qs → IsDistinct is_same (list_map node_named qs)
+  unfolding IsDistinct
+  named_apart [] d = tt
+  named_apart (q ∷ qs) d = (apart q qs d.0, named_apart qs d.1)
+    where
+      apart : (q : Name) (qs : List Name) → AllByRecursion (λ r. is_name q r ≡ false) qs
+          → AllByRecursion (λ n. is_same (node_named q) n ≡ false) (list_map node_named qs)
+      apart q [] d = tt
+      apart q (r ∷ qs) d = (grind (arith, name_test q r, d.0), apart q qs d.1)
+
+  -- so the live nodes and the cells are as many
+  pub met_count : length (met S false links) ≡ map.len S.cells
+  unfolding is_name
+  met_count = length-from_same_keys same_equivalence (met S false links) (list_map node_named (map.keys S.cells))
+      (once_apart (met S false links) all_met.once)
+      (named_apart (map.keys S.cells) (keys_apart name_cmp S.cells)) among_both
+      ∙ length-map (map.keys S.cells) node_named ∙ sym (len_keys name_cmp S.cells)
+    where
+      sees_named : (n : Node T) → (pointer_in n).id.store ≡ S.number
+          → value_in S (pointer_in (node_named (name_of (pointer_in n)))) ≡ value_in S (pointer_in n)
+      sees_named n own = same_id_sees S (pointer_in (node_named (name_of (pointer_in n)))) (pointer_in n)
+          (grind arith)
+
+      among_both : (n : Node T) → list_any (is_same n) (met S false links)
+          ≡ list_any (is_same n) (list_map node_named (map.keys S.cells))
+      among_both n = grind (
+        arith,
+        times_any n (met S false links),
+        any_times n (met S false links),
+        all_met.live n,
+        in_named n (map.keys S.cells),
+        not_in_named n (map.keys S.cells),
+        seen_store S (pointer_in n) sound,
+        seen_cell S (pointer_in n),
+        map.contains_key-keys S.cells (name_of (pointer_in n)),
+        named_live (name_of (pointer_in n)),
+        sees_named n,
+      )
 
 -- ==== a tree's store and families after each of its calls
 

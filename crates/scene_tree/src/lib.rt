@@ -14,7 +14,7 @@ mod tree;
 mod walk;
 
 pub use crate::node::{Node, Stale, TreeError};
-pub use crate::nodes::Nodes;
+pub use crate::nodes::{Nodes, Roots};
 pub use crate::spot::Spot;
 pub use crate::tree::SceneTree;
 pub use crate::walk::{Ancestors, Children, Outline};

@@ -9,4 +9,4 @@ returns g c n v shown =
     c.over.yielded _ c.over.yielded_by _ _ c.in-None.is c.next.ensures.steps in
     shown_too c.args.tree.now (λ value. value ≤ c.over.greatest) n c.over.yielded
     (subst (λ xs. 0 < times n xs) (sym all.0 ∙ map-id c.over.yielded)
-    ((c.nodes-node-items.ensures.live n).1 (ap is_some shown))) c.over.invariant v shown
+    ((c.nodes-node-items.ensures.all.live n).1 (ap is_some shown))) c.over.invariant v shown

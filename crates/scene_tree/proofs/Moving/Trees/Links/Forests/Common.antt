@@ -33,7 +33,7 @@ pub use Rattle.scene_tree.specs.Families.{IsOpened, IsRooted, IsSpotIn, IsUnder,
 pub use Rattle.scene_tree.specs.Keeping.{AreNoted, HasLost, IsKept, IsLiveIn}
 pub use Rattle.scene_tree.specs.Nodes.{is_same, IsOther, IsSame, pointer_in, slot_in, times}
 pub use Rattle.scene_tree.specs.Rows.{behind, IsPlaced, rows_at, waiting}
-pub use Rattle.scene_tree.specs.Trees.{AreAll, AreAncestors, AreRoots, CanMove, children_of}
+pub use Rattle.scene_tree.specs.Trees.{AreAll, AreAncestors, AreRoots, CanMove, children_of, count_of}
 pub use Rattle.scene_tree.specs.Trees.{family_of, is_live, IsBelow, IsRootedIn, IsStepsBelow}
 pub use Rattle.scene_tree.specs.Trees.{IsSubtree, IsTree, NodeIsUnchanged, parent_for, parent_of}
 pub use Rattle.scene_tree.specs.Walking.{IsRest, IsWithin, way_up}
