@@ -24,4 +24,7 @@ pub use generational_core::{
     Owner, OwnerId, Ref, Refusal, Refused, StepCall, Storage, StoreError, ValueDroppedError,
 };
 pub use generational_sessions::{BoxAt, Call, Reply, Session, caller_laws, laws};
+pub use store_images::{
+    CellImage, Image, ImageFault, LoadError, LoadRefusal, SaveError, SlotImage,
+};
 pub use store_parts::pool::{LastFirst, OldestFirst, SlotPool};

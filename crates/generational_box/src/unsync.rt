@@ -15,6 +15,8 @@ ghost use Rattle.store_cells.specs.Entry.{cell_of};
 ghost use Rattle.store_cells.specs.Entries.{IsUnborrowed, kept_data, named_by};
 ghost use Rattle.store_slots.specs.SlotsState.{Finds, IsMade, with_records};
 
+mod images;
+
 use crate::ids::{cell_name, id_in, pointer_in};
 use generational_core::parts::{
     Borrow, id_read, into_reader, into_writer, owner_at, reader_at, writer_at,

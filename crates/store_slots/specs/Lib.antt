@@ -1,3 +1,4 @@
+pub mod ImageSlots
 pub mod Packing
 pub mod Removal
 pub mod SlotRows

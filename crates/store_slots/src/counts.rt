@@ -48,6 +48,13 @@ impl Counts {
         }
     }
 
+    /// So many were retired, and so many were usable at once before the last of them was.
+    pub fn at(retired: usize, before: usize) -> Counts
+        ensures { result ≡ record { retired = retired; before = before } }
+    {
+        Counts { retired, before }
+    }
+
     /// How many were retired.
     #[inline(always)]
     pub fn retired(&self) -> usize

@@ -48,6 +48,8 @@ ghost use Rattle.generational_core.specs.Plain.{plain};
 ghost use Rattle.store_slots.specs.SlotRows.{all_slot_rows, ReadSlots};
 ghost use Rattle.store_slots.specs.SlotsState.{with_records};
 
+mod loading;
+
 use crate::blocking_borrow::{
     are_unborrowed_values, find_blocking_borrow, find_blocking_value, would_end,
 };
@@ -60,6 +62,7 @@ use generational_core::parts::Borrow;
 use generational_core::{
     BaseRow, BorrowError, BorrowMutError, BorrowMutResult, Location, Refused, StoreError,
 };
+pub use loading::{Room, whole_images_are_sound};
 use std::alloc::{AllocError, Global};
 use std::marker::Model;
 use store_cells::entries::Entries;

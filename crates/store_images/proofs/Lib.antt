@@ -1,0 +1,2 @@
+pub mod walks
+unfoldable pub use walks.*

@@ -1,0 +1,12 @@
+//! Images: what a store has, as plain data.
+//!
+//! It is a part of `generational_box`, which is what users take.
+#![tactic(auto)]
+
+mod check;
+mod image;
+
+pub use crate::check::check_image;
+pub use crate::image::{
+    CellImage, Image, ImageFault, LoadError, LoadRefusal, SaveError, SlotImage,
+};
