@@ -197,7 +197,7 @@ written (y ∷ xs) zero x within = refl
 written (y ∷ xs) (suc i) x within = written xs i x (omega arith)
 written [] i x within = absurd (omega arith)
 
-unwritten : {X : Type 0} (xs : List X) (i k : ℕ) (x : X) → k ≢ i → slice_get (slice_set xs i x) k ≡ slice_get xs k
+pub unwritten : {X : Type 0} (xs : List X) (i k : ℕ) (x : X) → k ≢ i → slice_get (slice_set xs i x) k ≡ slice_get xs k
 unwritten (y ∷ xs) zero zero x apart = absurd (apart refl)
 unwritten (y ∷ xs) zero (suc k) x apart = refl
 unwritten (y ∷ xs) (suc i) zero x apart = refl

@@ -1,15 +1,17 @@
--- Slots that are made of an image's.
-use Rattle.std.specs.Prelude.{◌≡◌, ◌<◌, ◌+◌, ℕ, Bool, not, ◌&&◌, nat_lt, List, [], slice_get, length, IfSome}
+-- Slots that are made of an image's, and images of slots.
+use Rattle.std.specs.Prelude.{◌≡◌, ◌≤◌, ◌<◌, ◌+◌, ℕ, Bool, not, ◌&&◌, nat_lt, List, [], ◌∷◌, slice_get, length, IfSome}
+use Rattle.std.specs.Prelude.{map as list_map}
 use Rattle.std.specs.Ordering.{nat_cmp}
 use Rattle.std.specs.FinSet as set
+use Rattle.generational_core.specs.Borrowing.{write_refusal}
 use Rattle.generational_core.specs.Cells.Content.{Here}
-use Rattle.std.specs.Prelude.{Option, Some, option_map, true}
+use Rattle.std.specs.Prelude.{Option, Some, None, option_map, true}
 use Rattle.generational_core.specs.Cells.{Cell, is_shared}
 use Rattle.generational_core.specs.Cells.Cell.{Ref}
 use Rattle.store_cells.specs.Entry.{cell_under}
 use Rattle.generational_core.specs.Slots.{last_generation}
 use Rattle.store_cells.specs.declared.entry.Kind.TheVariants as kind
-use Rattle.store_cells.specs.Entry.{Entry, Kept, is_live}
+use Rattle.store_cells.specs.Entry.{Entry, Kept, content_in, is_live}
 use Rattle.store_cells.specs.Entry.Kept.{Empty, Live, Refers}
 use Rattle.store_images.specs.declared.image.CellImage.{CellImage}
 use Rattle.store_images.specs.declared.image.CellImage.TheVariants as saved
@@ -60,3 +62,28 @@ module _ {T : Type 0} where
         → IsSlotTable (record { free = free; rooms = rooms; start = start; counts = counts; slots = old })
         → IsSlotTable (record { free = free; rooms = rooms; start = start; counts = counts; slots = new })
     pub kept : (k : ℕ) → option_map (λ e. e.kept) (slice_get new k) ≡ option_map (λ e. e.kept) (slice_get old k)
+
+module _ {T : Type 0} (Copies : T → T → Type 0) where
+  -- the image of what a slot holds, with a copy of its value; a borrowed value has none
+  abbrev pub IsCellImage : Kept T → CellImage T → Type 0
+  IsCellImage Empty c = c ≡ saved.Empty
+  IsCellImage (Live kind.Value (Here v []) l) c = (w : T) × Copies v w × (c ≡ saved.Value w l)
+  IsCellImage (Live kind.Shared (Here v []) l) c =
+      (w : T) × Copies v w × (c ≡ saved.Shared w l)
+  IsCellImage (Live k content l) c = ⊥
+  IsCellImage (Refers m l) c = c ≡ saved.Reference m.slot m.generation l
+
+  -- the image of a slot, and of each slot of a list
+  abbrev pub IsSlotImage : Entry T → SlotImage T → Type 0
+  IsSlotImage e s = (s.generation ≡ e.generation) × IsCellImage e.kept s.cell
+
+  abbrev pub AreSlotImages : List (Entry T) → List (SlotImage T) → Type 0
+  AreSlotImages [] [] = Unit {0}
+  AreSlotImages (e ∷ slots) (s ∷ images) = IsSlotImage e s × AreSlotImages slots images
+  AreSlotImages _ _ = ⊥
+
+module _ {T : Type 0} where
+  -- no borrow stands at a slot's cell
+  abbrev pub AreUnborrowed : List (Entry T) → Type 0
+  AreUnborrowed slots =
+      (k : ℕ) → IfSome (slice_get slots k) (λ e. write_refusal (content_in e.kept) ≡ None)

@@ -49,6 +49,7 @@ ghost use Rattle.store_slots.specs.SlotRows.{all_slot_rows, ReadSlots};
 ghost use Rattle.store_slots.specs.SlotsState.{with_records};
 
 mod loading;
+mod saving;
 
 use crate::blocking_borrow::{
     are_unborrowed_values, find_blocking_borrow, find_blocking_value, would_end,

@@ -1,16 +1,95 @@
-//! Stores that are made of an image.
+//! Stores that are made of an image, and images of stores.
 
-ghost use Rattle.std.specs.Prelude.{◌≡◌, IfOk, IfErr, length};
+ghost use Rattle.std.specs.Prelude.{◌≡◌, ℕ, None, IfOk, IfErr, IfSome, IfNone, length};
+ghost use Rattle.std.specs.FinMap as map;
+ghost use Rattle.generational_core.specs.Borrowing.{write_refusal};
+ghost use Rattle.generational_core.specs.Names.{Name};
+ghost use Rattle.generational_core.specs.State.{content_at};
 ghost use Rattle.store_images.specs.Images.{told, IsLoadError, IsWhole};
+ghost use Rattle.store_images.specs.Saving.{IsSaveError, IsStateCopy};
 
 use crate::unsync::Store;
 use std::alloc::Global;
-use store_images::{Image, LoadError, LoadRefusal, check_image};
+use store_images::{Image, LoadError, LoadRefusal, SaveError, check_image};
 use store_parts::owners::OwnerRecords;
 use store_parts::pool::SlotPool;
 use store_slots::slots::Room;
 
 impl<T: Drop, P: SlotPool> Store<T, P> {
+    /// The store as an image, with its values. The image tells the store's state: a store that is
+    /// made of it has that state again.
+    ///
+    /// # Errors
+    ///
+    /// The store, unchanged, with `Owned` if it has an owner's record, `Borrowed` with the first slot
+    /// whose value is borrowed, or `OutOfMemory`. Allocates the image's list of slots, before a value
+    /// is moved. Takes O(n) for n slots and as many places of owners.
+    ///
+    /// Upstream has no such call.
+    pub fn into_image(self) -> Result<Image<T>, (Self, SaveError)>
+        ensures state { IfOk result (λ image. told image ≡ self.state) }
+        ensures whole { IfOk result IsWhole }
+        ensures back { IfErr result (λ error. error.0.state ≡ self.state) }
+        ensures cause { IfErr result (λ error. IsSaveError self.state error.1) }
+    {
+        if let Some(cause) = self.save_error() {
+            return Err((self, cause));
+        }
+        let Ok(images) = Vec::with_capacity(self.alloc, self.slots.counts().slots) else {
+            return Err((self, SaveError::OutOfMemory));
+        };
+        let Store {
+            alloc: _,
+            number,
+            next,
+            slots,
+            owners,
+        } = self;
+        drop(owners);
+        Ok(slots.into_image(number, next, images))
+    }
+
+    /// An image of the store with a copy of each value. The store keeps its own.
+    ///
+    /// # Errors
+    ///
+    /// The same as those of `into_image`; `OutOfMemory` also if a value's `clone` fails. Allocates the
+    /// image's list of slots, and what the copies take. Takes O(n) for n slots and as many places of
+    /// owners.
+    ///
+    /// Upstream has no such call.
+    pub fn image(&self) -> Result<Image<T>, SaveError>
+    where
+        T: Clone,
+        ensures copy { IfOk result (λ image. IsStateCopy T.is_clone self.now.state (told image)) }
+        ensures whole { IfOk result IsWhole }
+        ensures cause { IfErr result (λ cause. IsSaveError self.now.state cause) }
+    {
+        if let Some(cause) = self.save_error() {
+            return Err(cause);
+        }
+        match self.slots.image(self.alloc, self.number, self.next) {
+            Ok(image) => Ok(image),
+            Err(_) => Err(SaveError::OutOfMemory),
+        }
+    }
+
+    // Why the store has no image now, memory aside.
+    fn save_error(&self) -> Option<SaveError>
+        ensures some { IfSome result (λ cause. IsSaveError self.now.state cause) }
+        ensures owners { IfNone result (self.now.state.owners ≡ map.empty) }
+        ensures free { IfNone result ((n : Name)
+            → write_refusal (content_at self.now.state n) ≡ None) }
+    {
+        if !self.owners.is_empty() {
+            return Some(SaveError::Owned);
+        }
+        match self.slots.find_borrowed() {
+            Some(slot) => Some(SaveError::Borrowed(slot)),
+            None => None,
+        }
+    }
+
     /// The store that the image describes: its cells, the names that it gave, its peak and the next
     /// ticket. It has no borrows and no owners. Any image may be passed in.
     ///

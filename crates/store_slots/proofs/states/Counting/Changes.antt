@@ -397,7 +397,7 @@ pub record IsHeld {T : Type 0} (slots : List (Entry T)) (n : Name) : Type 0 wher
   pub open spot use *
 
 module _ {T : Type 0} where
-  content_kept : (k : Kept T) → content_of (cell_of k) ≡ content_in k
+  pub content_kept : (k : Kept T) → content_of (cell_of k) ≡ content_in k
   content_kept k = grind arith
 
   -- a cell that passes a test which nothing passes has one
