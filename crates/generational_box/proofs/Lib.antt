@@ -1,2 +1,3 @@
 pub mod calls
+pub mod images
 unfoldable pub use calls.*

@@ -25,6 +25,6 @@ pub use generational_core::{
 };
 pub use generational_sessions::{BoxAt, Call, Reply, Session, caller_laws, laws};
 pub use store_images::{
-    CellImage, Image, ImageFault, LoadError, LoadRefusal, SaveError, SlotImage,
+    CellImage, Image, ImageFault, LoadError, LoadRefusal, Loaded, SaveError, SlotImage,
 };
 pub use store_parts::pool::{LastFirst, OldestFirst, SlotPool};

@@ -1,5 +1,5 @@
 -- Images that are made of a store's state.
-use Rattle.std.specs.Prelude.{◌≡◌, ℕ, true, List, [], Option, Some, None, is_some}
+use Rattle.std.specs.Prelude.{◌≡◌, ℕ, true, [], Option, Some, None, is_some}
 use Rattle.std.specs.FinMap as map
 use Rattle.generational_core.specs.Borrowing.{write_refusal}
 use Rattle.generational_core.specs.Cells.{Cell}

@@ -5,8 +5,10 @@
 
 mod check;
 mod image;
+mod loaded;
 
 pub use crate::check::check_image;
 pub use crate::image::{
     CellImage, Image, ImageFault, LoadError, LoadRefusal, SaveError, SlotImage,
 };
+pub use crate::loaded::Loaded;

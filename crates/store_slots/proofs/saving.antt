@@ -1,12 +1,11 @@
 -- Images of slots: they tell the slots' state, and are whole.
-use Rattle.std.proofs.Common.{◌≡◌, ◌≢◌, ◌<◌, ◌≤◌, ◌+◌, ◌∙◌, ◌++◌, ◌∷◌, [], ℕ, zero, suc, Bool, true, false}
+use Rattle.std.proofs.Common.{◌≡◌, ◌≢◌, ◌<◌, ◌+◌, ◌∙◌, ◌++◌, ◌∷◌, [], ℕ, zero, suc, true, false}
 use Rattle.std.proofs.Common.{inl, inr, List, Option, Some, None, IfNone, IfSome, is_some, option_map, if◌then◌else◌}
 use Rattle.std.proofs.Common.{add-one, ap, arith, eq-eqb, length, nat_eq, refl, slice_get, sym, take}
 use Rattle.std.proofs.Common.{map as list_map}
 use Rattle.std.proofs.lemmas.Bool.Decides.{nat_tests}
 use Rattle.std.proofs.lemmas.Option.{none-some, slice_get_cases}
 use Rattle.std.specs.FinMap as map
-use Rattle.std.specs.List.{list_any}
 use Rattle.generational_errors.specs.declared.error.Location.{Location}
 use Rattle.generational_core.specs.Borrowing.{write_refusal}
 use Rattle.generational_core.specs.Cells.{Cell, content_of, is_shared}
@@ -14,26 +13,24 @@ use Rattle.generational_core.specs.Cells.Cell.{Value, Shared, Ref}
 use Rattle.generational_core.specs.Cells.Content.{Here, Lent}
 use Rattle.generational_core.specs.Conditions.{IsLinked}
 use Rattle.generational_core.specs.Names.{Name}
-use Rattle.generational_core.specs.State.{content_at, State}
+use Rattle.generational_core.specs.State.{State}
 use Rattle.store_cells.specs.Entry.{cell_in, cell_of, cell_under, change_entry, change_entry_if}
-use Rattle.store_cells.specs.Entry.{content_in, Entry, has_no_borrow, is_live, Kept, kind_in, target_in}
+use Rattle.store_cells.specs.Entry.{content_in, Entry, is_live, Kept}
 use Rattle.store_cells.specs.Entry.Kept.{Empty, Live, Refers}
-use Rattle.store_cells.specs.declared.entry.Kind.{Kind}
 use Rattle.store_cells.specs.declared.entry.Kind.TheVariants as kind
 use Rattle.store_images.specs.Images.{HasBegun, HasTarget, HasTargetIn, has_shared, is_referred_to}
 use Rattle.store_images.specs.Images.{is_shared_in, is_usable, IsReferredTo, IsWhole, refers_to_slot, told}
 use Rattle.store_images.specs.Saving.{IsCellCopy, IsStateCopy}
 use Rattle.store_images.specs.declared.image.CellImage.{CellImage}
-use Rattle.store_images.specs.declared.image.CellImage.TheVariants as saved
 use Rattle.store_images.specs.declared.image.Image.{Image}
 use Rattle.store_images.specs.declared.image.SlotImage.{SlotImage}
 use Rattle.store_parts.specs.Lists.{how_many}
 use Rattle.store_slots.specs.ImageSlots.{AreSlotImages, AreUnborrowed, IsCellImage, IsSlotImage}
 use Rattle.store_slots.specs.ImageSlots.{kept_told, slot_told}
 use Rattle.store_slots.specs.SlotsState.{cells_of, given_of, HasBegun as Begun, is_spent, IsSlotTable}
-use Rattle.store_slots.specs.SlotsState.{SlotsState, SlotTable, state_of, with_records}
+use Rattle.store_slots.specs.SlotsState.{SlotTable, state_of, with_records}
 use Rattle.store_slots.proofs.loading.{told_at, unwritten}
-use Rattle.store_slots.proofs.states.Counting.Changes.{content_kept, state_is, get_cells, get_given, given_in, same_cells, same_names}
+use Rattle.store_slots.proofs.states.Counting.Changes.{content_kept, get_cells, get_given, given_in, same_cells, same_names}
 use Rattle.store_slots.proofs.telling.{tells}
 
 -- ==== one slot after the other

@@ -1,6 +1,5 @@
 -- Slots that are made of an image's, and images of slots.
-use Rattle.std.specs.Prelude.{◌≡◌, ◌≤◌, ◌<◌, ◌+◌, ℕ, Bool, not, ◌&&◌, nat_lt, List, [], ◌∷◌, slice_get, length, IfSome}
-use Rattle.std.specs.Prelude.{map as list_map}
+use Rattle.std.specs.Prelude.{◌≡◌, ◌<◌, ◌+◌, ℕ, Bool, not, ◌&&◌, nat_lt, List, [], ◌∷◌, slice_get, length, IfSome}
 use Rattle.std.specs.Ordering.{nat_cmp}
 use Rattle.std.specs.FinSet as set
 use Rattle.generational_core.specs.Borrowing.{write_refusal}

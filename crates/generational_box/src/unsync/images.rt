@@ -5,12 +5,14 @@ ghost use Rattle.std.specs.FinMap as map;
 ghost use Rattle.generational_core.specs.Borrowing.{write_refusal};
 ghost use Rattle.generational_core.specs.Names.{Name};
 ghost use Rattle.generational_core.specs.State.{content_at};
+ghost use Rattle.generational_core.specs.declared.boxes.GenerationalBoxId.{GenerationalBoxId};
+ghost use Rattle.store_images.specs.Adopting.{adopted, id_adopted};
 ghost use Rattle.store_images.specs.Images.{told, IsLoadError, IsWhole};
 ghost use Rattle.store_images.specs.Saving.{IsSaveError, IsStateCopy};
 
 use crate::unsync::Store;
 use std::alloc::Global;
-use store_images::{Image, LoadError, LoadRefusal, SaveError, check_image};
+use store_images::{Image, LoadError, LoadRefusal, Loaded, SaveError, check_image};
 use store_parts::owners::OwnerRecords;
 use store_parts::pool::SlotPool;
 use store_slots::slots::Room;
@@ -112,6 +114,45 @@ impl<T: Drop, P: SlotPool> Store<T, P> {
         match room_for(alloc, &image) {
             Ok(room) => Ok(Store::fill(alloc, room, image)),
             Err(cause) => Err(LoadRefusal { image, cause }),
+        }
+    }
+
+    /// The same store as that of `from_image`, but under another number, and what is needed to turn
+    /// ids that were saved with the image into its ids: `Loaded::adopt`. With a number that no store
+    /// had yet, no id that was ever given is one of the loaded store: so a handle that was given after
+    /// the image was made, and lost with its run, is refused like any other store's.
+    ///
+    /// # Errors
+    ///
+    /// The same as those of `from_image`. Allocates 16 bytes more for each slot.
+    ///
+    /// Upstream has no such call.
+    pub fn from_image_as(
+        alloc: Global,
+        number: u64,
+        image: Image<T>,
+    ) -> Result<(Self, Loaded), LoadRefusal<T>>
+        ensures state { IfOk result (λ loaded.
+            loaded.0.state ≡ record (told image) { number = number }) }
+        ensures adopts { IfOk result (λ loaded. (id : GenerationalBoxId)
+            → adopted loaded.1 id ≡ id_adopted image number id) }
+        ensures back { IfErr result (λ refusal. refusal.image ≡ image) }
+        ensures cause { IfErr result (λ refusal. IsLoadError image refusal.cause) }
+    {
+        let room = match room_for(alloc, &image) {
+            Ok(room) => room,
+            Err(cause) => return Err(LoadRefusal { image, cause }),
+        };
+        match Loaded::of(alloc, &image, number) {
+            Ok(loaded) => {
+                let mut image = image;
+                image.number = number;
+                Ok((Store::fill(alloc, room, image), loaded))
+            }
+            Err(_) => Err(LoadRefusal {
+                image,
+                cause: LoadError::OutOfMemory,
+            }),
         }
     }
 

@@ -1,4 +1,3 @@
-use Rattle.std.proofs.Common.{IfNone, IfSome, None, Option, Some, ℕ, ◌≡◌, sym}
 use Rattle.store_slots.proofs.{state_is}
 use Rattle.store_slots.proofs.saving.{borrowed_at, unborrowed_at}
 use Rattle.store_slots.proofs.slots.Slots.find_borrowed.Goals as goal

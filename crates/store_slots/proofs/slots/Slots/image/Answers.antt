@@ -1,8 +1,5 @@
-use Rattle.std.proofs.Common.{refl, ◌≡◌, subst, sym}
-use Rattle.std.specs.FinMap as map
-use Rattle.store_images.specs.Images.{told}
-use Rattle.store_images.specs.Saving.{IsStateCopy}
-use Rattle.store_slots.specs.SlotsState.{state_of, with_records}
+use Rattle.std.proofs.Common.{refl, ◌≡◌}
+use Rattle.store_slots.specs.SlotsState.{state_of}
 use Rattle.store_slots.proofs.{state_is}
 use Rattle.store_slots.proofs.saving.{images_whole, told_copy, unborrowed_slots}
 use Rattle.store_slots.proofs.slots.Slots.image.Goals as goal

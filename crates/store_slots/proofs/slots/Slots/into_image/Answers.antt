@@ -1,4 +1,4 @@
-use Rattle.std.proofs.Common.{ap, arith, refl, ◌≡◌, ◌∙◌, sym, subst}
+use Rattle.std.proofs.Common.{ap, arith, refl, ◌≡◌, ◌∙◌}
 use Rattle.std.specs.FinMap as map
 use Rattle.store_slots.specs.SlotsState.{state_of, with_records}
 use Rattle.store_slots.proofs.{slots_seen, state_is}

@@ -1,4 +1,4 @@
-use Rattle.std.proofs.Common.{arith, length, refl, ◌<◌}
+use Rattle.std.proofs.Common.{arith, length, ◌<◌}
 use Rattle.store_slots.proofs.saving.{images_step}
 use Rattle.store_slots.proofs.slots.saving.copy_cells.Goals as goal
 

@@ -1,6 +1,5 @@
-use Rattle.std.proofs.Common.{arith, ap, length, refl, sym, ◌≡◌, ◌∙◌, ◌<◌, ◌++◌, ◌∷◌, []}
-use Rattle.std.proofs.lemmas.List.{length-append, take_all}
-use Rattle.store_slots.specs.ImageSlots.{AreSlotImages}
+use Rattle.std.proofs.Common.{arith, length, ◌≡◌, ◌∙◌, ◌<◌}
+use Rattle.std.proofs.lemmas.List.{take_all}
 use Rattle.store_slots.proofs.saving.{both_there, images_step}
 use Rattle.store_slots.proofs.slots.saving.take_cells.Goals as goal
 
