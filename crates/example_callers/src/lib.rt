@@ -4,6 +4,7 @@
 pub mod asking;
 pub mod clones;
 pub mod conditions;
+pub mod images;
 pub mod kinds;
 pub mod leaving;
 pub mod owned;

@@ -16,6 +16,9 @@ use Rattle.store_slots.proofs.loading.{told_at}
 use Rattle.store_slots.proofs.states.Counting.Changes.{get_cells}
 use Rattle.store_slots.proofs.telling.{tells}
 
+-- if each copy is its value, the states are the same
+pub use Rattle.store_slots.proofs.saving.{same_state}
+
 module _ {T : Type 0} where
   live_in : (o : Option (SlotImage T)) (g : ℕ)
       → has_generation (option_map live_generation o) g ≡ is_some (cell_in (option_map slot_told o) g)

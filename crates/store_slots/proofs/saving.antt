@@ -304,7 +304,7 @@ module _ {T : Type 0} where
   same_copy (Some (Value (Lent w) l)) d is = absurd is
   same_copy (Some (Shared (Lent w) l)) d is = absurd is
 
-  same_state : (S R : State T) → IsStateCopy (λ v w. w ≡ v) S R → R ≡ S
+  pub same_state : (S R : State T) → IsStateCopy (λ v w. w ≡ v) S R → R ≡ S
   same_state S R copy =
       copy.rest ∙ ap (λ cells. record S { cells = cells })
       (same_cells R.cells S.cells (λ n. same_copy (map.get S.cells n) (map.get R.cells n) (copy.cells n)))
