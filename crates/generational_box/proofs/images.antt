@@ -15,7 +15,6 @@ use Rattle.store_slots.specs.ImageSlots.{kept_told, slot_told}
 use Rattle.store_slots.proofs.loading.{told_at}
 use Rattle.store_slots.proofs.states.Counting.Changes.{get_cells}
 use Rattle.store_slots.proofs.telling.{tells}
-
 -- if each copy is its value, the states are the same
 pub use Rattle.store_slots.proofs.saving.{same_state}
 

@@ -13,9 +13,11 @@
 //! `docs/machine.md` at the repository's root.
 #![tactic(auto)]
 
+mod id_text;
 mod ids;
 mod unsync;
 
+pub use crate::id_text::{box_id, parse_box_id};
 pub use crate::unsync::{Numbers, Store, UnsyncStorage};
 pub use generational_core::{
     AlreadyBorrowedError, AlreadyBorrowedMutError, AnyStorage, BaseRow, BorrowError,
