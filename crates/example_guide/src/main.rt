@@ -3,7 +3,9 @@
 
 mod threads;
 
-use example_libraries::{actors, dialog, memory, pages, prices, proving, started, values, window};
+use example_libraries::{
+    actors, dialog, memory, pages, prices, proving, saving, started, values, window,
+};
 
 fn main(rt: HostRuntime) -> anyhow::Result<()> {
     started::main(rt)?;
@@ -15,5 +17,6 @@ fn main(rt: HostRuntime) -> anyhow::Result<()> {
     pages::main(rt)?;
     threads::main(&rt)?;
     proving::main(rt)?;
+    saving::main(rt)?;
     memory::main(rt)
 }

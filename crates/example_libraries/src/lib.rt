@@ -13,6 +13,7 @@ pub mod pages;
 pub mod phrases;
 pub mod prices;
 pub mod proving;
+pub mod saving;
 pub mod scopes;
 pub mod sessions;
 pub mod started;
