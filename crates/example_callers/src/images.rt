@@ -1,12 +1,14 @@
 //! Stores that are saved and loaded again.
 
 ghost use Rattle.std.specs.Prelude.{◌≡◌, ◌≢◌, Some, None, IfOk, IfErr, IfSome};
-ghost use Rattle.generational_core.specs.Boxes.{id_of, name_in};
+ghost use Rattle.generational_core.specs.Texts.{id_text};
 ghost use Rattle.generational_core.specs.declared.boxes.GenerationalBoxId.{GenerationalBoxId};
 ghost use Rattle.generational_box.specs.Images.{told, IsStateCopy, IsWhole};
 ghost use Rattle.generational_box.specs.Images.{adopted};
 
-use generational_box::{GenerationalBoxId, Image, LoadError, Loaded, SaveError, SlotPool, Store};
+use generational_box::{
+    GenerationalBoxId, Image, LoadError, Loaded, SlotPool, Store, box_id, parse_box_id,
+};
 use std::alloc::Global;
 
 /// Saves a store and loads it again: the same state. If it can't be saved, it is returned as it is;
@@ -74,4 +76,18 @@ pub fn adopted_apart(
     let one = loaded.adopt(one)?;
     let other = loaded.adopt(other)?;
     Some((one, other))
+}
+
+/// The id of three numbers, found by the text that it prints: the same id.
+pub fn parsed_again(
+    store: u64,
+    slot: usize,
+    generation: u64,
+    text: &str,
+) -> (GenerationalBoxId, Option<GenerationalBoxId>)
+    requires { text.now
+        ≡ id_text (record { store = store; slot = slot; generation = generation }) }
+    ensures { result.1 ≡ Some result.0 }
+{
+    (box_id(store, slot, generation), parse_box_id(store, text))
 }

@@ -2,7 +2,7 @@
 
 use crate::images::{Cell, Slot, assert_same, image_of, loaded};
 use crate::scene::{Ids, Kept, assert_reads, fill, leak};
-use generational_box::{GenerationalBoxId, Image, Loaded, Store};
+use generational_box::{GenerationalBoxId, Image, Loaded, Store, parse_box_id};
 use std::alloc::Global;
 use std::process::Abort;
 
@@ -81,19 +81,17 @@ fn other_ids_are_not(rt: HostRuntime) {
     let alloc = rt.alloc();
     let (mut store, taken) = load_as(&rt, alloc, 7, image_of(&rt, alloc, 1, 2, &FEW));
     // the free slot's next value has an id that the image doesn't know
-    let mut given = leak(&rt, &mut store, 9).id();
+    let given = leak(&rt, &mut store, 9).id();
     assert_same(&rt, &taken.adopt(given), &None);
     // under the image's own number its ids are themselves
-    given.slot = 0;
-    given.generation = 4;
-    assert_same(&rt, &taken.adopt(given), &Some(given));
-    for (slot, generation) in [(0, 3), (0, 5), (1, 2), (1, 3), (2, 4), (usize::MAX, 4)] {
-        let mut id = given;
-        id.slot = slot;
-        id.generation = generation;
-        assert_same(&rt, &taken.adopt(id), &None);
+    let live = id_of(&rt, 7, "0@4");
+    assert_same(&rt, &taken.adopt(live), &Some(live));
+    for text in ["0@3", "0@5", "1@2", "1@3", "2@4", "18446744073709551615@4"] {
+        assert_same(&rt, &taken.adopt(id_of(&rt, 7, text)), &None);
     }
-    let mut id = given;
-    id.store = 8;
-    assert_same(&rt, &taken.adopt(id), &None);
+    assert_same(&rt, &taken.adopt(id_of(&rt, 8, "0@4")), &None);
+}
+
+fn id_of(rt: &impl Abort, number: u64, text: &str) -> GenerationalBoxId {
+    parse_box_id(number, text).expect(rt, "an id")
 }
