@@ -95,9 +95,9 @@ impl<T: Drop, P: SlotPool> Store<T, P> {
     /// The store that the image describes: its cells, the names that it gave, its peak and the next
     /// ticket. It has no borrows and no owners. Any image may be passed in.
     ///
-    /// A box that was given before the image was made, and one with the same id, refer to what they
-    /// did. Names that a store gave after it gave this image aren't in it: the loaded store gives them
-    /// again.
+    /// Boxes that were given before the image was made refer to the same cells again. Names that were
+    /// given after it aren't in it, so the loaded store may give them again, to other values:
+    /// `from_image_as` tells these apart.
     ///
     /// # Errors
     ///
