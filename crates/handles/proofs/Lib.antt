@@ -1,0 +1,3 @@
+-- Lemmas of maps.
+pub mod Maps
+pub mod Told

@@ -1,0 +1,55 @@
+-- Values by handles of one table: what each handle shows, and all of them in the order of the slots.
+use Rattle.std.specs.Prelude.{ℕ, ◌+◌, List, [], ◌∷◌, Option, None, Some, if◌then◌else◌, nat_eq}
+use Rattle.std.specs.Prelude.{slice_index_or}
+use Rattle.handles.specs.declared.handle.Handle.{Handle}
+use Rattle.handles.specs.declared.map.Row.{Row}
+use Rattle.handles.specs.declared.map.Row.TheVariants.{Vacant, Held}
+use Rattle.handles.specs.Handles.{at_slot, slot_in}
+
+-- the number of the table, and what each slot holds
+pub record MapState (V : Type 0) : Type 0 where
+  pub number : ℕ
+  pub rows : List (Row V)
+
+module _ {V : Type 0} where
+  -- what a slot holds
+  abbrev pub row_at : List (Row V) → ℕ → Row V
+  row_at rows slot = slice_index_or rows slot Vacant
+
+  -- the value of a row, if it is of this generation
+  abbrev pub held : Row V → ℕ → Option V
+  held Vacant g = None
+  held (Held site generation v) g = if nat_eq generation g then Some v else None
+
+  -- a row with another value in the place of its own
+  abbrev pub refilled : Row V → V → Row V
+  refilled Vacant w = Vacant
+  refilled (Held site generation v) w = Held site generation w
+
+  -- how many rows hold a value
+  abbrev pub count : List (Row V) → ℕ
+  count [] = 0
+  count (Vacant ∷ rows) = count rows
+  count (Held site generation v ∷ rows) = count rows + 1
+
+  module _ {T K : Type 0} where
+    -- what a handle shows: its value, or nothing
+    abbrev pub value_of : MapState V → Handle T K → Option V
+    value_of m h =
+        if nat_eq h.store m.number then held (row_at m.rows (slot_in h)) h.generation else None
+
+    -- the handle for which a slot's row holds a value
+    abbrev pub handle_of : ℕ → ℕ → Row V → Option (Handle T K)
+    handle_of number slot Vacant = None
+    handle_of number slot (Held site generation v) = Some (at_slot number slot site generation)
+
+    -- the handles of rows that hold a value, with it, in order, from a slot on
+    abbrev pub listed_from : ℕ → ℕ → List (Row V) → List (Handle T K × V)
+    listed_from number slot [] = []
+    listed_from number slot (Vacant ∷ rows) = listed_from number (slot + 1) rows
+    listed_from number slot (Held site generation v ∷ rows) =
+        (at_slot number slot site generation, v)
+        ∷ listed_from number (slot + 1) rows
+
+    abbrev pub listed : MapState V → List (Handle T K × V)
+    listed m = listed_from m.number 0 m.rows

@@ -1,0 +1,263 @@
+//! Values by handles.
+
+ghost use Rattle.std.specs.Prelude.{◌≡◌, ◌<◌, ◌≤◌, ◌+◌, ◌^◌, ℕ, [], Some, IsFalse, IsTrue, IfSome, IfNone};
+ghost use Rattle.std.specs.Prelude.{length, option_copied, slice_set, vec_capacity};
+ghost use Rattle.std.specs.Borrow.{MutBor};
+ghost use Rattle.std.specs.Fn.{FnOnceReturnsAtMut};
+ghost use Rattle.handles.specs.declared.map.Row.TheVariants.{Held, Vacant};
+ghost use Rattle.handles.specs.Handles.{slot_in};
+ghost use Rattle.handles.specs.Maps.{count, handle_of, held, listed, refilled, row_at, value_of};
+
+use crate::handle::Handle;
+use crate::walk::HandleIter;
+use std::alloc::Global;
+use std::marker::{Model, PhantomData};
+use std::mem;
+use store_room::reserve_more;
+
+/// How many slots there may be: a handle has 32 bits for its own.
+const SLOTS: usize = 4294967296;
+
+/// How many rows are made at once, so that few calls make some.
+const AT_ONCE: usize = 64;
+
+/// What a slot holds: nothing, or the value of a handle, with its site and its generation.
+#[derive(Drop)]
+pub enum Row<V> {
+    /// Nothing.
+    Vacant,
+    /// A site, a generation and a value.
+    Held(u32, u64, V),
+}
+
+impl<V> Row<V> {
+    // The value of a generation.
+    #[inline(always)]
+    fn value(&self, generation: u64) -> Option<&V>
+        ensures { option_copied result ≡ held self.now generation }
+    {
+        match self {
+            Row::Held(_, own, value) if *own == generation => Some(value),
+            _ => None,
+        }
+    }
+
+    // The handle of the value.
+    #[inline(always)]
+    fn handle<T, K>(&self, number: u64, slot: usize) -> Option<Handle<T, K>>
+        requires { slot < 2 ^ 32 }
+        ensures { result ≡ handle_of number slot self.now }
+    {
+        match self {
+            Row::Held(site, generation, _) => {
+                Some(Handle::at(number, slot as u32, *site, *generation))
+            }
+            Row::Vacant => None,
+        }
+    }
+
+    // Changes the value of a generation in its place.
+    #[inline(always)]
+    fn change<R, F: FnOnce(&mut V) -> R>(&mut self, generation: u64, f: F) -> Option<R>
+        requires { (value : MutBor V) → held self.old generation ≡ Some value.now → F.pre f value }
+        ensures changed { IfSome result (λ answer. (old : V) × (new : V)
+            × (held self.old generation ≡ Some old) × FnOnceReturnsAtMut F.FnOnce f old answer new
+            × (self.new ≡ refilled self.old new)) }
+        ensures none { IfNone result ((held self.old generation ≡ None) × (self.new ≡ self.old)) }
+    {
+        match self {
+            Row::Held(_, own, value) if *own == generation => Some(f(value)),
+            _ => None,
+        }
+    }
+}
+
+/// Values by the handles of one table, with a row for each slot up to the highest that has had one.
+/// Contracts see the table's number and the rows.
+#[derive(Drop)]
+pub struct HandleMap<T, K, V> {
+    number: u64,
+    rows: Vec<Row<V>>,
+    live: usize,
+    marker: PhantomData<(T, K)>,
+}
+
+impl<T, K, V> Model for HandleMap<T, K, V> {
+    ghost use Rattle.std.specs.Prelude.{◌≡◌, ◌≤◌, ◌^◌, length};
+    ghost use Rattle.handles.specs.Maps.{count, MapState};
+
+    ghost Value = { MapState V };
+
+    ghost view = { λ m. record { number = m.number; rows = m.rows.items } };
+
+    ghost invariant = { λ m. (m.live ≡ count m.rows.items) × (length m.rows.items ≤ 2 ^ 32) };
+}
+
+impl<T, K, V> HandleMap<T, K, V> {
+    /// No values, for the handles of the table with this number. Doesn't allocate.
+    pub fn new(alloc: Global, number: u64) -> Self
+        ensures { result ≡ record { number = number; rows = [] } }
+    {
+        HandleMap {
+            number,
+            rows: Vec::new(alloc),
+            live: 0,
+            marker: PhantomData,
+        }
+    }
+
+    /// The number of the table. Doesn't allocate.
+    pub fn number(&self) -> u64
+        ensures { result ≡ self.now.number }
+    {
+        self.number
+    }
+
+    /// How many values there are. Doesn't allocate, and is O(1).
+    pub fn len(&self) -> usize
+        ensures { result ≡ count self.now.rows }
+    {
+        self.live
+    }
+
+    /// How many rows there are. Doesn't allocate, and is O(1).
+    pub fn slots(&self) -> usize
+        ensures count { result ≡ length self.now.rows }
+        ensures most { length self.now.rows ≤ 2 ^ 32 }
+    {
+        self.rows.len()
+    }
+
+    /// The value of a handle. Doesn't allocate, and is O(1).
+    #[inline(always)]
+    pub fn get(&self, handle: Handle<T, K>) -> Option<&V>
+        ensures { option_copied result ≡ value_of self.now handle }
+    {
+        if handle.store != self.number {
+            return None;
+        }
+        let row = self.rows.get(handle.slot as usize)?;
+        row.value(handle.generation)
+    }
+
+    /// The handle whose value a slot's row holds. Doesn't allocate, and is O(1).
+    #[inline(always)]
+    pub fn at(&self, slot: usize) -> Option<Handle<T, K>>
+        ensures { result ≡ handle_of self.now.number slot (row_at self.now.rows slot) }
+    {
+        let row = self.rows.get(slot)?;
+        row.handle(self.number, slot)
+    }
+
+    /// Makes a row for a slot. False if memory runs out, or if there are too many slots: each row holds what
+    /// it held, also then. Amortised O(1) if slots come in order, and O(n) for n rows more.
+    #[inline(always)]
+    pub fn reserve(&mut self, slot: usize) -> bool
+        ensures number { self.new.number ≡ self.old.number }
+        ensures within { IsTrue result → (slot < length self.new.rows) × (slot < 2 ^ 32) }
+        ensures same { (at : ℕ) → row_at self.new.rows at ≡ row_at self.old.rows at }
+        ensures short { IsFalse result → row_at self.old.rows slot ≡ Vacant }
+    {
+        slot < self.rows.len() || self.grow(slot)
+    }
+
+    // Makes a row for a slot past the last one.
+    #[cold]
+    #[inline(never)]
+    #[tactic(auto, using(crate::proofs::Maps::past))]
+    fn grow(&mut self, slot: usize) -> bool
+        ensures number { self.new.number ≡ self.old.number }
+        ensures within { IsTrue result → (slot < length self.new.rows) × (slot < 2 ^ 32) }
+        ensures same { (at : ℕ) → row_at self.new.rows at ≡ row_at self.old.rows at }
+        ensures short { IsFalse result → row_at self.old.rows slot ≡ Vacant }
+    {
+        let len = self.rows.len();
+        if slot >= SLOTS || slot < len {
+            return slot < len;
+        }
+        if reserve_more(&mut self.rows, slot + 1 - len).is_err() {
+            return false;
+        }
+        let room = self.rows.capacity().min(SLOTS);
+        fill(&mut self.rows, room.min(slot.saturating_add(AT_ONCE)));
+        true
+    }
+
+    /// Gives a handle a value, in the place of what its row holds. There is such a row.
+    #[inline(always)]
+    pub fn put(&mut self, handle: Handle<T, K>, value: V)
+    where
+        V: Drop,
+        requires { slot_in handle < length self.old.rows }
+        ensures number { self.new.number ≡ self.old.number }
+        ensures rows { self.new.rows ≡ slice_set self.old.rows (slot_in handle)
+            (Held handle.site handle.generation value) }
+    {
+        let row = Row::Held(handle.site, handle.generation, value);
+        match mem::replace(&mut self.rows[handle.slot as usize], row) {
+            Row::Vacant => self.live += 1,
+            Row::Held(_, _, _) => {}
+        }
+    }
+
+    /// Takes a handle's value away: its row holds nothing then. None if it has none, and nothing changes.
+    /// Doesn't allocate, and is O(1).
+    #[inline(always)]
+    pub fn take(&mut self, handle: Handle<T, K>) -> Option<V>
+        ensures taken { result ≡ value_of self.old handle }
+        ensures rows { IfSome result (λ _. self.new ≡ record self.old {
+          rows = slice_set self.old.rows (slot_in handle) Vacant;
+        }) }
+        ensures none { IfNone result (self.new ≡ self.old) }
+    {
+        if self.get(handle).is_none() {
+            return None;
+        }
+        match mem::replace(&mut self.rows[handle.slot as usize], Row::Vacant) {
+            Row::Held(_, _, value) => {
+                self.live -= 1;
+                Some(value)
+            }
+            Row::Vacant => unreachable!(),
+        }
+    }
+
+    /// Changes a handle's value in its place by a closure, which is called once on it, and returns what that
+    /// returns. None if it has none: the closure isn't called, and nothing changes.
+    #[inline(always)]
+    pub fn change<R, F: FnOnce(&mut V) -> R>(&mut self, handle: Handle<T, K>, f: F) -> Option<R>
+        requires { (value : MutBor V) → value_of self.old handle ≡ Some value.now → F.pre f value }
+        ensures changed { IfSome result (λ answer. (old : V) × (new : V)
+            × (value_of self.old handle ≡ Some old) × FnOnceReturnsAtMut F.FnOnce f old answer new
+            × (self.new ≡ record self.old {
+              rows = slice_set self.old.rows (slot_in handle)
+                  (refilled (row_at self.old.rows (slot_in handle)) new);
+            })) }
+        ensures none { IfNone result ((value_of self.old handle ≡ None) × (self.new ≡ self.old)) }
+    {
+        if self.get(handle).is_none() {
+            return None;
+        }
+        self.rows[handle.slot as usize].change(handle.generation, f)
+    }
+
+    /// The handles that have a value, with it, in the order of their slots. Doesn't allocate, and is O(1).
+    pub fn iter(&self) -> HandleIter<'_, T, K, V>
+        ensures { result ≡ listed self.now }
+    {
+        HandleIter::new(self.number, self.rows.as_slice(), self.live)
+    }
+}
+
+// Makes vacant rows up to so many, for which there is room.
+fn fill<V>(rows: &mut Vec<Row<V>>, len: usize)
+    requires { len ≤ vec_capacity rows.old }
+    ensures within { len ≤ length rows.new.items }
+    ensures most { (n : ℕ) → len ≤ n → length rows.old.items ≤ n → length rows.new.items ≤ n }
+    ensures count { count rows.new.items ≡ count rows.old.items }
+    ensures same { (at : ℕ) → row_at rows.new.items at ≡ row_at rows.old.items at }
+{
+    while rows.len() < len {
+        rows.push_reserved(Row::Vacant);
+    }
+}
