@@ -2,59 +2,6 @@
 pub mod Common
 unfoldable pub use Common.*
 
--- ==== rows of entities after a push and after a removal, and the places of their slots
-
-module _ {X : Type 0} where
-  -- ---- elements after a removal by the last one
-
-  -- what stands in the row that was emptied is the last; what stands elsewhere stood there
-  pub removed_get : (xs : List X) (i k : ℕ) (d x : X) → i < length xs
-      → slice_get (swap_remove xs i d) k ≡ Some x
-      → ((k ≡ i) × (k + 1 < length xs) × (slice_get xs (length xs - 1) ≡ Some x))
-      ⊎ ((k ≢ i) × (k + 1 < length xs) × (slice_get xs k ≡ Some x))
-  removed_get xs i k d x lt is = grind (arith, take_within, get_take, get_set_here, get_set_apart, slice_get-get_or)
-
-  pub removed_old : (xs : List X) (i k : ℕ) (d x : X) → k ≢ i → k + 1 < length xs
-      → slice_get xs k ≡ Some x → slice_get (swap_remove xs i d) k ≡ Some x
-  removed_old xs i k d x ne lt is = grind (arith, get_take, get_set_apart)
-
-  pub removed_last : (xs : List X) (i : ℕ) (d x : X) → i + 1 < length xs
-      → slice_get xs (length xs - 1) ≡ Some x → slice_get (swap_remove xs i d) i ≡ Some x
-  removed_last xs i d x lt is = grind (arith, get_take, get_set_here, slice_get-get_or)
-
-  -- a removal takes one row, and where there is no last one there is none
-  pub removed_length : (xs : List X) (i : ℕ) (d : X) → length (swap_remove xs i d) ≡ length xs - 1
-  removed_length xs i d = grind (arith, common_steps)
-
-  -- the last element, as it is read
-  pub read_last : (xs : List X) (n i : ℕ) (x : X) → n ≡ length xs → i < length xs
-      → x ≡ slice_index_or xs (n - 1) x → slice_get xs (length xs - 1) ≡ Some x
-  read_last xs n i x size lt is = grind (arith, slice_get_read)
-
-  pub none_last : (xs : List X) → slice_get xs (length xs - 1) ≡ None → xs ≡ []
-  none_last [] none = refl
-  none_last (x ∷ xs) none = cc (slice_get-get_or (x ∷ xs) (length (x ∷ xs) - 1) x (omega arith))
-
--- ---- places
-
-module _ {T : Type 0} where
-  -- the place of the last row is there
-  pub last_within : (rows : List (Entity T)) (places : List ℕ) (last : Entity T)
-      → ArePlaced rows places → slice_get rows (length rows - 1) ≡ Some last
-      → slot_in last < length places
-  last_within rows places last placed is =
-      slice_get_within places (slot_in last) (length rows - 1) (placed _ last is)
-
-  -- rows whose last has moved, once its place is the row that was emptied
-  pub placed_moved : (rows : List (Entity T)) (places : List ℕ) (row : ℕ) (d last : Entity T)
-      → row < length rows → ArePlaced rows places → slice_get rows (length rows - 1) ≡ Some last
-      → ArePlaced (swap_remove rows row d) (slice_set places (slot_in last) row)
-  placed_moved rows places row d last lt placed is k e there =
-      let within = last_within rows places last placed is in
-      let old = removed_get rows row k d e lt there in
-      let here = get_set_here places (slot_in last) row within in
-      grind (arith, old, here, placed, is, get_set_apart places (slot_in last) (slot_in e) row)
-
 -- ==== a walk over rows of which each box sees a value
 
 -- what a list has at a place is its first element, or one of the others
@@ -127,6 +74,12 @@ module _ {E V W : Type 0} (see : E → Option V) where
       let it = joined_each ps i e v w is sees in by_option (see p.0)
       (λ none. (it.0, rw none it.1)) (λ u some. (suc it.0, rw some it.1))
 
+  -- and no more are there
+  pub joined_most : (ps : List (E × W)) → length (joined see ps) ≤ length ps
+  joined_most [] = omega arith
+  joined_most (p ∷ ps) = let rest = joined_most ps in by_option (see p.0)
+      (λ none. rw none (omega (arith, rest))) (λ v some. rw some (omega (arith, rest)))
+
   -- what rises in keys still does
   module _ (n : E → ℕ) where
     above : (x : ℕ) (ps : List (E × W)) → All (λ y. x < y) (map (λ p. n p.0) ps)
@@ -151,10 +104,6 @@ module _ {E V W : Type 0} (see : E → Option V) where
 
 -- ==== a table's store and rows after each of its calls
 
--- a look that finds something
-pub copied_some : {V : Type 0} (o : Option (Bor V)) → is_some (option_copied o) ≡ is_some o
-copied_some o = grind arith
-
 -- two handles are of one entity or of two
 pub one_or_two : {T : Type 0} (a b : Entity T) → IsSame a b ⊎ IsOther a b
 one_or_two a b = grind arith
@@ -168,401 +117,319 @@ set_others sound plain a b v old m other =
     others_left _ _ m a b (seen_store _ _ sound (ap is_some saw)) (λ ne. same_value _ _ _ _ sound m _
     (λ same. ne (reach_apart _ plain _ _ to.0 to.1 (sym same))) tt) other
 
--- no box of an ended one's name sees anything
-pub ended_unseen : {T : Type 0} {S R : State T} → IsSound S → (a : GenerationalPointer) → IsSeen S a
-    → Meets S (End a) Done R → (b : GenerationalPointer) → IsSeen R b → name_of a ≢ name_of b
-ended_unseen {S = S} {R} s a seen m b live e =
-    let to = seen_reach S a seen in
-    let box = reached_boxed S a to.0 s to.1 in
-    let gone = ended a {U = Unit {0}} (Ok tt) m box.0 box.1 in cc (seen_cell R b live, gone.1)
+-- where nothing is, nothing is found
+absent : {X : Type 0} (o : Option X) → ((v : X) → o ≡ Some v → ⊥) → is_some o ≡ false
+absent None h = refl
+absent (Some v) h = absurd (h v refl)
 
-module _ {T : Type 0} where
-  pub fresh_kept : (number start next : ℕ) → IsKept (fresh {T = T} number start next) [] []
-  fresh_kept number start next =
-      grind (arith, fresh_simple {T = T} number start next, fresh_sees {T = T} number start next)
+none_of : {X : Type 0} (o : Option X) → is_some o ≡ false → o ≡ None
+none_of None is = refl
+none_of (Some v) is = absurd (true≢false is)
 
-  -- the rows are dense
-  pub kept_dense : {S : State T} {rows : List (Entity T)} {places : List ℕ} → IsKept S rows places
-      → IsDense (record { state = S; rows = rows })
-  kept_dense k = record {
-    live = k.live;
-    listed = k.listed;
-    once = λ i j e f here there same. cc (k.placed i e here, k.placed j f there);
-  }
+-- how many rows there are
+pub rows_count : (T : Type 0) (m : MapState (Unit {0}))
+    → length (map (λ (p : Entity T × Unit {0}). p.0) (listed m)) ≡ count m.rows
+rows_count T m = length-map (listed m) (λ (p : Entity T × Unit {0}). p.0)
+    ∙ listed_count T EntityKind m.number 0 m.rows
 
-  -- where there are no rows no entity is live
-  pub dense_empty : (t : TableState T) → IsDense t → t.rows ≡ [] → (e : Entity T)
-      → value_in t.state (pointer_in e) ≡ None
-  dense_empty t dense none e = grind (arith, dense.listed e)
-
-  -- a live entity stands in the row which is read at its slot
-  module _ {S : State T} {rows : List (Entity T)} {places : List ℕ} (k : IsKept S rows places) (a : Entity T)
-      (seen : IsSeen S (pointer_in a)) where
-    pub slot_within_places : slot_in a < length places
-    slot_within_places =
-        let at = k.listed a seen in
-        slice_get_within places (slot_in a) at.0 (cc (k.placed at.0 at.1 at.2))
-
-    module _ (slot row : ℕ) (is : slot ≡ slot_in a) (read : row ≡ get_or places slot row) where
-      row_is : row ≡ (k.listed a seen).0
-      row_is = let at = k.listed a seen in
-          let place = k.placed at.0 at.1 at.2 in
-          grind (arith, place, at.3, get_or_from_slice_get places (slot_in a) at.0 row)
-
-      pub row_within : row < length rows
-      row_within =
-          let at = k.listed a seen in omega (arith, row_is, slice_get_within rows at.0 at.1 at.2)
-
-      pub row_same : (e : Entity T) → slice_get rows row ≡ Some e → IsSame e a
-      row_same e there = let at = k.listed a seen in cc (row_is, at.2, at.3)
-
-  -- two live entities of one slot are one
-  pub one_slot : {S : State T} {rows : List (Entity T)} {places : List ℕ} → IsKept S rows places
-      → (a b : Entity T) → IsSeen S (pointer_in a) → IsSeen S (pointer_in b) → slot_in a ≡ slot_in b
-      → IsSame a b
-  one_slot k a b seen_a seen_b slot =
-      let at = k.listed a seen_a in
-      let by = k.listed b seen_b in
-      cc (k.placed at.0 at.1 at.2, k.placed by.0 by.1 by.2, at.2, at.3, by.2, by.3)
-
-  -- where each entity that was live is, and no other, the rows stay
-  pub kept_still : {S R : State T} {rows : List (Entity T)} {places : List ℕ} → IsKept S rows places
-      → IsSimple R → ((b : GenerationalPointer) → is_some (value_in R b) ≡ is_some (value_in S b))
-      → IsKept R rows places
-  kept_still k simple same = grind (arith, simple, same, k.placed, k.live, k.listed)
-
-  pub kept_set : {S R : State T} {rows : List (Entity T)} {places : List ℕ} → IsSound S → IsKept S rows places
-      → (a : GenerationalPointer) (v old : T) → Meets S (SetValue a v) (Old old) R → IsKept R rows places
-  kept_set s k a v old m = kept_still k (simple_still s k.simple _ _ m tt tt) (set_seen s k.simple.unborrowed a v old m)
-
-  -- places that are kept serve as well
-  pub kept_reserved : {S : State T} {rows : List (Entity T)} {places : List ℕ} → IsKept S rows places
-      → (more : List ℕ) → KeepsPlaces places more → IsKept S rows more
-  kept_reserved k more kept = record {
-    simple = k.simple;
-    placed = λ row e is. kept (slot_in e) row (k.placed row e is);
-    live = k.live;
-    listed = k.listed;
-  }
-
-  module _ {S R : State T} (s : IsSound S) {rows : List (Entity T)} {places : List ℕ}
-      (k : IsKept S rows places) where
-    -- a new entity in a row of its own
-    pub kept_spawned : (v : T) (l : Location) (e : Entity T) → slots S < length places
-        → Meets S (Make None v l) (Made (pointer_in e)) R
-        → IsKept R (rows ++ e ∷ []) (slice_set places (slot_in e) (length rows))
-    kept_spawned v l e room m =
-        let b = pointer_in e in
-        let fits = (making {S = S} {R = R} v l b m).fits in
-        let within : slot_in e < length places =
-        omega (arith, room, slot_within S (name_of b) k.simple.bounded fits) in
-        let seen : IsSeen R b = ap is_some (made None v l (Ok e.raw) m) in
-        let apart = λ (f : Entity T) (live : IsSeen S (pointer_in f)). slot_apart S (name_of b)
-        s.given k.simple.bounded fits (name_of (pointer_in f)) (seen_cell S (pointer_in f) live) in
-        let same = λ (f : Entity T). same_value S R _ _ s m (pointer_in f) tt in
-        record {
-          simple = made_simple s k.simple v l b m;
-          placed = λ row f is.
-              let here = get_set_here places (slot_in e) (length rows) within in
-              let left = get_set_apart places (slot_in e) (slot_in f) (length rows) in
-              let new = get_pushed rows row e f is in
-              grind (arith, new, left, apart f, k.placed row f, k.live row f, here);
-          live = λ row f is.
-              grind (arith, get_pushed rows row e f is, k.live row f, apart f, same f, seen);
-          listed = λ f live.
-              let one = one_id R b (pointer_in f) (meets_sound S R _ _ s m) seen live in
-              grind (arith, one, pushed_new rows e, same f, k.listed f, pushed_old rows);
-        }
-
-    -- an entity that was ended, and whose row was removed
-    pub kept_removed : (a e : Entity T) (row : ℕ) (after : List (Entity T)) (left : List ℕ)
-        → IsSeen S (pointer_in a) → Meets S (End (pointer_in a)) Done R
-        → slice_get rows row ≡ Some e → IsSame e a → after ≡ swap_remove rows row e
-        → ArePlaced after left → IsKept R after left
-    kept_removed a f row after left seen m there same is placed =
-        let within = slice_get_within rows row f there in
-        let kept = λ (x : Entity T). same_value S R (End (pointer_in a)) Done s m (pointer_in x) in
-        let still = λ (j : ℕ) (x : Entity T) (is : slice_get rows j ≡ Some x) (ne : j ≢ row).
-        let first = k.placed j x is in
-        let second = k.placed row f there in
-        ap is_some (kept x (λ e. ne (cc (first, second, ap (λ n. n.slot) e))) tt) ∙ k.live j x is in
-        rw is (record {
-          simple = simple_still s k.simple (End (pointer_in a)) Done m tt tt;
-          placed = rw is at placed;
-          live = λ j x is.
-              let was = removed_get rows row j f x within is in
-              grind (arith, was, still (length rows - 1) x, still j x);
-          listed = λ x live.
-              let ne = ended_unseen s (pointer_in a) seen m (pointer_in x) live in
-              let old = k.listed x (sym (ap is_some (kept x ne tt)) ∙ live) in
-              let lt = slice_get_within rows old.0 old.1 old.2 in
-              let last = removed_last rows row f old.1 in
-              let before = removed_old rows row old.0 f old.1 in
-              grind (arith, ne, old, there, same, lt, within, last, before);
-        })
-
--- ==== components after each call of their table: which part each slot has, and what each shows
+-- what holds of an option that has a value
+pub from_some : {X : Type 0} (o : Option X) (Q : Type 0) → is_some o ≡ true → IfSome o (λ _. Q) → Q
+from_some None Q is h = absurd (true≢false (sym is))
+from_some (Some v) Q is h = h
 
 pub on_err : {X E Q : Type 0} (r : Result X E) → Q → OnErr r Q
 on_err r q = grind arith
 
-module _ {T C : Type 0} where
-  -- ---- parts of slots
+-- rows that hold the same, with vacant ones more
+pub reserved_rows : (T : Type 0) (m more : MapState (Unit {0})) → more.number ≡ m.number
+    → ((at : ℕ) → row_at more.rows at ≡ row_at m.rows at)
+    → listed {T = T} {K = EntityKind} more ≡ listed m
+reserved_rows T m more number same =
+    rw number (same_listed m.number 0 m.rows more.rows same)
 
-  pub part_within : (parts : List (Option (Part T C))) (slot : ℕ) (p : Part T C)
-      → part_at parts slot ≡ Some p → slot < length parts
-  part_within parts slot p is = grind (arith, get_or_past parts slot None)
+pub reserved_count : (T : Type 0) (m more : MapState (Unit {0}))
+    → ((at : ℕ) → row_at more.rows at ≡ row_at m.rows at) → count more.rows ≡ count m.rows
+reserved_count T m more same = sym (listed_count T EntityKind 0 0 more.rows)
+    ∙ (ap length (same_listed 0 0 m.rows more.rows same) ∙ listed_count T EntityKind 0 0 m.rows)
 
-  -- what stands at a slot after a write: what was written, or what stood there
-  set_cases : (parts : List (Option (Part T C))) (slot i : ℕ) (x : Option (Part T C)) (p : Part T C)
-      → slot < length parts → part_at (slice_set parts slot x) i ≡ Some p
-      → ((i ≡ slot) × (x ≡ Some p)) ⊎ ((i ≢ slot) × (part_at parts i ≡ Some p))
-  set_cases parts slot i x p lt is = grind (arith, get_or-set_same, get_or-set_other)
+none_some : {X : Type 0} (x : X) → None ≡ Some x → ⊥
+none_some x is = cc
 
-  -- the part of an entity stands at its slot, and is no other's
-  pub part_there : (parts : List (Option (Part T C))) (e : Entity T) (p : Part T C)
-      → part_of parts e ≡ Some p
-      → (part_at parts (slot_in e) ≡ Some p) × (has_same_id (pointer_in p.entity) (pointer_in e) ≡ true)
-  part_there parts e p is = grind arith
+-- what is told of the number and the locations, it is told when more are
+pub still_told : {T : Type 0} (n m : ℕ) (s t : SiteState) (old : List Location) (e : Entity T) (l : Location) → m ≡ n
+    → s.told ≤ t.told → t.all ≡ s.all → told_in s ≡ old → told_at n old e ≡ Some l → told_at m (told_in t) e ≡ Some l
+still_told n m s t old e l number le same was is =
+    rw number (both (nat_eq e.store n) refl)
+  where
+    both : (b : Bool) → nat_eq e.store n ≡ b → (if b then slice_get (told_in t) e.site else None) ≡ Some l
+    both true own = told_more s t e.site l le same (rw was (sym (ap (λ b. if b then slice_get old e.site else None) own) ∙ is))
+    both false other = absurd (none_some l (sym (ap (λ b. if b then slice_get old e.site else None) other) ∙ is))
 
-  pub own_part : (e : Entity T) (raw : GenerationalBox C)
-      → part_if e (Some (record { entity = e; raw = raw })) ≡ Some (record { entity = e; raw = raw })
-  own_part e raw = grind (arith, same_itself (pointer_in e))
-
-  pub other_part : (parts : List (Option (Part T C))) (a e : Entity T) (p : Part T C)
-      → part_of parts a ≡ Some p → slot_in a ≡ slot_in e → IsOther a e → part_of parts e ≡ None
-  other_part parts a e p is slot other =
-      let same = same_ids (pointer_in p.entity) in
-      grind (arith, part_there parts a p is, same (pointer_in a), same (pointer_in e))
-
-  -- an entity whose part shows what it showed does too
-  pub shown_same : (S R : State C) (e : Entity T) (x : Option (Part T C))
-      → ((p : Part T C) → x ≡ Some p → value_in R (box_of_part p) ≡ value_in S (box_of_part p))
-      → shown_by R (part_if e x) ≡ shown_by S (part_if e x)
-  shown_same S R e x same = grind arith
-
-  -- ---- what entities show after a write of a slot's part
-
-  pub written_here : (R : State C) (parts : List (Option (Part T C))) (slot : ℕ) (e : Entity T)
-      (raw : GenerationalBox C) → slot ≡ slot_in e → slot < length parts
-      → shown_by R (part_of (slice_set parts slot (Some (record { entity = e; raw = raw }))) e)
-      ≡ value_in R (pointer_of raw)
-  written_here R parts slot e raw is lt = grind (arith, get_or-set_same, own_part e raw)
-
-  pub written_apart : (S R : State C) (parts : List (Option (Part T C))) (slot : ℕ)
-      (x : Option (Part T C)) (e : Entity T) → slot ≢ slot_in e
-      → ((p : Part T C) → part_at parts (slot_in e) ≡ Some p
-      → value_in R (box_of_part p) ≡ value_in S (box_of_part p))
-      → shown_by R (part_of (slice_set parts slot x) e) ≡ shown_by S (part_of parts e)
-  written_apart S R parts slot x e ne same = grind (arith, get_or-set_other)
-
-  pub kept_shown : {S R : State C} (parts more : List (Option (Part T C))) (e : Entity T) → R ≡ S
-      → ((at : ℕ) → part_at more at ≡ part_at parts at)
-      → shown_by R (part_of more e) ≡ shown_by S (part_of parts e)
-  kept_shown parts more e same parts_same = cc (parts_same (slot_in e))
-
-  -- ---- the table
-
-  pub fresh_attached : (number start next : ℕ)
-      → AreAttached {T = T} {C = C} (fresh {T = C} number start next) []
-  fresh_attached number start next =
-      let quiet = quiet_fresh {T = C} number start next in
-      let plain = fresh_plain {T = C} number start next in
-      grind (arith, quiet, plain, fresh_sees {T = C} number start next)
-
-  -- more slots change nothing
-  pub attached_more : {S : State C} {parts : List (Option (Part T C))} → AreAttached S parts
-      → (more : List (Option (Part T C))) → ((at : ℕ) → part_at more at ≡ part_at parts at)
-      → AreAttached S more
-  attached_more k more same =
-      grind (arith, k.unborrowed, k.plain, k.placed, k.seen, k.apart, k.listed, same)
-
-  module _ {S R : State C} (s : IsSound S) {parts : List (Option (Part T C))} (k : AreAttached S parts) where
-    -- the part of a slot becomes another, or comes, or goes, and the call leaves what isn't its box
-    module _ (call : Action C) (answer : Answer C) (m : Meets S call answer R) (quiet : BeginsNoBorrow call)
-        (plain : MakesNoReference call) (slot : ℕ) (now : Option (Part T C)) (lt : slot < length parts)
-        (here : IfSome now (λ p. (slot_in p.entity ≡ slot) × (is_some (value_in R (box_of_part p)) ≡ true)))
-        (apart : (j : ℕ) (q : Part T C) → j ≢ slot → part_at parts j ≡ Some q
-        → IfSome now (λ p. name_of (box_of_part p) ≢ name_of (box_of_part q)))
-        (beside : (j : ℕ) (q : Part T C) → j ≢ slot → part_at parts j ≡ Some q
-        → value_in R (box_of_part q) ≡ value_in S (box_of_part q))
-        (listed : (b : GenerationalPointer) → is_some (value_in R b) ≡ true
-        → ((p : Part T C) × (now ≡ Some p) × (name_of (box_of_part p) ≡ name_of b))
-        ⊎ ((j : ℕ) × (p : Part T C) × (j ≢ slot) × (part_at parts j ≡ Some p) × (name_of (box_of_part p) ≡ name_of b)))
-      where
-        attached_by : AreAttached R (slice_set parts slot now)
-        attached_by = record {
-          unborrowed = quiet_stays call answer m quiet k.unborrowed;
-          plain = stays_plain call answer m plain k.plain;
-          placed = λ i q at. grind (arith, set_cases parts slot i now q lt at, k.placed i q);
-          seen = λ i q at. grind (arith, set_cases parts slot i now q lt at, k.seen i q, beside i q);
-          apart = λ i j p q ne at there.
-              let first = set_cases parts slot i now p lt at in
-              let second = set_cases parts slot j now q lt there in
-              grind (arith, first, second, apart i p, apart j q, k.apart i j p q);
-          listed = λ b seen. ⊎_elim
-              (λ new. (slot, new.0, get_or-set_same parts slot now None lt ∙ new.1, new.2))
-              (λ old. (old.0, old.1, get_or-set_other parts slot old.0 now None old.2 ∙ old.3, old.4)) (listed b seen);
-        }
-
-    -- another component in the place of one
-    pub set_beside : (slot : ℕ) (p : Part T C) (v old : C) → part_at parts slot ≡ Some p
-        → Meets S (SetValue (box_of_part p) v) (Old old) R → (j : ℕ) (q : Part T C) → j ≢ slot
-        → part_at parts j ≡ Some q → value_in R (box_of_part q) ≡ value_in S (box_of_part q)
-    set_beside slot p v old is m j q ne at =
-        let to = seen_reached S (box_of_part p) old (sets (box_of_part p) v old m).0 in
-        same_value S R _ _ s m (box_of_part q) (λ same. k.apart j slot q p ne at is
-        (sym (reach_apart S k.plain (box_of_part p) (box_of_part q) to.0 to.1 (sym same)))) tt
-
-    -- a component that was changed in its place
-    pub attached_changed : (p : Part T C) (v old : C)
-        → Meets S (SetValue (box_of_part p) v) (Old old) R → AreAttached R parts
-    attached_changed p v old m =
-        let quiet = quiet_stays _ _ m tt k.unborrowed in
-        let plain = stays_plain _ _ m tt k.plain in
-        let sees = set_seen s k.unborrowed (box_of_part p) v old m in
-        grind (arith, quiet, plain, k.placed, k.seen, k.apart, k.listed, sees)
-
-    pub changed_beside : (a e : Entity T) (p : Part T C) (v old : C) → part_of parts a ≡ Some p
-        → Meets S (SetValue (box_of_part p) v) (Old old) R → IsOther a e
-        → shown_by R (part_of parts e) ≡ shown_by S (part_of parts e)
-    changed_beside a e p v old is m other =
-        let beside = set_beside (slot_in a) p v old (part_there parts a p is).0 m (slot_in e) in
-        grind (arith, other_part parts a e p is, beside, shown_same S R e)
-
-    pub attached_set : (slot : ℕ) (p : Part T C) (e : Entity T) (v old : C) → slot ≡ slot_in e
-        → part_at parts slot ≡ Some p → Meets S (SetValue (box_of_part p) v) (Old old) R
-        → AreAttached R (slice_set parts slot (Some (record { entity = e; raw = p.raw })))
-    attached_set slot p e v old own is m = attached_by _ _ m tt tt slot (Some (record { entity = e; raw = p.raw }))
-        (part_within parts slot p is)
-        (sym own, set_seen s k.unborrowed (box_of_part p) v old m (box_of_part p) ∙ k.seen slot p is)
-        (λ j q ne at. k.apart slot j p q (λ e. ne (sym e)) is at) (set_beside slot p v old is m)
-        (λ b seen. let was = k.listed b (sym (set_seen s k.unborrowed (box_of_part p) v old m b) ∙ seen) in ⊎_elim
-        (λ same. inl (record { entity = e; raw = p.raw }, refl, cc (is, was.2, was.3)))
-        (λ ne. inr (was.0, was.1, ne, was.2, was.3)) (key_cases by_number was.0 slot))
-
-    -- a component more
-    new_name : (v : C) (l : Location) (a : GenerationalBox C)
-        → Meets S (Make None v l) (Made (pointer_of a)) R → (j : ℕ) (q : Part T C)
-        → part_at parts j ≡ Some q → name_of (pointer_of a) ≢ name_of (box_of_part q)
-    new_name v l a m j q at =
-        let saw = some_live (value_in S (box_of_part q)) (k.seen j q at) in
-        made_apart None v l (Ok a) s m (box_of_part q) saw.0 saw.1
-
-    pub new_beside : (v : C) (l : Location) (a : GenerationalBox C)
-        → Meets S (Make None v l) (Made (pointer_of a)) R → (j : ℕ) (q : Part T C)
-        → part_at parts j ≡ Some q → value_in R (box_of_part q) ≡ value_in S (box_of_part q)
-    new_beside v l a m j q at = same_value S R _ _ s m (box_of_part q) tt (new_name v l a m j q at)
-
-    pub attached_new : (slot : ℕ) (e : Entity T) (v : C) (l : Location) (a : GenerationalBox C)
-        → slot ≡ slot_in e → slot < length parts → part_at parts slot ≡ None
-        → Meets S (Make None v l) (Made (pointer_of a)) R
-        → AreAttached R (slice_set parts slot (Some (record { entity = e; raw = a })))
-    attached_new slot e v l a own lt none m = attached_by _ _ m tt tt slot (Some (record { entity = e; raw = a })) lt
-        (sym own, ap is_some (made None v l (Ok a) m)) (λ j q ne at. new_name v l a m j q at)
-        (λ j q ne at. new_beside v l a m j q at)
-        (λ b seen. ⊎_elim (λ same. inl (record { entity = e; raw = a }, refl, same))
-        (λ ne. inr (grind (arith, same_value S R _ _ s m b tt ne, k.listed b, none)))
-        (name_cases (name_of (pointer_of a)) (name_of b)))
-
-    -- a component less
-    module _ (slot : ℕ) (p : Part T C) (is : part_at parts slot ≡ Some p) (m : Meets S (End (box_of_part p)) Done R) where
-      gone_beside : (j : ℕ) (q : Part T C) → j ≢ slot
-          → part_at parts j ≡ Some q → value_in R (box_of_part q) ≡ value_in S (box_of_part q)
-      gone_beside j q ne at =
-          same_value S R _ _ s m (box_of_part q) (k.apart slot j p q (λ e. ne (sym e)) is at) tt
-
-      pub attached_gone : AreAttached R (slice_set parts slot None)
-      attached_gone = attached_by _ _ m tt tt slot None (part_within parts slot p is) tt (λ _ _ _ _. tt) gone_beside
-          (λ b seen. let ne = ended_unseen s (box_of_part p) (k.seen slot p is) m b seen in
-          grind (arith, ne, same_value S R _ _ s m b ne tt, k.listed b, is))
-
-    pub gone_others : (a e : Entity T) (p : Part T C) → part_of parts a ≡ Some p
-        → Meets S (End (box_of_part p)) Done R → IsOther a e
-        → shown_by R (part_of (slice_set parts (slot_in a) None) e) ≡ shown_by S (part_of parts e)
-    gone_others a e p is m other =
-        let beside = gone_beside (slot_in a) p (part_there parts a p is).0 m in
-        let apart = written_apart S R parts (slot_in a) None e in
-        let there = part_there parts a p is in
-        grind (arith, other_part parts a e p is, there, part_within, get_or-set_same, apart, beside)
-
--- ==== a table after one row more was tested: the row's entity has passed, or it was ended
+pub tells_here : {T : Type 0} (n : ℕ) (s : SiteState) (e : Entity T) (here : Location) → e.store ≡ n → e.site < s.told
+    → IsAt s.all e.site here → Tells (told_at n (told_in s) e) here
+tells_here n s e here own lt at =
+    (at.kept, rw (own, nat_eq_equiv.refl n) (told_here s e.site at.kept lt at.there), at.alike)
 
 module _ {T : Type 0} where
-  -- an entity that is ended
-  pub record IsEnd (entity : Entity T) (old new : TableState T) : Type 0 where
-    pub gone : element_in new entity ≡ None
-    pub others : (e : Entity T) → IsOther entity e → element_in new e ≡ element_in old e
-    pub row : (row : ℕ) × (e : Entity T) × IsSame e entity × (slice_get old.rows row ≡ Some e)
-        × (new.rows ≡ swap_remove old.rows row e)
-    pub kept : (e : Entity T) → WasSpawned old e → WasSpawned new e
+  pub fresh_kept : (number start next : ℕ)
+      → IsKept {T = T} (fresh number start next) (record { number = number; rows = [] })
+  fresh_kept number start next = record {
+    simple = fresh_simple number start next;
+    number = refl;
+    same = λ e. sym (ap is_some (fresh_sees {T = T} number start next (pointer_in e)) ∙ sym (no_rows e));
+  }
+    where
+      no_rows : (e : Entity T)
+          → is_some (value_of {V = Unit {0}} (record { number = number; rows = [] }) e) ≡ false
+      no_rows e = grind arith
 
-  module _ {answers : T → Bool → Type 0} {first old : TableState T} {row : ℕ}
-      (s : Sifts answers first old (row + 1)) (entity : Entity T)
-      (at : slice_get old.rows row ≡ Some entity) (v : T)
-      (has : element_in old entity ≡ Some v) where
+  -- a live entity is held, and one that is held is live
+  pub held_live : {S : State T} {m : MapState (Unit {0})} → IsKept S m → (e : Entity T)
+      → is_some (value_of m e) ≡ true → IsSeen S (pointer_in e)
+  held_live k e is = sym (k.same e) ∙ is
+
+  module _ {S R : State T} {m : MapState (Unit {0})} (s : IsSound S) (k : IsKept S m) where
+    -- where each entity that was live is, and no other, the rows stay
+    pub kept_still : IsSimple R → R.number ≡ S.number
+        → ((b : GenerationalPointer) → is_some (value_in R b) ≡ is_some (value_in S b)) → IsKept R m
+    kept_still simple number same = record {
+      simple = simple;
+      number = k.number ∙ sym number;
+      same = λ e. k.same e ∙ sym (same (pointer_in e));
+    }
+
+    pub kept_set : (a : GenerationalPointer) (v old : T) → Meets S (SetValue a v) (Old old) R → IsKept R m
+    kept_set a v old met = kept_still (simple_still s k.simple _ _ met tt tt) (meets_number _ _ _ _ met)
+        (set_seen s k.simple.unborrowed a v old met)
+
+    -- ---- a new cell
+
+    module _ (v : T) (l : Location) (b : GenerationalPointer) (met : Meets S (Make None v l) (Made b) R) where
+      -- no live entity has its slot
+      unheld : (e : Entity T) → slot_in e ≡ b.id.slot → is_some (value_of m e) ≡ true → ⊥
+      unheld e slot is =
+          slot_apart S (name_of b) s.given k.simple.bounded (making {S = S} {R = R} v l b met).fits
+          (name_of (pointer_in e)) (seen_cell S (pointer_in e) (held_live k e is)) slot
+
+      pub new_vacant : (r : Row (Unit {0})) → row_at m.rows b.id.slot ≡ r → r ≡ Vacant
+      new_vacant Vacant at = refl
+      new_vacant (Held site generation u) at =
+          absurd (unheld (at_slot m.number b.id.slot site generation) refl (grind arith))
+
+      pub new_within : b.id.slot ≤ slots S
+      new_within = slot_within S (name_of b) k.simple.bounded (making {S = S} {R = R} v l b met).fits
+
+      module _ (e : Entity T) (own : id_in e ≡ b.id) (more next : MapState (Unit {0}))
+          (number : more.number ≡ m.number) (rows : (at : ℕ) → row_at more.rows at ≡ row_at m.rows at)
+          (lt : slot_in e < length more.rows) (after : next.number ≡ more.number)
+          (put : next.rows ≡ slice_set more.rows (slot_in e) (Held e.site e.generation tt)) where
+        is_next : next ≡ record { number = m.number; rows = slice_set more.rows (slot_in e) (Held e.site e.generation tt) }
+        is_next = λ j. record { number = (after ∙ number) j; rows = put j }
+
+        bears : e.store ≡ m.number
+        bears = ap (λ i. i.store) own ∙ ((made_new S R (Make None v l) b met).0 ∙ sym k.number)
+
+        slot_is : slot_in e ≡ b.id.slot
+        slot_is = ap (λ i. i.slot) own
+
+        left : (f : Entity T) → IsOther e f → is_some (value_of next f) ≡ is_some (value_of m f)
+        left f other = rw is_next (⊎_elim
+            (λ same. ap is_some (put_lost m.number more.rows e f tt bears lt same other)
+            ∙ sym (absent (value_of m f) (λ u is. unheld f (sym same ∙ slot_is) (ap is_some is))))
+            (λ apart. ap is_some (set_apart m.number more.rows e f _ apart ∙ same_values m.number m.rows more.rows f rows))
+            (key_cases by_number (slot_in e) (slot_in f)))
+
+        pub kept_spawned : IsKept R next
+        kept_spawned = record {
+          simple = made_simple s k.simple v l b met;
+          number = after ∙ (number ∙ (k.number ∙ sym (meets_number S R _ _ met)));
+          same = λ f. ⊎_elim
+              (λ same. rw is_next (ap is_some (subst (λ i. value_at i ≡ Some tt) same
+              (put_here m.number more.rows e tt bears lt)))
+              ∙ sym (ap is_some (same_id_sees R (pointer_in f) b (sym same ∙ own)
+              ∙ (meets_tells S R (Make None v l) (Made b) met).1)))
+              (λ other. left f other ∙ (k.same f ∙ sym (ap is_some (others_left _ _ met b (pointer_in f)
+              (made_new S R (Make None v l) b met).0 (same_value S R _ _ s met (pointer_in f) tt) (λ one. other (own ∙ one))))))
+              (one_or_two e f);
+        }
+          where
+            value_at : GenerationalBoxId → Option (Unit {0})
+            value_at i = if nat_eq i.store m.number
+                then held (row_at (slice_set more.rows (slot_in e) (Held e.site e.generation tt)) i.slot) i.generation else None
+
+        pub spawned_count : count next.rows ≡ count more.rows + 1
+        spawned_count =
+            let new : Row (Unit {0}) = Held e.site e.generation tt in
+            let was = ap one (rows (slot_in e) ∙ (ap (row_at m.rows) slot_is ∙ new_vacant (row_at m.rows b.id.slot) refl)) in
+            rw put (omega (
+              arith,
+              count_set more.rows (slot_in e) new lt,
+              was,
+              one_vacant (Unit {0}),
+              one_held {V = Unit {0}} e.site e.generation tt,
+            ))
+
+    -- ---- a cell that was ended
+
+    module _ (a : GenerationalPointer) (e : Entity T) (own : a.id ≡ id_in e) (live : is_some (value_of m e) ≡ true)
+        (met : Meets S (End a) Done R) where
+      pub ended_seen : IsSeen S a
+      ended_seen = ap is_some (same_id_sees S a (pointer_in e) own) ∙ held_live k e live
+
+      pub ended_gone : value_in R (pointer_in e) ≡ None
+      ended_gone = sym (same_id_sees R a (pointer_in e) own) ∙ unseen R a (ends a {U = Unit {0}} (Ok tt) met)
+
+      pub ended_others : (f : Entity T) → IsOther e f → value_in R (pointer_in f) ≡ value_in S (pointer_in f)
+      ended_others f other = others_left _ _ met a (pointer_in f) (seen_store S a s ended_seen)
+          (λ ne. same_value S R _ _ s met (pointer_in f) ne tt) (λ same. other (sym own ∙ same))
+
+      pub kept_ended : IsKept R (record m { rows = slice_set m.rows (slot_in e) Vacant })
+      kept_ended = record {
+        simple = simple_still s k.simple (End a) Done met tt tt;
+        number = k.number ∙ sym (meets_number S R _ _ met);
+        same = λ f. ⊎_elim
+            (λ same. ap is_some (emptied_here m.number m.rows e f (ap (λ i. i.slot) same))
+            ∙ sym (ap is_some (same_id_sees R (pointer_in f) (pointer_in e) (sym same) ∙ ended_gone)))
+            (λ other. left f other ∙ (k.same f ∙ sym (ap is_some (ended_others f other))))
+            (one_or_two e f);
+      }
+        where
+          left : (f : Entity T) → IsOther e f
+              → is_some (value_of (record m { rows = slice_set m.rows (slot_in e) Vacant }) f) ≡ is_some (value_of m f)
+          left f other = ⊎_elim
+              (λ same. ap is_some (emptied_here m.number m.rows e f same)
+              ∙ sym (absent (value_of m f) (λ u is. other (one_slot m e f live (ap is_some is) same))))
+              (λ apart. ap is_some (set_apart m.number m.rows e f Vacant apart))
+              (key_cases by_number (slot_in e) (slot_in f))
+
+      pub ended_count : count (slice_set m.rows (slot_in e) Vacant) + 1 ≡ count m.rows
+      ended_count = omega (
+        arith,
+        count_set m.rows (slot_in e) Vacant (value_within m e live),
+        one_vacant (Unit {0}),
+        one_live (row_at m.rows (slot_in e)) refl,
+      )
+        where
+          one_live : (r : Row (Unit {0})) → row_at m.rows (slot_in e) ≡ r → one (row_at m.rows (slot_in e)) ≡ 1
+          one_live Vacant at = grind arith
+          one_live (Held site generation u) at = ap one at ∙ one_held site generation u
+
+  -- ---- what is seen of the rows
+
+  pub all_live : {S : State T} {m : MapState (Unit {0})} → IsKept S m
+      → AreSeen (λ (p : Entity T × Unit {0}). pointer_in p.0) S (listed m)
+  all_live {S} {m} k = all_seen (λ (p : Entity T × Unit {0}). p.0) (λ p. pointer_in p.0) S (listed m)
+      (λ i p is. sym (k.same p.0) ∙ ap is_some (listed_shown m i p.0 p.1 is))
+
+  pub kept_dense : {S : State T} {m : MapState (Unit {0})} → IsKept S m → (sites : List Location)
+      → IsDense (record { state = S; rows = map (λ (p : Entity T × Unit {0}). p.0) (listed m); sites = sites })
+  kept_dense {S} {m} k sites = record {
+    live = λ row e is. let at = mapped (listed m) row e is in
+        subst (λ f. IsSeen S (pointer_in f)) at.1 (sym (k.same at.0.0) ∙ ap is_some (listed_shown m row at.0.0 at.0.1 at.2));
+    listed = λ e live. by_option (value_of m e) (λ none. absurd (true≢false (sym (k.same e ∙ live) ∙ ap is_some none)))
+        (λ u is. let at = listed_every m e u is in
+        (at.0, at.1, slice_get-map (λ (p : Entity T × Unit {0}). p.0) (listed m) at.0 ∙ ap (option_map (λ p. p.0)) at.2, at.3));
+    ordered = subst IsStrictlyIncreasing (sym (map-map slot_in (λ (p : Entity T × Unit {0}). p.0) (listed m)))
+        (listed_rise T EntityKind m);
+  }
+    where
+      mapped : (ps : List (Entity T × Unit {0})) (row : ℕ) (e : Entity T) → slice_get (map (λ p. p.0) ps) row ≡ Some e
+          → (p : Entity T × Unit {0}) × (p.0 ≡ e) × (slice_get ps row ≡ Some p)
+      mapped [] row e is = cc
+      mapped (p ∷ ps) zero e is = (p, same_Some _ _ is, refl)
+      mapped (p ∷ ps) (suc row) e is = mapped ps row e is
+
+  -- where no entity is live there are no rows
+  pub dense_empty : (t : TableState T) → IsDense t → ((e : Entity T) → element_in t e ≡ None) → t.rows ≡ []
+  dense_empty t dense none = no_rows t.rows refl
+    where
+      no_rows : (rows : List (Entity T)) → t.rows ≡ rows → rows ≡ []
+      no_rows [] is = refl
+      no_rows (e ∷ rows) is = absurd (true≢false (sym (dense.live 0 e (ap (λ r. slice_get r 0) is)) ∙ ap is_some (none e)))
+
+-- ==== a table after one slot more was tested: its entity has passed, or it was ended
+
+module _ {T : Type 0} {answers : T → Bool → Type 0} {first old : TableState T} {slot : ℕ}
+    (s : Sifts answers first old slot) where
+  -- those of the slots before, and of this one
+  below : (new : TableState T) → ((e : Entity T) (v : T) → element_in new e ≡ Some v → slot_in e < slot → answers v true)
+      → ((e : Entity T) (v : T) → element_in new e ≡ Some v → slot_in e ≡ slot → answers v true)
+      → (e : Entity T) (v : T) → element_in new e ≡ Some v → slot_in e < slot + 1 → answers v true
+  below new before here e v is lt = ⊎_elim (λ same. here e v is same)
+      (λ apart. before e v is (omega (arith, lt, apart))) (key_cases by_number (slot_in e) slot)
+
+  -- no entity is there
+  pub sifts_none : ((e : Entity T) → is_some (element_in old e) ≡ true → slot_in e ≡ slot → ⊥)
+      → Sifts answers first old (slot + 1)
+  sifts_none none = record {
+    left = s.left;
+    none = s.none;
+    kept = s.kept;
+    told = s.told;
+    passed = below old s.passed (λ e v is same. absurd (none e (ap is_some is) same));
+  }
+
+  module _ (entity : Entity T) (v : T) (has : element_in old entity ≡ Some v) (at : slot_in entity ≡ slot)
+      (alone : (e : Entity T) → is_some (element_in old e) ≡ true → slot_in e ≡ slot → IsSame entity e) where
     -- the entity has passed
-    pub sifts_passed : answers v true → Sifts answers first old row
-    sifts_passed passes = grind (arith, s.passed, s.ahead, s.front, s.left)
+    pub sifts_passed : answers v true → Sifts answers first old (slot + 1)
+    sifts_passed passes = record {
+      left = s.left;
+      none = s.none;
+      kept = s.kept;
+      told = s.told;
+      passed = below old s.passed (λ e w is same. subst (λ x. answers x true)
+          (same_Some v w (sym has ∙ (same_id_sees old.state (pointer_in entity) (pointer_in e) (alone e (ap is_some is) same) ∙ is)))
+          passes);
+    }
 
     -- it was ended
-    pub sifts_failed : {new : TableState T} → IsDense old → IsEnd entity old new → answers v false
-        → Sifts answers first new row
-    sifts_failed {new} dense end fails = record {
-      left = λ e w is. let sees = same_id_sees old.state (pointer_in entity) (pointer_in e) in
-          grind (arith, s.left e w is, alike e, end.others e, stays e, one_or_two entity e, sees);
-      none = λ e is. stays e (s.none e is);
-      kept = λ e is. end.kept e (s.kept e is);
-      passed = λ i e is le.
-          let at = removed_get old.rows r.0 i r.1 e (slice_get_within old.rows r.0 r.1 r.3) (rw r.4 at is) in
-          grind (arith, at, passed (length old.rows - 1) e, passed i e, here);
-      front = λ i e is all.
-          grind (arith, s.front i e is, all, stays, before i e, no_further i e is);
-      ahead = λ i e lt is. before i e lt (s.ahead i e (omega (arith, lt)) is);
-      within = omega (arith, s.within, ap length r.4 ∙ removed_length old.rows r.0 r.1);
-    }
-      where
-        r : (row : ℕ) × (e : Entity T) × IsSame e entity × (slice_get old.rows row ≡ Some e)
-            × (new.rows ≡ swap_remove old.rows row e)
-        r = end.row
+    module _ (new : TableState T) (gone : element_in new entity ≡ None)
+        (others : (e : Entity T) → IsOther entity e → element_in new e ≡ element_in old e) where
+      alike : (e : Entity T) → IsSame entity e → element_in new e ≡ None
+      alike e same = sym (same_id_sees new.state (pointer_in entity) (pointer_in e) same) ∙ gone
 
-        here : r.0 ≡ row
-        here = dense.once r.0 row r.1 entity r.3 at r.2
+      stays : (e : Entity T) → element_in old e ≡ None → element_in new e ≡ None
+      stays e none = ⊎_elim (alike e) (λ other. others e other ∙ none) (one_or_two entity e)
 
-        alike : (e : Entity T) → IsSame entity e → element_in new e ≡ None
-        alike e same = cc (same_id_sees new.state (pointer_in entity) (pointer_in e) same, end.gone)
+      apart : (e : Entity T) (w : T) → element_in new e ≡ Some w → (element_in old e ≡ Some w) × IsOther entity e
+      apart e w is = ⊎_elim (λ same. absurd (none_some w (sym (alike e same) ∙ is)))
+          (λ other. (sym (others e other) ∙ is, other)) (one_or_two entity e)
 
-        before : (i : ℕ) (e : Entity T) → i < row → slice_get old.rows i ≡ Some e
-            → slice_get new.rows i ≡ Some e
-        before i e lt is =
-            let within = slice_get_within old.rows r.0 r.1 r.3 in
-            grind (arith, r.4, here, removed_old old.rows r.0 i r.1 e, within)
+      pub sifts_failed : answers v false → ((e : Entity T) → WasSpawned old e → WasSpawned new e)
+          → ((e : Entity T) → created_at new e ≡ created_at old e) → Sifts answers first new (slot + 1)
+      sifts_failed fails kept told = record {
+        left = λ e w is. ⊎_elim
+            (λ has_w. ⊎_elim (λ same. inr (
+              alike e same,
+              subst (λ x. answers x false)
+                  (same_Some v w (sym has ∙ (same_id_sees old.state (pointer_in entity) (pointer_in e) same ∙ has_w))) fails,
+            ))
+            (λ other. inl (others e other ∙ has_w)) (one_or_two entity e))
+            (λ failed. inr (stays e failed.0, failed.1)) (s.left e w is);
+        none = λ e is. stays e (s.none e is);
+        kept = λ e is. kept e (s.kept e is);
+        told = λ e. told e ∙ s.told e;
+        passed = below new (λ e w is. s.passed e w (apart e w is).0)
+            (λ e w is same. let was = apart e w is in absurd (was.1 (alone e (ap is_some was.0) same)));
+      }
 
-        no_further : (i : ℕ) (e : Entity T) → slice_get first.rows i ≡ Some e → row ≤ i
-            → ((j : ℕ) (d : Entity T) → j ≤ i → slice_get first.rows j ≡ Some d
-            → is_some (element_in new d) ≡ true) → ⊥
-        no_further i e is le all =
-            let there = slice_get-get_or first.rows row e in
-            grind (arith, there, slice_get_within first.rows i e is, s.ahead row, all row, end.gone)
+module _ {T : Type 0} {answers : T → Bool → Type 0} where
+  -- if no slot was tested nothing has changed
+  pub sifts_begun : (t : TableState T) → Sifts answers t t 0
+  sifts_begun t = record {
+    left = λ e v is. inl is;
+    none = λ e is. is;
+    kept = λ e is. is;
+    told = λ e. refl;
+    passed = λ e v is lt. absurd (omega (arith, lt));
+  }
 
-        stays : (e : Entity T) → element_in old e ≡ None → element_in new e ≡ None
-        stays e none = grind (arith, alike e, end.others e, one_or_two entity e)
-
-        passed : (i : ℕ) (e : Entity T) → slice_get old.rows i ≡ Some e → i ≢ row → row + 1 ≤ i
-            → (w : T) × (element_in new e ≡ Some w) × answers w true
-        passed i e is ne le = grind (arith, s.passed i e is, dense.once i row e entity is at, end.others e)
-
-  -- where no row was tested nothing has changed
-  pub sifts_begun : {answers : T → Bool → Type 0} (t : TableState T) (row : ℕ)
-      → row ≡ length t.rows → Sifts answers t t row
-  sifts_begun t row is = search (rules, arith, slice_get_within)
-
-  -- where all rows were tested each entity that is left has passed
-  pub sifted : {answers : T → Bool → Type 0} {old new : TableState T} {row : ℕ} → IsDense new
-      → Sifts answers old new row → row ≤ 0 → (e : Entity T) (v : T) → element_in old e ≡ Some v
-      → IsSifted answers v (element_in new e)
-  sifted {new = new} dense s end e v is =
-      grind (arith, dense.listed e, s.passed, s.left e v is, same_id_sees new.state)
+  -- if all slots were tested each entity that is left has passed
+  pub sifted : {old new : TableState T} {slot : ℕ} → Sifts answers old new slot
+      → ((e : Entity T) → is_some (element_in old e) ≡ true → slot_in e < slot)
+      → (e : Entity T) (v : T) → element_in old e ≡ Some v → IsSifted answers v (element_in new e)
+  sifted s all e v is = ⊎_elim (λ stays. inl (stays, s.passed e v stays (all e (ap is_some is)))) (λ gone. inr gone) (s.left e v is)
 
 -- ==== components after each slot of a sweep
 
@@ -571,115 +438,62 @@ same_shown : {T : Type 0} (table : TableState T) (a e : Entity T) → IsSame a e
     → element_in table a ≡ element_in table e
 same_shown table a e = same_id_sees table.state (pointer_in a) (pointer_in e)
 
-module _ {T C : Type 0} where
-  -- handles of one entity show one component
-  same_component : (t : ComponentState T C) (a e : Entity T) → IsSame a e
-      → component_in t a ≡ component_in t e
-  same_component t a e same = grind arith
+-- handles of one entity show one component
+same_component : {T C : Type 0} (t : MapState C) (a e : Entity T) → IsSame a e → component_in t a ≡ component_in t e
+same_component t a e same = grind arith
 
-  -- an entity has no component where its slot's part is another's
-  other_shows : (S : State C) (p : Part T C) (e : Entity T) → IsOther p.entity e
-      → shown_by S (part_if e (Some p)) ≡ None
-  other_shows S p e other = grind (arith, same_ids (pointer_in p.entity) (pointer_in e))
+module _ {T C : Type 0} {table : TableState T} where
+  pub sweeps_begun : (t : MapState C) → Sweeps table t t 0
+  sweeps_begun t = record { kept = λ e is. refl; gone = λ e dead lt. absurd (omega (arith, lt)); none = λ e is. is }
 
-  module _ {table : TableState T} where
-    -- past the slots there are no components
-    pub sweeps_begun : (t : ComponentState T C) (slot : ℕ) → slot ≡ length t.parts
-        → Sweeps table t t slot
-    sweeps_begun t slot is = grind (arith, get_or_past)
+  module _ {first now : MapState C} {slot : ℕ} (s : Sweeps table first now slot) where
+    -- at a slot without a component
+    pub sweeps_empty : row_at now.rows slot ≡ Vacant → Sweeps table first now (slot + 1)
+    sweeps_empty none = record {
+      kept = s.kept;
+      none = s.none;
+      gone = λ e dead lt. ⊎_elim (λ same. grind (arith, none)) (λ apart. s.gone e dead (omega (arith, lt, apart)))
+          (key_cases by_number (slot_in e) slot);
+    }
 
-    module _ {first now : ComponentState T C} {slot : ℕ} (s : Sweeps table first now (slot + 1)) where
-      -- at a slot without a component
-      pub sweeps_empty : part_at now.parts slot ≡ None → Sweeps table first now slot
-      sweeps_empty none = grind (arith, s.kept, s.gone)
+    module _ (p : Entity T) (site generation : ℕ) (v : C) (there : row_at now.rows slot ≡ Held site generation v)
+        (is : p ≡ at_slot now.number slot site generation) where
+      -- what another of the slot shows
+      other : (e : Entity T) → slot_in e ≡ slot → IsOther p e → component_in now e ≡ None
+      other e same ne = grind arith
 
-      module _ (p : Part T C) (there : part_at now.parts slot ≡ Some p) where
-        -- at one whose entity is live
-        pub sweeps_live : is_some (element_in table p.entity) ≡ true → Sweeps table first now slot
-        sweeps_live live = grind (arith, s.kept, s.gone, other_shows now.state p, same_shown table p.entity)
+      -- at one whose entity is live
+      pub sweeps_live : is_some (element_in table p) ≡ true → Sweeps table first now (slot + 1)
+      sweeps_live live = record {
+        kept = s.kept;
+        none = s.none;
+        gone = λ e dead lt. ⊎_elim
+            (λ same. ⊎_elim (λ one. absurd (true≢false (sym live ∙ (ap is_some (same_shown table p e one) ∙ ap is_some dead))))
+            (λ ne. other e same ne) (one_or_two p e))
+            (λ apart. s.gone e dead (omega (arith, lt, apart))) (key_cases by_number (slot_in e) slot);
+      }
 
-        -- and at one whose entity isn't, and whose component was removed
-        pub sweeps_gone : {next : ComponentState T C} → is_some (element_in table p.entity) ≡ false
-            → component_in next p.entity ≡ None
-            → ((e : Entity T) → IsOther p.entity e → component_in next e ≡ component_in now e)
-            → Sweeps table first next slot
-        sweeps_gone {next} dead gone others =
-            let alike = same_component next p.entity in
-            let shows = same_shown table p.entity in
-            grind (arith, others, s.kept, s.gone, shows, alike, other_shows now.state p, one_or_two p.entity)
+      -- and at one whose entity isn't, and whose component was removed
+      pub sweeps_gone : {next : MapState C} → is_some (element_in table p) ≡ false → component_in next p ≡ None
+          → ((e : Entity T) → IsOther p e → component_in next e ≡ component_in now e) → Sweeps table first next (slot + 1)
+      sweeps_gone {next} dead gone others = record {
+        kept = λ e live. ⊎_elim
+            (λ one. absurd (true≢false (sym live ∙ (ap is_some (sym (same_shown table p e one)) ∙ dead))))
+            (λ ne. others e ne ∙ s.kept e live) (one_or_two p e);
+        none = λ e is. ⊎_elim (λ one. sym (same_component next p e one) ∙ gone)
+            (λ ne. others e ne ∙ s.none e is) (one_or_two p e);
+        gone = λ e none lt. ⊎_elim (λ one. sym (same_component next p e one) ∙ gone)
+            (λ ne. others e ne ∙ ⊎_elim (λ same. other e same ne) (λ apart. s.gone e none (omega (arith, lt, apart)))
+            (key_cases by_number (slot_in e) slot)) (one_or_two p e);
+      }
 
--- ==== the parts of slots as a list, and a walk over them
+  -- past the slots there were no components
+  pub swept : {first now : MapState C} {slot : ℕ} → Sweeps table first now slot → length first.rows ≤ slot
+      → (e : Entity T) → element_in table e ≡ None → component_in now e ≡ None
+  swept {first} s all e dead = by_option (component_in first e) (s.none e)
+      (λ v is. s.gone e dead (omega (arith, all, value_within first e (ap is_some is))))
 
--- a number before others that rise, of which each is above it
-rises_more : (x : ℕ) (xs : List ℕ) → All (λ y. x < y) xs
-    → IsStrictlyIncreasing xs → IsStrictlyIncreasing (x ∷ xs)
-rises_more x xs low rising zero lt = low 0 0 (omega (arith, lt))
-rises_more x xs low rising (suc k) lt =
-    rw (add-one (suc k), ← add-one k) (rising k (omega (arith, lt, add-one (suc k), add-one k)))
-
-module _ {T C : Type 0} where
-  -- a listed part is that of a slot
-  listed_at : (parts : List (Option (Part T C))) (i : ℕ) (p : Part T C)
-      → slice_get (listed_parts parts) i ≡ Some p → (slot : ℕ) × (part_at parts slot ≡ Some p)
-  listed_at (None ∷ parts) i p is = let at = listed_at parts i p is in (suc at.0, at.1)
-  listed_at (Some q ∷ parts) (suc i) p is = let at = listed_at parts i p is in (suc at.0, at.1)
-  listed_at parts i p is = (0, grind arith)
-
-  -- and each slot's is listed
-  listed_there : (parts : List (Option (Part T C))) (slot : ℕ) (p : Part T C)
-      → part_at parts slot ≡ Some p → (i : ℕ) × (slice_get (listed_parts parts) i ≡ Some p)
-  listed_there (None ∷ parts) (suc slot) p is = listed_there parts slot p is
-  listed_there (Some q ∷ parts) (suc slot) p is =
-      let at = listed_there parts slot p is in (suc at.0, at.1)
-  listed_there parts slot p is = (0, grind arith)
-
-  -- so the slots of listed parts rise
-  slots_rise : (parts : List (Option (Part T C))) (first : ℕ)
-      → ((i : ℕ) (p : Part T C) → part_at parts i ≡ Some p → slot_in p.entity ≡ first + i)
-      → IsStrictlyIncreasing (map (λ p. slot_in p.entity) (listed_parts parts))
-      × All (λ y. first ≤ y) (map (λ p. slot_in p.entity) (listed_parts parts))
-  slots_rise [] first at = (λ k lt. absurd (omega (arith, lt)), All-nil (λ y. first ≤ y))
-  slots_rise (None ∷ parts) first at =
-      let rest = slots_rise parts (first + 1) (λ i p is. omega (arith, at (suc i) p is)) in
-      (rest.0, λ k d lt. omega (arith, rest.1 k d lt))
-  slots_rise (Some p ∷ parts) first at =
-      let rest = slots_rise parts (first + 1) (λ i q is. omega (arith, at (suc i) q is)) in
-      let here = at 0 p refl in (
-        rises_more (slot_in p.entity) _ (λ k d lt. omega (arith, here, rest.1 k d lt)) rest.0,
-        All-cons (λ y. first ≤ y) (slot_in p.entity) _ (omega (arith, here)) (λ k d lt. omega (arith, rest.1 k d lt)),
-      )
-
-  module _ {S : State C} {parts : List (Option (Part T C))} (k : AreAttached S parts) where
-    pub listed_seen : AreSeen box_of_part S (listed_parts parts)
-    listed_seen = all_seen entity_of_part box_of_part S (listed_parts parts) (λ i p is.
-        let at = listed_at parts i p is in k.seen at.0 p at.1)
-
-    pub listed_shown : (i : ℕ) (e : Entity T) (c : C)
-        → slice_get (shown_rows entity_of_part box_of_part S (listed_parts parts)) i ≡ Some (e, c)
-        → shown_by S (part_of parts e) ≡ Some c
-    listed_shown i e c is =
-        let it = shown_sees entity_of_part box_of_part S (listed_parts parts) i e c is in
-        let at = listed_at parts it.0 it.1 it.2 in
-        cc (k.placed at.0 it.1 at.1, at.1, own_part it.1.entity it.1.raw, it.3, it.4)
-
-    pub listed_every : (e : Entity T) (c : C) → shown_by S (part_of parts e) ≡ Some c
-        → (i : ℕ) × (f : Entity T)
-        × (slice_get (shown_rows entity_of_part box_of_part S (listed_parts parts)) i ≡ Some (f, c))
-        × IsSame f e
-    listed_every e c shows = by_option (part_of parts e) (λ none. cc) (λ p is.
-        let there = part_there parts e p is in
-        let i = listed_there parts (slot_in e) p there.0 in
-        let row = shown_each entity_of_part box_of_part S _ listed_seen i.0 p c i.1 (rw is at shows) in
-        (i.0, p.entity, row, (same_ids (pointer_in p.entity) (pointer_in e)).0 there.1))
-
-    pub listed_rise : IsStrictlyIncreasing (map (λ p. slot_in p.0)
-        (shown_rows entity_of_part box_of_part S (listed_parts parts)))
-    listed_rise = subst IsStrictlyIncreasing (sym slots)
-        (slots_rise parts 0 (λ i p is. omega (arith, k.placed i p is))).0
-      where
-        slots : map (λ p. slot_in p.0) (shown_rows entity_of_part box_of_part S (listed_parts parts))
-            ≡ map (λ p. slot_in p.entity) (listed_parts parts)
-        slots = sym (map-map slot_in (λ (p : Entity T × C). p.0)
-            (shown_rows entity_of_part box_of_part S (listed_parts parts)))
-            ∙ (ap (map slot_in) (shown_all entity_of_part box_of_part S (listed_parts parts) listed_seen)
-            ∙ map-map slot_in entity_of_part (listed_parts parts))
+-- a list is empty if its length is 0
+pub none_long : {X : Type 0} (xs : List X) (n : ℕ) → n ≡ length xs → (nat_eq n 0 ≡ true) ↔ (xs ≡ [])
+none_long [] n is = grind arith
+none_long (x ∷ xs) n is = grind arith

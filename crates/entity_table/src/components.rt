@@ -1,37 +1,37 @@
 //! Tables of components, beside a table of entities.
 
-ghost use Rattle.std.specs.Prelude.{◌≡◌, ◌≢◌, ◌<◌, length, None, Some, is_some, option_copied, IsTrue, ℕ};
-ghost use Rattle.std.specs.Prelude.{OnOk, IfErr, OnErr, IsErrAnd, true, slice_get, map as list_map};
-ghost use Rattle.std.specs.Prelude.{IfSome, IfNone, ◌+◌};
+ghost use Rattle.std.specs.Prelude.{◌≡◌, ◌≢◌, ◌<◌, ◌+◌, ℕ, None, Some, is_some, option_copied, true};
+ghost use Rattle.std.specs.Prelude.{OnOk, IfErr, OnErr, IsErrAnd, IfSome, IfNone, slice_get, length};
+ghost use Rattle.std.specs.Prelude.{map as list_map};
 ghost use Rattle.std.specs.Borrow.{MutBor};
 ghost use Rattle.std.specs.Fn.{FnOnceReturnsAtMut};
 ghost use Rattle.std.specs.List.Sorted.{IsStrictlyIncreasing};
-ghost use Rattle.generational_core.specs.Conditions.{IsFresh};
 ghost use Rattle.generational_errors.specs.declared.error.StoreError.TheVariants.{OutOfMemory};
-ghost use Rattle.entity_table.specs.declared.entity.Entity.{Entity};
+ghost use Rattle.handles.specs.declared.map.Row.TheVariants.{Vacant};
+ghost use Rattle.handles.specs.Handles.{slot_in, IsOther, IsSame};
+ghost use Rattle.handles.specs.Maps.{MapState, count, row_at};
 ghost use Rattle.entity_table.specs.declared.components.AttachError.TheVariants as attach;
-ghost use Rattle.entity_table.specs.Entities.{slot_in, spawned_at, IsOther, IsSame};
-ghost use Rattle.entity_table.specs.Tables.{element_in};
-ghost use Rattle.entity_table.specs.Components.{part_at, part_of, component_in, AreListed};
-ghost use Rattle.entity_table.specs.Components.{ComponentState};
+ghost use Rattle.entity_table.specs.Components.{component_in};
 ghost use Rattle.entity_table.specs.Sweeping.{Sweeps};
+ghost use Rattle.entity_table.specs.Tables.{Entity, created_at, element_in};
 
-use crate::entity::{Entity, Stale};
+use crate::entity::{Entity, EntityKind};
 use crate::table::EntityTable;
 use crate::walk::{ComponentIter, Join};
-use generational_core::{GenerationalBox, HandedBack, Location, Refusal, Storage, StoreError};
-use std::alloc::{AllocError, Global};
+use generational_core::{HandedBack, Storage, StoreError};
+use handles::Stale;
+use handles::parts::{HandleMap, number_of, slot_of};
+use std::alloc::Global;
 use std::error::Error;
 use std::fmt;
 use std::marker::Model;
-use store_room::reserve_more;
 
 /// Why a component isn't given.
 #[derive(Clone, Copy, Debug, PartialEq, Eq)]
 pub enum AttachError {
-    /// The entity is gone.
+    /// The entity is gone, or is another table's.
     Stale(Stale),
-    /// The store refused.
+    /// Memory runs out.
     Store(StoreError),
 }
 
@@ -52,87 +52,58 @@ impl fmt::Display for AttachError {
 
 impl Error for AttachError {}
 
-/// An entity's component.
-pub(crate) struct Part<T, C> {
-    /// The entity.
-    pub(crate) entity: Entity<T>,
-    /// The component.
-    pub(crate) raw: GenerationalBox<C>,
-}
-
-impl<T, C> Clone for Part<T, C> {
-    ghost use Rattle.std.specs.Prelude.{⊤};
-
-    ghost is_clone = { λ a b. b ≡ a };
-
-    ghost is_infallible = { λ _. ⊤ };
-
-    fn clone(&self) -> Result<Self, AllocError> {
-        Ok(*self)
-    }
-}
-
-impl<T, C> Copy for Part<T, C> {}
-
-/// Components of one kind, one an entity at most, in a store of their own. Contracts see the
-/// machine's state of that store, and which component each slot's entity has.
+/// Components of one kind, one an entity at most, of the entities of one [`EntityTable`]. Contracts see
+/// the number of that table, and what each slot holds.
 ///
-/// The entities are those of one [`EntityTable`](crate::EntityTable), of which two never have one
-/// slot at once. An entity that was despawned keeps its component until that is removed or swept, or
-/// until an entity that has taken its slot gets one.
+/// An entity that was despawned keeps its component until that is removed or swept, or until an entity
+/// that has taken its slot gets one.
 #[derive(Drop)]
-pub struct ComponentTable<T, C, S: Storage<C>> {
-    store: S,
-    parts: Vec<Option<Part<T, C>>>,
+pub struct ComponentTable<T, C> {
+    map: HandleMap<T, EntityKind, C>,
 }
 
-impl<T, C, S: Storage<C>> Model for ComponentTable<T, C, S> {
-    ghost use Rattle.std.specs.Coded.{codes};
-    ghost use Rattle.std.specs.FinMap as map;
-    ghost use Rattle.entity_table.specs.Components.{ComponentState, AreAttached};
+impl<T, C> Model for ComponentTable<T, C> {
+    ghost use Rattle.handles.specs.Maps.{MapState};
 
-    ghost Value = { ComponentState T C };
+    ghost Value = { MapState C };
 
-    ghost coded = { Prim.hlevel (codes, map.code) };
-
-    ghost view = { λ t. record { state = S.state t.store; parts = t.parts.items } };
-
-    ghost invariant = { λ t. AreAttached (S.state t.store) t.parts.items };
+    ghost view = { λ t. t.map };
 }
 
-impl<T, C, S: Storage<C>> ComponentTable<T, C, S> {
-    /// A table without components, over a fresh store (`is_fresh` is the test). Takes no memory.
+impl<T, C> ComponentTable<T, C> {
+    /// A table without components, for the entities of a table. Doesn't allocate.
     ///
     /// ```rust
-    /// let store = UnsyncStorage::<u64>::new(rt.alloc(), 2);
-    /// let mut names = ComponentTable::new(rt.alloc(), store);
+    /// let mut names = ComponentTable::new(rt.alloc(), &table);
     /// ```
-    pub fn new(alloc: Global, store: S) -> Self
-        requires { IsFresh (S.state store) }
-        ensures { (e : Entity T) → component_in result e ≡ None }
+    pub fn new<E: Storage<T>>(alloc: Global, table: &EntityTable<T, E>) -> Self
+        ensures number { result.number ≡ table.now.state.number }
+        ensures none { (e : Entity T) → component_in result e ≡ None }
     {
         ComponentTable {
-            store,
-            parts: Vec::new(alloc),
+            map: HandleMap::new(alloc, table.number()),
         }
     }
 
-    /// Gives an entity a component, in the place of the one that its slot has, which goes. Every entity
-    /// of another slot keeps its own; one that had this slot before loses its, and so does one that has
-    /// it now where this entity is gone: `attach` asks whether it is live.
+    /// Gives an entity a component, in the place of the one that its slot has, which is dropped. Every
+    /// entity of another slot keeps its own; one that had this slot before loses its, and so does one that
+    /// has it now if this entity is gone: `attach` asks whether it is live. O(1), amortised if slots come in
+    /// order, and O(n) for n slots more.
     ///
-    /// Refused by `OutOfMemory` alone, where the slot has no component yet: the component comes back,
-    /// and nothing changes. O(1), but for finding room, and for letting the old one go.
+    /// # Errors
+    ///
+    /// `Stale` without a location if the entity is another table's; `Store` of `OutOfMemory`, only if the
+    /// slot has no component yet. The component comes back, and every entity keeps its own.
     ///
     /// ```rust
-    /// names.insert(entity, 200, here)?;
+    /// names.insert(entity, 200)?;
     /// ```
+    #[inline(always)]
     pub fn insert(
         &mut self,
         entity: Entity<T>,
         component: C,
-        here: Location,
-    ) -> Result<(), Refusal<C>>
+    ) -> Result<(), HandedBack<C, AttachError>>
     where
         C: Drop,
         ensures shown { OnOk result (component_in self.new entity ≡ Some component) }
@@ -140,49 +111,54 @@ impl<T, C, S: Storage<C>> ComponentTable<T, C, S> {
             component_in self.new e ≡ component_in self.old e }
         ensures lost { OnOk result ((e : Entity T) → slot_in entity ≡ slot_in e →
             IsOther entity e → component_in self.new e ≡ None) }
-        ensures refused { OnErr result ((self.new.state ≡ self.old.state)
-            × ((e : Entity T) → component_in self.new e ≡ component_in self.old e)) }
+        ensures foreign { entity.store ≢ self.old.number → IsErrAnd result (λ refusal.
+            refusal.cause ≡ attach.Stale (record { created_at = None })) }
+        ensures short { entity.store ≡ self.old.number → IfErr result (λ refusal.
+            (refusal.cause ≡ attach.Store OutOfMemory)
+            × (row_at self.old.rows (slot_in entity) ≡ Vacant)) }
+        ensures refused { OnErr result ((e : Entity T) →
+            component_in self.new e ≡ component_in self.old e) }
         ensures back { IfErr result (λ refusal. refusal.value ≡ component) }
-        ensures cause { IfErr result (λ refusal. refusal.cause ≡ OutOfMemory) }
-        ensures short { IfErr result (λ _. part_at self.old.parts (slot_in entity) ≡ None) }
-        ensures listed { AreListed self.new.state self.new.parts }
+        ensures number { self.new.number ≡ self.old.number }
     {
-        let slot = entity.raw.raw_ptr();
-        if let Some(part) = part_in(&self.parts, slot) {
-            let raw = part.raw;
-            raw.set(&mut self.store, component);
-            self.parts[slot] = Some(Part { entity, raw });
-            return Ok(());
-        }
-        if !reserve_part(&mut self.parts, slot) {
-            let cause = StoreError::OutOfMemory;
-            return Err(Refusal {
+        if number_of(entity) != self.map.number() {
+            let cause = AttachError::Stale(Stale { created_at: None });
+            return Err(HandedBack {
                 value: component,
                 cause,
             });
         }
-        let raw = GenerationalBox::leak(&mut self.store, component, here)?;
-        self.parts[slot] = Some(Part { entity, raw });
+        if !self.map.reserve(slot_of(entity)) {
+            let cause = AttachError::Store(StoreError::OutOfMemory);
+            return Err(HandedBack {
+                value: component,
+                cause,
+            });
+        }
+        self.map.put(entity, component);
         Ok(())
     }
 
-    /// Gives a live entity of a table a component, in the place of the one that it has, which goes.
+    /// Gives a live entity of a table a component, in the place of the one that it has, which is dropped.
     /// Every other live entity of that table keeps its own, and so does every entity of another slot;
-    /// one that had this slot before loses its.
+    /// one that had this slot before loses its. O(1), amortised if slots come in order, and O(n) for n
+    /// slots more.
     ///
-    /// Refused, in this order: `Stale`, where the entity is gone, or is another table's; `Store` of
-    /// `OutOfMemory`, where the slot has no component yet. The component comes back then, and nothing
-    /// changes. O(1), but for finding room, and for letting the old one go.
+    /// # Errors
+    ///
+    /// In this order: `Stale` if the entity is gone, or is another table's, with the location where it was
+    /// made if the table tells it; `Stale` without one if the components are those of another table;
+    /// `Store` of `OutOfMemory`, only if the slot has no component yet. The component comes back, and every
+    /// entity keeps its own.
     ///
     /// ```rust
-    /// names.attach(table, entity, 100, here)?;
+    /// names.attach(table, entity, 100)?;
     /// ```
     pub fn attach<E: Storage<T>>(
         &mut self,
         table: &EntityTable<T, E>,
         entity: Entity<T>,
         component: C,
-        here: Location,
     ) -> Result<(), HandedBack<C, AttachError>>
     where
         C: Drop,
@@ -194,34 +170,30 @@ impl<T, C, S: Storage<C>> ComponentTable<T, C, S> {
         ensures lost { OnOk result ((e : Entity T) → slot_in entity ≡ slot_in e →
             IsOther entity e → component_in self.new e ≡ None) }
         ensures stale { element_in table.now entity ≡ None → IsErrAnd result (λ refusal.
-            refusal.cause ≡ attach.Stale (record { spawned_at = spawned_at entity })) }
-        ensures short { is_some (element_in table.now entity) ≡ true → IfErr result (λ refusal.
+            refusal.cause ≡ attach.Stale (record { created_at = created_at table.now entity })) }
+        ensures foreign { is_some (element_in table.now entity) ≡ true →
+            entity.store ≢ self.old.number → IsErrAnd result (λ refusal.
+            refusal.cause ≡ attach.Stale (record { created_at = None })) }
+        ensures short { is_some (element_in table.now entity) ≡ true →
+            entity.store ≡ self.old.number → IfErr result (λ refusal.
             (refusal.cause ≡ attach.Store OutOfMemory)
-            × (part_at self.old.parts (slot_in entity) ≡ None)) }
-        ensures refused { OnErr result ((self.new.state ≡ self.old.state)
-            × ((e : Entity T) → component_in self.new e ≡ component_in self.old e)) }
+            × (row_at self.old.rows (slot_in entity) ≡ Vacant)) }
+        ensures refused { OnErr result ((e : Entity T) →
+            component_in self.new e ≡ component_in self.old e) }
         ensures back { IfErr result (λ refusal. refusal.value ≡ component) }
-        ensures listed { OnOk result (AreListed self.new.state self.new.parts) }
+        ensures number { self.new.number ≡ self.old.number }
     {
         if !table.has_slot(entity) {
-            let stale = Stale {
-                spawned_at: entity.spawned_at(),
-            };
+            let created_at = table.created_at(entity);
             return Err(HandedBack {
                 value: component,
-                cause: AttachError::Stale(stale),
+                cause: AttachError::Stale(Stale { created_at }),
             });
         }
-        match self.insert(entity, component, here) {
-            Ok(()) => Ok(()),
-            Err(Refusal { value, cause }) => Err(HandedBack {
-                value,
-                cause: AttachError::Store(cause),
-            }),
-        }
+        self.insert(entity, component)
     }
 
-    /// An entity's component; None where it has none. The table is lent meanwhile. Takes no memory,
+    /// An entity's component; None if it has none. The table is borrowed meanwhile. Doesn't allocate,
     /// and is O(1).
     ///
     /// ```rust
@@ -229,22 +201,23 @@ impl<T, C, S: Storage<C>> ComponentTable<T, C, S> {
     ///     println!(rt; "{entity:?} is named {name}")?;
     /// }
     /// ```
+    #[inline(always)]
     pub fn get(&self, entity: Entity<T>) -> Option<&C>
         ensures { option_copied result ≡ component_in self.now entity }
     {
-        let part = part_for(&self.parts, entity)?;
-        part.raw.peek(&self.store)
+        self.map.get(entity)
     }
 
-    /// Changes an entity's component in its place by a closure, which is called once on it, and answers
-    /// what that answers. Every other entity keeps its own.
+    /// Changes an entity's component in its place by a closure, which is called once on it, and returns
+    /// what that returns. Every other entity keeps its own. Doesn't allocate itself, and is O(1), but for
+    /// the closure.
     ///
-    /// None where the entity has no component: the closure isn't called, and the table is unchanged.
-    /// Takes no memory of its own, and is O(1), but for the closure.
+    /// None if the entity has no component: the closure isn't called, and the table is unchanged.
     ///
     /// ```rust
     /// names.update(entity, |name: &mut u64| *name = name.wrapping_add(1));
     /// ```
+    #[inline(always)]
     pub fn update<R, F: FnOnce(&mut C) -> R>(&mut self, entity: Entity<T>, f: F) -> Option<R>
         requires { (component : MutBor C) →
             component_in self.old entity ≡ Some component.now → F.pre f component }
@@ -256,43 +229,40 @@ impl<T, C, S: Storage<C>> ComponentTable<T, C, S> {
         ensures others { (e : Entity T) → IsOther entity e →
             component_in self.new e ≡ component_in self.old e }
         ensures none { IfNone result (self.new ≡ self.old) }
-        ensures listed { AreListed self.new.state self.new.parts }
+        ensures number { self.new.number ≡ self.old.number }
     {
-        match part_for(&self.parts, entity) {
-            Some(part) => Some(self.store.change_value(part.raw.pointer(), f)),
-            None => None,
-        }
+        self.map.change(entity, f)
     }
 
     /// The components with their entities, in the order of the entities' slots, each once. The table is
-    /// lent meanwhile. Takes no memory, and is O(1); all steps together are O(n) for n slots.
+    /// borrowed meanwhile. Doesn't allocate, and is O(1); all steps together are O(n) for n slots.
     ///
     /// ```rust
     /// for (entity, name) in names.iter() {
     ///     println!(rt; "{entity:?} is named {name}")?;
     /// }
     /// ```
-    pub fn iter(&self) -> ComponentIter<'_, T, C, S>
+    pub fn iter(&self) -> ComponentIter<'_, T, C>
         ensures shown { (i : ℕ) (e : Entity T) (c : C) → slice_get result i ≡ Some (e, c) →
             component_in self.now e ≡ Some c }
         ensures every { (e : Entity T) (c : C) → component_in self.now e ≡ Some c →
             (i : ℕ) × (f : Entity T) × (slice_get result i ≡ Some (f, c)) × IsSame f e }
         ensures ordered { IsStrictlyIncreasing (list_map (λ p. slot_in p.0) result) }
+        ensures count { length result ≡ count self.now.rows }
     {
-        let parts = &self.parts;
-        ComponentIter::new(&self.store, parts.as_slice())
+        self.map.iter()
     }
 
     /// The live entities of a table that have a component, each with its element and its component, in
-    /// the order of the entities' slots, each once. Both tables are lent meanwhile. Takes no memory, and
-    /// is O(1); all steps together are O(n) for n slots.
+    /// the order of the entities' slots, each once. Both tables are borrowed meanwhile. Doesn't allocate,
+    /// and is O(1); all steps together are O(n) for n slots.
     ///
     /// ```rust
     /// for (entity, element, name) in names.join(table) {
     ///     println!(rt; "{entity:?} has {element}, and is named {name}")?;
     /// }
     /// ```
-    pub fn join<'a, E: Storage<T>>(&'a self, table: &'a EntityTable<T, E>) -> Join<'a, T, C, S, E>
+    pub fn join<'a, E: Storage<T>>(&'a self, table: &'a EntityTable<T, E>) -> Join<'a, T, C, E>
         ensures shown { (i : ℕ) (e : Entity T) (v : T) (c : C) → slice_get result i ≡ Some (e, v, c) →
             (element_in table.now e ≡ Some v) × (component_in self.now e ≡ Some c) }
         ensures every { (e : Entity T) (v : T) (c : C) → element_in table.now e ≡ Some v →
@@ -306,139 +276,101 @@ impl<T, C, S: Storage<C>> ComponentTable<T, C, S> {
         }
     }
 
-    /// Ends an entity's component: it goes from the store too. Answers whether it had one. Every other
-    /// entity keeps its own. Never refused; takes no memory, and is O(1).
+    /// How many components there are, those of entities that are gone too. Doesn't allocate, and is O(1).
+    ///
+    /// ```rust
+    /// println!(rt; "{} names", names.len())?;
+    /// ```
+    pub fn len(&self) -> usize
+        ensures { result ≡ count self.now.rows }
+    {
+        self.map.len()
+    }
+
+    /// Drops an entity's component, and returns whether it had one. Every other entity keeps its own. Never
+    /// fails. Doesn't allocate, and is O(1).
     ///
     /// ```rust
     /// let had_one = names.remove(entity);
     /// ```
+    #[inline(always)]
     pub fn remove(&mut self, entity: Entity<T>) -> bool
+    where
+        C: Drop,
         ensures had { result ≡ is_some (component_in self.old entity) }
         ensures gone { component_in self.new entity ≡ None }
         ensures others { (e : Entity T) → IsOther entity e →
             component_in self.new e ≡ component_in self.old e }
-        ensures listed { AreListed self.new.state self.new.parts }
+        ensures number { self.new.number ≡ self.old.number }
     {
-        let Some(part) = part_for(&self.parts, entity) else {
-            return false;
-        };
-        match part.raw.manually_drop(&mut self.store) {
-            Ok(()) => {}
-            Err(_) => unreachable!(),
-        }
-        self.parts[entity.raw.raw_ptr()] = None;
-        true
+        self.map.take(entity).is_some()
     }
 
-    /// Ends an entity's component, and hands it back: it goes from the store too. Every other entity
-    /// keeps its own.
-    ///
-    /// None where the entity has no component: the table is unchanged. Takes no memory, and is O(1).
+    /// Removes an entity's component, and returns it; None if it has none, and nothing changes. Every other
+    /// entity keeps its own. Never fails. Doesn't allocate, and is O(1).
     ///
     /// ```rust
-    /// match coats.take(from) {
-    ///     Some(coat) => coats.insert(to, coat, here).is_ok(),
-    ///     None => false,
-    /// }
+    /// let name = names.take(entity)?;
     /// ```
+    #[inline(always)]
     pub fn take(&mut self, entity: Entity<T>) -> Option<C>
         ensures taken { result ≡ component_in self.old entity }
         ensures gone { component_in self.new entity ≡ None }
         ensures others { (e : Entity T) → IsOther entity e →
             component_in self.new e ≡ component_in self.old e }
         ensures none { IfNone result (self.new ≡ self.old) }
-        ensures listed { AreListed self.new.state self.new.parts }
+        ensures number { self.new.number ≡ self.old.number }
     {
-        let part = part_for(&self.parts, entity)?;
-        let Some(component) = part.raw.take(&mut self.store) else {
-            unreachable!();
-        };
-        let slot = entity.raw.raw_ptr();
-        self.parts[slot] = None;
-        Some(component)
+        self.map.take(entity)
     }
 
-    /// Ends the components of all entities that aren't live in a table: those of entities that were
-    /// despawned since the last sweep. Every live one keeps its own. Never refused; takes no memory, and
+    /// Drops the components of all entities that aren't live in a table: those of entities that were
+    /// despawned since the last sweep. Every live one keeps its own. Never fails. Doesn't allocate, and
     /// is O(n) for n slots.
     ///
     /// ```rust
     /// names.sweep(table);
     /// ```
     pub fn sweep<E: Storage<T>>(&mut self, table: &EntityTable<T, E>)
+    where
+        C: Drop,
         ensures gone { (e : Entity T) → element_in table.now e ≡ None →
             component_in self.new e ≡ None }
         ensures kept { (e : Entity T) → is_some (element_in table.now e) ≡ true →
             component_in self.new e ≡ component_in self.old e }
-        ensures listed { AreListed self.new.state self.new.parts }
+        ensures number { self.new.number ≡ self.old.number }
     {
-        let mut slot = self.parts.len();
-        while slot > 0 {
-            slot -= 1;
+        for slot in 0..self.map.slots() {
             self.sweep_slot(table, slot);
         }
     }
 
-    // Ends the component of a slot where its entity isn't live. The slots behind it were swept.
+    // Drops the component of a slot if its entity isn't live. The slots before it were swept.
+    #[inline(always)]
     fn sweep_slot<E: Storage<T>>(&mut self, table: &EntityTable<T, E>, slot: usize)
-        ensures swept { (first : ComponentState T C) →
-            Sweeps table.now first self.old (slot + 1) → Sweeps table.now first self.new slot }
-        ensures listed { AreListed self.new.state self.new.parts }
+    where
+        C: Drop,
+        ensures swept { (first : MapState C) →
+            Sweeps {T = T} table.now first self.old slot → Sweeps {T = T} table.now first self.new (slot + 1) }
+        ensures number { self.new.number ≡ self.old.number }
     {
-        let Some(part) = part_in(&self.parts, slot) else {
+        let Some(entity) = self.map.at(slot) else {
             return;
         };
-        if table.is_alive(part.entity) {
-            return;
+        if !table.is_alive(entity) {
+            self.remove(entity);
         }
-        self.remove(part.entity);
     }
 
-    /// Whether an entity has a component. Takes no memory, and is O(1).
+    /// Whether an entity has a component. Doesn't allocate, and is O(1).
     ///
     /// ```rust
     /// let is_named = names.contains(entity);
     /// ```
+    #[inline(always)]
     pub fn contains(&self, entity: Entity<T>) -> bool
         ensures { result ≡ is_some (component_in self.now entity) }
     {
-        part_for(&self.parts, entity).is_some()
-    }
-}
-
-// Room for the part of a slot.
-fn reserve_part<T, C>(parts: &mut Vec<Option<Part<T, C>>>, slot: usize) -> bool
-    ensures within { IsTrue result → slot < length parts.new.items }
-    ensures same { (at : ℕ) → part_at parts.new.items at ≡ part_at parts.old.items at }
-{
-    if slot < parts.len() {
-        return true;
-    }
-    let Some(room) = slot.checked_add(1) else {
-        return false;
-    };
-    if reserve_more(parts, room - parts.len()).is_err() {
-        return false;
-    }
-    parts.resize(room, None).is_ok()
-}
-
-// The part of a slot.
-fn part_in<T, C>(parts: &Vec<Option<Part<T, C>>>, slot: usize) -> Option<Part<T, C>>
-    ensures { result ≡ part_at parts.now.items slot }
-{
-    match parts.get(slot) {
-        Some(found) => *found,
-        None => None,
-    }
-}
-
-// The part of an entity, if it has one.
-fn part_for<T, C>(parts: &Vec<Option<Part<T, C>>>, entity: Entity<T>) -> Option<Part<T, C>>
-    ensures { result ≡ part_of parts.now.items entity }
-{
-    match part_in(parts, entity.raw.raw_ptr()) {
-        Some(part) if part.entity.raw.ptr_eq(&entity.raw) => Some(part),
-        _ => None,
+        self.map.get(entity).is_some()
     }
 }

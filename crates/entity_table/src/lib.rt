@@ -1,22 +1,22 @@
-//! Entity tables above the boxes: handles that are copied freely and outlive what they name, rows of
-//! the live entities without gaps, and tables of components beside them.
+//! Entity tables above the boxes: handles that are copied freely and outlive what they name, walks over
+//! the live entities, and tables of components beside them.
 //!
-//! An [`Entity`] is the box of an entity's element. An [`EntityTable`] has a store of the elements,
-//! and the handles of the live entities in rows. A handle whose entity was despawned is told so,
-//! and where the entity was spawned, also after another has taken its slot. Each call's contract
-//! says what every entity shows afterwards.
+//! An [`Entity`] is a handle of 24 bytes. An [`EntityTable`] has a store of the entities' elements, and
+//! the generation and the site of each live entity by its slot. A call with a handle whose entity was
+//! despawned fails with [`Stale`], which says where the entity was made, also after another has taken its
+//! slot. Each call's contract says what every entity shows afterwards.
 #![tactic(auto)]
 
 mod components;
 mod entity;
 mod laws;
-mod rows;
 mod table;
 mod walk;
 
 pub use crate::components::{AttachError, ComponentTable};
-pub use crate::entity::{Entity, Stale};
+pub use crate::entity::{Entity, EntityKind};
 pub use crate::laws::equal_entities_show_the_same;
 pub use crate::table::EntityTable;
 pub use crate::walk::{ComponentIter, Iter, Join};
 pub use generational_core::HandedBack;
+pub use handles::{Handle, HandleIter, Stale};

@@ -1,37 +1,41 @@
 //! Tables of entities.
 
-ghost use Rattle.std.specs.Prelude.{◌≡◌, ◌↔◌, ◌<◌, ◌≤◌, ◌+◌, ◌-◌, ◌++◌, ◌∷◌, [], ℕ, true, length, None, Some, Err, is_some};
-ghost use Rattle.std.specs.Prelude.{IfOk, OnOk, IfErr, OnErr, IsErr, IsTrue, swap_remove, slice_get};
+ghost use Rattle.std.specs.Prelude.{◌≡◌, ◌↔◌, ◌<◌, ◌+◌, [], ℕ, true, length, None, Some, is_some};
+ghost use Rattle.std.specs.Prelude.{IfOk, OnOk, IfErr, OnErr, IsErr, IfSome, IsSomeAnd, IsTrue, slice_get};
 ghost use Rattle.std.specs.Prelude.{map as list_map};
 ghost use Rattle.std.specs.Borrow.{MutBor};
 ghost use Rattle.std.specs.Fn.{FnReturnsAt, FnOnceReturnsAtMut};
 ghost use Rattle.generational_core.specs.Conditions.{IsFresh};
 ghost use Rattle.generational_errors.specs.declared.error.StoreError.TheVariants.{OutOfMemory};
-ghost use Rattle.entity_table.specs.declared.entity.Entity.{Entity};
-ghost use Rattle.entity_table.specs.Entities.{spawned_at, slot_in, IsOther, IsSame};
-ghost use Rattle.entity_table.specs.Tables.{TableState, element_in, WasSpawned, IsDense};
-ghost use Rattle.entity_table.specs.Tables.{IsSifted, Sifts};
+ghost use Rattle.handles.specs.Handles.{slot_in, IsOther, IsSame};
+ghost use Rattle.handles.specs.Sites.{Tells};
+ghost use Rattle.entity_table.specs.Tables.{Entity, TableState, created_at, element_in};
+ghost use Rattle.entity_table.specs.Tables.{IsDense, IsSifted, KeepsTelling, Sifts, WasSpawned};
 
-use crate::entity::{Entity, Stale};
-use crate::rows::{entity_at, remove_row, reserve_row};
+use crate::entity::{Entity, EntityKind};
 use crate::walk::Iter;
-use generational_core::{GenerationalBox, HandedBack, Location, Refusal, Storage, StoreError};
+use generational_core::{HandedBack, Location, Refusal, Storage, StoreError};
+use handles::Stale;
+use handles::parts::{HandleMap, Sites, handle_at, number_of, peek, pointer_to, site_of};
 use std::alloc::Global;
 use std::marker::Model;
 
 /// Entities, each with an element. Contracts see the machine's state, which says what each entity
-/// shows, and the rows of the live entities.
+/// shows, the live entities in the order of their slots, and the locations where entities were made.
 #[derive(Drop)]
 pub struct EntityTable<T, S: Storage<T>> {
     store: S,
-    rows: Vec<Entity<T>>,
-    // the row of each slot's entity, where that is live
-    places: Vec<usize>,
+    // the generation and the site of each live entity, by its slot
+    rows: HandleMap<T, EntityKind, ()>,
+    sites: Sites,
 }
 
 impl<T, S: Storage<T>> Model for EntityTable<T, S> {
     ghost use Rattle.std.specs.Coded.{codes};
     ghost use Rattle.std.specs.FinMap as map;
+    ghost use Rattle.std.specs.Prelude.{map as list_map};
+    ghost use Rattle.handles.specs.Maps.{listed};
+    ghost use Rattle.handles.specs.Sites.{told_in};
     ghost use Rattle.entity_table.specs.Tables.{TableState};
     ghost use Rattle.entity_table.specs.Keeping.{IsKept};
 
@@ -39,13 +43,17 @@ impl<T, S: Storage<T>> Model for EntityTable<T, S> {
 
     ghost coded = { Prim.hlevel (codes, map.code) };
 
-    ghost view = { λ t. record { state = S.state t.store; rows = t.rows.items } };
+    ghost view = { λ t. record {
+      state = S.state t.store;
+      rows = list_map (λ p. p.0) (listed t.rows);
+      sites = told_in t.sites;
+    } };
 
-    ghost invariant = { λ t. IsKept (S.state t.store) t.rows.items t.places.items };
+    ghost invariant = { λ t. IsKept (S.state t.store) t.rows };
 }
 
 impl<T, S: Storage<T>> EntityTable<T, S> {
-    /// A table without entities, over a fresh store (`is_fresh` is the test). Takes no memory.
+    /// A table without entities, over a fresh store (`is_fresh` is the test). Doesn't allocate.
     ///
     /// ```rust
     /// let store = UnsyncStorage::<u64>::new(rt.alloc(), 1);
@@ -53,21 +61,36 @@ impl<T, S: Storage<T>> EntityTable<T, S> {
     /// ```
     pub fn new(alloc: Global, store: S) -> Self
         requires { IsFresh (S.state store) }
-        ensures table { result ≡ record { state = S.state store; rows = [] } }
+        ensures table { result ≡ record { state = S.state store; rows = []; sites = [] } }
         ensures none { (e : Entity T) → element_in result e ≡ None }
     {
+        let number = store.number();
         EntityTable {
             store,
-            rows: Vec::new(alloc),
-            places: Vec::new(alloc),
+            rows: HandleMap::new(alloc, number),
+            sites: Sites::new(alloc),
         }
     }
 
-    /// A new entity with this element, in a row of its own at the end. Its handle is none that was
-    /// ever given, and every other entity shows what it showed.
+    /// The number of the table's store, which its entities bear. Doesn't allocate.
     ///
-    /// Refused by `OutOfMemory` alone: the element comes back, and the table is unchanged. Takes
-    /// memory where the rows have no room, or no slot is free. O(1), but for finding room.
+    /// ```rust
+    /// let number = table.number();
+    /// ```
+    pub fn number(&self) -> u64
+        ensures { result ≡ self.now.state.number }
+    {
+        self.rows.number()
+    }
+
+    /// Makes a new entity with this element, and returns its handle, which was never given before. Every
+    /// other entity shows what it showed. The table says where the entity was made as long as it lasts.
+    /// Amortised O(1).
+    ///
+    /// # Errors
+    ///
+    /// `OutOfMemory` alone. The element comes back, and the table is unchanged. The table allocates only
+    /// if no slot is free, or for a location from which no entity came yet.
     ///
     /// ```rust
     /// let entity = table.spawn(7, here)?;
@@ -81,34 +104,34 @@ impl<T, S: Storage<T>> EntityTable<T, S> {
             element_in self.new f ≡ element_in self.old f }
         ensures new { IfOk result (λ e. WasSpawned self.old e → ⊥) }
         ensures spawned { IfOk result (λ e. WasSpawned self.new e) }
-        ensures here { IfOk result (λ e. spawned_at e ≡ here) }
-        ensures row { IfOk result (λ e. self.new.rows ≡ self.old.rows ++ e ∷ []) }
+        ensures here { IfOk result (λ e. Tells (created_at self.new e) here) }
+        ensures tells { KeepsTelling self.old self.new }
+        ensures rows { OnOk result (length self.new.rows ≡ length self.old.rows + 1) }
         ensures kept { (f : Entity T) → WasSpawned self.old f → WasSpawned self.new f }
         ensures refused { OnErr result (self.new ≡ self.old) }
         ensures back { IfErr result (λ refusal. refusal.value ≡ element) }
         ensures cause { IfErr result (λ refusal. refusal.cause ≡ OutOfMemory) }
     {
         let slots = self.store.slots();
-        if !reserve_row(&mut self.rows, &mut self.places, slots) {
-            let cause = StoreError::OutOfMemory;
-            return Err(Refusal {
-                value: element,
-                cause,
-            });
+        if !self.rows.reserve(slots) {
+            return Err(lacking(element));
         }
-        let raw = GenerationalBox::leak(&mut self.store, element, here)?;
-        let entity = Entity { raw };
-        self.places[raw.raw_ptr()] = self.rows.len();
-        self.rows.push_reserved(entity);
+        let Ok(site) = self.sites.find_or_add(here) else {
+            return Err(lacking(element));
+        };
+        let raw = self.store.new(element, here, None)?;
+        let entity = handle_at(raw.id, site);
+        self.sites.tell(site);
+        self.rows.put(entity, ());
         Ok(entity)
     }
 
     /// Ends an entity and its element: it shows nothing from then on, and no later entity is
-    /// mistaken for it. The last row takes the place of its own. Every other entity shows what it
-    /// showed.
+    /// mistaken for it. Every other entity shows what it showed. Doesn't allocate, and is O(1).
     ///
-    /// Refused where the entity is gone, or is another table's; the table is unchanged then.
-    /// Takes no memory, and is O(1).
+    /// # Errors
+    ///
+    /// `Stale` if the entity is gone, or is another table's. The table is unchanged then.
     ///
     /// ```rust
     /// table.despawn(entity)?;
@@ -118,34 +141,28 @@ impl<T, S: Storage<T>> EntityTable<T, S> {
         ensures gone { element_in self.new entity ≡ None }
         ensures others { (f : Entity T) → IsOther entity f →
             element_in self.new f ≡ element_in self.old f }
-        ensures row { OnOk result ((row : ℕ) × (e : Entity T) × IsSame e entity
-            × (slice_get self.old.rows row ≡ Some e)
-            × (self.new.rows ≡ swap_remove self.old.rows row e)) }
+        ensures rows { OnOk result (length self.new.rows + 1 ≡ length self.old.rows) }
         ensures kept { (f : Entity T) → WasSpawned self.old f → WasSpawned self.new f }
+        ensures tells { (f : Entity T) → created_at self.new f ≡ created_at self.old f }
         ensures stale { IsErr result ↔ element_in self.old entity ≡ None }
-        ensures told { IfErr result (λ stale. stale.spawned_at ≡ spawned_at entity) }
+        ensures told { IfErr result (λ stale. stale.created_at ≡ created_at self.old entity) }
         ensures refused { OnErr result (self.new ≡ self.old) }
     {
-        if !self.is_alive(entity) {
-            return Err(Stale {
-                spawned_at: entity.spawned_at(),
-            });
+        if self.rows.take(entity).is_none() {
+            return Err(self.stale(entity));
         }
-        match entity.raw.manually_drop(&mut self.store) {
-            Ok(()) => {}
+        match self.store.recycle(pointer_to(entity)) {
+            Ok(()) => Ok(()),
             Err(_) => unreachable!(),
         }
-        let row = self.places[entity.raw.raw_ptr()];
-        remove_row(&mut self.rows, &mut self.places, row);
-        Ok(())
     }
 
-    /// Ends an entity, and hands its element back: it shows nothing from then on, and no later entity
-    /// is mistaken for it. The last row takes the place of its own. Every other entity shows what it
-    /// showed.
+    /// Ends an entity, and returns its element: it shows nothing from then on, and no later entity
+    /// is mistaken for it. Every other entity shows what it showed. Doesn't allocate, and is O(1).
     ///
-    /// Refused where the entity is gone, or is another table's; the table is unchanged then.
-    /// Takes no memory, and is O(1).
+    /// # Errors
+    ///
+    /// `Stale` if the entity is gone, or is another table's. The table is unchanged then.
     ///
     /// ```rust
     /// let element = table.take(entity).ok()?;
@@ -155,30 +172,29 @@ impl<T, S: Storage<T>> EntityTable<T, S> {
         ensures gone { element_in self.new entity ≡ None }
         ensures others { (f : Entity T) → IsOther entity f →
             element_in self.new f ≡ element_in self.old f }
-        ensures row { OnOk result ((row : ℕ) × (e : Entity T) × IsSame e entity
-            × (slice_get self.old.rows row ≡ Some e)
-            × (self.new.rows ≡ swap_remove self.old.rows row e)) }
+        ensures rows { OnOk result (length self.new.rows + 1 ≡ length self.old.rows) }
         ensures kept { (f : Entity T) → WasSpawned self.old f → WasSpawned self.new f }
+        ensures tells { (f : Entity T) → created_at self.new f ≡ created_at self.old f }
         ensures stale { IsErr result ↔ element_in self.old entity ≡ None }
-        ensures told { IfErr result (λ stale. stale.spawned_at ≡ spawned_at entity) }
+        ensures told { IfErr result (λ stale. stale.created_at ≡ created_at self.old entity) }
         ensures refused { OnErr result (self.new ≡ self.old) }
     {
-        let Some(element) = entity.raw.take(&mut self.store) else {
-            return Err(Stale {
-                spawned_at: entity.spawned_at(),
-            });
-        };
-        let slot = entity.raw.raw_ptr();
-        let row = self.places[slot];
-        remove_row(&mut self.rows, &mut self.places, row);
-        Ok(element)
+        if self.rows.take(entity).is_none() {
+            return Err(self.stale(entity));
+        }
+        match self.store.take_value(pointer_to(entity)) {
+            Some(element) => Ok(element),
+            None => unreachable!(),
+        }
     }
 
-    /// Puts another element in the place of an entity's, which is let go. Every other entity shows
-    /// what it showed, and the rows stay.
+    /// Replaces an entity's element, and drops the old one. Every other entity shows what it showed.
+    /// Doesn't allocate, and is O(1), but for dropping the old element.
     ///
-    /// Refused where the entity is gone, or is another table's: the element comes back, and the
-    /// table is unchanged. Takes no memory, and is O(1), but for letting the old element go.
+    /// # Errors
+    ///
+    /// `Stale` if the entity is gone, or is another table's. The element comes back, and the table is
+    /// unchanged.
     ///
     /// ```rust
     /// if let Err(refusal) = table.set(entity, 9) {
@@ -193,29 +209,31 @@ impl<T, S: Storage<T>> EntityTable<T, S> {
             element_in self.new f ≡ element_in self.old f }
         ensures rows { self.new.rows ≡ self.old.rows }
         ensures kept { (f : Entity T) → WasSpawned self.old f → WasSpawned self.new f }
+        ensures tells { (f : Entity T) → created_at self.new f ≡ created_at self.old f }
         ensures stale { IsErr result ↔ element_in self.old entity ≡ None }
-        ensures told { IfErr result (λ refusal. refusal.cause.spawned_at ≡ spawned_at entity) }
+        ensures told { IfErr result (λ refusal. refusal.cause.created_at ≡ created_at self.old entity) }
         ensures back { IfErr result (λ refusal. refusal.value ≡ element) }
         ensures refused { OnErr result (self.new ≡ self.old) }
     {
         if !self.is_alive(entity) {
-            let cause = Stale {
-                spawned_at: entity.spawned_at(),
-            };
+            let cause = self.stale(entity);
             return Err(HandedBack {
                 value: element,
                 cause,
             });
         }
-        entity.raw.set(&mut self.store, element);
+        self.store.replace_value(pointer_to(entity), element);
         Ok(())
     }
 
-    /// Changes an entity's element in its place by a closure, which is called once on it, and answers
-    /// what that answers. Every other entity shows what it showed, and the rows stay.
+    /// Changes an entity's element in its place by a closure, which is called once on it, and returns
+    /// what that returns. Every other entity shows what it showed. Doesn't allocate itself, and is
+    /// O(1), but for the closure.
     ///
-    /// Refused where the entity is gone, or is another table's: the closure isn't called, and the
-    /// table is unchanged. Takes no memory of its own, and is O(1), but for the closure.
+    /// # Errors
+    ///
+    /// `Stale` if the entity is gone, or is another table's. The closure isn't called then, and the
+    /// table is unchanged.
     ///
     /// ```rust
     /// let doubled = table.update(entity, |element: &mut u64| {
@@ -234,20 +252,19 @@ impl<T, S: Storage<T>> EntityTable<T, S> {
             element_in self.new e ≡ element_in self.old e }
         ensures rows { self.new.rows ≡ self.old.rows }
         ensures kept { (e : Entity T) → WasSpawned self.old e → WasSpawned self.new e }
+        ensures tells { (e : Entity T) → created_at self.new e ≡ created_at self.old e }
         ensures stale { IsErr result ↔ element_in self.old entity ≡ None }
-        ensures told { IfErr result (λ stale. stale.spawned_at ≡ spawned_at entity) }
+        ensures told { IfErr result (λ stale. stale.created_at ≡ created_at self.old entity) }
         ensures refused { OnErr result (self.new ≡ self.old) }
     {
         if !self.is_alive(entity) {
-            return Err(Stale {
-                spawned_at: entity.spawned_at(),
-            });
+            return Err(self.stale(entity));
         }
-        Ok(self.store.change_value(entity.raw.pointer(), f))
+        Ok(self.store.change_value(pointer_to(entity), f))
     }
 
-    /// The live entities with their elements, each once, in the order of the rows. The table is lent
-    /// meanwhile. Takes no memory, and is O(1), as each of its steps.
+    /// The live entities with their elements, each once, in the order of their slots. The table is
+    /// borrowed meanwhile. Doesn't allocate, and is O(1); all steps together are O(n) for n slots.
     ///
     /// ```rust
     /// for (entity, element) in table.iter() {
@@ -260,27 +277,58 @@ impl<T, S: Storage<T>> EntityTable<T, S> {
             slice_get result row ≡ Some (e, v) → element_in self.now e ≡ Some v }
         ensures dense { IsDense self.now }
     {
-        let rows = &self.rows;
-        Iter::new(&self.store, rows.as_slice())
+        Iter {
+            store: &self.store,
+            rows: self.rows.iter(),
+        }
     }
 
-    /// An entity's element. The table is lent meanwhile.
+    /// An entity's element. The table is borrowed meanwhile. Doesn't allocate, and is O(1).
     ///
-    /// Refused where the entity is gone, or is another table's. Takes no memory, and is O(1).
+    /// # Errors
+    ///
+    /// `Stale` if the entity is gone, or is another table's.
     ///
     /// ```rust
     /// let element = *table.get(entity)?;
     /// ```
+    #[inline(always)]
     pub fn get(&self, entity: Entity<T>) -> Result<&T, Stale>
         ensures seen { IfOk result (λ element. element_in self.now entity ≡ Some element.now) }
         ensures stale { IsErr result ↔ element_in self.now entity ≡ None }
-        ensures told { IfErr result (λ stale. stale.spawned_at ≡ spawned_at entity) }
+        ensures told { IfErr result (λ stale. stale.created_at ≡ created_at self.now entity) }
     {
-        match entity.raw.peek(&self.store) {
+        match peek(&self.store, entity) {
             Some(element) => Ok(element),
-            None => Err(Stale {
-                spawned_at: entity.spawned_at(),
-            }),
+            None => Err(self.stale(entity)),
+        }
+    }
+
+    /// Where an entity was made, also once it is gone; None of another table's. Doesn't allocate, and is
+    /// O(1).
+    ///
+    /// ```rust
+    /// if let Some(created_at) = table.created_at(entity) {
+    ///     println!(rt; "made at {created_at}")?;
+    /// }
+    /// ```
+    pub fn created_at(&self, entity: Entity<T>) -> Option<Location>
+        ensures { result ≡ created_at self.now entity }
+    {
+        if number_of(entity) != self.rows.number() {
+            return None;
+        }
+        self.sites.get(site_of(entity))
+    }
+
+    // That an entity shows nothing, and where it was made.
+    #[cold]
+    #[inline(never)]
+    fn stale(&self, entity: Entity<T>) -> Stale
+        ensures { result.created_at ≡ created_at self.now entity }
+    {
+        Stale {
+            created_at: self.created_at(entity),
         }
     }
 
@@ -290,22 +338,24 @@ impl<T, S: Storage<T>> EntityTable<T, S> {
     /// ```rust
     /// let is_there = table.is_alive(entity);
     /// ```
+    #[inline(always)]
     pub fn is_alive(&self, entity: Entity<T>) -> bool
         ensures { result ≡ is_some (element_in self.now entity) }
     {
-        entity.raw.peek(&self.store).is_some()
+        peek(&self.store, entity).is_some()
     }
 
     // Whether an entity is live. No other live entity has its slot then.
+    #[inline(always)]
     pub(crate) fn has_slot(&self, entity: Entity<T>) -> bool
         ensures live { result ≡ is_some (element_in self.now entity) }
         ensures alone { IsTrue result → (e : Entity T) →
             is_some (element_in self.now e) ≡ true → slot_in entity ≡ slot_in e → IsSame entity e }
     {
-        entity.raw.peek(&self.store).is_some()
+        self.rows.get(entity).is_some()
     }
 
-    /// How many entities are live: as many as there are rows. Takes no memory, and is O(1).
+    /// How many entities are live. Doesn't allocate, and is O(1).
     ///
     /// ```rust
     /// println!(rt; "{} are live", table.len())?;
@@ -316,7 +366,7 @@ impl<T, S: Storage<T>> EntityTable<T, S> {
         self.rows.len()
     }
 
-    /// Whether no entity is live. Takes no memory, and is O(1).
+    /// Whether no entity is live. Doesn't allocate, and is O(1).
     ///
     /// ```rust
     /// let is_over = table.is_empty();
@@ -324,26 +374,43 @@ impl<T, S: Storage<T>> EntityTable<T, S> {
     pub fn is_empty(&self) -> bool
         ensures { IsTrue result ↔ self.now.rows ≡ [] }
     {
-        self.rows.is_empty()
+        self.rows.len() == 0
     }
 
-    /// The live entities, each once, in rows without gaps. Takes no memory, and is O(1).
+    /// How many slots there are: the slot of each live entity is below. A loop that changes the table
+    /// counts them, and asks [`EntityTable::at`]: an iterator keeps the table borrowed. Doesn't allocate,
+    /// and is O(1).
     ///
     /// ```rust
-    /// for entity in table.entities().iter() {
-    ///     println!(rt; "{entity:?}")?;
+    /// for slot in 0..table.slots() {
+    ///     if let Some(entity) = table.at(slot) {
+    ///         table.set(entity, 0)?;
+    ///     }
     /// }
     /// ```
-    pub fn entities(&self) -> &[Entity<T>]
-        ensures rows { result.now ≡ self.now.rows }
-        ensures dense { IsDense self.now }
+    pub fn slots(&self) -> usize
+        ensures { (e : Entity T) → is_some (element_in self.now e) ≡ true → slot_in e < result }
     {
-        self.rows.as_slice()
+        self.rows.slots()
     }
 
-    /// Ends each entity whose element fails a test. Every other entity shows what it showed. The rows
-    /// before the first that fails stay in their order, and behind it the last row of the moment takes
-    /// the place of each that goes. Never refused; takes no memory, and is O(n).
+    /// The live entity of a slot, if it has one. Doesn't allocate, and is O(1).
+    ///
+    /// ```rust
+    /// let first = table.at(0);
+    /// ```
+    #[inline(always)]
+    pub fn at(&self, slot: usize) -> Option<Entity<T>>
+        ensures live { IfSome result (λ e. (slot_in e ≡ slot)
+            × (is_some (element_in self.now e) ≡ true)) }
+        ensures every { (f : Entity T) → is_some (element_in self.now f) ≡ true → slot_in f ≡ slot →
+            IsSomeAnd result (λ e. IsSame e f) }
+    {
+        self.rows.at(slot)
+    }
+
+    /// Ends each entity whose element fails a test, in the order of their slots. Every other entity shows
+    /// what it showed. Never fails. Doesn't allocate, and is O(n) for n slots.
     ///
     /// ```rust
     /// table.retain(|element| *element < 100);
@@ -354,30 +421,23 @@ impl<T, S: Storage<T>> EntityTable<T, S> {
             IsSifted (FnReturnsAt F.Fn test) v (element_in self.new e) }
         ensures none { (e : Entity T) → element_in self.old e ≡ None →
             element_in self.new e ≡ None }
-        ensures front { (i : ℕ) (e : Entity T) → slice_get self.old.rows i ≡ Some e →
-            ((j : ℕ) (f : Entity T) → j ≤ i → slice_get self.old.rows j ≡ Some f →
-            is_some (element_in self.new f) ≡ true) → slice_get self.new.rows i ≡ Some e }
         ensures kept { (f : Entity T) → WasSpawned self.old f → WasSpawned self.new f }
+        ensures tells { (f : Entity T) → created_at self.new f ≡ created_at self.old f }
     {
-        let mut row = self.rows.len();
-        while row > 0 {
-            row -= 1;
-            self.sift_row(row, &test);
+        for slot in 0..self.slots() {
+            self.sift_slot(slot, &test);
         }
-        // The rows are dense now, as at any time.
-        let _ = &self.rows;
     }
 
-    // Ends the entity of a row where it fails a test. The rows behind it were tested.
-    fn sift_row<F: Fn(&T) -> bool>(&mut self, row: usize, test: &F)
-        requires callable { F.IsAlwaysCallable test.now }
-        requires within { row < length self.old.rows }
+    // Ends the entity of a slot if it fails a test. The slots before it were tested.
+    fn sift_slot<F: Fn(&T) -> bool>(&mut self, slot: usize, test: &F)
+        requires { F.IsAlwaysCallable test.now }
         ensures { (first : TableState T) →
-            Sifts (FnReturnsAt F.Fn test.now) first self.old (row + 1) →
-            Sifts (FnReturnsAt F.Fn test.now) first self.new row }
+            Sifts (FnReturnsAt F.Fn test.now) first self.old slot →
+            Sifts (FnReturnsAt F.Fn test.now) first self.new (slot + 1) }
     {
-        let Some(entity) = self.at(row) else {
-            unreachable!();
+        let Some(entity) = self.at(slot) else {
+            return;
         };
         if self.passes(entity, test) {
             return;
@@ -401,7 +461,8 @@ impl<T, S: Storage<T>> EntityTable<T, S> {
         }
     }
 
-    /// Ends all entities and their elements. Never refused; takes no memory, and is O(n).
+    /// Ends all entities and their elements, in the order of their slots. Never fails. Doesn't allocate,
+    /// and is O(n) for n slots.
     ///
     /// ```rust
     /// table.clear();
@@ -410,28 +471,35 @@ impl<T, S: Storage<T>> EntityTable<T, S> {
         ensures gone { (e : Entity T) → element_in self.new e ≡ None }
         ensures rows { self.new.rows ≡ [] }
         ensures kept { (f : Entity T) → WasSpawned self.old f → WasSpawned self.new f }
+        ensures tells { (f : Entity T) → created_at self.new f ≡ created_at self.old f }
     {
-        while let Some(last) = self.last() {
-            match self.despawn(last) {
-                Ok(()) => {}
-                Err(_) => unreachable!(),
-            }
+        for slot in 0..self.slots() {
+            self.clear_slot(slot);
+        }
+        // No row is left where no entity is.
+        let _ = self.iter();
+    }
+
+    // Ends the entity of a slot, if it has one.
+    fn clear_slot(&mut self, slot: usize)
+        ensures gone { (e : Entity T) → slot_in e ≡ slot → element_in self.new e ≡ None }
+        ensures none { (e : Entity T) → element_in self.old e ≡ None → element_in self.new e ≡ None }
+        ensures kept { (f : Entity T) → WasSpawned self.old f → WasSpawned self.new f }
+        ensures tells { (f : Entity T) → created_at self.new f ≡ created_at self.old f }
+    {
+        if let Some(entity) = self.at(slot) {
+            let _ = self.despawn(entity);
         }
     }
+}
 
-    // The entity of the last row.
-    fn last(&self) -> Option<Entity<T>>
-        ensures row { result ≡ slice_get self.now.rows (length self.now.rows - 1) }
-        ensures dense { IsDense self.now }
-    {
-        self.rows.last().copied()
-    }
-
-    // The entity of a row.
-    fn at(&self, row: usize) -> Option<Entity<T>>
-        ensures row { result ≡ slice_get self.now.rows row }
-        ensures dense { IsDense self.now }
-    {
-        entity_at(&self.rows, row)
+// That memory runs out before an element is kept.
+fn lacking<T>(element: T) -> Refusal<T>
+    ensures value { result.value ≡ element }
+    ensures cause { result.cause ≡ OutOfMemory }
+{
+    Refusal {
+        value: element,
+        cause: StoreError::OutOfMemory,
     }
 }

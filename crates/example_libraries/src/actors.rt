@@ -6,19 +6,15 @@ use generational_box::{Location, Storage, UnsyncStorage};
 
 pub fn main(rt: HostRuntime) -> Result<()> {
     let strengths = UnsyncStorage::<u64>::new(rt.alloc(), 1);
-    let scores = UnsyncStorage::<u64>::new(rt.alloc(), 2);
     let mut actors = EntityTable::new(rt.alloc(), strengths);
-    play(
-        &rt,
-        &mut actors,
-        &mut ComponentTable::new(rt.alloc(), scores),
-    )
+    let mut scores = ComponentTable::new(rt.alloc(), &actors);
+    play(&rt, &mut actors, &mut scores)
 }
 
-fn play<R: Print, A: Storage<u64>, C: Storage<u64>>(
+fn play<R: Print, A: Storage<u64>>(
     rt: &R,
     actors: &mut EntityTable<u64, A>,
-    scores: &mut ComponentTable<u64, u64, C>,
+    scores: &mut ComponentTable<u64, u64>,
 ) -> Result<()> {
     let dog = begin(actors, scores)?;
     // The dog goes, and its handle finds nobody, whoever takes its slot.
@@ -32,27 +28,27 @@ fn play<R: Print, A: Storage<u64>, C: Storage<u64>>(
 }
 
 // Spawns a cat with a score, and a dog, and trains them. The answer is the dog.
-fn begin<A: Storage<u64>, C: Storage<u64>>(
+fn begin<A: Storage<u64>>(
     actors: &mut EntityTable<u64, A>,
-    scores: &mut ComponentTable<u64, u64, C>,
+    scores: &mut ComponentTable<u64, u64>,
 ) -> Result<Entity<u64>> {
-    let here = Location::new("actors.rt", 39, 16);
+    let here = Location::new("actors.rt", 35, 16);
     let cat = actors.spawn(9, here)?;
     let dog = actors.spawn(7, here)?;
-    scores.attach(actors, cat, 100, here)?;
+    scores.attach(actors, cat, 100)?;
     train(actors, scores)?;
     Ok(dog)
 }
 
 // Adds to the strength of each actor that has a score. A change needs the whole table, so the loop
-// counts rows: an iterator would keep the table borrowed.
-fn train<A: Storage<u64>, C: Storage<u64>>(
+// counts slots: an iterator would keep the table borrowed.
+fn train<A: Storage<u64>>(
     actors: &mut EntityTable<u64, A>,
-    scores: &ComponentTable<u64, u64, C>,
+    scores: &ComponentTable<u64, u64>,
 ) -> Result<()> {
-    for row in 0..actors.len() {
-        let Some(actor) = actors.entities().get(row).copied() else {
-            break;
+    for slot in 0..actors.slots() {
+        let Some(actor) = actors.at(slot) else {
+            continue;
         };
         let Some(score) = scores.get(actor).copied() else {
             continue;
@@ -65,10 +61,10 @@ fn train<A: Storage<u64>, C: Storage<u64>>(
     Ok(())
 }
 
-fn show<R: Print, A: Storage<u64>, C: Storage<u64>>(
+fn show<R: Print, A: Storage<u64>>(
     rt: &R,
     actors: &EntityTable<u64, A>,
-    scores: &ComponentTable<u64, u64, C>,
+    scores: &ComponentTable<u64, u64>,
 ) -> Result<()> {
     for (actor, strength) in actors.iter() {
         let score = scores.get(actor).copied();

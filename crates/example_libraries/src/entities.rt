@@ -2,18 +2,18 @@
 
 ghost use Rattle.std.specs.Prelude.{◌≡◌, ◌≤◌, ◌<◌, ◌+◌, ◌^◌, ℕ, None, Some, IsErr, IfErr, OnOk, true};
 ghost use Rattle.std.specs.Prelude.{IfOk, IfSome, IsFalse, IsTrue, OnErr, is_some};
-ghost use Rattle.entity_table.specs.declared.entity.Entity.{Entity};
 ghost use Rattle.entity_table.specs.Components.{component_in};
-ghost use Rattle.entity_table.specs.Entities.{spawned_at, IsOther};
-ghost use Rattle.entity_table.specs.Tables.{element_in, WasSpawned};
+ghost use Rattle.entity_table.specs.Tables.{Entity, created_at, element_in, WasSpawned};
+ghost use Rattle.generational_errors.specs.declared.error.Location.{Location};
+ghost use Rattle.handles.specs.Handles.{IsOther};
 
 use entity_table::{
     AttachError, ComponentTable, Entity, EntityTable, Stale, equal_entities_show_the_same,
 };
 use generational_box::{Location, Storage};
 
-/// Despawns an entity, spawns another, and looks at the first: the answer is that the first is gone,
-/// and where that was spawned, whichever slot the second took.
+/// Despawns an entity, spawns another, and looks at the first: that fails, and the error says where the
+/// first was made, whichever slot the second took.
 pub fn told_after<S: Storage<u64>>(
     table: &mut EntityTable<u64, S>,
     first: Entity<u64>,
@@ -22,7 +22,8 @@ pub fn told_after<S: Storage<u64>>(
 ) -> Result<u64, Stale>
     requires { WasSpawned table.old first }
     ensures gone { IsErr result }
-    ensures told { IfErr result (λ stale. stale.spawned_at ≡ spawned_at first) }
+    ensures told { (l : Location) → created_at table.old first ≡ Some l →
+        IfErr result (λ stale. stale.created_at ≡ Some l) }
 {
     let _ = table.despawn(first);
     let _ = table.spawn(next, here);
@@ -45,26 +46,25 @@ pub fn greatest<S: Storage<u64>>(table: &EntityTable<u64, S>) -> u64
 
 /// Gives an entity a component by a handle whose entity may be gone: whichever entity has its slot by
 /// now keeps its own then.
-pub fn renamed<E: Storage<u64>, C: Storage<u64>>(
+pub fn renamed<E: Storage<u64>>(
     table: &EntityTable<u64, E>,
-    names: &mut ComponentTable<u64, u64, C>,
+    names: &mut ComponentTable<u64, u64>,
     entity: Entity<u64>,
     name: u64,
-    here: Location,
 ) -> Result<(), AttachError>
     ensures named { OnOk result (component_in names.new entity ≡ Some name) }
     ensures others { element_in table.now entity ≡ None → (e : Entity ℕ) →
         component_in names.new e ≡ component_in names.old e }
 {
     names
-        .attach(table, entity, name, here)
+        .attach(table, entity, name)
         .map_err(|refusal| refusal.cause)
 }
 
 /// Whether no live entity's component is greater than its element.
-pub fn within_limits<E: Storage<u64>, C: Storage<u64>>(
+pub fn within_limits<E: Storage<u64>>(
     limits: &EntityTable<u64, E>,
-    uses: &ComponentTable<u64, u64, C>,
+    uses: &ComponentTable<u64, u64>,
 ) -> bool
     ensures { IsTrue result → (e : Entity ℕ) (limit used : ℕ) → element_in limits.now e ≡ Some limit →
         component_in uses.now e ≡ Some used → used ≤ limit }
@@ -98,10 +98,7 @@ pub fn grown<S: Storage<u64>>(
 }
 
 /// Counts an entity's component up in its place, and answers the count before.
-pub fn raised<S: Storage<u64>>(
-    counts: &mut ComponentTable<u64, u64, S>,
-    entity: Entity<u64>,
-) -> Option<u64>
+pub fn raised(counts: &mut ComponentTable<u64, u64>, entity: Entity<u64>) -> Option<u64>
     ensures before { IfSome result (λ n. component_in counts.old entity ≡ Some n) }
     ensures had { is_some result ≡ is_some (component_in counts.old entity) }
     ensures others { (e : Entity ℕ) → IsOther entity e →
@@ -116,9 +113,9 @@ pub fn raised<S: Storage<u64>>(
 
 /// Despawns an entity, and ends the components of all that are gone, its own too. Those of live ones
 /// stay, whatever the answer.
-pub fn despawned_bare<E: Storage<u64>, C: Storage<u64>>(
+pub fn despawned_bare<E: Storage<u64>>(
     table: &mut EntityTable<u64, E>,
-    names: &mut ComponentTable<u64, u64, C>,
+    names: &mut ComponentTable<u64, u64>,
     entity: Entity<u64>,
 ) -> Result<(), Stale>
     ensures bare { component_in names.new entity ≡ None }
@@ -146,17 +143,12 @@ pub fn taken_out<S: Storage<u64>>(
 }
 
 /// Hands one entity's component to another, which shows it from then on.
-pub fn handed_over<S: Storage<u64>>(
-    coats: &mut ComponentTable<u64, u64, S>,
-    from: Entity<u64>,
-    to: Entity<u64>,
-    here: Location,
-) -> bool
+pub fn handed_over(coats: &mut ComponentTable<u64, u64>, from: Entity<u64>, to: Entity<u64>) -> bool
     ensures { IsTrue result → (coat : ℕ) × (component_in coats.old from ≡ Some coat)
         × (component_in coats.new to ≡ Some coat) }
 {
     match coats.take(from) {
-        Some(coat) => coats.insert(to, coat, here).is_ok(),
+        Some(coat) => coats.insert(to, coat).is_ok(),
         None => false,
     }
 }
@@ -168,7 +160,7 @@ pub fn swept_out<S: Storage<u64>>(table: &mut EntityTable<u64, S>) -> bool
 {
     if table.is_empty() {
         // The rows have all live entities.
-        let _ = table.entities();
+        let _ = table.iter();
         return false;
     }
     table.clear();

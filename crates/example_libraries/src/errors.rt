@@ -2,9 +2,8 @@
 
 ghost use Rattle.std.specs.Prelude.{◌≡◌, Some, IfOk, IfErr};
 ghost use Rattle.anyhow.specs.Error.{HasMessage};
-ghost use Rattle.entity_table.specs.Entities.{spawned_at};
-ghost use Rattle.entity_table.specs.Tables.{element_in};
-ghost use Rattle.entity_table.specs.Texts.{stale_text};
+ghost use Rattle.entity_table.specs.Tables.{created_at, element_in};
+ghost use Rattle.handles.specs.Texts.{gone_text};
 
 use anyhow::Result;
 use document_tree::{Document, Part, Place};
@@ -20,7 +19,7 @@ pub fn element_or_text<S: Storage<u64>>(
     entity: Entity<u64>,
 ) -> Result<u64>
     ensures seen { IfOk result (λ element. element_in table.now entity ≡ Some element) }
-    ensures told { IfErr result (λ error. HasMessage (Some (stale_text (spawned_at entity))) error) }
+    ensures told { IfErr result (λ error. HasMessage (Some (gone_text (created_at table.now entity))) error) }
 {
     Ok(*table.get(entity)?)
 }

@@ -1,9 +1,8 @@
 //! Proving your own code: what is taken out of a stock, and that every other item stays.
 
 ghost use Rattle.std.specs.Prelude.{◌≡◌, ◌↔◌, ℕ, All, None, Some, IfOk, IsErr, IsTrue, OnErr};
-ghost use Rattle.entity_table.specs.declared.entity.Entity.{Entity};
-ghost use Rattle.entity_table.specs.Entities.{IsOther};
-ghost use Rattle.entity_table.specs.Tables.{element_in};
+ghost use Rattle.entity_table.specs.Tables.{Entity, element_in};
+ghost use Rattle.handles.specs.Handles.{IsOther};
 
 use entity_table::{Entity, EntityTable, Stale, equal_entities_show_the_same};
 use generational_box::{Location, Storage, UnsyncStorage};

@@ -12,10 +12,10 @@ use scene_tree::{SceneTree, Spot};
 use std::process::Abort;
 
 /// Spawns entities, each with a component.
-pub(crate) fn spawn_all<S: Storage<u64>, P: Storage<u64>>(
+pub(crate) fn spawn_all<S: Storage<u64>>(
     rt: &impl Abort,
     entities: &mut EntityTable<u64, S>,
-    components: &mut ComponentTable<u64, u64, P>,
+    components: &mut ComponentTable<u64, u64>,
     count: u64,
 ) {
     for component in 0..count {

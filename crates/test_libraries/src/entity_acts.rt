@@ -25,20 +25,15 @@ pub(crate) struct Line {
     pub(crate) act: Act,
     /// Whether it is carried out. Only a stale entity's isn't.
     pub(crate) done: bool,
-    /// The entities of the rows afterwards.
+    /// The live entities afterwards, in the order of their slots.
     pub(crate) rows: &'static [usize],
     /// What each entity shows afterwards, in the order in which they were spawned.
     pub(crate) shows: &'static [Option<u64>],
 }
 
-/// Where an entity is spawned: each at a line of its own, by its number.
-pub(crate) fn spawned_at(number: usize) -> Location {
+/// Where an entity is made: each at a line of its own, by its number.
+pub(crate) fn made_at(number: usize) -> Location {
     Location::new("e.rs", u32::try_from(number).unwrap_or(0), 1)
-}
-
-/// Where a component is given.
-pub(crate) fn given_at() -> Location {
-    Location::new("c.rs", 1, 1)
 }
 
 /// A table of entities over a new store.
@@ -51,33 +46,23 @@ pub(crate) fn entities_over<S: Storage<u64>>(
     EntityTable::new(alloc, store)
 }
 
-/// A table of components over a new store.
-pub(crate) fn components_over<C, S: Storage<C>>(
-    rt: &impl Abort,
-    alloc: Global,
-    store: S,
-) -> ComponentTable<u64, C, S> {
-    assert!(rt; store.is_fresh());
-    ComponentTable::new(alloc, store)
-}
-
 /// Spawns an entity.
 pub(crate) fn spawn<S: Storage<u64>>(
     rt: &impl Abort,
     table: &mut EntityTable<u64, S>,
     number: usize,
 ) -> Entity<u64> {
-    given(rt, table.spawn(0, spawned_at(number)))
+    given(rt, table.spawn(0, made_at(number)))
 }
 
 /// Gives an entity a component.
-pub(crate) fn give<C: Drop, S: Storage<C>>(
+pub(crate) fn give<C: Drop>(
     rt: &impl Abort,
-    table: &mut ComponentTable<u64, C, S>,
+    table: &mut ComponentTable<u64, C>,
     entity: Entity<u64>,
     component: C,
 ) {
-    given(rt, table.insert(entity, component, given_at()));
+    given(rt, table.insert(entity, component));
 }
 
 /// Does each line's act to a table, and sees what comes of it.
@@ -108,7 +93,7 @@ fn carries_out<S: Storage<u64>>(
 ) -> bool {
     match act {
         Act::Spawn(element) => {
-            let spawned = table.spawn(element, spawned_at(entities.len()));
+            let spawned = table.spawn(element, made_at(entities.len()));
             entities.push(given(rt, spawned)).is_ok()
         }
         Act::Despawn(number) => {
@@ -164,18 +149,18 @@ fn entity_at(rt: &impl Abort, entities: &[Entity<u64>], number: usize) -> Entity
     entities.get(number).copied().expect(rt, "an entity")
 }
 
-/// Whether an answer is Ok. An error tells where the entity was spawned.
+/// Whether an answer is Ok. An error tells where the entity was made.
 fn told(rt: &impl Abort, answer: Result<(), Stale>, number: usize) -> bool {
     match answer {
         Ok(()) => true,
         Err(stale) => {
-            assert_same(rt, &stale.spawned_at, &spawned_at(number));
+            assert_same(rt, &stale.created_at, &Some(made_at(number)));
             false
         }
     }
 }
 
-/// Sees which entities stand in the rows.
+/// Sees which entities are live, in order, by the walk and slot by slot.
 fn stands<S: Storage<u64>>(
     rt: &impl Abort,
     table: &EntityTable<u64, S>,
@@ -183,9 +168,31 @@ fn stands<S: Storage<u64>>(
     rows: &[usize],
 ) {
     assert_same(rt, &table.len(), &rows.len());
-    for (entity, number) in table.entities().iter().zip(rows) {
+    for ((entity, _), number) in table.iter().zip(rows) {
         assert_same(rt, &entity.id(), &entity_at(rt, entities, *number).id());
     }
+    stands_at(rt, table, entities, rows);
+}
+
+/// Sees which slots have a live entity.
+fn stands_at<S: Storage<u64>>(
+    rt: &impl Abort,
+    table: &EntityTable<u64, S>,
+    entities: &[Entity<u64>],
+    rows: &[usize],
+) {
+    let mut rest = rows;
+    for slot in 0..table.slots() {
+        if let Some(entity) = table.at(slot) {
+            let Some((number, others)) = rest.split_first() else {
+                assert!(rt; false);
+                return;
+            };
+            assert_same(rt, &entity.id(), &entity_at(rt, entities, *number).id());
+            rest = others;
+        }
+    }
+    assert!(rt; rest.is_empty());
 }
 
 /// Sees what each entity shows.
@@ -199,7 +206,7 @@ fn shows<S: Storage<u64>>(
     let mut number: usize = 0;
     for (entity, shown) in entities.iter().zip(shows) {
         let stale = Stale {
-            spawned_at: spawned_at(number),
+            created_at: Some(made_at(number)),
         };
         has_element(rt, table, *entity, shown.ok_or(stale));
         number = number.wrapping_add(1);

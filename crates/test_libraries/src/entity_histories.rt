@@ -46,16 +46,23 @@ macro_rules! stale {
     };
 }
 
-const THE_LAST_ROW_TAKES_AN_EMPTY_PLACE: &[Line] = &[
+const LIVE_ONES_STAND_IN_THE_ORDER_OF_SLOTS: &[Line] = &[
     done!(Act::Spawn(10), &[0], &[Some(10)]),
     done!(Act::Spawn(20), &[0, 1], &[Some(10), Some(20)]),
     done!(Act::Spawn(30), &[0, 1, 2], &[Some(10), Some(20), Some(30)]),
-    // The first row is left, and the last one moves there.
-    done!(Act::Despawn(0), &[2, 1], &[None, Some(20), Some(30)]),
-    stale!(Act::Despawn(0), &[2, 1], &[None, Some(20), Some(30)]),
-    // The last row is left, and nothing moves.
-    done!(Act::Despawn(1), &[2], &[None, None, Some(30)]),
-    done!(Act::Despawn(2), &[], &[None, None, None]),
+    // The first slot is left, and passed over.
+    done!(Act::Despawn(0), &[1, 2], &[None, Some(20), Some(30)]),
+    stale!(Act::Despawn(0), &[1, 2], &[None, Some(20), Some(30)]),
+    // The next entity takes it, and comes first.
+    done!(
+        Act::Spawn(40),
+        &[3, 1, 2],
+        &[None, Some(20), Some(30), Some(40)],
+    ),
+    // The last slot is left, and then all are.
+    done!(Act::Despawn(2), &[3, 1], &[None, Some(20), None, Some(40)]),
+    done!(Act::Despawn(1), &[3], &[None, None, None, Some(40)]),
+    done!(Act::Despawn(3), &[], &[None, None, None, None]),
 ];
 
 const A_STALE_HANDLE_READS_NO_LATER_ENTITY: &[Line] = &[
@@ -77,15 +84,18 @@ const A_TEST_LEAVES_WHAT_PASSES: &[Line] = &[
         &[0, 1, 2, 3],
         &[Some(5), Some(8), Some(2), Some(9)],
     ),
-    // From the last row on: 9 goes, 2 stays, 8 goes and 2 takes its place, 5 stays.
+    // 8 and 9 go, and the others stay at their slots.
     done!(Act::Retain(6), &[0, 2], &[Some(5), None, Some(2), None]),
     done!(Act::Retain(6), &[0, 2], &[Some(5), None, Some(2), None]),
-    done!(
-        Act::Spawn(7),
-        &[0, 2, 4],
-        &[Some(5), None, Some(2), None, Some(7)],
-    ),
-    done!(Act::Clear, &[], &[None, None, None, None, None]),
+    done!(Act::Retain(1), &[], &[None, None, None, None]),
+];
+
+const ALL_GO: &[Line] = &[
+    done!(Act::Clear, &[], &[]),
+    done!(Act::Spawn(5), &[0], &[Some(5)]),
+    done!(Act::Spawn(8), &[0, 1], &[Some(5), Some(8)]),
+    done!(Act::Despawn(0), &[1], &[None, Some(8)]),
+    done!(Act::Clear, &[], &[None, None]),
 ];
 
 const AN_ELEMENT_IS_CHANGED_IN_ITS_PLACE: &[Line] = &[
@@ -96,15 +106,16 @@ const AN_ELEMENT_IS_CHANGED_IN_ITS_PLACE: &[Line] = &[
     done!(Act::Despawn(0), &[1], &[None, Some(20)]),
     stale!(Act::Add(0, 5), &[1], &[None, Some(20)]),
     // The slot is used again, and the first handle doesn't change what stands there.
-    done!(Act::Spawn(30), &[1, 2], &[None, Some(20), Some(30)]),
-    stale!(Act::Add(0, 5), &[1, 2], &[None, Some(20), Some(30)]),
-    done!(Act::Add(2, 1), &[1, 2], &[None, Some(20), Some(31)]),
+    done!(Act::Spawn(30), &[2, 1], &[None, Some(20), Some(30)]),
+    stale!(Act::Add(0, 5), &[2, 1], &[None, Some(20), Some(30)]),
+    done!(Act::Add(2, 1), &[2, 1], &[None, Some(20), Some(31)]),
 ];
 
 #[test]
 fn histories_of_entities(rt: HostRuntime) {
-    play_lines(&rt, rt.alloc(), THE_LAST_ROW_TAKES_AN_EMPTY_PLACE);
+    play_lines(&rt, rt.alloc(), LIVE_ONES_STAND_IN_THE_ORDER_OF_SLOTS);
     play_lines(&rt, rt.alloc(), A_STALE_HANDLE_READS_NO_LATER_ENTITY);
     play_lines(&rt, rt.alloc(), A_TEST_LEAVES_WHAT_PASSES);
+    play_lines(&rt, rt.alloc(), ALL_GO);
     play_lines(&rt, rt.alloc(), AN_ELEMENT_IS_CHANGED_IN_ITS_PLACE);
 }

@@ -1,8 +1,8 @@
 //! Tables of components, and tables whose store has given all its tickets.
 
-use crate::entity_acts::{add, components_over, entities_over, give, spawn, spawned_at};
+use crate::entity_acts::{add, entities_over, give, made_at, spawn};
 use crate::expected::{assert_same, given};
-use crate::fresh::{Scene, SceneOfTwo, play, play_at_ticket, play_two};
+use crate::fresh::{Scene, play, play_at_ticket};
 use entity_table::{AttachError, ComponentTable, Entity, EntityTable, Stale};
 use example_libraries::entities::{
     despawned_bare, greatest, handed_over, raised, renamed, taken_out, told_after, within_limits,
@@ -12,9 +12,9 @@ use std::alloc::Global;
 use std::process::Abort;
 
 /// Sees what component an entity has.
-fn has<S: Storage<u64>>(
+fn has(
     rt: &impl Abort,
-    table: &ComponentTable<u64, u64, S>,
+    table: &ComponentTable<u64, u64>,
     entity: Entity<u64>,
     component: Option<u64>,
 ) {
@@ -25,16 +25,10 @@ fn has<S: Storage<u64>>(
 /// An entity with a component, which goes, and another that takes its slot.
 struct ComponentsFollow;
 
-impl SceneOfTwo<u64, u64> for ComponentsFollow {
-    fn play<R: Abort, S: Storage<u64> + Drop, P: Storage<u64> + Drop>(
-        &self,
-        rt: &R,
-        alloc: Global,
-        store: S,
-        parts: P,
-    ) {
+impl Scene<u64> for ComponentsFollow {
+    fn play<R: Abort, S: Storage<u64> + Drop>(&self, rt: &R, alloc: Global, store: S) {
         let mut entities = entities_over(rt, alloc, store);
-        let mut components = components_over(rt, alloc, parts);
+        let mut components = ComponentTable::new(alloc, &entities);
         let first = spawn(rt, &mut entities, 0);
         give(rt, &mut components, first, 11);
         give(rt, &mut components, first, 12);
@@ -55,14 +49,14 @@ struct StaleIsTold;
 impl Scene<u64> for StaleIsTold {
     fn play<R: Abort, S: Storage<u64> + Drop>(&self, rt: &R, alloc: Global, store: S) {
         let mut table = entities_over(rt, alloc, store);
-        let first = match table.spawn(0, spawned_at(3)) {
+        let first = match table.spawn(0, made_at(3)) {
             Ok(entity) => entity,
             Err(_lacking) => rt.abort(),
         };
         let stale = Stale {
-            spawned_at: spawned_at(3),
+            created_at: Some(made_at(3)),
         };
-        let told = told_after(&mut table, first, 4, spawned_at(4));
+        let told = told_after(&mut table, first, 4, made_at(4));
         assert_same(rt, &told, &Err(stale));
         assert_same(rt, &table.len(), &1);
     }
@@ -86,27 +80,18 @@ impl Scene<u64> for AnEntityGoes {
 /// An entity that goes, and another in its slot, which is given a component by both handles.
 struct AGoneHandleGivesNothing;
 
-impl SceneOfTwo<u64, u64> for AGoneHandleGivesNothing {
-    fn play<R: Abort, S: Storage<u64> + Drop, P: Storage<u64> + Drop>(
-        &self,
-        rt: &R,
-        alloc: Global,
-        store: S,
-        parts: P,
-    ) {
+impl Scene<u64> for AGoneHandleGivesNothing {
+    fn play<R: Abort, S: Storage<u64> + Drop>(&self, rt: &R, alloc: Global, store: S) {
         let mut entities = entities_over(rt, alloc, store);
-        let mut components = components_over(rt, alloc, parts);
+        let mut components = ComponentTable::new(alloc, &entities);
         let first = spawn(rt, &mut entities, 0);
         given(rt, entities.despawn(first));
         let second = spawn(rt, &mut entities, 1);
-        given(
-            rt,
-            renamed(&entities, &mut components, second, 11, spawned_at(5)),
-        );
+        given(rt, renamed(&entities, &mut components, second, 11));
         let stale = Stale {
-            spawned_at: first.spawned_at(),
+            created_at: Some(made_at(0)),
         };
-        let told = renamed(&entities, &mut components, first, 12, spawned_at(6));
+        let told = renamed(&entities, &mut components, first, 12);
         assert!(rt; told == Err(AttachError::Stale(stale)));
         has(rt, &components, second, Some(11));
         assert!(rt; first != second);
@@ -154,16 +139,10 @@ fn live_entities_and_stale_ones(rt: HostRuntime) {
 /// Entities of which some have a component, and some of these go.
 struct ComponentsAreSwept;
 
-impl SceneOfTwo<u64, u64> for ComponentsAreSwept {
-    fn play<R: Abort, S: Storage<u64> + Drop, P: Storage<u64> + Drop>(
-        &self,
-        rt: &R,
-        alloc: Global,
-        store: S,
-        parts: P,
-    ) {
+impl Scene<u64> for ComponentsAreSwept {
+    fn play<R: Abort, S: Storage<u64> + Drop>(&self, rt: &R, alloc: Global, store: S) {
         let mut entities = entities_over(rt, alloc, store);
-        let mut components = components_over(rt, alloc, parts);
+        let mut components = ComponentTable::new(alloc, &entities);
         let first = spawn(rt, &mut entities, 0);
         let second = spawn(rt, &mut entities, 1);
         let third = spawn(rt, &mut entities, 2);
@@ -194,11 +173,9 @@ impl SceneOfTwo<u64, u64> for ComponentsAreSwept {
 }
 
 /// Sees what components there are, in order.
-fn goes_over<S: Storage<u64>>(
-    rt: &impl Abort,
-    table: &ComponentTable<u64, u64, S>,
-    wanted: &[(Entity<u64>, u64)],
-) {
+fn goes_over(rt: &impl Abort, table: &ComponentTable<u64, u64>, wanted: &[(Entity<u64>, u64)]) {
+    assert_same(rt, &table.len(), &wanted.len());
+    assert_same(rt, &table.iter().len(), &wanted.len());
     let mut rest = wanted;
     for (entity, component) in table.iter() {
         let Some(((of, number), others)) = rest.split_first() else {
@@ -213,10 +190,10 @@ fn goes_over<S: Storage<u64>>(
 }
 
 /// Sees which live entities have a component, with both, in order.
-fn joins<E: Storage<u64>, S: Storage<u64>>(
+fn joins<E: Storage<u64>>(
     rt: &impl Abort,
     entities: &EntityTable<u64, E>,
-    components: &ComponentTable<u64, u64, S>,
+    components: &ComponentTable<u64, u64>,
     wanted: &[(Entity<u64>, u64, u64)],
 ) {
     let mut rest = wanted;
@@ -233,44 +210,43 @@ fn joins<E: Storage<u64>, S: Storage<u64>>(
 
 #[test]
 fn components_follow_their_entities(rt: HostRuntime) {
-    play_two::<u64, u64, ComponentsFollow>(&rt, rt.alloc(), &ComponentsFollow);
-    play_two::<u64, u64, ComponentsAreSwept>(&rt, rt.alloc(), &ComponentsAreSwept);
+    play::<u64, ComponentsFollow>(&rt, rt.alloc(), &ComponentsFollow);
+    play::<u64, ComponentsAreSwept>(&rt, rt.alloc(), &ComponentsAreSwept);
 }
 
 /// An entity that gets a component, or changes it, by a handle of another table.
 struct AForeignHandleGivesNothing;
 
-impl SceneOfTwo<u64, u64> for AForeignHandleGivesNothing {
-    fn play<R: Abort, S: Storage<u64> + Drop, P: Storage<u64> + Drop>(
-        &self,
-        rt: &R,
-        alloc: Global,
-        store: S,
-        parts: P,
-    ) {
+impl Scene<u64> for AForeignHandleGivesNothing {
+    fn play<R: Abort, S: Storage<u64> + Drop>(&self, rt: &R, alloc: Global, store: S) {
         let mut entities = entities_over(rt, alloc, store);
-        let mut components = components_over(rt, alloc, parts);
+        let mut components = ComponentTable::new(alloc, &entities);
         let others: Store<u64, LastFirst> = Store::new(alloc, 7);
         let mut others = entities_over(rt, alloc, others);
         let own = spawn(rt, &mut entities, 0);
         let foreign = spawn(rt, &mut others, 1);
         give(rt, &mut components, own, 11);
-        let stale = Stale {
-            spawned_at: spawned_at(1),
-        };
-        let told = renamed(&entities, &mut components, foreign, 12, spawned_at(6));
+        let stale = Stale { created_at: None };
+        let told = renamed(&entities, &mut components, foreign, 12);
         assert!(rt; told == Err(AttachError::Stale(stale)));
+        assert!(rt;
+            components
+                .insert(foreign, 13)
+                .is_err_and(|refusal| refusal.value == 13)
+        );
         assert_same(rt, &raised(&mut components, foreign), &None);
+        assert_same(rt, &entities.created_at(own), &Some(made_at(0)));
+        assert_same(rt, &entities.created_at(foreign), &None);
         assert_same(rt, &add(rt, &mut entities, foreign, 1), &Err(stale));
         assert_same(rt, &raised(&mut components, own), &Some(11));
-        assert!(rt; !handed_over(&mut components, foreign, own, spawned_at(7)));
-        assert!(rt; handed_over(&mut components, own, own, spawned_at(7)));
+        assert!(rt; !handed_over(&mut components, foreign, own));
+        assert!(rt; handed_over(&mut components, own, own));
         has(rt, &components, own, Some(12));
     }
 }
 
 #[test]
 fn a_gone_handle_or_a_foreign_one_gives_no_component(rt: HostRuntime) {
-    play_two::<u64, u64, AGoneHandleGivesNothing>(&rt, rt.alloc(), &AGoneHandleGivesNothing);
-    play_two::<u64, u64, AForeignHandleGivesNothing>(&rt, rt.alloc(), &AForeignHandleGivesNothing);
+    play::<u64, AGoneHandleGivesNothing>(&rt, rt.alloc(), &AGoneHandleGivesNothing);
+    play::<u64, AForeignHandleGivesNothing>(&rt, rt.alloc(), &AForeignHandleGivesNothing);
 }

@@ -1,9 +1,9 @@
 //! Tables where memory runs out. Each test passes whichever one allocation is refused: what lacks
 //! memory changes nothing, and is tried a second time.
 
-use crate::entity_acts::{add, components_over, entities_over, given_at, spawned_at};
+use crate::entity_acts::{add, entities_over, made_at};
 use crate::expected::{assert_same, given};
-use crate::fresh::{SceneOfTwo, play_two};
+use crate::fresh::{Scene, play};
 use entity_table::{ComponentTable, Entity, EntityTable};
 use example_libraries::entities::raised;
 use generational_box::Storage;
@@ -14,18 +14,18 @@ use std::process::Abort;
 const MANY: u64 = 20;
 
 /// Spawns an entity, which shows its element. One that lacks memory leaves the table as it was.
-fn spawn_or_again<S: Storage<u64>>(
+pub(crate) fn spawn_or_again<S: Storage<u64>>(
     rt: &impl Abort,
     table: &mut EntityTable<u64, S>,
     element: u64,
 ) -> Entity<u64> {
     let before = table.len();
-    let spawned = match table.spawn(element, spawned_at(0)) {
+    let spawned = match table.spawn(element, made_at(0)) {
         Ok(entity) => Ok(entity),
         Err(refusal) => {
             assert_same(rt, &refusal.value, &element);
             assert_same(rt, &table.len(), &before);
-            table.spawn(element, spawned_at(0))
+            table.spawn(element, made_at(0))
         }
     };
     let entity = given(rt, spawned);
@@ -34,33 +34,27 @@ fn spawn_or_again<S: Storage<u64>>(
 }
 
 /// Gives an entity a component. One that lacks memory leaves it without.
-fn give_or_again<S: Storage<u64>>(
+fn give_or_again(
     rt: &impl Abort,
-    table: &mut ComponentTable<u64, u64, S>,
+    table: &mut ComponentTable<u64, u64>,
     entity: Entity<u64>,
     component: u64,
 ) {
-    if let Err(refusal) = table.insert(entity, component, given_at()) {
+    if let Err(refusal) = table.insert(entity, component) {
         assert_same(rt, &refusal.value, &component);
         assert!(rt; !table.contains(entity));
-        given(rt, table.insert(entity, component, given_at()));
+        given(rt, table.insert(entity, component));
     }
     assert!(rt; table.contains(entity));
 }
 
-/// Spawns entities with components, in tables over two stores.
+/// Spawns entities with components.
 struct SpawnMany;
 
-impl SceneOfTwo<u64, u64> for SpawnMany {
-    fn play<R: Abort, S: Storage<u64> + Drop, P: Storage<u64> + Drop>(
-        &self,
-        rt: &R,
-        alloc: Global,
-        store: S,
-        parts: P,
-    ) {
+impl Scene<u64> for SpawnMany {
+    fn play<R: Abort, S: Storage<u64> + Drop>(&self, rt: &R, alloc: Global, store: S) {
         let mut entities = entities_over(rt, alloc, store);
-        let mut components = components_over(rt, alloc, parts);
+        let mut components = ComponentTable::new(alloc, &entities);
         for element in 0..MANY {
             let entity = spawn_or_again(rt, &mut entities, element);
             give_or_again(rt, &mut components, entity, element);
@@ -78,5 +72,5 @@ impl SceneOfTwo<u64, u64> for SpawnMany {
 
 #[test]
 fn what_lacks_memory_changes_nothing(rt: HostRuntime) {
-    play_two::<u64, u64, SpawnMany>(&rt, rt.alloc(), &SpawnMany);
+    play::<u64, SpawnMany>(&rt, rt.alloc(), &SpawnMany);
 }

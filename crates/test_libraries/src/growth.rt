@@ -3,15 +3,16 @@
 
 use crate::document_acts::document_over;
 use crate::document_memory::{add_or_again, append_or_again};
-use crate::entity_acts::{components_over, entities_over, give, spawn};
+use crate::entity_acts::{entities_over, give, spawn};
 use crate::expected::given;
-use crate::fresh::{Scene, SceneOfTwo, play, play_two};
+use crate::fresh::{Scene, play};
 use crate::session_acts::sessions_over;
 use crate::session_limits::{log_in, put};
 use crate::signal_calls::{end, first_made, scope, signal};
 use crate::tree_acts::tree_over;
 use crate::tree_memory::{child_or_again, remove_or_again, root_or_again};
 use document_tree::Part;
+use entity_table::ComponentTable;
 use generational_box::Storage;
 use std::alloc::Global;
 use std::process::Abort;
@@ -25,16 +26,10 @@ const ENTRIES: u64 = 100_000;
 /// Spawns entities, each with a component.
 struct SpawnAll;
 
-impl SceneOfTwo<u64, u64> for SpawnAll {
-    fn play<R: Abort, S: Storage<u64> + Drop, P: Storage<u64> + Drop>(
-        &self,
-        rt: &R,
-        alloc: Global,
-        store: S,
-        parts: P,
-    ) {
+impl Scene<u64> for SpawnAll {
+    fn play<R: Abort, S: Storage<u64> + Drop>(&self, rt: &R, alloc: Global, store: S) {
         let mut entities = entities_over(rt, alloc, store);
-        let mut components = components_over(rt, alloc, parts);
+        let mut components = ComponentTable::new(alloc, &entities);
         for component in 0..MANY {
             let entity = spawn(rt, &mut entities, 0);
             give(rt, &mut components, entity, component);
@@ -44,7 +39,7 @@ impl SceneOfTwo<u64, u64> for SpawnAll {
 
 #[test]
 fn entities(rt: HostRuntime) {
-    play_two::<u64, u64, SpawnAll>(&rt, rt.alloc(), &SpawnAll);
+    play::<u64, SpawnAll>(&rt, rt.alloc(), &SpawnAll);
 }
 
 /// Begins sessions with a value each, notes a use of each second one, lets the others expire, and

@@ -3,10 +3,11 @@
 
 use crate::adding::{append_all, insert_all, page_and_part, root_all, spawn_all};
 use crate::document_acts::document_over;
-use crate::entity_acts::{components_over, entities_over};
+use crate::entity_acts::entities_over;
 use crate::gauge::Gauge;
 use crate::tree_acts::tree_over;
 use document_tree::Part;
+use entity_table::ComponentTable;
 use generational_box::{LastFirst, Storage, Store};
 use std::alloc::Global;
 use std::process::Abort;
@@ -30,30 +31,22 @@ fn grow<T: Drop, C: Drop, G: Growing<T, C>, R: Files + AllocGlobal + Abort>(rt: 
     G::grow(rt, alloc, store, parts);
 }
 
-/// The rows of entities, the rows' places by slots, and the parts of a table of components.
-struct GrowTables;
-
-impl Growing<u64, u64> for GrowTables {
-    fn grow<R: Files + AllocGlobal + Abort, S: Storage<u64> + Drop, P: Storage<u64> + Drop>(
-        rt: &R,
-        alloc: Global,
-        store: S,
-        parts: P,
-    ) {
-        let mut entities = entities_over(rt, alloc, store);
-        let mut components = components_over(rt, alloc, parts);
-        let mut gauge = Gauge::new(rt);
-        for _ in 0..100 {
-            spawn_all(rt, &mut entities, &mut components, 1_000);
-            gauge.look(rt);
-        }
-        gauge.assert_few(rt);
+/// Lets the rows of entities and of components grow, over a new store.
+fn grow_tables<R: Files + AllocGlobal + Abort, S: Storage<u64> + Drop>(rt: &R, store: S) {
+    let mut entities = entities_over(rt, rt.alloc(), store);
+    let mut components = ComponentTable::new(rt.alloc(), &entities);
+    let mut gauge = Gauge::new(rt);
+    for _ in 0..100 {
+        spawn_all(rt, &mut entities, &mut components, 1_000);
+        gauge.look(rt);
     }
+    gauge.assert_few(rt);
 }
 
 #[test]
 fn tables(rt: HostRuntime) {
-    grow::<u64, u64, GrowTables, _>(&rt);
+    let store: Store<u64, LastFirst> = Store::new(rt.alloc(), 1);
+    grow_tables(&rt, store);
 }
 
 /// The links of a tree, the children of a part to which they are appended, and those of one into which

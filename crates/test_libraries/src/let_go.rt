@@ -3,9 +3,9 @@
 
 use crate::counted::{Counted, another, assert_count, let_go, new_counted};
 use crate::document_acts::{add, document_over};
-use crate::entity_acts::{components_over, entities_over, give, spawn, spawned_at};
+use crate::entity_acts::{entities_over, give, made_at, spawn};
 use crate::expected::{assert_same, given};
-use crate::fresh::{Scene, SceneOfTwo, play, play_two};
+use crate::fresh::{Scene, play};
 use document_tree::{Document, Part, Place};
 use entity_table::{ComponentTable, Entity, EntityTable};
 use generational_box::Storage;
@@ -96,10 +96,10 @@ fn contents_and_parts_of_a_document(rt: HostRuntime) {
 }
 
 /// A component that another takes the place of, and one that is removed.
-fn components_go<C: Storage<Counted>>(
+fn components_go(
     rt: &impl Abort,
     alloc: Global,
-    components: &mut ComponentTable<u64, Counted, C>,
+    components: &mut ComponentTable<u64, Counted>,
     entity: Entity<u64>,
 ) {
     let first = new_counted(rt, alloc);
@@ -113,10 +113,10 @@ fn components_go<C: Storage<Counted>>(
 }
 
 /// A component that is handed back. It is let go once, by whoever has it then.
-fn components_come_back<C: Storage<Counted>>(
+fn components_come_back(
     rt: &impl Abort,
     alloc: Global,
-    components: &mut ComponentTable<u64, Counted, C>,
+    components: &mut ComponentTable<u64, Counted>,
     entity: Entity<u64>,
 ) {
     let value = new_counted(rt, alloc);
@@ -129,11 +129,11 @@ fn components_come_back<C: Storage<Counted>>(
 }
 
 /// A component that outlives its entity, until the next of the slot gets one.
-fn left_ones_go<S: Storage<u64>, C: Storage<Counted>>(
+fn left_ones_go<S: Storage<u64>>(
     rt: &impl Abort,
     alloc: Global,
     entities: &mut EntityTable<u64, S>,
-    components: &mut ComponentTable<u64, Counted, C>,
+    components: &mut ComponentTable<u64, Counted>,
 ) {
     let left = new_counted(rt, alloc);
     let first = spawn(rt, entities, 0);
@@ -145,19 +145,13 @@ fn left_ones_go<S: Storage<u64>, C: Storage<Counted>>(
     assert_count(rt, &left, 1);
 }
 
-/// All, of tables over these stores.
+/// All, of a table over this store.
 struct BothGo;
 
-impl SceneOfTwo<u64, Counted> for BothGo {
-    fn play<R: Abort, S: Storage<u64> + Drop, P: Storage<Counted> + Drop>(
-        &self,
-        rt: &R,
-        alloc: Global,
-        store: S,
-        parts: P,
-    ) {
+impl Scene<u64> for BothGo {
+    fn play<R: Abort, S: Storage<u64> + Drop>(&self, rt: &R, alloc: Global, store: S) {
         let mut entities = entities_over(rt, alloc, store);
-        let mut components = components_over(rt, alloc, parts);
+        let mut components = ComponentTable::new(alloc, &entities);
         let entity = spawn(rt, &mut entities, 2);
         components_go(rt, alloc, &mut components, entity);
         components_come_back(rt, alloc, &mut components, entity);
@@ -173,7 +167,7 @@ impl Scene<Counted> for ElementsComeBack {
         assert!(rt; store.is_fresh());
         let mut table = EntityTable::new(alloc, store);
         let value = new_counted(rt, alloc);
-        let entity = given(rt, table.spawn(another(rt, &value), spawned_at(0)));
+        let entity = given(rt, table.spawn(another(rt, &value), made_at(0)));
         let taken = table.take(entity).expect(rt, "an element");
         assert_count(rt, &value, 2);
         let_go(taken);
@@ -185,6 +179,6 @@ impl Scene<Counted> for ElementsComeBack {
 
 #[test]
 fn components_and_elements_of_entities(rt: HostRuntime) {
-    play_two::<u64, Counted, BothGo>(&rt, rt.alloc(), &BothGo);
+    play::<u64, BothGo>(&rt, rt.alloc(), &BothGo);
     play::<Counted, ElementsComeBack>(&rt, rt.alloc(), &ElementsComeBack);
 }

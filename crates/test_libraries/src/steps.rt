@@ -3,10 +3,12 @@
 
 use crate::adding::{append_all, insert_all, page_and_part, root_all, spawn_all};
 use crate::document_acts::document_over;
-use crate::entity_acts::{components_over, entities_over};
-use crate::fresh::{SceneOfTwo, play_two};
+use crate::entity_acts::entities_over;
+use crate::entity_memory::spawn_or_again;
+use crate::fresh::{Scene, SceneOfTwo, play, play_two};
 use crate::tree_acts::tree_over;
 use document_tree::Part;
+use entity_table::ComponentTable;
 use generational_box::Storage;
 use std::alloc::Global;
 use std::process::Abort;
@@ -14,23 +16,19 @@ use std::process::Abort;
 /// Spawns some entities with components.
 struct SpawnSome;
 
-impl SceneOfTwo<u64, u64> for SpawnSome {
-    fn play<R: Abort, S: Storage<u64> + Drop, P: Storage<u64> + Drop>(
-        &self,
-        rt: &R,
-        alloc: Global,
-        store: S,
-        parts: P,
-    ) {
+impl Scene<u64> for SpawnSome {
+    fn play<R: Abort, S: Storage<u64> + Drop>(&self, rt: &R, alloc: Global, store: S) {
         let mut entities = entities_over(rt, alloc, store);
-        let mut components = components_over(rt, alloc, parts);
+        let mut components = ComponentTable::new(alloc, &entities);
+        // The location is kept in an index map, whose first step is its smallest.
+        spawn_or_again(rt, &mut entities, 0);
         spawn_all(rt, &mut entities, &mut components, 20);
     }
 }
 
 #[test]
 fn rows_and_components(rt: HostRuntime) {
-    play_two::<u64, u64, SpawnSome>(&rt, rt.alloc(), &SpawnSome);
+    play::<u64, SpawnSome>(&rt, rt.alloc(), &SpawnSome);
 }
 
 /// Adds some nodes to a tree, and some children to a document's page.

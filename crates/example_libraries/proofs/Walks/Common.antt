@@ -1,6 +1,6 @@
 -- The names that these proofs take from below, passed on from one place.
-pub use Rattle.entity_table.specs.declared.entity.Entity.{Entity}
-pub use Rattle.entity_table.specs.{Tables.element_in, Entities.IsOther}
+pub use Rattle.entity_table.specs.Tables.{element_in, Entity}
+pub use Rattle.handles.specs.Handles.{IsOther}
 pub use Rattle.generational_core.proofs.machine.Calls.{keeps_free}
 pub use Rattle.generational_core.specs.Leaving.{IsUnchanged}
 pub use Rattle.generational_errors.specs.Texts.{as_refused_mut}

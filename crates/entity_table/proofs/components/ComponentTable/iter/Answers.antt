@@ -1,17 +1,15 @@
-use Rattle.entity_table.proofs.{listed_every, listed_rise, listed_seen, listed_shown}
+use Rattle.entity_table.proofs.{EntityKind, listed_count, listed_every, listed_rise, listed_shown}
 use Rattle.entity_table.proofs.components.ComponentTable.iter.Goals as goal
 
-pub new-requires : goal.new-requires
-new-requires g c = rw c.as_slice.ensures.value (listed_seen c.self.invariant)
-
 pub returns-clause-shown : goal.returns-clause-shown
-returns-clause-shown g c = rw (← c.self.view_is, c.new.ensures, c.as_slice.ensures.value)
-    (listed_shown c.self.invariant)
+returns-clause-shown g c = rw (← c.self.view_is, c.iter.ensures) (listed_shown c.self.inside.map)
 
 pub returns-clause-every : goal.returns-clause-every
-returns-clause-every g c = rw (← c.self.view_is, c.new.ensures, c.as_slice.ensures.value)
-    (listed_every c.self.invariant)
+returns-clause-every g c = rw (← c.self.view_is, c.iter.ensures) (listed_every c.self.inside.map)
 
 pub returns-clause-ordered : goal.returns-clause-ordered
-returns-clause-ordered g c =
-    rw (c.new.ensures, c.as_slice.ensures.value) (listed_rise c.self.invariant)
+returns-clause-ordered g c = rw c.iter.ensures (listed_rise g.row.T.Denot EntityKind c.self.inside.map)
+
+pub returns-clause-count : goal.returns-clause-count
+returns-clause-count g c = rw (← c.self.view_is, c.iter.ensures)
+    (listed_count g.row.T.Denot EntityKind c.self.inside.map.number 0 c.self.inside.map.rows)

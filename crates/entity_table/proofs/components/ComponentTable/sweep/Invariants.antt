@@ -1,9 +1,9 @@
-use Rattle.entity_table.specs.{Components.AreListed, Sweeping.Sweeps}
+use Rattle.std.proofs.Common.{◌≡◌}
+use Rattle.entity_table.specs.Sweeping.{Sweeps}
 use Rattle.entity_table.proofs.components.ComponentTable.sweep.Given as goal
 
 abbrev pub invariant-loop-slot : goal.invariant-loop-slot
-invariant-loop-slot g l =
-    Sweeps l.table l.initial.self l.self l.slot × AreListed l.self.state l.self.parts
-
-abbrev pub decreases-loop-slot : goal.decreases-loop-slot
-decreases-loop-slot g l = l.slot
+invariant-loop-slot g l = record {
+  swept : Sweeps {T = g.row.T.Denot} l.table l.fn.self l.self l.slot;
+  number : l.self.number ≡ l.fn.self.number;
+}

@@ -1,43 +1,42 @@
-use Rattle.entity_table.proofs.{arith, ends, Err, kept_removed, meets_given, Ok, others_left, pointer_in}
-use Rattle.entity_table.proofs.{quiet_ends, row_same, row_within, rules, same_value, seen_store}
-use Rattle.entity_table.proofs.{slot_within_places, sym, true≢false, unseen, ◌∙◌}
+use Rattle.entity_table.proofs.{ap, arith, count, ended_count, ended_gone, ended_others, Err, from_some, is_some}
+use Rattle.entity_table.proofs.{kept_ended, quiet_ends, rows_count, sym, true, true≢false}
+use Rattle.entity_table.proofs.{value_of, ◌∙◌, ◌≡◌}
 use Rattle.entity_table.proofs.table.EntityTable.despawn.Goals as goal
-
-pub index-row-requires : goal.index-row-requires
-index-row-requires g c =
-    let seen = rw (← c.self.view_is) at (sym c.is_alive.ensures ∙ c.if-not-is_alive.false) in
-    let lt = slot_within_places c.self.invariant c.args.entity seen in search (rules, arith)
 
 pub unreachable-requires : goal.unreachable-requires
 unreachable-requires g c =
     true≢false (sym (quiet_ends _ {U = Unit {0}} (Err c.in-Err.field-0) c.self.invariant.simple.unborrowed
     c.in-Err.ensures))
 
-pub remove_row-requires-clause-within : goal.remove_row-requires-clause-within
-remove_row-requires-clause-within g c = row_within c.self.invariant c.args.entity
-    (rw (← c.self.view_is) at (sym c.is_alive.ensures ∙ c.if-not-is_alive.false)) _ _ c.raw_ptr.ensures c.index-row.ensures
+pub invariant_of-self-2 : goal.invariant_of-self-2
+invariant_of-self-2 g c =
+    let live : is_some (value_of c.self.inside.rows c.args.entity) ≡ true = grind arith in
+    let gone = from_some c.take.result _ (ap is_some c.take.ensures.taken ∙ live) c.take.ensures.rows in
+    rw gone (kept_ended (g.met.S.AnyStorage.sound _) c.self.invariant c.pointer_to.result c.args.entity
+    c.pointer_to.ensures live c.in-Ok.ensures)
 
-pub invariant_of-self : goal.invariant_of-self
-invariant_of-self g c =
-    let seen = rw (← c.self.view_is) at (sym c.is_alive.ensures ∙ c.if-not-is_alive.false) in
-    let gone = c.remove_row.ensures.rows in
-    let same = row_same c.self.invariant c.args.entity seen _ _ c.raw_ptr.ensures c.index-row.ensures gone.0 gone.1 in
-    kept_removed (g.met.S.AnyStorage.sound _) c.self.invariant c.args.entity gone.0 _ _ _ seen
-    c.in-Ok.ensures gone.1 same gone.2 c.remove_row.ensures.placed
+pub returns-clause-gone : goal.returns-clause-gone
+returns-clause-gone g c =
+    let live : is_some (value_of c.self.inside.rows c.args.entity) ≡ true = grind arith in
+    ended_gone (g.met.S.AnyStorage.sound _) c.self.invariant c.pointer_to.result c.args.entity
+    c.pointer_to.ensures live c.in-Ok.ensures
 
-pub returns : goal.returns
-returns g c =
-    let seen = rw (← c.self.view_is) at (sym c.is_alive.ensures ∙ c.if-not-is_alive.false) in
-    let sound = g.met.S.AnyStorage.sound c.self.inside.store in
-    let gone = c.remove_row.ensures.rows in
-    let same = row_same c.self.invariant c.args.entity seen _ _ c.raw_ptr.ensures c.index-row.ensures gone.0 gone.1 in
-    rw (← c.self.view_is) (record {
-      gone = unseen _ _ (ends _ {U = Unit {0}} (Ok tt) c.in-Ok.ensures);
-      others = λ f. others_left _ _ c.in-Ok.ensures (pointer_in c.args.entity) (pointer_in f) (seen_store _ _ sound seen)
-          (λ ne. same_value _ _ _ _ sound c.in-Ok.ensures _ ne tt);
-      row = (_, gone.0, same, gone.1, gone.2);
-      kept = λ f. meets_given _ _ _ _ c.in-Ok.ensures _;
-      stale = search rules;
-      told = search rules;
-      refused = search rules;
-    })
+pub returns-clause-others : goal.returns-clause-others
+returns-clause-others g c f =
+    let live : is_some (value_of c.self.inside.rows c.args.entity) ≡ true = grind arith in
+    rw (← c.self.view_is) (ended_others (g.met.S.AnyStorage.sound _) c.self.invariant c.pointer_to.result c.args.entity
+    c.pointer_to.ensures live c.in-Ok.ensures f)
+
+pub returns-clause-rows : goal.returns-clause-rows
+returns-clause-rows g c =
+    let live : is_some (value_of c.self.inside.rows c.args.entity) ≡ true = grind arith in
+    let gone = from_some c.take.result _ (ap is_some c.take.ensures.taken ∙ live) c.take.ensures.rows in
+    let less = ended_count (g.met.S.AnyStorage.sound _) c.self.invariant c.pointer_to.result c.args.entity
+    c.pointer_to.ensures live c.in-Ok.ensures in
+    rw (← c.self.view_is) (omega (
+      arith,
+      rows_count g.row.T.Denot c.take.new.self,
+      rows_count g.row.T.Denot c.self.inside.rows,
+      ap (λ m. count m.rows) gone,
+      less,
+    ))

@@ -1,23 +1,21 @@
-use Rattle.entity_table.proofs.{arith, FnReturnsAt, IsDense, kept_dense, length, rules, sifted, Sifts}
-use Rattle.entity_table.proofs.{sifts_begun, subst, ◌+◌, ◌-◌, ◌≡◌}
+use Rattle.entity_table.proofs.{arith, sifted, sifts_begun}
 use Rattle.entity_table.proofs.table.EntityTable.retain.Goals as goal
 
-pub loop-row-init : goal.loop-row-init
-loop-row-init g c =
-    let len : c.len-row.result ≡ length c.self.inside.rows.items = search (rules, arith) in
-    rw (← c.self.view_is) (sifts_begun _ c.len-row.result len)
+pub loop-slot-init : goal.loop-slot-init
+loop-slot-init g c = sifts_begun _
 
-pub loop-row-preserved : goal.loop-row-preserved
-loop-row-preserved g c =
-    let row : c.loop-row.row ≡ (c.loop-row.row - 1) + 1 = omega (arith, c.loop-row-test.true) in
-    c.sift_row.ensures c.args.self.now
-    (subst (Sifts (FnReturnsAt g.F.Fn c.args.test) c.args.self.now c.loop-row.self) row
-    c.loop-row.invariant)
+pub loop-slot-preserved : goal.loop-slot-preserved
+loop-slot-preserved g c = c.sift_slot.ensures _ c.loop-slot.invariant
 
 pub returns-clause-sifted : goal.returns-clause-sifted
-returns-clause-sifted g c = sifted
-    (subst IsDense c.self-2.view_is (kept_dense c.self-2.invariant)) c.loop-row.invariant
-    c.loop-row-test.false
+returns-clause-sifted g c = sifted c.loop-slot.invariant
+    (λ e live. omega (arith, c.slots-slot-end.ensures e live, c.loop-slot-test.false))
 
-pub returns-clause-front : goal.returns-clause-front
-returns-clause-front g c = c.loop-row.invariant.front
+pub returns-clause-none : goal.returns-clause-none
+returns-clause-none g c = c.loop-slot.invariant.none
+
+pub returns-clause-kept : goal.returns-clause-kept
+returns-clause-kept g c = c.loop-slot.invariant.kept
+
+pub returns-clause-tells : goal.returns-clause-tells
+returns-clause-tells g c = c.loop-slot.invariant.told

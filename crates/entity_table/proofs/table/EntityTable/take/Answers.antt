@@ -1,51 +1,53 @@
-use Rattle.entity_table.proofs.{ap, arith, ends, is_some, kept_removed, meets_given, Ok, others_left, pointer_in}
-use Rattle.entity_table.proofs.{refl, row_same, row_within, rules, same_value, seen_store, simple_taken}
-use Rattle.entity_table.proofs.{slot_within_places, sym, taken_seen, unseen, ◌∙◌}
+use Rattle.entity_table.proofs.{ap, arith, count, ended_count, ended_gone, ended_others, from_some, held_live, is_some}
+use Rattle.entity_table.proofs.{kept_ended, pointer_in, rows_count, same_id_sees, simple_taken, sym, true, true≢false}
+use Rattle.entity_table.proofs.{value_of, ◌∙◌, ◌≡◌}
 use Rattle.entity_table.proofs.table.EntityTable.take.Goals as goal
 
-pub index-row-requires : goal.index-row-requires
-index-row-requires g c =
-    let seen = ap is_some (taken_seen _ _ _ (sym c.in-Some.ensures.value)) in
-    let lt = slot_within_places c.self.invariant c.args.entity seen in search (rules, arith)
-
-pub remove_row-requires-clause-within : goal.remove_row-requires-clause-within
-remove_row-requires-clause-within g c = row_within c.self.invariant c.args.entity
-    (ap is_some (taken_seen _ _ _ (sym c.in-Some.ensures.value))) _ _ c.raw_ptr-slot.ensures c.index-row.ensures
-
-pub invariant_of-self : goal.invariant_of-self
-invariant_of-self g c = rw c.in_default.ensures.none c.self.invariant
+pub unreachable-requires : goal.unreachable-requires
+unreachable-requires g c =
+    let live : is_some (value_of c.self.inside.rows c.args.entity) ≡ true = grind arith in
+    let simple = c.self.invariant.simple in
+    true≢false (sym (held_live c.self.invariant c.args.entity live)
+    ∙ ap is_some (sym (same_id_sees _ c.pointer_to.result (pointer_in c.args.entity) c.pointer_to.ensures)
+    ∙ (sym (simple_taken _ (g.met.S.AnyStorage.sound _) simple.plain simple.unborrowed c.pointer_to.result)
+    ∙ (sym c.take_value.ensures.value ∙ c.in-None.is))))
 
 pub invariant_of-self-2 : goal.invariant_of-self-2
 invariant_of-self-2 g c =
-    let seen = ap is_some (taken_seen _ _ _ (sym c.in-Some.ensures.value)) in
-    let gone = c.remove_row.ensures.rows in
-    let same = row_same c.self.invariant c.args.entity seen _ _ c.raw_ptr-slot.ensures c.index-row.ensures gone.0 gone.1 in
-    kept_removed (g.met.S.AnyStorage.sound _) c.self.invariant c.args.entity gone.0 _ _ _ seen
-    c.in-Some.ensures.ended gone.1 same gone.2 c.remove_row.ensures.placed
+    let live : is_some (value_of c.self.inside.rows c.args.entity) ≡ true = grind arith in
+    let gone = from_some c.take.result _ (ap is_some c.take.ensures.taken ∙ live) c.take.ensures.rows in
+    rw gone (kept_ended (g.met.S.AnyStorage.sound _) c.self.invariant c.pointer_to.result c.args.entity
+    c.pointer_to.ensures live c.in-Some.ensures.ended)
 
-pub returns : goal.returns
-returns g c =
-    let took = taken_seen _ _ _ (sym c.in-Some.ensures.value) in
-    let seen = ap is_some took in
-    let sound = g.met.S.AnyStorage.sound c.self.inside.store in
-    let ended = c.in-Some.ensures.ended in
-    let gone = c.remove_row.ensures.rows in
-    let same = row_same c.self.invariant c.args.entity seen _ _ c.raw_ptr-slot.ensures c.index-row.ensures gone.0 gone.1 in
-    rw (← c.self.view_is, took) (record {
-      taken = refl;
-      gone = unseen _ _ (ends _ {U = Unit {0}} (Ok tt) ended);
-      others = λ f. others_left _ _ ended (pointer_in c.args.entity) (pointer_in f) (seen_store _ _ sound seen)
-          (λ ne. same_value _ _ _ _ sound ended _ ne tt);
-      row = (_, gone.0, same, gone.1, gone.2);
-      kept = λ f. meets_given _ _ _ _ ended _;
-      stale = search rules;
-      told = search rules;
-      refused = search rules;
-    })
+pub returns-clause-taken : goal.returns-clause-taken
+returns-clause-taken g c =
+    let simple = c.self.invariant.simple in
+    rw (← c.self.view_is) (sym (same_id_sees _ c.pointer_to.result (pointer_in c.args.entity) c.pointer_to.ensures)
+    ∙ (sym (simple_taken _ (g.met.S.AnyStorage.sound _) simple.plain simple.unborrowed c.pointer_to.result)
+    ∙ (sym c.take_value.ensures.value ∙ c.in-Some.is)))
 
-pub returns-in_default : goal.returns-in_default
-returns-in_default g c =
-    let k = c.self.invariant.simple in
-    let gone = sym (simple_taken _ (g.met.S.AnyStorage.sound _) k.plain k.unborrowed (pointer_in c.args.entity))
-    ∙ sym c.in_default.ensures.value in
-    rw (← c.self.view_is, c.in_default.ensures.none, gone) (search rules)
+pub returns-clause-gone : goal.returns-clause-gone
+returns-clause-gone g c =
+    let live : is_some (value_of c.self.inside.rows c.args.entity) ≡ true = grind arith in
+    ended_gone (g.met.S.AnyStorage.sound _) c.self.invariant c.pointer_to.result c.args.entity
+    c.pointer_to.ensures live c.in-Some.ensures.ended
+
+pub returns-clause-others : goal.returns-clause-others
+returns-clause-others g c f =
+    let live : is_some (value_of c.self.inside.rows c.args.entity) ≡ true = grind arith in
+    rw (← c.self.view_is) (ended_others (g.met.S.AnyStorage.sound _) c.self.invariant c.pointer_to.result c.args.entity
+    c.pointer_to.ensures live c.in-Some.ensures.ended f)
+
+pub returns-clause-rows : goal.returns-clause-rows
+returns-clause-rows g c =
+    let live : is_some (value_of c.self.inside.rows c.args.entity) ≡ true = grind arith in
+    let gone = from_some c.take.result _ (ap is_some c.take.ensures.taken ∙ live) c.take.ensures.rows in
+    let less = ended_count (g.met.S.AnyStorage.sound _) c.self.invariant c.pointer_to.result c.args.entity
+    c.pointer_to.ensures live c.in-Some.ensures.ended in
+    rw (← c.self.view_is) (omega (
+      arith,
+      rows_count g.row.T.Denot c.take.new.self,
+      rows_count g.row.T.Denot c.self.inside.rows,
+      ap (λ m. count m.rows) gone,
+      less,
+    ))
