@@ -1,5 +1,5 @@
 -- Lists that are compared, and copied, one by one.
-use Rattle.std.proofs.Common.{add-one, ap, Bool, drop, get_or, length, List, refl, sym, take, ℕ, true, false}
+use Rattle.std.proofs.Common.{add-one, Bool, drop, get_or, length, List, refl, sym, take, ℕ}
 use Rattle.std.proofs.Common.{[], ◌++◌, ◌+◌, ◌<◌, ◌∙◌, ◌∷◌, ◌≡◌}
 use Rattle.std.proofs.Math.Seq.{drop-cons}
 use Rattle.std.proofs.lemmas.List.{take_more}

@@ -1,339 +1,6 @@
--- Graphs of cells and memos: what they mean, and what a call leaves of it.
-pub mod Meanings
-unfoldable pub use Meanings.*
-
--- ==== what is known of a table's nodes is what they mean
-
-module _ {T : Type 0} (shown : Key → Option T) where
-  -- ---- questions that were answered by what is shown, with one more
-
-  pub asked_more : (keys : List Key) (k : Key) (v : T) → shown k ≡ Some v
-      → asked_of shown (keys ++ k ∷ []) ≡ asked_of shown keys ++ record { key = k; value = v } ∷ []
-  asked_more [] k v is = cc
-  asked_more (j ∷ rest) k v is = grind (arith, asked_more rest k v is)
-
-  pub given_more : (answers : List (Asked T)) (k : Key) (v : T) → shown k ≡ Some v
-      → AreGiven shown answers → AreGiven shown (answers ++ record { key = k; value = v } ∷ [])
-  given_more [] k v is all = (is, tt)
-  given_more (a ∷ rest) k v is (h, all) = (h, given_more rest k v is all)
-
-module _ {T R : Type 0} (now : ℕ) where
-  -- ---- what is found to be known is known, and the other way round
-
-  pub known_node : (n : Node T R) (v : T) → known_by now (Some n) ≡ Some v → IsKnown now n v
-  known_node n v is = grind (arith, eqb-true)
-
-  pub known_shows : (o : Option (Node T R)) (v : T) → known_by now o ≡ Some v
-      → (n : Node T R) × (o ≡ Some n) × IsKnown now n v
-  known_shows None v is = cc
-  known_shows (Some n) v is = (n, refl, known_node n v is)
-
-  pub shown_known : (nodes : Table T R) (k : Key) (v : T) → Shows nodes now k v → known_of nodes now k ≡ Some v
-  shown_known nodes k v shows = grind (arith, eq-eqb)
-
-  pub given_known : (nodes : Table T R) (answers : List (Asked T)) → AreGiven (known_of nodes now) answers
-      → AreKnown nodes now answers
-  given_known nodes [] all = tt
-  given_known nodes (a ∷ rest) (h, all) = (known_shows (nodes a.key) a.value h, given_known nodes rest all)
-
-module _ {T R : Type 0} {plan : R → Plan T} {G : Graph T} {now : ℕ} {nodes : Table T R}
-    (s : IsSound plan G now nodes) where
-  -- ---- what is known is what is meant
-
-  pub plan_here : (k : Key) (n : Node T R) → nodes k ≡ Some n → G k ≡ plan_by plan n.rule n.value
-  plan_here k n at = cc (s.same k)
-
-  -- a key without a node has a plan that stops
-  pub none_stops : (k : Key) → nodes k ≡ None → G k ≡ Stop
-  none_stops k none = cc (s.same k)
-
-  pub known_means : (k : Key) (v : T) → Shows nodes now k v → Means G k v
-  known_means k v (n, at, (has, known)) = ⊎_elim
-      (λ none. let e : G k ≡ Give v = cc (plan_here k n at) in rw e (gives v))
-      (λ is. let w = s.walks k n at v has in
-      walked G (G k) w.answers (Give v) v w.leads (w.fresh is) (gives v))
-      known
-
-  pub all_mean : (answers : List (Asked T)) → AreKnown nodes now answers → AllMean G answers
-  all_mean [] all = tt
-  all_mean (a ∷ rest) (h, all) = (known_means a.key a.value h, all_mean rest all)
-
--- where answers stand one by one in another table too, they stand there all
-pub stand_all : {T R : Type 0} (G : Graph T) (now since : ℕ) (old new : Table T R)
-    → ((a : Asked T) → (since ≡ now → Means G a.key a.value) → Stands old since a → Stands new since a)
-    → (answers : List (Asked T)) → (since ≡ now → AllMean G answers) → AllStand old since answers
-    → AllStand new since answers
-stand_all G now since old new each [] mean all = tt
-stand_all G now since old new each (a ∷ rest) mean (h, all) =
-    (each a (λ e. (mean e).0) h, stand_all G now since old new each rest (λ e. (mean e).1) all)
-
--- ==== effects hear one after another
-
-module _ {T : Type 0} (same : T → T → Bool) (G : Graph T) where
-  -- one more effect hears what its node means
-  pub hear_more : (n : ℕ) (old now : List (Effect T)) (told one : List (Told T)) (e f : Effect T)
-      (a : Result T Fault) → AllHear same G n old now told → slice_get now n ≡ Some e → Says G e.key a
-      → Hears same e a f one → AllHear same G (suc n) old (set now n f) (told ++ one)
-  hear_more zero (o ∷ old) (m ∷ now) told one e f a (same_now, none) is says hears =
-      let here : e ≡ o = cc in
-      let rest : now ≡ old = cc in
-      rw (← here) (a, says, (one, [], rw none (sym (append-nil one)), hears, (rest, refl)))
-  hear_more zero old now told one e f a (same_now, none) is says hears = cc
-  hear_more (suc n) (o ∷ old) (m ∷ now) told one e f a (b, said, (first, more, told_is, heard, rest)) is says hears = (
-    b,
-    said,
-    (
-      first,
-      more ++ one,
-      rw told_is (append_assoc first more one),
-      heard,
-      hear_more n old now more one e f a rest is says hears,
-    ),
-  )
-  hear_more (suc n) old now told one e f a h is says hears = absurd h
-
-  -- there are as many effects as before, and at least those that have heard
-  all_length : (n : ℕ) (old now : List (Effect T)) (told : List (Told T)) → AllHear same G n old now told
-      → (length now ≡ length old) × (n ≤ length old)
-  all_length zero old now told h = (ap length h.0, omega arith)
-  all_length (suc n) (o ∷ old) (m ∷ now) told h = grind (arith, all_length n old now h.2.1 h.2.4)
-  all_length (suc n) old now told h = absurd h
-
-  -- the effects that are left are these
-  pub all_kept : (n k : ℕ) (old now : List (Effect T)) (told : List (Told T)) → n ≡ length old
-      → AllHear same G k old now told
-      → AllHear same G k old (take n (now ++ drop (length now) old)) told
-  all_kept n k old now told is h = grind (arith, all_length, take-append_seam)
-
-  -- all of them have heard in the end
-  pub all_heard : (k : ℕ) (old now : List (Effect T)) (told : List (Told T)) → AllHear same G k old now told
-      → length now ≤ k → k ≡ length old
-  all_heard k old now told h past = let long = all_length k old now told h in omega arith
-
-  -- an effect that was never told is told
-  told_first : (k : Key) (a : Result T Fault) (f : Effect T) (one : List (Told T))
-      → Hears same (record { key = k; told = None }) a f one
-      → (f ≡ record { key = k; told = Some a }) × (one ≡ record { key = k; answer = a } ∷ [])
-  told_first k a f one h = grind arith
-
-  first_heard : (k : Key) (new : List (Effect T)) (told : List (Told T))
-      → AllHear same G (suc zero) (record { key = k; told = None } ∷ []) new told
-      → (a : Result T Fault) × Says G k a × (told ≡ record { key = k; answer = a } ∷ [])
-  first_heard k new told h = grind (arith, told_first)
-
-  pub first_told : (n : ℕ) (k : Key) (old new : List (Effect T)) (told : List (Told T))
-      → old ≡ record { key = k; told = None } ∷ [] → n ≡ length old → AllHear same G n old new told
-      → (a : Result T Fault) × Says G k a × (told ≡ record { key = k; answer = a } ∷ [])
-  first_told n k old new told is len h = first_heard k new told (rw (len, is) at h)
-
-  -- what an effect was last told when it has heard is what its node means
-  heard_says : (e f : Effect T) (a : Result T Fault) (one : List (Told T)) → Says G e.key a
-      → Hears same e a f one → (b : Result T Fault) × Says G f.key b × (f.told ≡ Some b)
-  heard_says e f (Ok v) [] says (stays, told) = (Ok v, rw stays says, rw stays told)
-  heard_says e f (Err g) [] says (stays, (was, told)) = (Err was, rw stays says, rw stays told)
-  heard_says e f a (t ∷ []) says (new, is, told) = (a, rw is says, rw is refl)
-  heard_says e f a (t ∷ u ∷ rest) says h = absurd h
-
-  pub all_say : (n : ℕ) (old new : List (Effect T)) (told : List (Told T)) (i : ℕ) (f : Effect T)
-      → n ≡ length old → AllHear same G n old new told → slice_get new i ≡ Some f
-      → (a : Result T Fault) × Says G f.key a × (f.told ≡ Some a)
-  all_say zero old new told i f len (stays, _) there = let none = nil_from_length old (sym len) in cc
-  all_say (suc n) (o ∷ old) (m ∷ new) told zero f len h there =
-      rw (same_Some m f there) at (heard_says o m h.0 h.2.0 h.1 h.2.3)
-  all_say (suc n) (o ∷ old) (m ∷ new) told (suc i) f len h there =
-      all_say n old new h.2.1 i f (omega (arith, len)) h.2.4 there
-  all_say (suc n) old new told i f len h there = absurd h
-
--- ==== the nodes of a store are found by their keys, and change as the machine says
-
--- ---- the box that is seen_found by an id
-
-module _ {N : Type 0} (S : State N) where
-  seen_found : (b : GenerationalPointer) (v : N) → value_in S b ≡ Some v → is_some (box_with S b.id) ≡ true
-  seen_found b v is = grind (arith, seen_reached, reaches, led_box)
-
-  pub not_found : (b : GenerationalPointer) → None ≡ box_with S b.id → value_in S b ≡ None
-  not_found b none = grind (arith, seen_found)
-
-  pub found_id : (id : GenerationalBoxId) (b : GenerationalPointer) → Some b ≡ box_with S id → b.id ≡ id
-  found_id id b seen_found = grind arith
-
-same_key : (j k : Key) → j.id ≡ k.id → j ≡ k
-same_key j k e = λ i. record { id = e i }
-
-module _ {T R : Type 0} where
-  -- a making puts a node where none was
-  module _ {S Q : State (Node T R)} (s : IsSoundStore S) (n : Node T R) (l : Location)
-      (b : GenerationalBox (Node T R)) (k : Key) (is : (pointer_of b).id ≡ k.id)
-      (m : Meets S (Make None n l) (Made (pointer_of b)) Q) where
-    pub made_none : nodes_in S k ≡ None
-    made_none = grind (arith, made_apart None n l (Ok b) s m (pointer_in k))
-
-    pub made_puts : IsPut (nodes_in S) k n (nodes_in Q)
-    made_puts = record {
-      here = same_id_sees Q (pointer_in k) (pointer_of b) (sym is) ∙ made None n l (Ok b) m;
-      others = λ j ne. others_left _ _ m (pointer_of b) (pointer_in j) (made_new _ _ _ _ m).0
-          (same_value _ _ _ _ s m (pointer_in j) tt) (λ e. ne (same_key j k (sym e ∙ is)));
-    }
-
-  -- where a key's box was seen_found
-  module _ {S : State (Node T R)} (s : IsSoundStore S) (simple : IsSimple S) (k : Key) (b : GenerationalPointer)
-      (seen_found : Some b ≡ box_with S k.id) {can : Bool} (writes : can ≡ can_write S b) where
-    is : b.id ≡ k.id
-    is = found_id S k.id b seen_found
-
-    pub stuck_none : can ≡ false → nodes_in S k ≡ None
-    stuck_none stuck = same_id_sees S (pointer_in k) b (sym is) ∙ stuck_unseen b s simple writes stuck
-
-    module _ (free : can ≡ true) where
-      own : b.id.store ≡ S.number
-      own = seen_store S b s (free_seen b s simple writes free)
-
-      -- a set puts a node in the place of one
-      pub set_had : {Q : State (Node T R)} (new old : Node T R) → Meets S (SetValue b new) (Old old) Q
-          → nodes_in S k ≡ Some old
-      set_had new old m = same_id_sees S (pointer_in k) b (sym is) ∙ (sets b new old m).0
-
-      pub set_puts : {Q : State (Node T R)} (new old : Node T R) → Meets S (SetValue b new) (Old old) Q
-          → IsPut (nodes_in S) k new (nodes_in Q)
-      set_puts new old m = record {
-        here = (sets b new old m).2 (pointer_in k) (same_id_reach S (pointer_in k) b (sym is));
-        others = λ j ne. let to = seen_reached S b old (sets b new old m).0 in
-            others_left _ _ m b (pointer_in j) own (λ apart. same_value _ _ _ _ s m (pointer_in j)
-            (λ e. apart (reach_apart S simple.plain b (pointer_in j) to.0 to.1 (sym e))) tt)
-            (λ e. ne (same_key j k (sym e ∙ is)));
-      }
-
-      -- an end leaves no node
-      pub end_none : {Q : State (Node T R)} → Meets S (End b) Done Q → nodes_in Q k ≡ None
-      end_none {Q} m = same_id_sees Q (pointer_in k) b (sym is) ∙ unseen Q b (ends b {U = Unit {0}} (Ok tt) m)
-
-      pub end_others : {Q : State (Node T R)} → Meets S (End b) Done Q → (j : Key) → j ≢ k
-          → nodes_in Q j ≡ nodes_in S j
-      end_others m j ne = others_left _ _ m b (pointer_in j) own
-          (λ apart. same_value _ _ _ _ s m (pointer_in j) apart tt) (λ e. ne (same_key j k (sym e ∙ is)))
-
--- ==== what holds of a table when some of its nodes have ended
-
-among_last : (xs : List Key) (x k : Key) → IsAmong k (xs ++ x ∷ []) → IsAmong k xs ⊎ (x ≡ k)
-among_last [] x k e = grind arith
-among_last (y ∷ xs) x k e = grind (arith, among_last xs x k)
-
-among_first : (xs : List Key) (x k : Key) → IsAmong k xs ⊎ (x ≡ k) → IsAmong k (xs ++ x ∷ [])
-among_first [] x k e = grind arith
-among_first (y ∷ xs) x k e = grind (arith, among_first xs x k)
-
-module _ {T R : Type 0} where
-  lost_last : (old mid new : Table T R) (xs : List Key) (x : Key) → HasLost old xs mid
-      → new x ≡ None → ((j : Key) → j ≢ x → new j ≡ mid j) → HasLost old (xs ++ x ∷ []) new
-  lost_last old mid new xs x lost none same = grind (arith, key_cases, among_last, among_first)
-
-  pub lost_more : (old mid new : Table T R) (keys : List Key) (i : ℕ) (d : Key) → i < length keys
-      → HasLost old (take i keys) mid → new (get_or keys i d) ≡ None
-      → ((j : Key) → j ≢ get_or keys i d → new j ≡ mid j) → HasLost old (take (i + 1) keys) new
-  lost_more old mid new keys i d lt lost none same =
-      rw (take_more keys i d lt) (lost_last old mid new (take i keys) (get_or keys i d) lost none same)
-
--- ==== what runs and kept answers say of a node
-
-module _ {T : Type 0} where
-  -- the answer to the question at a place
-  answer_at : (answers : List (Asked T)) (place : ℕ) (d : Key) → place < length (list_map (λ a. a.key) answers)
-      → (a : Asked T) × (slice_get answers place ≡ Some a)
-      × (a.key ≡ slice_index_or (list_map (λ a. a.key) answers) place d)
-  answer_at [] place d lt = absurd (omega (arith, lt))
-  answer_at (b ∷ rest) zero d lt = (b, refl, refl)
-  answer_at (b ∷ rest) (suc place) d lt = answer_at rest place d (omega (arith, lt))
-
-module _ {T R : Type 0} (nodes : Table T R) (now : ℕ) where
-  pub asked_at : (answers : List (Asked T)) (reads : List Key) (place : ℕ) (d : Key)
-      → list_map (λ a. a.key) answers ≡ reads → place < length reads
-      → AreKnown nodes now (take place answers) → IsAsked nodes now answers (slice_index_or reads place d) place
-  asked_at answers reads place d asked lt known =
-      let a = answer_at answers place d (rw asked lt) in
-      record { answer = a.0; there = a.1; of = rw asked at a.2; before = known }
-
-  stand_at : (since : ℕ) (answers : List (Asked T)) (place : ℕ) (a : Asked T) → AllStand nodes since answers
-      → slice_get answers place ≡ Some a → Stands nodes since a
-  stand_at since [] place a all is = absurd (none-some a is)
-  stand_at since (b ∷ rest) zero a (h, all) is = rw (same_Some b a is) at h
-  stand_at since (b ∷ rest) (suc place) a (h, all) is = stand_at since rest place a all is
-
-  known_next : (answers : List (Asked T)) (place : ℕ) (a : Asked T) → slice_get answers place ≡ Some a
-      → AreKnown nodes now (take place answers) → Shows nodes now a.key a.value
-      → AreKnown nodes now (take (suc place) answers)
-  known_next [] place a is all h = absurd (none-some a is)
-  known_next (b ∷ rest) zero a is all h = (rw (same_Some b a is) h, tt)
-  known_next (b ∷ rest) (suc place) a is (g, all) h = (g, known_next rest place a is all h)
-
-  -- an answer that stands, of a node that is known and hasn't changed, is right
-  pub known_more_at : (since : ℕ) (answers : List (Asked T)) (reads : List Key) (place : ℕ) (d : Key) (n : Node T R)
-      → list_map (λ a. a.key) answers ≡ reads → place < length reads → AllStand nodes since answers
-      → AreKnown nodes now (take place answers) → nodes (slice_index_or reads place d) ≡ Some n
-      → is_some (known_by now (Some n)) ≡ true → n.changed ≤ since
-      → AreKnown nodes now (take (place + 1) answers)
-  known_more_at since answers reads place d n asked lt stand known at hit low =
-      let a = asked_at answers reads place d asked lt known in
-      let there = ap nodes a.of ∙ at in
-      let v = some_live (known_by now (Some n)) hit in
-      let value = stand_at since answers place a.answer stand a.there n there low in
-      let is_known = known_node now n v.0 v.1 in
-      let next : suc place ≡ place + 1 = omega arith in
-      rw next at (known_next answers place a.answer a.there known (n, there, (value, is_known.1)))
-
-module _ {T R : Type 0} {plan : R → Plan T} {G : Graph T} {now : ℕ} {nodes : Table T R}
-    (s : IsSound plan G now nodes) (k : Key) where
-  -- a node that needs one which has ended means nothing
-  pub needs_gone : (j : Key) → Needs G k j → nodes j ≡ None → IsMute G k
-  needs_gone j n none = needs_mute G k j n (λ v d. stopped G v (rw (none_stops s j none) at d))
-
-  module _ (n : Node T R) (at : nodes k ≡ Some n) where
-    pub known_here : is_some (known_by now (Some n)) ≡ true → (v : T) × Shows nodes now k v
-    known_here hit =
-        let v = some_live (known_by now (Some n)) hit in
-        (v.0, known_shows now (nodes k) v.0 (ap (known_by now) at ∙ v.1))
-
-    -- ---- what a rule's run comes to
-
-    module _ (rule : R) (has : n.rule ≡ Some rule) (answers : List (Asked T))
-        (known : AreKnown nodes now answers) where
-      plan_is : G k ≡ plan rule
-      plan_is = cc (plan_here s k n at)
-
-      pub rerun_needs : (j : Key) (result : Option T) → Ran (plan rule) answers (Some j) result → Needs G k j
-      rerun_needs j result ran = grind (arith, ran_to, all_mean, plan_is)
-
-      pub rerun_mute : Ran (plan rule) answers None None → IsMute G k
-      rerun_mute ran =
-          let to = ran_to (plan rule) answers None None ran in
-          gave_up G k answers (all_mean s answers known) (rw (plan_is, ← to.2) to.1)
-
-      pub rerun_leads : (v : T) (reads : List Key) → list_map (λ a. a.key) answers ≡ reads
-          → Ran (plan rule) answers None (Some v) → LeadsTo G now nodes k n v reads
-      rerun_leads v reads asked ran = grind (arith, ran_to, plan_is)
-
-    -- ---- what the kept answers come to
-
-    -- a look that goes on finds the walk, unless the node is known
-    pub kept_walk : (place : ℕ) → GoesOn G now nodes k (Some place) → is_some (known_by now (Some n)) ≡ false
-        → is_some n.value ≡ true → (v : T) × (n.value ≡ Some v)
-        × ((w : IsWalk G now nodes k n v) × AreKnown nodes now (take place w.answers))
-    kept_walk place goes miss some = grind (arith, some_live, shown_known)
-
-    module _ (v : T) (value : n.value ≡ Some v) (w : IsWalk G now nodes k n v) where
-      pub kept_leads : (rule : R) → n.rule ≡ Some rule → AreKnown nodes now w.answers
-          → LeadsTo G now nodes k n v (vec_items n.reads)
-      kept_leads rule has known = let asked = w.asked in let leads = w.leads in search
-
-      -- a kept answer's node is needed, where those before it are what their nodes mean
-      pub asked_needs : (j : Key) (place : ℕ) → IsAsked nodes now w.answers j place → Needs G k j
-      asked_needs j place a = grind (arith, asked_to, all_mean)
-
-      pub asked_goes : (j : Key) (place : ℕ) → IsAsked nodes now w.answers j place
-          → GoesOn G now nodes k (Some place)
-      asked_goes j place a = inr (λ m there u is.
-          let same = same_Some n m (sym at ∙ there) in
-          let one : v ≡ u = cc in rw (← same, ← one) (w, a.before))
+-- Graphs of cells and memos: what a call leaves of them.
+pub mod Known
+unfoldable pub use Known.*
 
 -- ==== what holds of a table when nodes are made, set or ended
 
@@ -344,29 +11,123 @@ pub record IsReset {T R : Type 0} (plan : R → Plan T) (now : ℕ) (n : Node T 
   pub changed : n.changed ≡ now
   pub checked : n.checked ≤ now
 
+-- ---- whoever is known still after some nodes were forgotten reads what is as it was
+
+in_rest : {X : Type 0} (x : X) (xs : List X) (y : X) → Contains xs y → Contains (x ∷ xs) y
+in_rest x xs y (k, lt, is) = (suc k, omega (arith, lt), is)
+
+in_first : {X : Type 0} (x : X) (xs : List X) → Contains (x ∷ xs) x
+in_first x xs = (0, omega arith, refl)
+
+module _ {T R : Type 0} (old new : Book T R) where
+  abbrev IsStill : Key → Type 0
+  IsStill k = (new.known k.id.slot ≡ old.known k.id.slot) × (new.nodes k ≡ old.nodes k)
+
+  still_shows : (k : Key) (v : T) → IsStill k → Shows old k v → Shows new k v
+  still_shows k v (known, node) (n, at, (has, why)) =
+      (n, node ∙ at, (has, ⊎_elim (λ none. inl none) (λ is. inr (ap (λ o. holds o k.id.generation) known ∙ is)) why))
+
+  still_known : (answers : List (Asked T)) → ((k : Key) → Contains (list_map (λ a. a.key) answers) k → IsStill k)
+      → AreKnown old answers → AreKnown new answers
+  still_known [] still all = tt
+  still_known (a ∷ rest) still (h, all) = (
+    still_shows a.key a.value (still a.key (in_first a.key (list_map (λ x. x.key) rest))) h,
+    still_known rest (λ k in_it. still k (in_rest a.key (list_map (λ x. x.key) rest) k in_it)) all,
+  )
+
+module _ {T R : Type 0} {plan : R → Plan T} {G : Graph T} {now : ℕ} {old : Book T R} (new : Book T R)
+    (s : IsSound plan G now old) (f : AreForgotten old new) where
+  known_before : (k : Key) → knows new.known k ≡ true → (knows old.known k ≡ true) × (new.nodes k ≡ old.nodes k)
+  known_before k is = (
+    is_knows old.known k (f.fewer k.id.slot k.id.generation (knows_is new.known k is)),
+    ⊎_elim (λ same. same) (λ none. absurd (none_knows new.known k none is)) (f.here k),
+  )
+
+  answers_known : (k : Key) (n : Node T R) (v : T) → old.nodes k ≡ Some n → knows new.known k ≡ true
+      → (h : IsHeld G old k n v) → AreKnown new h.answers
+  answers_known k n v at is h =
+      let still = knows_is new.known k is in
+      let own = s.links.owned k.id.slot k.id.generation (f.fewer k.id.slot k.id.generation still) in
+      still_known old new h.answers
+      (λ a in_it. let link = s.links.linked k n at own a (rw h.asked at in_it) in
+      let same = f.others k.id.slot a.id.slot k.id.generation still link in (same.0, same.1 a refl))
+      h.known
+
+  plan_still : (k : Key) → new.nodes k ≡ old.nodes k → G k ≡ graph_of plan new.nodes k
+  plan_still k same = sym (s.same k) ∙ sym (ap (plan_at plan) same)
+
+  -- what a plan gives by what is known still, it gives still
+  over : (p : Plan T) (v : T) → Gives G p v → (answers : List (Asked T)) (w : T)
+      → Follows p answers (Give w) → AllMean G answers → AreKnown new answers → Gives (graph_of plan new.nodes) p v
+  over _ _ (gives v) answers w lead all known = gives v
+  over _ _ (goes_on k next a v d e) [] w lead all known = cc
+  over _ _ (goes_on k next a v d e) (b ∷ rest) w (at, lead) (mean, all) (shows, known) =
+      let one : a ≡ b.value = same G (G k) a d b.value (rw at mean) in
+      let here : Shows new k a = rw (at, one) shows in
+      let it = here.0 in
+      let given : Means (graph_of plan new.nodes) k a = ⊎_elim
+      (λ none. let e : graph_of plan new.nodes k ≡ Give a = cc in rw e (gives a))
+      (λ is. let before = known_before k is in
+      let was = sym before.1 ∙ here.1 in
+      let h = s.held k it was before.0 a here.2.0 in
+      rw (← plan_still k before.1) (over (G k) a d h.answers a h.leads h.mean (answers_known k it a was is h)))
+      here.2.1 in
+      goes_on k next a v given (over (next a) v e rest w (rw one lead) all known)
+
+  mean_still : (k : Key) (v : T) → Means G k v → Shows new k v → Means (graph_of plan new.nodes) k v
+  mean_still k v d (n, at, (has, why)) = ⊎_elim
+      (λ none. let e : graph_of plan new.nodes k ≡ Give v = cc in rw e (gives v))
+      (λ is. let before = known_before k is in
+      let was = sym before.1 ∙ at in
+      let h = s.held k n was before.0 v has in
+      rw (← plan_still k before.1) (over (G k) v d h.answers v h.leads h.mean (answers_known k n v was is h)))
+      why
+
+  all_mean_still : (answers : List (Asked T)) → AllMean G answers → AreKnown new answers
+      → AllMean (graph_of plan new.nodes) answers
+  all_mean_still [] all known = tt
+  all_mean_still (a ∷ rest) (d, all) (shows, known) =
+      (mean_still a.key a.value d shows, all_mean_still rest all known)
+
+  pub held_still : (k : Key) (n : Node T R) → new.nodes k ≡ Some n → knows new.known k ≡ true
+      → (v : T) → n.value ≡ Some v → IsHeld (graph_of plan new.nodes) new k n v
+  held_still k n at is v has =
+      let before = known_before k is in
+      let was = sym before.1 ∙ at in
+      let h = s.held k n was before.0 v has in
+      let known = answers_known k n v was is h in record {
+        answers = h.answers;
+        asked = h.asked;
+        leads = rw (← plan_still k before.1) h.leads;
+        mean = all_mean_still h.answers h.mean known;
+        known = known;
+      }
+
 -- Each node is as it was, or was reset; no answer that is meant is that of a node which was reset, and
 -- answers that were meant are.
-module _ {T R : Type 0} {plan : R → Plan T} {G : Graph T} {now : ℕ} (next : ℕ) {old : Table T R} (new : Table T R)
-    (s : IsSound plan G now old) (later : now ≤ next) (New : Key → Type 0)
-    (each : (j : Key) (m : Node T R) → new j ≡ Some m → (old j ≡ Some m) ⊎ (IsReset plan next m × New j))
+module _ {T R : Type 0} {plan : R → Plan T} {G : Graph T} {now : ℕ} (next : ℕ) {old : Book T R} (new : Book T R)
+    (s : IsSound plan G now old) (f : AreForgotten old new) (later : now ≤ next) (New : Key → Type 0)
+    (each : (j : Key) (m : Node T R) → new.nodes j ≡ Some m
+    → (old.nodes j ≡ Some m) ⊎ (IsReset plan next m × New j))
     (never : (since : ℕ) (a : Asked T) → since ≤ now → (since ≡ now → Means G a.key a.value)
     → New a.key → next ≤ since → ⊥)
     (known : (since : ℕ) (answers : List (Asked T)) → since ≤ now → since ≡ next
-    → (since ≡ now → AllMean G answers) → AllMean (graph_of plan new) answers) where
+    → (since ≡ now → AllMean G answers) → AllMean (graph_of plan new.nodes) answers) where
   stands : (since : ℕ) → since ≤ now → (a : Asked T) → (since ≡ now → Means G a.key a.value)
-      → Stands old since a → Stands new since a
+      → Stands old.nodes since a → Stands new.nodes since a
   stands since le a mean h m there low = grind arith
 
-  walk : (k : Key) (n : Node T R) → new k ≡ Some n → (v : T) → n.value ≡ Some v
-      → (old k ≡ Some n) ⊎ (IsReset plan next n × New k) → IsWalk (graph_of plan new) next new k n v
+  walk : (k : Key) (n : Node T R) → new.nodes k ≡ Some n → (v : T) → n.value ≡ Some v
+      → (old.nodes k ≡ Some n) ⊎ (IsReset plan next n × New k)
+      → IsWalk (graph_of plan new.nodes) next new.nodes k n v
   walk k n at v value (inl was) =
       let w = s.walks k n was v value in
       let low = s.checked k n was in
-      let plans : G k ≡ plan_at plan (new k) = cc (s.same k) in record {
+      let plans : G k ≡ plan_at plan (new.nodes k) = cc (s.same k) in record {
         answers = w.answers;
         asked = w.asked;
         leads = rw plans at w.leads;
-        stand = stand_all G now n.checked old new (stands n.checked low) w.answers w.fresh w.stand;
+        stand = stand_all G now n.checked old.nodes new.nodes (stands n.checked low) w.answers w.fresh w.stand;
         fresh = λ e. known n.checked w.answers low e w.fresh;
       }
   walk k n at v value (inr (reset, is_new)) = record {
@@ -377,89 +138,271 @@ module _ {T R : Type 0} {plan : R → Plan T} {G : Graph T} {now : ℕ} (next : 
     fresh = λ e. tt;
   }
 
-  changed_sound : IsSound plan (graph_of plan new) next new
-  changed_sound = grind (arith, walk)
+  reads_linked : (k : Key) (n : Node T R) → Owns new.web k → (a : Key) → Contains (vec_items n.reads) a
+      → (old.nodes k ≡ Some n) ⊎ (IsReset plan next n × New k) → IsLinked new.web k.id.slot a.id.slot
+  reads_linked k n owns a in_it (inl was) =
+      subst (λ w. IsLinked w k.id.slot a.id.slot) (sym f.web)
+      (s.links.linked k n was (subst (λ w. Owns w k) f.web owns) a in_it)
+  reads_linked k n owns a in_it (inr (reset, is_new)) =
+      let nothing : Contains [] a = rw reset.asked at in_it in absurd (omega (arith, nothing.1))
 
-module _ {T R : Type 0} {plan : R → Plan T} {G : Graph T} {now : ℕ} {old : Table T R} (new : Table T R)
-    (s : IsSound plan G now old) where
-  module _ (k : Key) (n : Node T R) (put : IsPut old k n new) where
+  bounds : (k : Key) (n : Node T R) → (old.nodes k ≡ Some n) ⊎ (IsReset plan next n × New k)
+      → (n.checked ≤ next) × (n.changed ≤ next)
+  bounds k n (inl was) = (omega (arith, s.checked k n was, later), omega (arith, s.changed k n was, later))
+  bounds k n (inr (reset, is_new)) = (reset.checked, omega (arith, reset.changed))
+
+  changed_sound : IsSound plan (graph_of plan new.nodes) next new
+  changed_sound = record {
+    same = λ k. refl;
+    walks = λ k n at v value. walk k n at v value (each k n at);
+    held = held_still new s f;
+    checked = λ k n at. (bounds k n (each k n at)).0;
+    changed = λ k n at. (bounds k n (each k n at)).1;
+    links = record {
+      linked = λ k n at owns a in_it. reads_linked k n owns a in_it (each k n at);
+      owned = λ r g is. subst (λ w. (owner_at (vec_items w.owners) r).generation ≡ Some g) (sym f.web)
+          (s.links.owned r g (f.fewer r g is));
+    };
+  }
+
+module _ {T R : Type 0} {plan : R → Plan T} {G : Graph T} {now : ℕ} {old : Book T R} (new : Book T R)
+    (s : IsSound plan G now old) (f : AreForgotten old new) where
+  module _ (k : Key) (n : Node T R) (put : IsPut old.nodes k n new.nodes) where
     each_put : (next : ℕ) (New : Key → Type 0) → IsReset plan next n → New k → (j : Key) (m : Node T R)
-        → new j ≡ Some m → (old j ≡ Some m) ⊎ (IsReset plan next m × New j)
+        → new.nodes j ≡ Some m → (old.nodes j ≡ Some m) ⊎ (IsReset plan next m × New j)
     each_put next New reset is_new j m there = grind (arith, key_cases)
 
     -- a node was set, in a later revision
-    pub set_sound : (next : ℕ) → now < next → IsReset plan next n → IsSound plan (graph_of plan new) next new
-    set_sound next later reset = changed_sound next new s (omega (arith, later)) (λ j. Unit {0})
+    pub set_sound : (next : ℕ) → now < next → IsReset plan next n → IsSound plan (graph_of plan new.nodes) next new
+    set_sound next later reset = changed_sound next new s f (omega (arith, later)) (λ j. Unit {0})
         (each_put next (λ j. Unit {0}) reset tt)
         (λ since a le mean is_new low. omega (arith, le, low, later))
         (λ since answers le e mean. absurd (let wrong : ⊥ = omega (arith, le, e, later) in wrong))
 
     -- a node was made, where none was
-    pub made_sound : old k ≡ None → IsReset plan now n → IsSound plan (graph_of plan new) now new
-    made_sound none reset = changed_sound now new s (omega arith) (λ j. G j ≡ Stop)
+    pub made_sound : old.nodes k ≡ None → IsReset plan now n → IsSound plan (graph_of plan new.nodes) now new
+    made_sound none reset = changed_sound now new s f (omega arith) (λ j. G j ≡ Stop)
         (each_put now (λ j. G j ≡ Stop) reset (none_stops s k none))
         (λ since a le mean stops low. let e : since ≡ now = omega (arith, le, low) in
         stopped G a.value (rw stops at (mean e)))
-        (λ since answers le e mean. grown_all G (graph_of plan new)
+        (λ since answers le e mean. grown_all G (graph_of plan new.nodes)
         (λ j. grind (arith, key_cases j k, s.same j, put.others j)) answers (mean e))
 
   -- nodes have ended, in a later revision
-  pub ended_sound : (next : ℕ) → now < next → ((j : Key) → (new j ≡ None) ⊎ (new j ≡ old j))
-      → IsSound plan (graph_of plan new) next new
-  ended_sound next later left = changed_sound next new s (omega (arith, later)) (λ j. ⊥)
+  pub ended_sound : (next : ℕ) → now < next → ((j : Key) → (new.nodes j ≡ None) ⊎ (new.nodes j ≡ old.nodes j))
+      → IsSound plan (graph_of plan new.nodes) next new
+  ended_sound next later left = changed_sound next new s f (omega (arith, later)) (λ j. ⊥)
       (λ j m there. grind (arith, left j))
       (λ since a le mean wrong low. wrong)
       (λ since answers le e mean. absurd (let wrong : ⊥ = omega (arith, le, e, later) in wrong))
 
--- ==== what holds of a table when one of its nodes is settled, and that it leaves what was found
--- before
+-- ---- what marking leaves of a book whose node was changed
 
-module _ {T R : Type 0} {G : Graph T} {now : ℕ} {old new : Table T R} (l : Leaves G now old new) where
-  pub known_left : (answers : List (Asked T)) → AreKnown old now answers → AreKnown new now answers
+module _ {T R : Type 0} (old new : Book T R) (k : Key) (web : new.web ≡ old.web)
+    (first now : List (Option ℕ)) (before : old.known ≡ known_at first) (after : new.known ≡ known_at now)
+    (f : HasForgotten old.web first k.id.slot now) (others : (j : Key) → j ≢ k → new.nodes j ≡ old.nodes j) where
+  at_before : (r : ℕ) → old.known r ≡ known_at first r
+  at_before r = ap (λ h. h r) before
+
+  at_after : (r : ℕ) → new.known r ≡ known_at now r
+  at_after r = ap (λ h. h r) after
+
+  pub forgotten : AreForgotten old new
+  forgotten = record {
+    web = web;
+    fewer = λ r g is. at_before r ∙ f.fewer r g (sym (at_after r) ∙ is);
+    here = λ j. ⊎_elim
+        (λ same. inr (at_after j.id.slot ∙ (ap (λ x. known_at now x.id.slot) same ∙ f.here)))
+        (λ other. inl (others j other))
+        (key_cases j k);
+    others = λ r s g is link.
+        let left = f.others r s g (sym (at_after r) ∙ is) link in (
+          at_after s ∙ (left.1 ∙ sym (at_before s)),
+          λ j at. others j (λ same. left.0 (sym at ∙ ap (λ x. x.id.slot) same)),
+        );
+  }
+
+pub forgotten_more : {T R : Type 0} (old mid new : Book T R) → AreForgotten old mid → AreForgotten mid new
+    → AreForgotten old new
+forgotten_more old mid new f g = record {
+  web = g.web ∙ f.web;
+  fewer = λ r v is. f.fewer r v (g.fewer r v is);
+  here = λ k. ⊎_elim
+      (λ same. ⊎_elim (λ was. inl (same ∙ was)) (λ none. inr (still_nothing k none)) (f.here k))
+      (λ none. inr none)
+      (g.here k);
+  others = λ r s v is link.
+      let one = f.others r s v (g.fewer r v is) link in
+      let two = g.others r s v is (subst (λ w. IsLinked w r s) (sym f.web) link) in
+      (two.0 ∙ one.0, λ k at. two.1 k at ∙ one.1 k at);
+} where
+  still_nothing : (k : Key) → mid.known k.id.slot ≡ None → new.known k.id.slot ≡ None
+  still_nothing k none = by_cases (new.known k.id.slot) (λ v is. g.fewer k.id.slot v is) where
+    by_cases : (o : Option ℕ) → ((v : ℕ) → o ≡ Some v → mid.known k.id.slot ≡ Some v) → o ≡ None
+    by_cases None h = refl
+    by_cases (Some v) h = absurd (none-some v (sym none ∙ h v refl))
+
+pub forgotten_none : {T R : Type 0} (b : Book T R) → AreForgotten b b
+forgotten_none b = record {
+  web = refl;
+  fewer = λ r g is. is;
+  here = λ k. inl refl;
+  others = λ r s g is link. (refl, λ k at. refl);
+}
+
+-- ==== what holds of a book when one of its nodes is settled, and that it leaves what was found before
+
+module _ {T R : Type 0} {G : Graph T} {now : ℕ} {old new : Book T R} (l : Leaves G now old new) where
+  pub known_left : (answers : List (Asked T)) → AreKnown old answers → AreKnown new answers
   known_left [] all = tt
   known_left (a ∷ rest) (h, all) = (l.known a.key a.value h, known_left rest all)
 
-  unfoldable pub walk_left : (k : Key) (n : Node T R) (v : T) → n.checked ≤ now → IsWalk G now old k n v
-      → IsWalk G now new k n v
+  unfoldable pub walk_left : (k : Key) (n : Node T R) (v : T) → n.checked ≤ now → IsWalk G now old.nodes k n v
+      → IsWalk G now new.nodes k n v
   walk_left k n v le w = record {
     answers = w.answers;
     asked = w.asked;
     leads = w.leads;
-    stand = stand_all G now n.checked old new (λ a. l.stand n.checked a le) w.answers w.fresh w.stand;
+    stand = stand_all G now n.checked old.nodes new.nodes (λ a. l.stand n.checked a le) w.answers w.fresh w.stand;
     fresh = w.fresh;
   }
 
--- what is known asked_stands at any time
-known_stand : {T R : Type 0} (nodes : Table T R) (now since : ℕ) (answers : List (Asked T))
-    → AreKnown nodes now answers → AllStand nodes since answers
-known_stand nodes now since [] all = tt
-known_stand nodes now since (a ∷ rest) ((m, at, (has, known)), all) =
-    (λ n is le. cc, known_stand nodes now since rest all)
+  held_left : (k : Key) (n : Node T R) (v : T) → IsHeld G old k n v → IsHeld G new k n v
+  held_left k n v h = record {
+    answers = h.answers;
+    asked = h.asked;
+    leads = h.leads;
+    mean = h.mean;
+    known = known_left h.answers h.known;
+  }
 
--- a node is settled with what a look has found
-module _ {T R : Type 0} {plan : R → Plan T} {G : Graph T} {now : ℕ} {old new : Table T R}
+-- what is known stands at any time
+known_stand : {T R : Type 0} (b : Book T R) (since : ℕ) (answers : List (Asked T))
+    → AreKnown b answers → AllStand b.nodes since answers
+known_stand b since [] all = tt
+known_stand b since (a ∷ rest) ((m, at, (has, known)), all) =
+    (λ n is le. cc, known_stand b since rest all)
+
+-- ---- nothing is lost where memory ran out
+
+module _ {T R : Type 0} {plan : R → Plan T} {G : Graph T} {now : ℕ} {old new : Book T R}
+    (s : IsSound plan G now old) (left : IsLeft old new) where
+  left_still : (k : Key) → IsStill old new k
+  left_still k = (left.known k.id.slot, left.nodes k)
+
+  pub left_leaves : Leaves G now old new
+  left_leaves = record {
+    known = λ k v shows. still_shows old new k v (left_still k) shows;
+    stand = λ since a le mean h n at low. h n (sym (left.nodes a.key) ∙ at) low;
+    same = λ k. inl (left.nodes k);
+  }
+
+  was_there : (k : Key) (n : Node T R) → new.nodes k ≡ Some n → old.nodes k ≡ Some n
+  was_there k n at = sym (left.nodes k) ∙ at
+
+  pub left_sound : IsSound plan G now new
+  left_sound = record {
+    same = λ k. ap (plan_at plan) (left.nodes k) ∙ s.same k;
+    walks = λ k n at v has. walk_left left_leaves k n v (s.checked k n (was_there k n at)) (s.walks k n (was_there k n at) v has);
+    held = λ k n at is v has. held_left left_leaves k n v
+        (s.held k n (was_there k n at) (sym (ap (λ o. holds o k.id.generation) (left.known k.id.slot)) ∙ is) v has);
+    checked = λ k n at. s.checked k n (was_there k n at);
+    changed = λ k n at. s.changed k n (was_there k n at);
+    links = record {
+      linked = λ k n at owns a in_it. left.web.links k.id.slot a.id.slot (s.links.linked k n (was_there k n at)
+          (sym (ap (λ o. o.generation) (left.web.owners k.id.slot)) ∙ owns) a in_it);
+      owned = λ r g is. ap (λ o. o.generation) (left.web.owners r) ∙ s.links.owned r g (sym (left.known r) ∙ is);
+    };
+  }
+
+-- ---- a node is settled with what a look has found
+
+-- two nodes of one name are one
+abbrev pub IsApart : {T R : Type 0} → Table T R → Key → Type 0
+IsApart nodes k = (j : Key) → nodes j ≢ None → j.id.slot ≡ k.id.slot → j.id.generation ≡ k.id.generation → j ≡ k
+
+is_there : {X : Type 0} (o : Option X) → o ≢ None → is_some o ≡ true
+is_there (Some x) live = refl
+is_there None live = absurd (live refl)
+
+pub names_apart : {T R : Type 0} (S : State (Node T R)) → IsSoundStore S → (k : Key) (n : Node T R)
+    → nodes_in S k ≡ Some n → IsApart (nodes_in S) k
+names_apart S s k n at j live slot generation = same_key j k (one_id S (pointer_in j) (pointer_in k) s
+    (is_there _ live) (ap is_some at) (λ i. record { slot = slot i; generation = generation i }))
+
+pub live_there : {X : Type 0} {o : Option X} {x : X} → o ≡ Some x → o ≢ None
+live_there at none = none-some _ (sym none ∙ at)
+
+-- a node whose links are its own is linked to what it reads
+pub relinked_still : {T R : Type 0} {plan : R → Plan T} {G : Graph T} {now : ℕ} {b : Book T R}
+    → IsSound plan G now b → (k : Key) (n : Node T R) → b.nodes k ≡ Some n → Owns b.web k
+    → IsRelinked b.web k (vec_items n.reads) b.web
+relinked_still s k n at owned = record {
+  owned = owned;
+  linked = λ a in_it. s.links.linked k n at owned a in_it;
+  owners = λ r ne. refl;
+  links = λ r t ne link. link;
+}
+
+module _ {T R : Type 0} {plan : R → Plan T} {G : Graph T} {now : ℕ} where
+  -- a step that leaves a book as it was, or loses nothing of it
+  pub as_it_was : {b : Book T R} → IsSound plan G now b → (k : Key) (step : Step) → Stepped G now b k step
+      → IsAdvanced plan G now b k step b
+  as_it_was s k step so = record {
+    sound = s;
+    leaves = record { known = λ j v h. h; stand = λ since a le mean h. h; same = λ j. inl refl };
+    stepped = so;
+  }
+
+  pub ran_out : {old new : Book T R} → IsSound plan G now old → IsLeft old new → (k : Key) (step : Step)
+      → Stepped G now new k step → IsAdvanced plan G now old k step new
+  ran_out s left k step so = record { sound = left_sound s left; leaves = left_leaves s left; stepped = so }
+
+module _ {T R : Type 0} {plan : R → Plan T} {G : Graph T} {now : ℕ} {old new : Book T R}
     (s : IsSound plan G now old) (k : Key) (was is : Node T R) (v : T) (reads : Vec Key)
-    (at : old k ≡ Some was) (l : LeadsTo G now old k was v (vec_items reads))
-    (settled : IsSettled was v reads now is) (put : IsPut old k is new) where
+    (at : old.nodes k ≡ Some was) (l : LeadsTo G now old k was v (vec_items reads))
+    (settled : IsSettled was v reads now is) (put : IsPut old.nodes k is new.nodes)
+    (learned : IsLearned old k new) (links : IsRelinked old.web k (vec_items reads) new.web)
+    (apart : IsApart old.nodes k) where
   means : Means G k v
   means = walked G (G k) l.answers (Give v) v l.leads (all_mean s l.answers l.known) (gives v)
 
-  shown : Shows new now k v
-  shown = (is, put.here, (settled.value, inr settled.checked))
+  shown : Shows new k v
+  shown = (is, put.here, (settled.value, inr (is_knows new.known k learned.here)))
 
   -- a node is the one that was settled, or was there
-  each : (j : Key) (n : Node T R) → new j ≡ Some n → ((j ≡ k) × (n ≡ is)) ⊎ (old j ≡ Some n)
-  each j n there = grind (arith, key_cases j k)
+  each : (j : Key) (n : Node T R) → new.nodes j ≡ Some n
+      → ((j ≡ k) × (n ≡ is)) ⊎ ((j ≢ k) × (old.nodes j ≡ Some n))
+  each j n there = ⊎_elim
+      (λ here. inl (here, same_Some n is (sym there ∙ (ap new.nodes here ∙ put.here))))
+      (λ other. inr (other, sym (put.others j other) ∙ there))
+      (key_cases j k)
+
+  -- of another node the same is known as before
+  other_known : (j : Key) (n : Node T R) → j ≢ k → old.nodes j ≡ Some n → knows new.known j ≡ knows old.known j
+  other_known j n other there = ⊎_elim
+      (λ slot. ⊎_elim
+      (λ generation. absurd (other (apart j (λ none. none-some n (sym none ∙ there)) slot generation)))
+      (λ apart_too. let here : new.known j.id.slot ≡ Some k.id.generation = ap new.known slot ∙ learned.here in
+      let free : old.known j.id.slot ≡ None = ap old.known slot ∙ learned.free in
+      rw (here, free) (unlike k.id.generation j.id.generation (λ e. apart_too (sym e))))
+      (cases_eq j.id.generation k.id.generation))
+      (λ slot. ap (λ o. holds o j.id.generation) (learned.others j.id.slot slot))
+      (cases_eq j.id.slot k.id.slot)
 
   asked_stands : (since : ℕ) (a : Asked T) → since ≤ now → (since ≡ now → Means G a.key a.value)
-      → Stands old since a → Stands new since a
+      → Stands old.nodes since a → Stands new.nodes since a
   asked_stands since a le mean h n there low = grind (arith, same, means, each)
 
-  stays_known : (j : Key) (w : T) → Shows old now j w → Shows new now j w
-  stays_known j w known = ⊎_elim
-      (λ here. let one = same G (G k) v means w (rw here at (known_means s j w known)) in
+  stays_known : (j : Key) (w : T) → Shows old j w → Shows new j w
+  stays_known j w (n, there, (has, why)) = ⊎_elim
+      (λ here. let one = same G (G k) v means w (rw here at (known_means s j w (n, there, (has, why)))) in
       rw here (rw one at shown))
-      (λ other. (known.0, put.others j other ∙ known.1, known.2))
+      (λ other. (
+        n,
+        put.others j other ∙ there,
+        (has, ⊎_elim (λ none. inl none) (λ sure. inr (other_known j n other there ∙ sure)) why),
+      ))
       (key_cases j k)
 
   settling : Leaves G now old new
@@ -469,14 +412,80 @@ module _ {T R : Type 0} {plan : R → Plan T} {G : Graph T} {now : ℕ} {old new
     same = λ j. ⊎_elim (λ here. inr (v, rw here shown)) (λ other. inl (put.others j other)) (key_cases j k);
   }
 
-  walks : (j : Key) (n : Node T R) → new j ≡ Some n → (w : T) → n.value ≡ Some w → IsWalk G now new j n w
-  walks j n there w value =
-      grind (arith, known_stand, known_left, settling, all_mean, walk_left, each)
+  walks : (j : Key) (n : Node T R) → new.nodes j ≡ Some n → (w : T) → n.value ≡ Some w → IsWalk G now new.nodes j n w
+  walks j n there w value = ⊎_elim
+      (λ here. let one : v ≡ w = same_Some v w (sym settled.value ∙ (ap (λ m. m.value) (sym here.1) ∙ value)) in record {
+        answers = l.answers;
+        asked = l.asked ∙ ap vec_items (sym (ap (λ m. m.reads) here.1 ∙ settled.asked_by));
+        leads = rw (here.0, ← one) l.leads;
+        stand = known_stand new n.checked l.answers (known_left settling l.answers l.known);
+        fresh = λ e. all_mean s l.answers l.known;
+      })
+      (λ other. walk_left settling j n w (s.checked j n other.1) (s.walks j n other.1 w value))
+      (each j n there)
+
+  held : (j : Key) (n : Node T R) → new.nodes j ≡ Some n → knows new.known j ≡ true → (w : T) → n.value ≡ Some w
+      → IsHeld G new j n w
+  held j n there sure w value = ⊎_elim
+      (λ here. let one : v ≡ w = same_Some v w (sym settled.value ∙ (ap (λ m. m.value) (sym here.1) ∙ value)) in record {
+        answers = l.answers;
+        asked = l.asked ∙ ap vec_items (sym (ap (λ m. m.reads) here.1 ∙ settled.asked_by));
+        leads = rw (here.0, ← one) l.leads;
+        mean = all_mean s l.answers l.known;
+        known = known_left settling l.answers l.known;
+      })
+      (λ other. held_left settling j n w
+      (s.held j n other.1 (sym (other_known j n other.0 other.1) ∙ sure) w value))
+      (each j n there)
+
+  linked : (j : Key) (n : Node T R) → new.nodes j ≡ Some n → Owns new.web j → (a : Key) → Contains (vec_items n.reads) a
+      → IsLinked new.web j.id.slot a.id.slot
+  linked j n there owns a in_it = ⊎_elim
+      (λ here. subst (λ x. IsLinked new.web x a.id.slot) (sym (ap (λ x. x.id.slot) here.0))
+      (links.linked a (subst (λ xs. Contains xs a) (ap (λ m. vec_items m.reads) here.1 ∙ ap vec_items settled.asked_by) in_it)))
+      (λ other. ⊎_elim
+      (λ slot. let owner = ap (λ x. (owner_at (vec_items new.web.owners) x).generation) slot in
+      let generation = same_Some j.id.generation k.id.generation (sym owns ∙ (owner ∙ links.owned)) in
+      absurd (other.0 (apart j (λ none. none-some n (sym none ∙ other.1)) slot generation)))
+      (λ slot. links.links j.id.slot a.id.slot slot (s.links.linked j n other.1
+      (sym (ap (λ o. o.generation) (links.owners j.id.slot slot)) ∙ owns) a in_it))
+      (cases_eq j.id.slot k.id.slot))
+      (each j n there)
+
+  owned : (r g : ℕ) → new.known r ≡ Some g → (owner_at (vec_items new.web.owners) r).generation ≡ Some g
+  owned r g known = ⊎_elim
+      (λ slot. let one = same_Some g k.id.generation (sym known ∙ (ap new.known slot ∙ learned.here)) in
+      ap (λ x. (owner_at (vec_items new.web.owners) x).generation) slot ∙ (links.owned ∙ ap Some (sym one)))
+      (λ other. ap (λ o. o.generation) (links.owners r other)
+      ∙ s.links.owned r g (sym (learned.others r other) ∙ known))
+      (cases_eq r k.id.slot)
+
+  bounded : (j : Key) (n : Node T R) → new.nodes j ≡ Some n → (n.checked ≤ now) × (n.changed ≤ now)
+  bounded j n there = ⊎_elim
+      (λ here. let low = s.changed k was at in (
+        omega (arith, ap (λ m. m.checked) here.1 ∙ settled.checked),
+        ⊎_elim
+            (λ late. omega (arith, ap (λ m. m.changed) here.1 ∙ late))
+            (λ early. omega (arith, ap (λ m. m.changed) here.1 ∙ early.0, low))
+            settled.changed,
+      ))
+      (λ other. (s.checked j n other.1, s.changed j n other.1))
+      (each j n there)
+
+  plans : (j : Key) → graph_of plan new.nodes j ≡ G j
+  plans j = grind (arith, same, key_cases, plan_here, means)
 
   settle : IsSound plan G now new
-  settle = grind (arith, same, key_cases, plan_here, walks, each)
+  settle = record {
+    same = plans;
+    walks = walks;
+    held = held;
+    checked = λ j n there. (bounded j n there).0;
+    changed = λ j n there. (bounded j n there).1;
+    links = record { linked = linked; owned = owned };
+  }
 
-  pub found : (step : Step) → (((v : T) × Shows new now k v) → Stepped G now new k step)
+  pub found : (step : Step) → (((v : T) × Shows new k v) → Stepped G now new k step)
       → IsAdvanced plan G now old k step new
   found step so = record { sound = settle; leaves = settling; stepped = so (v, shown) }
 
@@ -514,18 +523,18 @@ module _ {T : Type 0} (G : Graph T) where
   cyclic goal round j (k, ([], (need, is))) = (k, rw is round, need)
   cyclic goal round j (k, (p ∷ rest, (need, (e, (q, m, c))))) = (k, (q, (rest, (rw e m, c))), need)
 
-module _ {T R : Type 0} (G : Graph T) (now : ℕ) (nodes : Table T R) where
-  all_more : (path : List Frame) (f : Frame) → AllGoOn G now nodes path
-      → GoesOn G now nodes f.key f.place → AllGoOn G now nodes (path ++ f ∷ [])
+module _ {T R : Type 0} (G : Graph T) (now : ℕ) (b : Book T R) where
+  all_more : (path : List Frame) (f : Frame) → AllGoOn G now b path
+      → GoesOn G now b f.key f.place → AllGoOn G now b (path ++ f ∷ [])
   all_more [] f all h = (h, tt)
   all_more (p ∷ rest) f (g, all) h = (g, all_more rest f all h)
 
-  all_less : (path : List Frame) (f : Frame) → AllGoOn G now nodes (path ++ f ∷ [])
-      → AllGoOn G now nodes path × GoesOn G now nodes f.key f.place
+  all_less : (path : List Frame) (f : Frame) → AllGoOn G now b (path ++ f ∷ [])
+      → AllGoOn G now b path × GoesOn G now b f.key f.place
   all_less [] f (h, all) = (tt, h)
   all_less (p ∷ rest) f (g, all) = let got = all_less rest f all in ((g, got.0), got.1)
 
-module _ {T R : Type 0} {plan : R → Plan T} {G : Graph T} {now : ℕ} {old new : Table T R}
+module _ {T R : Type 0} {plan : R → Plan T} {G : Graph T} {now : ℕ} {old new : Book T R}
     (s : IsSound plan G now old) (l : Leaves G now old new) where
   -- what a step leaves serves to go on
   goes_left : (k : Key) (place : Option ℕ) → GoesOn G now old k place → GoesOn G now new k place
@@ -542,18 +551,18 @@ module _ {T R : Type 0} {plan : R → Plan T} {G : Graph T} {now : ℕ} {old new
   all_left [] all = tt
   all_left (f ∷ rest) (h, all) = (goes_left f.key f.place h, all_left rest all)
 
-module _ {T R : Type 0} {plan : R → Plan T} {G : Graph T} {now : ℕ} {nodes : Table T R}
-    (s : IsSound plan G now nodes) where
+module _ {T R : Type 0} {plan : R → Plan T} {G : Graph T} {now : ℕ} {b : Book T R}
+    (s : IsSound plan G now b) where
   -- a look may begin anywhere
-  pub begins : (k : Key) → GoesOn G now nodes k (Some 0)
+  pub begins : (k : Key) → GoesOn G now b k (Some 0)
   begins k = inr (λ n at v has. (s.walks k n at v has, tt))
 
-module _ {T R : Type 0} {plan : R → Plan T} {G : Graph T} {now : ℕ} {start : Key} {old new : Table T R}
+module _ {T R : Type 0} {plan : R → Plan T} {G : Graph T} {now : ℕ} {start : Key} {old new : Book T R}
     {path : List Frame} {top : Frame} {step : Step} (o : IsOnTheWay plan G now old start path top)
     (a : IsAdvanced plan G now old top.key step new) where
   -- ---- a step on the way
 
-  pub way_known : length path ≡ 0 → ((v : T) × Shows new now top.key v) → (v : T) × Shows new now start v
+  pub way_known : length path ≡ 0 → ((v : T) × Shows new top.key v) → (v : T) × Shows new start v
   way_known none h =
       let is : start ≡ top.key = rw (nil_from_length path none) at o.chain in rw is h
 
@@ -606,81 +615,113 @@ module _ {T R : Type 0} where
   IsRenewed old k rule value new = (n : Node T R) × IsResetTo rule value new.revision n
       × (old.revision < new.revision) × IsPut (nodes_in old.state) k n (nodes_in new.state)
 
+  -- a graph and its links are as they were
+  abbrev pub IsSameAs : GraphState T R → Web → GraphState T R → Web → Type 0
+  IsSameAs old web new after = (new.state ≡ old.state) × (new.revision ≡ old.revision) × (new.known ≡ old.known)
+      × (after ≡ web)
+
   -- ---- a fresh graph
 
   pub fresh_stops : (S : State (Node T R)) → IsFresh S → (k : Key) → nodes_in S k ≡ None
   fresh_stops S fresh k = rw fresh (fresh_sees S.number S.start S.next (pointer_in k))
 
-  pub fresh_kept : (plan : R → Plan T) (S : State (Node T R)) → IsFresh S
-      → IsKept plan (record { state = S; revision = 1 })
-  fresh_kept plan S fresh = record {
+  pub fresh_kept : (plan : R → Plan T) (S : State (Node T R)) (known : List (Option ℕ)) (web : Web) → IsFresh S
+      → known ≡ [] → IsKept plan (record { state = S; revision = 1; known = known }) web
+  fresh_kept plan S known web fresh empty = record {
     simple = rw fresh (fresh_simple S.number S.start S.next);
-    sound = grind (arith, fresh_stops S fresh);
+    sound = record {
+      same = λ k. refl;
+      walks = λ k n at. absurd (none-some n (sym (fresh_stops S fresh k) ∙ at));
+      held = λ k n at. absurd (none-some n (sym (fresh_stops S fresh k) ∙ at));
+      checked = λ k n at. absurd (none-some n (sym (fresh_stops S fresh k) ∙ at));
+      changed = λ k n at. absurd (none-some n (sym (fresh_stops S fresh k) ∙ at));
+      links = record {
+        linked = λ k n at. absurd (none-some n (sym (fresh_stops S fresh k) ∙ at));
+        owned = λ r g is. absurd (none-some g (ap (λ xs. known_at xs r) (sym empty) ∙ is));
+      };
+    };
   }
 
 module _ {T R : Type 0} {plan : R → Plan T} where
   -- ---- a graph that is as it was
 
-  pub kept_same : (old new : GraphState T R) → IsKept plan old
-      → (new.state ≡ old.state) × (new.revision ≡ old.revision) → IsKept plan new
-  kept_same old new kept left = grind arith
+  pub kept_same : (old new : GraphState T R) (web after : Web) → IsKept plan old web → IsSameAs old web new after
+      → IsKept plan new after
+  kept_same old new web after kept (state, revision, known, links) =
+      let one : new ≡ old = λ i. record { state = state i; revision = revision i; known = known i } in
+      rw (one, links) kept
 
   -- ---- a node that was made, or not
 
-  pub kept_insert : {E : Type 0} (r : Result Key E) (old new : GraphState T R) (n : Node T R) → IsKept plan old
+  pub kept_insert : {E : Type 0} (r : Result Key E) (old new : GraphState T R) (web after : Web) (n : Node T R)
+      → IsKept plan old web
       → IsSimple new.state → new.revision ≡ old.revision
       → IfOk r (λ k. (nodes_in old.state k ≡ None) × IsPut (nodes_in old.state) k n (nodes_in new.state))
-      → OnErr r (new.state ≡ old.state) → IsReset plan old.revision n → IsKept plan new
-  kept_insert (Ok k) old new n kept simple same (none, put) refused reset = record {
+      → OnOk r (AreForgotten (book_by old.state old.known web) (book_by new.state new.known after))
+      → OnErr r (new.state ≡ old.state) → OnErr r ((new.known ≡ old.known) × (after ≡ web))
+      → IsReset plan old.revision n → IsKept plan new after
+  kept_insert (Ok k) old new web after n kept simple same (none, put) f refused links reset = record {
     simple = simple;
-    sound = rw same (made_sound (nodes_in new.state) kept.sound k n put none reset);
+    sound = rw same (made_sound (book_by new.state new.known after) kept.sound f k n put none reset);
   }
-  kept_insert (Err e) old new n kept simple same put refused reset = kept_same old new kept (refused, same)
+  kept_insert (Err e) old new web after n kept simple same put f refused links reset =
+      kept_same old new web after kept (refused, same, links.0, links.1)
 
   -- ---- a node that was brought up to date
 
-  module _ (old new : GraphState T R) (simple : IsSimple new.state) (same : new.revision ≡ old.revision)
-      (sound : IsSound plan (plans_in plan old) old.revision (nodes_in new.state)) where
-    -- a table that is sound for a graph is sound for its own, which has the same plans
+  module _ (old new : GraphState T R) (after : Web) (simple : IsSimple new.state) (same : new.revision ≡ old.revision)
+      (sound : IsSound plan (plans_in plan old) old.revision (book_by new.state new.known after)) where
+    -- a book that is sound for a graph is sound for its own, which has the same plans
     pub same_plans : plans_in plan new ≡ plans_in plan old
     same_plans = λ i k. sound.same k i
 
-    pub kept_refreshed : IsKept plan new
+    pub kept_refreshed : IsKept plan new after
     kept_refreshed = record { simple = simple; sound = rw (same_plans, same) sound }
 
     pub refreshed_shown : (k : Key) (r : Result (Unit {0}) Fault)
-        → Refreshed (plans_in plan old) old.revision (nodes_in new.state) k r
+        → Refreshed (plans_in plan old) (book_by new.state new.known after) k r
         → OnOk r ((v : T) × (shown_in new k ≡ Some v) × Means (plans_in plan old) k v)
     refreshed_shown k (Ok u) (v, shows) =
-        (v, rw same (shown_known old.revision (nodes_in new.state) k v shows), known_means sound k v shows)
+        (v, shown_known (book_by new.state new.known after) k v shows, known_means sound k v shows)
     refreshed_shown k (Err f) h = tt
 
     pub refreshed_blames : kinds_of (nodes_in new.state) ≡ kind_in old → (k : Key)
-        (r : Result (Unit {0}) Fault) → Refreshed (plans_in plan old) old.revision (nodes_in new.state) k r
+        (r : Result (Unit {0}) Fault) → Refreshed (plans_in plan old) (book_by new.state new.known after) k r
         → IfErr r (Blames (plans_in plan old) (kind_in old) k)
     refreshed_blames is k r h = grind arith
 
-  pub peek_means : (now : GraphState T R) → IsKept plan now → (k : Key) (o : Option (Bor T))
+  pub peek_means : (now : GraphState T R) (web : Web) → IsKept plan now web → (k : Key) (o : Option (Bor T))
       → option_copied o ≡ shown_in now k → IfSome o (λ v. Means (plans_in plan now) k v.now)
-  peek_means now kept k None is = tt
-  peek_means now kept k (Some v) is =
-      known_means kept.sound k v.now (known_shows now.revision (nodes_in now.state k) v.now (sym is))
+  peek_means now web kept k None is = tt
+  peek_means now web kept k (Some v) is =
+      known_means kept.sound k v.now (known_shows (knows (known_at now.known) k) (nodes_in now.state k) v.now (sym is))
 
   -- ---- a node that was set, or not
 
-  pub kept_reset : {E : Type 0} (r : Result (Unit {0}) E) (old new : GraphState T R) (k : Key) (rule : Option R)
-      (value : Option T) → OnOk r (IsRenewed old k rule value new) → IsKept plan old → IsSimple new.state
-      → OnErr r ((new.state ≡ old.state) × (new.revision ≡ old.revision))
-      → ((v : T) → value ≡ Some v → plan_by plan rule value ≡ Give v) → IsKept plan new
-  kept_reset (Ok u) old new k rule value (n, reset, later, put) kept simple refused shows =
-      let its : IsReset plan new.revision n = grind (arith, shows) in
-      record { simple = simple; sound = set_sound (nodes_in new.state) kept.sound k n put new.revision later its }
-  kept_reset (Err e) old new k rule value put kept simple refused shows = kept_same old new kept refused
+  pub kept_reset : {E : Type 0} (r : Result (Unit {0}) E) (old new : GraphState T R) (web after : Web) (k : Key)
+      (rule : Option R)
+      (value : Option T) → OnOk r (IsRenewed old k rule value new) → IsKept plan old web → IsSimple new.state
+      → OnOk r (AreForgotten (book_by old.state old.known web) (book_by new.state new.known after))
+      → OnErr r (IsSameAs old web new after)
+      → ((v : T) → value ≡ Some v → plan_by plan rule value ≡ Give v) → IsKept plan new after
+  kept_reset (Ok u) old new web after k rule value (n, reset, later, put) kept simple f refused shows =
+      let its : IsReset plan new.revision n = grind (arith, shows) in record {
+        simple = simple;
+        sound = set_sound (book_by new.state new.known after) kept.sound f k n put new.revision later its;
+      }
+  kept_reset (Err e) old new web after k rule value put kept simple f refused shows =
+      kept_same old new web after kept refused
 
   -- ---- nodes that have ended, or not
 
-  pub kept_lost : {E : Type 0} (r : Result (Unit {0}) E) (old new : GraphState T R) (gone : List Key)
+  pub kept_lost : {E : Type 0} (r : Result (Unit {0}) E) (old new : GraphState T R) (web after : Web) (gone : List Key)
       → OnOk r (HasLost (nodes_in old.state) gone (nodes_in new.state))
-      → OnErr r ((new.state ≡ old.state) × (new.revision ≡ old.revision))
-      → IsKept plan old → IsSimple new.state → OnOk r (old.revision < new.revision) → IsKept plan new
-  kept_lost r old new gone lost refused kept simple later = grind (arith, ended_sound, kept_same)
+      → OnErr r (IsSameAs old web new after)
+      → OnOk r (AreForgotten (book_by old.state old.known web) (book_by new.state new.known after))
+      → IsKept plan old web → IsSimple new.state → OnOk r (old.revision < new.revision) → IsKept plan new after
+  kept_lost (Ok u) old new web after gone lost refused f kept simple later = record {
+    simple = simple;
+    sound = ended_sound (book_by new.state new.known after) kept.sound f new.revision later lost.left;
+  }
+  kept_lost (Err e) old new web after gone lost refused f kept simple later =
+      kept_same old new web after kept refused

@@ -1,7 +1,8 @@
 -- Nodes that have ended.
-use Rattle.std.specs.Prelude.{◌≡◌, ◌⊎◌, List, [], ◌∷◌, None}
+use Rattle.std.specs.Prelude.{◌≡◌, ◌⊎◌, ℕ, List, [], ◌∷◌, None, Some}
 use Rattle.reactive.specs.declared.key.Key.{Key}
-use Rattle.reactive.specs.Tables.{Table}
+use Rattle.reactive.specs.Links.{IsLinked}
+use Rattle.reactive.specs.Tables.{Book, Table}
 
 -- a key stands in a list
 abbrev pub IsAmong : Key → List Key → Type 0
@@ -14,3 +15,12 @@ module _ {T R : Type 0} where
     pub ended : (k : Key) → IsAmong k gone → new k ≡ None
     pub others : (k : Key) → (IsAmong k gone → ⊥) → new k ≡ old k
     pub left : (k : Key) → (new k ≡ None) ⊎ (new k ≡ old k)
+
+-- From one book to another what has changed was forgotten, and whoever is known still reads nothing that
+-- has.
+pub record AreForgotten {T R : Type 0} (old new : Book T R) : Type 0 where
+  pub web : new.web ≡ old.web
+  pub fewer : (s g : ℕ) → new.known s ≡ Some g → old.known s ≡ Some g
+  pub here : (k : Key) → (new.nodes k ≡ old.nodes k) ⊎ (new.known k.id.slot ≡ None)
+  pub others : (r s g : ℕ) → new.known r ≡ Some g → IsLinked old.web r s
+      → (new.known s ≡ old.known s) × ((k : Key) → k.id.slot ≡ s → new.nodes k ≡ old.nodes k)

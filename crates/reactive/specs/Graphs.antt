@@ -1,20 +1,23 @@
 -- What a caller sees of a graph.
-use Rattle.std.specs.Prelude.{◌≡◌, ◌≢◌, ◌+◌, ◌^◌, ℕ, Option, None, Some}
+use Rattle.std.specs.Prelude.{◌≡◌, ◌≢◌, ◌+◌, ◌^◌, ℕ, List, Option, None, Some}
 use Rattle.generational_core.specs.State.{State}
 use Rattle.generational_errors.specs.declared.error.StoreError.TheVariants.{NumbersExhausted}
 use Rattle.generational_sessions.specs.PlainStores.{IsSimple}
 use Rattle.reactive.specs.declared.fault.Fault.{Fault}
 use Rattle.reactive.specs.declared.fault.Fault.TheVariants as fault
 use Rattle.reactive.specs.declared.key.Key.{Key}
+use Rattle.reactive.specs.declared.links.Web.{Web}
 use Rattle.reactive.specs.declared.node.Node.{Node}
 use Rattle.reactive.specs.Meaning.{Graph}
 use Rattle.reactive.specs.Plans.{Plan}
-use Rattle.reactive.specs.Tables.{IsSound, Table, graph_of, known_of, nodes_in}
+use Rattle.reactive.specs.Tables.{IsSound, Table, book_by, graph_of, nodes_in, shown_by}
 
--- the state of the store, and the revision
+-- the state of the store, the revision, and of each slot the generation of its memo, if it is known what
+-- that means
 pub record GraphState (T R : Type 0) : Type 0 where
   pub state : State (Node T R)
   pub revision : ℕ
+  pub known : List (Option ℕ)
 
 -- what a key is of: no node that lives, a source or a memo
 pub data Kind : Type 0 where
@@ -64,7 +67,7 @@ module _ {T R : Type 0} where
 
   -- what is known of a node's value without asking further
   abbrev pub shown_in : GraphState T R → Key → Option T
-  shown_in g k = known_of (nodes_in g.state) g.revision k
+  shown_in g = shown_by (nodes_in g.state) g.known
 
 module _ {T R : Type 0} (plan : R → Plan T) where
   -- the plan of each node
@@ -76,7 +79,7 @@ module _ {T R : Type 0} (plan : R → Plan T) where
     pub here : plans_in new k ≡ p
     pub others : (j : Key) → j ≢ k → plans_in new j ≡ plans_in old j
 
-  -- what holds of a graph at any time
-  pub record IsKept (g : GraphState T R) : Type 0 where
+  -- what holds of a graph and its links at any time
+  pub record IsKept (g : GraphState T R) (web : Web) : Type 0 where
     pub simple : IsSimple g.state
-    pub sound : IsSound plan (plans_in g) g.revision (nodes_in g.state)
+    pub sound : IsSound plan (plans_in g) g.revision (book_by g.state g.known web)

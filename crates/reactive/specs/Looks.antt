@@ -12,23 +12,23 @@ use Rattle.reactive.specs.declared.node.Node.{Node}
 use Rattle.reactive.specs.Plans.{Asked, Follows, Give}
 use Rattle.reactive.specs.Meaning.{Graph, Needs, IsMute}
 use Rattle.reactive.specs.Chains.{GoesOn}
-use Rattle.reactive.specs.Tables.{AreKnown, Shows, Table}
+use Rattle.reactive.specs.Tables.{AreKnown, Book, Shows}
 
-module _ {T R : Type 0} (nodes : Table T R) (now : ℕ) where
+module _ {T R : Type 0} (b : Book T R) where
   -- the question at a place is that for a node, and the answers before it are right
   pub record IsAsked (answers : List (Asked T)) (k : Key) (place : ℕ) : Type 0 where
     pub answer : Asked T
     pub there : slice_get answers place ≡ Some answer
     pub of : answer.key ≡ k
-    pub before : AreKnown nodes now (take place answers)
+    pub before : AreKnown b (take place answers)
 
   abbrev pub Verified : List (Asked T) → Verdict → Type 0
-  Verified answers verdict.Same = AreKnown nodes now answers
+  Verified answers verdict.Same = AreKnown b answers
   Verified answers verdict.Changed = Unit {0}
   Verified answers (verdict.Unknown k place) = IsAsked answers k place
-  Verified answers (verdict.Gone k) = (nodes k ≡ None) × ((place : ℕ) × IsAsked answers k place)
+  Verified answers (verdict.Gone k) = (b.nodes k ≡ None) × ((place : ℕ) × IsAsked answers k place)
 
-module _ {T R : Type 0} (G : Graph T) (now : ℕ) (nodes : Table T R) (k : Key) where
+module _ {T R : Type 0} (G : Graph T) (now : ℕ) (b : Book T R) (k : Key) where
   -- a memo's plan leads to a value by answers that are known to be right
   pub record LeadsTo (n : Node T R) (v : T) (reads : List Key) : Type 0 where
     pub rule : R
@@ -36,22 +36,22 @@ module _ {T R : Type 0} (G : Graph T) (now : ℕ) (nodes : Table T R) (k : Key) 
     pub answers : List (Asked T)
     pub asked : list_map (λ a. a.key) answers ≡ reads
     pub leads : Follows (G k) answers (Give v)
-    pub known : AreKnown nodes now answers
+    pub known : AreKnown b answers
 
   abbrev pub Looked : Look T → Type 0
-  Looked look.Known = (v : T) × Shows nodes now k v
-  Looked look.Right = (n : Node T R) × (nodes k ≡ Some n) × ((v : T) × (n.value ≡ Some v)
+  Looked look.Known = (v : T) × Shows b k v
+  Looked look.Right = (n : Node T R) × (b.nodes k ≡ Some n) × ((v : T) × (n.value ≡ Some v)
       × LeadsTo n v (vec_items n.reads))
-  Looked (look.New v reads) = (n : Node T R) × (nodes k ≡ Some n) × LeadsTo n v (vec_items reads)
-  Looked (look.Needs j place) = Needs G k j × GoesOn G now nodes k place
-  Looked (look.Gone j) = IsMute G k × (nodes j ≡ None)
+  Looked (look.New v reads) = (n : Node T R) × (b.nodes k ≡ Some n) × LeadsTo n v (vec_items reads)
+  Looked (look.Needs j place) = Needs G k j × GoesOn G now b k place
+  Looked (look.Gone j) = IsMute G k × (b.nodes j ≡ None)
   Looked look.NoValue = IsMute G k
   Looked look.Full = Unit {0}
 
   -- what a step at a node comes to
   abbrev pub Stepped : Step → Type 0
-  Stepped step.Settled = (v : T) × Shows nodes now k v
-  Stepped (step.Needs j place) = Needs G k j × GoesOn G now nodes k place
-  Stepped (step.Gone j) = IsMute G k × (nodes j ≡ None)
+  Stepped step.Settled = (v : T) × Shows b k v
+  Stepped (step.Needs j place) = Needs G k j × GoesOn G now b k place
+  Stepped (step.Gone j) = IsMute G k × (b.nodes j ≡ None)
   Stepped step.NoValue = IsMute G k
   Stepped step.Full = Unit {0}

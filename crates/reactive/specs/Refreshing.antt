@@ -12,7 +12,7 @@ use Rattle.reactive.specs.Chains.{AllGoOn, Chain, GoesOn}
 use Rattle.reactive.specs.Looks.{Stepped}
 use Rattle.reactive.specs.Plans.{Plan}
 use Rattle.reactive.specs.Settling.{Leaves}
-use Rattle.reactive.specs.Tables.{IsSound, Shows, Table}
+use Rattle.reactive.specs.Tables.{Book, IsSound, Shows}
 
 module _ {T : Type 0} (G : Graph T) (kind : Key → Kind) (k : Key) where
   -- That a node has ended, is on a cycle, or gives no value is true of it, and says that the node that
@@ -29,28 +29,28 @@ module _ {T : Type 0} (G : Graph T) (kind : Key → Kind) (k : Key) where
   Answers (Ok v) = Means G k v
   Answers (Err f) = Blames f
 
-module _ {T R : Type 0} (G : Graph T) (now : ℕ) (nodes : Table T R) (k : Key) where
+module _ {T R : Type 0} (G : Graph T) (b : Book T R) (k : Key) where
   -- a node that was brought up to date is known
   abbrev pub Refreshed : {U : Type 0} → Result U Fault → Type 0
-  Refreshed (Ok u) = (v : T) × Shows nodes now k v
-  Refreshed (Err f) = Blames G (kinds_of nodes) k f
+  Refreshed (Ok u) = (v : T) × Shows b k v
+  Refreshed (Err f) = Blames G (kinds_of b.nodes) k f
 
 module _ {T R : Type 0} (plan : R → Plan T) (G : Graph T) (now : ℕ) where
-  -- from one table to another a look at a node was taken, and kept
-  pub record IsAdvanced (old : Table T R) (k : Key) (step : Step) (new : Table T R) : Type 0 where
+  -- from one book to another a look at a node was taken, and kept
+  pub record IsAdvanced (old : Book T R) (k : Key) (step : Step) (new : Book T R) : Type 0 where
     pub sound : IsSound plan G now new
     pub leaves : Leaves G now old new
     pub stepped : Stepped G now new k step
 
   -- on the way from one node, by these, to another: each needs the next, and looks at them go on
-  pub record IsOnTheWay (nodes : Table T R) (start : Key) (path : List Frame) (top : Frame) : Type 0 where
-    pub sound : IsSound plan G now nodes
+  pub record IsOnTheWay (b : Book T R) (start : Key) (path : List Frame) (top : Frame) : Type 0 where
+    pub sound : IsSound plan G now b
     pub chain : Chain G start path top.key
-    pub others : AllGoOn G now nodes path
-    pub last : GoesOn G now nodes top.key top.place
+    pub others : AllGoOn G now b path
+    pub last : GoesOn G now b top.key top.place
 
   -- the way goes on, or has come to its end
-  abbrev pub Went : Table T R → Key → List Frame → Result (Option Frame) Fault → Type 0
-  Went nodes start path (Ok (Some top)) = IsOnTheWay nodes start path top
-  Went nodes start path (Ok None) = IsSound plan G now nodes × ((v : T) × Shows nodes now start v)
-  Went nodes start path (Err f) = IsSound plan G now nodes × Blames G (kinds_of nodes) start f
+  abbrev pub Went : Book T R → Key → List Frame → Result (Option Frame) Fault → Type 0
+  Went b start path (Ok (Some top)) = IsOnTheWay b start path top
+  Went b start path (Ok None) = IsSound plan G now b × ((v : T) × Shows b start v)
+  Went b start path (Err f) = IsSound plan G now b × Blames G (kinds_of b.nodes) start f

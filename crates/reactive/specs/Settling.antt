@@ -1,11 +1,12 @@
 -- What is kept of a node that was found to mean a value, and what that leaves of others.
-use Rattle.std.specs.Prelude.{◌≡◌, ◌≤◌, ◌⊎◌, ℕ, Some}
+use Rattle.std.specs.Prelude.{◌≡◌, ◌≢◌, ◌≤◌, ◌⊎◌, ℕ, None, Some}
 use Rattle.std.specs.Global.{Vec}
 use Rattle.reactive.specs.declared.key.Key.{Key}
 use Rattle.reactive.specs.declared.node.Node.{Node}
 use Rattle.reactive.specs.Meaning.{Graph, Means}
 use Rattle.reactive.specs.Plans.{Asked}
-use Rattle.reactive.specs.Tables.{Shows, Stands, Table}
+use Rattle.reactive.specs.Links.{Keeps}
+use Rattle.reactive.specs.Tables.{Book, Shows, Stands}
 
 module _ {T R : Type 0} where
   -- a node keeps a value and the questions by which its rule came to it, checked now: either the
@@ -17,10 +18,22 @@ module _ {T R : Type 0} where
     pub checked : new.checked ≡ now
     pub changed : (new.changed ≡ now) ⊎ ((new.changed ≡ old.changed) × (old.value ≡ Some v))
 
--- What a step leaves of a table: what was known is known, answers that stood stand, and each node is as
+-- What a step leaves of a book: what was known is known, answers that stood stand, and each node is as
 -- it was, or known.
-pub record Leaves {T R : Type 0} (G : Graph T) (now : ℕ) (old new : Table T R) : Type 0 where
-  pub known : (k : Key) (v : T) → Shows old now k v → Shows new now k v
+pub record Leaves {T R : Type 0} (G : Graph T) (now : ℕ) (old new : Book T R) : Type 0 where
+  pub known : (k : Key) (v : T) → Shows old k v → Shows new k v
   pub stand : (since : ℕ) (a : Asked T) → since ≤ now → (since ≡ now → Means G a.key a.value)
-      → Stands old since a → Stands new since a
-  pub same : (k : Key) → (new k ≡ old k) ⊎ ((v : T) × Shows new now k v)
+      → Stands old.nodes since a → Stands new.nodes since a
+  pub same : (k : Key) → (new.nodes k ≡ old.nodes k) ⊎ ((v : T) × Shows new k v)
+
+-- from one book to another it was learned what a memo means, of whose slot nothing was known
+pub record IsLearned {T R : Type 0} (old : Book T R) (k : Key) (new : Book T R) : Type 0 where
+  pub free : old.known k.id.slot ≡ None
+  pub here : new.known k.id.slot ≡ Some k.id.generation
+  pub others : (s : ℕ) → s ≢ k.id.slot → new.known s ≡ old.known s
+
+-- from one book to another nothing is lost
+pub record IsLeft {T R : Type 0} (old new : Book T R) : Type 0 where
+  pub nodes : (k : Key) → new.nodes k ≡ old.nodes k
+  pub known : (s : ℕ) → new.known s ≡ old.known s
+  pub web : Keeps old.web new.web

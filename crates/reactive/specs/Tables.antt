@@ -1,12 +1,16 @@
 -- The nodes of a store as a graph, and what holds of what they keep.
 use Rattle.std.specs.Prelude.{◌≡◌, ◌≢◌, ◌≤◌, ℕ, List, [], ◌∷◌, Option, Some, None, ◌⊎◌, map as list_map}
-use Rattle.std.specs.Prelude.{is_none, nat_eq, ◌||◌, if◌then◌else◌}
+use Rattle.std.specs.Prelude.{Bool, true, is_none, ◌||◌, if◌then◌else◌}
+use Rattle.std.specs.List.{Contains}
 use Rattle.std.specs.Vec.{vec_items}
 use Rattle.generational_core.specs.Seeing.{value_in}
 use Rattle.generational_core.specs.State.{State}
 use Rattle.generational_core.specs.declared.boxes.GenerationalPointer.{GenerationalPointer}
 use Rattle.generational_errors.specs.declared.error.Location.{Location}
 use Rattle.reactive.specs.declared.key.Key.{Key}
+use Rattle.reactive.specs.declared.links.Links.{Links}
+use Rattle.reactive.specs.declared.links.Web.{Web}
+use Rattle.reactive.specs.Links.{IsLinked, known_at, knows, owner_at, Owns}
 use Rattle.reactive.specs.declared.node.Node.{Node}
 use Rattle.reactive.specs.Plans.{Plan, Give, Stop, Asked, Follows}
 use Rattle.reactive.specs.Meaning.{Graph, AllMean}
@@ -31,9 +35,22 @@ abbrev pub asked_of : {T : Type 0} → (Key → Option T) → List Key → List 
 asked_of shown [] = []
 asked_of shown (k ∷ rest) = answered k (shown k) (asked_of shown rest)
 
+-- which node each key has, of which memos it is known what they mean, and which nodes read which
+pub record Book (T R : Type 0) : Type 0 where
+  pub nodes : Table T R
+  pub known : ℕ → Option ℕ
+  pub web : Web
+
 module _ {T R : Type 0} where
   abbrev pub nodes_in : State (Node T R) → Table T R
   nodes_in S k = value_in S (pointer_in k)
+
+  abbrev pub book_by : State (Node T R) → List (Option ℕ) → Web → Book T R
+  book_by S known web = record { nodes = nodes_in S; known = known_at known; web = web }
+
+  -- the book of a store with these links
+  abbrev pub book : State (Node T R) → Links → Book T R
+  book S links = book_by S (vec_items links.marks.known) links.web
 
   -- from one table to another a key has another node, and no other key has
   pub record IsPut (old : Table T R) (k : Key) (n : Node T R) (new : Table T R) : Type 0 where
@@ -42,26 +59,30 @@ module _ {T R : Type 0} where
 
   -- ---- what is known
 
-  -- a node has a value, and is a source or was checked in this revision
-  abbrev pub IsKnown : ℕ → Node T R → T → Type 0
-  IsKnown now n v = (n.value ≡ Some v) × ((n.rule ≡ None) ⊎ (n.checked ≡ now))
+  -- a node has a value, and is a source or surely means it
+  abbrev pub IsKnown : Bool → Node T R → T → Type 0
+  IsKnown sure n v = (n.value ≡ Some v) × ((n.rule ≡ None) ⊎ (sure ≡ true))
 
   -- a key's node is so
-  abbrev pub Shows : Table T R → ℕ → Key → T → Type 0
-  Shows nodes now k v = (n : Node T R) × (nodes k ≡ Some n) × IsKnown now n v
+  abbrev pub Shows : Book T R → Key → T → Type 0
+  Shows b k v = (n : Node T R) × (b.nodes k ≡ Some n) × IsKnown (knows b.known k) n v
 
   -- each question was answered by what its node is known to mean
-  abbrev pub AreKnown : Table T R → ℕ → List (Asked T) → Type 0
-  AreKnown nodes now [] = Unit {0}
-  AreKnown nodes now (a ∷ rest) = Shows nodes now a.key a.value × AreKnown nodes now rest
+  abbrev pub AreKnown : Book T R → List (Asked T) → Type 0
+  AreKnown b [] = Unit {0}
+  AreKnown b (a ∷ rest) = Shows b a.key a.value × AreKnown b rest
 
   -- the value of a node, if it is so
-  abbrev pub known_by : ℕ → Option (Node T R) → Option T
-  known_by now None = None
-  known_by now (Some n) = if is_none n.rule || nat_eq n.checked now then n.value else None
+  abbrev pub known_by : Bool → Option (Node T R) → Option T
+  known_by sure None = None
+  known_by sure (Some n) = if is_none n.rule || sure then n.value else None
 
-  abbrev pub known_of : Table T R → ℕ → Key → Option T
-  known_of nodes now k = known_by now (nodes k)
+  -- that of a key's node
+  abbrev pub shown_by : Table T R → List (Option ℕ) → Key → Option T
+  shown_by nodes known k = known_by (knows (known_at known) k) (nodes k)
+
+  abbrev pub known_of : Book T R → Key → Option T
+  known_of b k = known_by (knows b.known k) (b.nodes k)
 
   -- ---- what is kept
 
@@ -83,6 +104,21 @@ module _ {T R : Type 0} where
     pub stand : AllStand nodes n.checked answers
     pub fresh : n.checked ≡ now → AllMean G answers
 
+  -- What is known of a memo: the answers to its questions, which are what those nodes mean and are known
+  -- to, lead to its value.
+  pub record IsHeld (G : Graph T) (b : Book T R) (k : Key) (n : Node T R) (v : T) : Type 0 where
+    pub answers : List (Asked T)
+    pub asked : list_map (λ a. a.key) answers ≡ vec_items n.reads
+    pub leads : Follows (G k) answers (Give v)
+    pub mean : AllMean G answers
+    pub known : AreKnown b answers
+
+  -- Each node whose links are its own is linked to what it reads, and those of known memos are.
+  pub record AreLinked (b : Book T R) : Type 0 where
+    pub linked : (k : Key) (n : Node T R) → b.nodes k ≡ Some n → Owns b.web k
+        → (a : Key) → Contains (vec_items n.reads) a → IsLinked b.web k.id.slot a.id.slot
+    pub owned : (s g : ℕ) → b.known s ≡ Some g → (owner_at (vec_items b.web.owners) s).generation ≡ Some g
+
 module _ {T R : Type 0} (plan : R → Plan T) where
   -- a memo's plan is its rule's, and a source's gives its value
   abbrev pub plan_by : Option R → Option T → Plan T
@@ -97,11 +133,14 @@ module _ {T R : Type 0} (plan : R → Plan T) where
   abbrev pub graph_of : Table T R → Graph T
   graph_of nodes k = plan_at (nodes k)
 
-  -- A table is sound for a graph: it has this graph's plans, each node keeps a walk of its plan, and
-  -- nothing was changed or checked later than now.
-  pub record IsSound (G : Graph T) (now : ℕ) (nodes : Table T R) : Type 0 where
-    pub same : (k : Key) → graph_of nodes k ≡ G k
-    pub walks : (k : Key) (n : Node T R) → nodes k ≡ Some n
-        → (v : T) → n.value ≡ Some v → IsWalk G now nodes k n v
-    pub checked : (k : Key) (n : Node T R) → nodes k ≡ Some n → n.checked ≤ now
-    pub changed : (k : Key) (n : Node T R) → nodes k ≡ Some n → n.changed ≤ now
+  -- A book is sound for a graph: it has this graph's plans, each node keeps a walk of its plan, what is
+  -- known is held, and nothing was changed or checked later than now.
+  pub record IsSound (G : Graph T) (now : ℕ) (b : Book T R) : Type 0 where
+    pub same : (k : Key) → graph_of b.nodes k ≡ G k
+    pub walks : (k : Key) (n : Node T R) → b.nodes k ≡ Some n
+        → (v : T) → n.value ≡ Some v → IsWalk G now b.nodes k n v
+    pub held : (k : Key) (n : Node T R) → b.nodes k ≡ Some n → knows b.known k ≡ true
+        → (v : T) → n.value ≡ Some v → IsHeld G b k n v
+    pub checked : (k : Key) (n : Node T R) → b.nodes k ≡ Some n → n.checked ≤ now
+    pub changed : (k : Key) (n : Node T R) → b.nodes k ≡ Some n → n.changed ≤ now
+    pub links : AreLinked b

@@ -3,14 +3,15 @@
 //!
 //! A [`Key`] is a handle to a node. A [`Rule`] says what a memo computes from other nodes, which it reads
 //! through a [`Reads`]. A [`Reactive`] has the nodes in a store, and [`Effects`] report which of those that
-//! are watched mean something else. A set computes nothing: a memo is brought up to date when it is asked
-//! for, and its rule is run only if something that it read has another value.
+//! are watched mean something else. A set runs no rule: a memo is brought up to date when it is asked for,
+//! and its rule is run only if something that it read has another value.
 #![tactic(auto)]
 
 mod effects;
 mod fault;
 mod key;
 pub mod laws;
+mod links;
 mod look;
 mod node;
 mod nodes;

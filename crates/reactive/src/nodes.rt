@@ -3,6 +3,7 @@
 ghost use Rattle.std.specs.Prelude.{◌≡◌, ◌≢◌, ◌<◌, ◌+◌, ◌^◌, ℕ, List, Option, Some, None, IfSome, IfNone, option_copied, take, IsTrue, slice_get};
 ghost use Rattle.std.specs.Prelude.{[], true, false, is_some, Ok, IsOk, IfOk, IfErr, OnOk, OnErr};
 ghost use Rattle.std.specs.Prelude.{map as list_map};
+ghost use Rattle.std.specs.Vec.{vec_items};
 ghost use Rattle.generational_core.specs.Slots.{free};
 ghost use Rattle.generational_sessions.specs.PlainStores.{IsSimple};
 ghost use Rattle.generational_errors.specs.declared.error.StoreError.TheVariants.{NumbersExhausted, OutOfMemory};
@@ -11,7 +12,8 @@ ghost use Rattle.reactive.specs.declared.key.Key.{Key};
 ghost use Rattle.reactive.specs.declared.node.Node.{Node};
 ghost use Rattle.reactive.specs.Changing.{IsChanged, IsResetTo};
 ghost use Rattle.reactive.specs.Chains.{GoesOn};
-ghost use Rattle.reactive.specs.Ending.{HasLost};
+ghost use Rattle.reactive.specs.Ending.{AreForgotten, HasLost};
+ghost use Rattle.reactive.specs.Links.{IsRelinked, Keeps, Owns, known_at, knows};
 ghost use Rattle.reactive.specs.Graphs.{IsUnruled, kinds_of};
 ghost use Rattle.reactive.specs.Looks.{Looked, Verified};
 ghost use Rattle.reactive.specs.Meaning.{Graph};
@@ -20,11 +22,12 @@ ghost use Rattle.reactive.specs.Refreshing.{IsAdvanced, IsOnTheWay, Refreshed, W
 ghost use Rattle.reactive.specs.declared.look.Frame.{Frame};
 ghost use Rattle.reactive.specs.declared.look.Look.TheVariants as look;
 ghost use Rattle.reactive.specs.declared.look.Step.TheVariants as step;
-ghost use Rattle.reactive.specs.Settling.{IsSettled};
-ghost use Rattle.reactive.specs.Tables.{AllStand, AreKnown, IsPut, IsSound, known_by, known_of, nodes_in};
+ghost use Rattle.reactive.specs.Settling.{IsLearned, IsLeft, IsSettled};
+ghost use Rattle.reactive.specs.Tables.{AllStand, AreKnown, AreLinked, IsPut, IsSound, book, known_by, known_of, nodes_in, shown_by};
 
 use crate::fault::Fault;
 use crate::key::Key;
+use crate::links::{Links, Marks};
 use crate::look::{Frame, Look, Run, Step, Verdict};
 use crate::node::Node;
 use crate::reader::Reader;
@@ -45,6 +48,7 @@ pub struct Nodes<T, R, S: Storage<Node<T, R>>> {
     pub(crate) runs: u64,
     // of each slot the place at which its node stood on a path: a hint, to find cycles at once
     pub(crate) places: Vec<usize>,
+    pub(crate) links: Links,
     pub(crate) marker: PhantomData<(T, R)>,
 }
 
@@ -58,16 +62,16 @@ pub(crate) fn node_of<T, R, S: Storage<Node<T, R>>>(store: &S, key: Key) -> Opti
     }
 }
 
-/// The value of a key's node, where it is known at a revision to be what the node means.
+/// The value of a key's node, if it is known to be what the node means.
 pub(crate) fn known_value<'a, T: 'a, R: 'a, S: Storage<Node<T, R>>>(
     store: &'a S,
-    revision: u64,
+    marks: &Marks,
     key: Key,
 ) -> Option<&'a T>
-    ensures { option_copied result ≡ known_of (nodes_in (S.state store.now)) revision key }
+    ensures { option_copied result ≡ shown_by (nodes_in (S.state store.now)) marks.now.known.items key }
 {
     match node_of(store, key) {
-        Some(node) => node.known(revision),
+        Some(node) => node.known(marks.knows(key)),
         None => None,
     }
 }
@@ -83,6 +87,7 @@ impl<T: Value + Drop, R: Rule<T>, S: Storage<Node<T, R>>> Nodes<T, R, S> {
             (nodes_in (S.state self.new.store))) }
         ensures none { IfNone result (nodes_in (S.state self.old.store) key ≡ None) }
         ensures refused { IfNone result (S.state self.new.store ≡ S.state self.old.store) }
+        ensures links { self.new.links ≡ self.old.links }
         ensures revision { self.new.revision ≡ self.old.revision }
     {
         let Some(pointer) = self.store.find(key.id) else {
@@ -94,54 +99,103 @@ impl<T: Value + Drop, R: Rule<T>, S: Storage<Node<T, R>>> Nodes<T, R, S> {
         Some(self.store.change_value(pointer, f))
     }
 
-    // Notes that what a key's node keeps was found to be right.
-    fn confirm(&mut self, key: Key)
+    // Notes that what a key's node keeps was found to be right. False if memory runs out.
+    fn confirm(&mut self, key: Key) -> bool
         requires simple { IsSimple (S.state self.old.store) }
         ensures simple { IsSimple (S.state self.new.store) }
-        ensures confirmed { (old : Node T R) → nodes_in (S.state self.old.store) key ≡ Some old →
-            IsPut (nodes_in (S.state self.old.store)) key
-            (record old { checked = self.old.revision }) (nodes_in (S.state self.new.store)) }
+        ensures confirmed { IsTrue result → (old : Node T R) → nodes_in (S.state self.old.store) key ≡ Some old →
+            IsPut (nodes_in (S.state self.old.store)) key (record old { checked = self.old.revision }) (nodes_in (S.state self.new.store)) }
+        ensures learned { IsTrue result → IsLearned (book (S.state self.old.store) self.old.links) key (book (S.state self.new.store) self.new.links) }
+        ensures failed { result ≡ false → IsLeft (book (S.state self.old.store) self.old.links) (book (S.state self.new.store) self.new.links) }
+        ensures web { self.new.links.web ≡ self.old.links.web }
         ensures kinds { kinds_of (nodes_in (S.state self.new.store)) ≡ kinds_of (nodes_in (S.state self.old.store)) }
         ensures revision { self.new.revision ≡ self.old.revision }
     {
+        if !self.links.marks.reserve(key.id.slot) {
+            return false;
+        }
         let revision = self.revision;
         let Some(()) = self.change(key, |node: &mut Node<T, R>| node.confirm(revision)) else {
-            return;
+            return false;
         };
+        self.links.marks.learn(key);
+        true
     }
 
-    // Keeps what a key's node was found to mean, and the questions by which.
-    fn keep(&mut self, key: Key, value: T, reads: Vec<Key>)
+    // Whether the links of its slot are a key's node's, which asked for this.
+    fn is_linked(&self, key: Key, reads: &Vec<Key>) -> bool
+        ensures owned { IsTrue result → Owns self.now.links.web key }
+        ensures asked { IsTrue result → (n : Node T R) → nodes_in (S.state self.now.store) key ≡ Some n →
+            vec_items n.reads ≡ reads.now.items }
+    {
+        if !self.links.web.owns(key) {
+            return false;
+        }
+        match node_of(&self.store, key) {
+            Some(node) => node.reads == *reads,
+            None => false,
+        }
+    }
+
+    // Links a key's node to what it asked for. False if memory runs out.
+    fn link(&mut self, key: Key, reads: &Vec<Key>) -> bool
+        ensures relinked { IsTrue result → AreLinked (book (S.state self.old.store) self.old.links) → nodes_in (S.state self.old.store) key ≢ None →
+            IsRelinked self.old.links.web key reads.now.items self.new.links.web }
+        ensures failed { result ≡ false → Keeps self.old.links.web self.new.links.web }
+        ensures marks { self.new.links.marks ≡ self.old.links.marks }
+        ensures store { self.new.store ≡ self.old.store }
+        ensures revision { self.new.revision ≡ self.old.revision }
+    {
+        if self.is_linked(key, reads) {
+            return true;
+        }
+        self.links.web.relink(key, reads)
+    }
+
+    // Keeps what a key's node was found to mean, and the questions by which. False if memory runs out.
+    fn keep(&mut self, key: Key, value: T, reads: Vec<Key>) -> bool
         requires simple { IsSimple (S.state self.old.store) }
         ensures simple { IsSimple (S.state self.new.store) }
-        ensures kept { (old : Node T R) → nodes_in (S.state self.old.store) key ≡ Some old →
+        ensures kept { IsTrue result → (old : Node T R) → nodes_in (S.state self.old.store) key ≡ Some old →
             (new : Node T R) × IsSettled old value reads self.old.revision new
             × IsPut (nodes_in (S.state self.old.store)) key new (nodes_in (S.state self.new.store)) }
+        ensures learned { IsTrue result → IsLearned (book (S.state self.old.store) self.old.links) key (book (S.state self.new.store) self.new.links) }
+        ensures relinked { IsTrue result → AreLinked (book (S.state self.old.store) self.old.links) → nodes_in (S.state self.old.store) key ≢ None →
+            IsRelinked self.old.links.web key reads.items self.new.links.web }
+        ensures failed { result ≡ false → nodes_in (S.state self.old.store) key ≢ None → IsLeft (book (S.state self.old.store) self.old.links) (book (S.state self.new.store) self.new.links) }
         ensures kinds { kinds_of (nodes_in (S.state self.new.store)) ≡ kinds_of (nodes_in (S.state self.old.store)) }
         ensures revision { self.new.revision ≡ self.old.revision }
     {
+        if !self.links.marks.reserve(key.id.slot) {
+            return false;
+        }
+        if !self.link(key, &reads) {
+            return false;
+        }
         let revision = self.revision;
         let Some(()) = self.change(key, |node: &mut Node<T, R>| {
             node.settle(value, reads, revision)
         }) else {
-            return;
+            return false;
         };
+        self.links.marks.learn(key);
         self.runs = self.runs.wrapping_add(1);
+        true
     }
 
     // Whether the answers to these questions stand since a revision, from a place on.
     fn verify(&self, reads: &[Key], since: u64, from: usize) -> Verdict
         ensures { (answers : List (Asked T)) → list_map (λ a. a.key) answers ≡ reads.now →
             AllStand (nodes_in (S.state self.now.store)) since answers →
-            AreKnown (nodes_in (S.state self.now.store)) self.now.revision (take from answers) →
-            Verified (nodes_in (S.state self.now.store)) self.now.revision answers result }
+            AreKnown (book (S.state self.now.store) self.now.links) (take from answers) →
+            Verified (book (S.state self.now.store) self.now.links) answers result }
     {
         for place in from..reads.len() {
             let key = reads[place];
             let Some(node) = node_of(&self.store, key) else {
                 return Verdict::Gone(key);
             };
-            if !node.is_known(self.revision) {
+            if !node.is_known(self.links.marks.knows(key)) {
                 return Verdict::Unknown(key, place);
             }
             if node.changed > since {
@@ -155,11 +209,11 @@ impl<T: Value + Drop, R: Rule<T>, S: Storage<Node<T, R>>> Nodes<T, R, S> {
     fn run(&self, rule: &R) -> Run<T>
         ensures { (answers : List (Asked T)) × (list_map (λ a. a.key) answers ≡ result.reads.items)
             × (result.is_full ≡ false → Ran (R.plan rule.now) answers result.lacks result.result)
-            × AreKnown (nodes_in (S.state self.now.store)) self.now.revision answers }
+            × AreKnown (book (S.state self.now.store) self.now.links) answers }
     {
         let mut reader = Reader {
             store: &self.store,
-            revision: self.revision,
+            marks: &self.links.marks,
             reads: Vec::new(self.alloc),
             lacks: None,
             is_full: false,
@@ -168,7 +222,7 @@ impl<T: Value + Drop, R: Rule<T>, S: Storage<Node<T, R>>> Nodes<T, R, S> {
         let result = rule.compute(&mut reader);
         let Reader {
             store: _,
-            revision: _,
+            marks: _,
             reads,
             lacks,
             is_full,
@@ -184,10 +238,11 @@ impl<T: Value + Drop, R: Rule<T>, S: Storage<Node<T, R>>> Nodes<T, R, S> {
 
     // What a rule's run comes to.
     fn rerun(&self, rule: &R) -> Look<T>
-        ensures { (G : Graph T) (k : Key) (n : Node T R) →
-            IsSound R.plan G self.now.revision (nodes_in (S.state self.now.store)) →
+        ensures looked { (G : Graph T) (k : Key) (n : Node T R) →
+            IsSound R.plan G self.now.revision (book (S.state self.now.store) self.now.links) →
             nodes_in (S.state self.now.store) k ≡ Some n → n.rule ≡ Some rule.now →
-            Looked G self.now.revision (nodes_in (S.state self.now.store)) k result }
+            Looked G self.now.revision (book (S.state self.now.store) self.now.links) k result }
+        ensures right { result ≡ look.Right → ⊥ }
     {
         let Run {
             result,
@@ -210,16 +265,26 @@ impl<T: Value + Drop, R: Rule<T>, S: Storage<Node<T, R>>> Nodes<T, R, S> {
         }
     }
 
-    // A look at a node.
-    fn judge(&self, node: &Node<T, R>, place: Option<usize>) -> Look<T>
-        ensures looked { (G : Graph T) (k : Key) →
-            IsSound R.plan G self.now.revision (nodes_in (S.state self.now.store)) →
-            nodes_in (S.state self.now.store) k ≡ Some node.now →
-            GoesOn G self.now.revision (nodes_in (S.state self.now.store)) k place →
-            Looked G self.now.revision (nodes_in (S.state self.now.store)) k result }
-        ensures known { is_some (known_by self.now.revision (Some node.now)) ≡ true → result ≡ look.Known }
+    // Whether a node keeps a value, and the links of its slot are its own.
+    fn is_kept(&self, key: Key, node: &Node<T, R>) -> bool
+        ensures value { IsTrue result → is_some node.now.value ≡ true }
+        ensures owned { IsTrue result → Owns self.now.links.web key }
     {
-        if node.is_known(self.revision) {
+        node.value.is_some() && self.links.web.owns(key)
+    }
+
+    // A look at a node.
+    fn judge(&self, key: Key, node: &Node<T, R>, place: Option<usize>) -> Look<T>
+        ensures looked { (G : Graph T) →
+            IsSound R.plan G self.now.revision (book (S.state self.now.store) self.now.links) →
+            nodes_in (S.state self.now.store) key ≡ Some node.now →
+            GoesOn G self.now.revision (book (S.state self.now.store) self.now.links) key place →
+            Looked G self.now.revision (book (S.state self.now.store) self.now.links) key result }
+        ensures known { is_some (known_by (knows (known_at self.now.links.marks.known.items) key) (Some node.now)) ≡ true →
+            result ≡ look.Known }
+        ensures owned { result ≡ look.Right → Owns self.now.links.web key }
+    {
+        if node.is_known(self.links.marks.knows(key)) {
             return Look::Known;
         }
         let Some(rule) = &node.rule else {
@@ -228,7 +293,7 @@ impl<T: Value + Drop, R: Rule<T>, S: Storage<Node<T, R>>> Nodes<T, R, S> {
         let Some(from) = place else {
             return self.rerun(rule);
         };
-        if node.value.is_some() {
+        if self.is_kept(key, node) {
             match self.verify(&node.reads, node.checked, from) {
                 Verdict::Same => return Look::Right,
                 Verdict::Unknown(other, at) => return Look::Needs(other, Some(at)),
@@ -242,14 +307,15 @@ impl<T: Value + Drop, R: Rule<T>, S: Storage<Node<T, R>>> Nodes<T, R, S> {
     // A look at a key's node, which goes on at a place of its kept questions, or runs its rule.
     fn look(&self, key: Key, place: Option<usize>) -> Look<T>
         ensures looked { (G : Graph T) →
-            IsSound R.plan G self.now.revision (nodes_in (S.state self.now.store)) →
-            GoesOn G self.now.revision (nodes_in (S.state self.now.store)) key place →
-            Looked G self.now.revision (nodes_in (S.state self.now.store)) key result }
-        ensures known { is_some (known_of (nodes_in (S.state self.now.store)) self.now.revision key) ≡ true →
+            IsSound R.plan G self.now.revision (book (S.state self.now.store) self.now.links) →
+            GoesOn G self.now.revision (book (S.state self.now.store) self.now.links) key place →
+            Looked G self.now.revision (book (S.state self.now.store) self.now.links) key result }
+        ensures known { is_some (known_of (book (S.state self.now.store) self.now.links) key) ≡ true →
             result ≡ look.Known }
+        ensures owned { result ≡ look.Right → Owns self.now.links.web key }
     {
         match node_of(&self.store, key) {
-            Some(node) => self.judge(node, place),
+            Some(node) => self.judge(key, node, place),
             None => Look::Gone(key),
         }
     }
@@ -260,23 +326,29 @@ impl<T: Value + Drop, R: Rule<T>, S: Storage<Node<T, R>>> Nodes<T, R, S> {
         ensures simple { IsSimple (S.state self.new.store) }
         ensures revision { self.new.revision ≡ self.old.revision }
         ensures advanced { (G : Graph T) →
-            IsSound R.plan G self.old.revision (nodes_in (S.state self.old.store)) →
-            GoesOn G self.old.revision (nodes_in (S.state self.old.store)) key place →
-            IsAdvanced R.plan G self.old.revision (nodes_in (S.state self.old.store)) key result
-            (nodes_in (S.state self.new.store)) }
+            IsSound R.plan G self.old.revision (book (S.state self.old.store) self.old.links) →
+            GoesOn G self.old.revision (book (S.state self.old.store) self.old.links) key place →
+            IsAdvanced R.plan G self.old.revision (book (S.state self.old.store) self.old.links) key result
+            (book (S.state self.new.store) self.new.links) }
         ensures kinds { kinds_of (nodes_in (S.state self.new.store)) ≡ kinds_of (nodes_in (S.state self.old.store)) }
-        ensures known { is_some (known_of (nodes_in (S.state self.old.store)) self.old.revision key) ≡ true →
+        ensures known { is_some (known_of (book (S.state self.old.store) self.old.links) key) ≡ true →
             result ≡ step.Settled }
     {
         match self.look(key, place) {
             Look::Known => Step::Settled,
             Look::Right => {
-                self.confirm(key);
-                Step::Settled
+                if self.confirm(key) {
+                    Step::Settled
+                } else {
+                    Step::Full
+                }
             }
             Look::New(value, reads) => {
-                self.keep(key, value, reads);
-                Step::Settled
+                if self.keep(key, value, reads) {
+                    Step::Settled
+                } else {
+                    Step::Full
+                }
             }
             Look::Needs(other, at) => Step::Needs(other, at),
             Look::Gone(other) => Step::Gone(other),
@@ -288,6 +360,7 @@ impl<T: Value + Drop, R: Rule<T>, S: Storage<Node<T, R>>> Nodes<T, R, S> {
     // Notes at which place of a path a node stands. It is a hint alone.
     fn note(&mut self, key: Key, place: usize) -> bool
         ensures store { self.new.store ≡ self.old.store }
+        ensures links { self.new.links ≡ self.old.links }
         ensures revision { self.new.revision ≡ self.old.revision }
     {
         let slot = key.id.slot;
@@ -329,12 +402,12 @@ impl<T: Value + Drop, R: Rule<T>, S: Storage<Node<T, R>>> Nodes<T, R, S> {
         ensures simple { IsSimple (S.state self.new.store) }
         ensures revision { self.new.revision ≡ self.old.revision }
         ensures went { (G : Graph T) (start : Key) →
-            IsOnTheWay R.plan G self.old.revision (nodes_in (S.state self.old.store)) start
+            IsOnTheWay R.plan G self.old.revision (book (S.state self.old.store) self.old.links) start
             path.old.items top →
-            Went R.plan G self.old.revision (nodes_in (S.state self.new.store)) start
+            Went R.plan G self.old.revision (book (S.state self.new.store) self.new.links) start
             path.new.items result }
         ensures kinds { kinds_of (nodes_in (S.state self.new.store)) ≡ kinds_of (nodes_in (S.state self.old.store)) }
-        ensures known { is_some (known_of (nodes_in (S.state self.old.store)) self.old.revision top.key) ≡ true →
+        ensures known { is_some (known_of (book (S.state self.old.store) self.old.links) top.key) ≡ true →
             path.old.items ≡ [] → result ≡ Ok None }
     {
         match self.advance(top.key, top.place) {
@@ -369,13 +442,13 @@ impl<T: Value + Drop, R: Rule<T>, S: Storage<Node<T, R>>> Nodes<T, R, S> {
         ensures simple { IsSimple (S.state self.new.store) }
         ensures revision { self.new.revision ≡ self.old.revision }
         ensures sound { (G : Graph T) →
-            IsSound R.plan G self.old.revision (nodes_in (S.state self.old.store)) →
-            IsSound R.plan G self.old.revision (nodes_in (S.state self.new.store)) }
+            IsSound R.plan G self.old.revision (book (S.state self.old.store) self.old.links) →
+            IsSound R.plan G self.old.revision (book (S.state self.new.store) self.new.links) }
         ensures refreshed { (G : Graph T) →
-            IsSound R.plan G self.old.revision (nodes_in (S.state self.old.store)) →
-            Refreshed G self.old.revision (nodes_in (S.state self.new.store)) key result }
+            IsSound R.plan G self.old.revision (book (S.state self.old.store) self.old.links) →
+            Refreshed G (book (S.state self.new.store) self.new.links) key result }
         ensures kinds { kinds_of (nodes_in (S.state self.new.store)) ≡ kinds_of (nodes_in (S.state self.old.store)) }
-        ensures known { is_some (known_of (nodes_in (S.state self.old.store)) self.old.revision key) ≡ true →
+        ensures known { is_some (known_of (book (S.state self.old.store) self.old.links) key) ≡ true →
             IsOk result }
     {
         let mut path: Vec<Frame> = Vec::new(self.alloc);
@@ -401,14 +474,21 @@ impl<T: Value + Drop, R: Rule<T>, S: Storage<Node<T, R>>> Nodes<T, R, S> {
         ensures simple { IsSimple (S.state self.new.store) }
         ensures put { IfOk result (λ key. (nodes_in (S.state self.old.store) key ≡ None)
             × IsPut (nodes_in (S.state self.old.store)) key node (nodes_in (S.state self.new.store))) }
+        ensures forgotten { OnOk result (AreForgotten (book (S.state self.old.store) self.old.links) (book (S.state self.new.store) self.new.links)) }
         ensures refused { OnErr result (S.state self.new.store ≡ S.state self.old.store) }
+        ensures links { OnErr result ((self.new.links.marks.known.items ≡ self.old.links.marks.known.items)
+            × (self.new.links.web ≡ self.old.links.web)) }
         ensures back { IfErr result (λ refusal. refusal.value ≡ node) }
         ensures cause { IfErr result (λ refusal. refusal.cause ≡ OutOfMemory) }
         ensures short { OnErr result (free (S.state self.old.store) ≡ 0) }
         ensures revision { self.new.revision ≡ self.old.revision }
     {
         match GenerationalBox::leak(&mut self.store, node, here) {
-            Ok(raw) => Ok(Key { id: raw.id() }),
+            Ok(raw) => {
+                let key = Key { id: raw.id() };
+                self.links.marks.forget(&self.links.web, key.id.slot);
+                Ok(key)
+            }
             Err(refusal) => Err(refusal),
         }
     }
@@ -420,6 +500,7 @@ impl<T: Value + Drop, R: Rule<T>, S: Storage<Node<T, R>>> Nodes<T, R, S> {
         ensures ended { nodes_in (S.state self.new.store) key ≡ None }
         ensures others { (j : Key) → j ≢ key →
             nodes_in (S.state self.new.store) j ≡ nodes_in (S.state self.old.store) j }
+        ensures forgotten { AreForgotten (book (S.state self.old.store) self.old.links) (book (S.state self.new.store) self.new.links) }
         ensures revision { self.new.revision ≡ self.old.revision }
     {
         let Some(pointer) = self.store.find(key.id) else {
@@ -432,6 +513,7 @@ impl<T: Value + Drop, R: Rule<T>, S: Storage<Node<T, R>>> Nodes<T, R, S> {
             Ok(()) => {}
             Err(_) => unreachable!(),
         }
+        self.links.marks.forget(&self.links.web, key.id.slot);
     }
 
     // Gives a key's node a rule or a value, in a new revision.
@@ -442,9 +524,16 @@ impl<T: Value + Drop, R: Rule<T>, S: Storage<Node<T, R>>> Nodes<T, R, S> {
             × (self.old.revision < self.new.revision)
             × IsPut (nodes_in (S.state self.old.store)) key n (nodes_in (S.state self.new.store))) }
         ensures live { OnOk result (nodes_in (S.state self.old.store) key ≢ None) }
+        ensures forgotten { OnOk result (AreForgotten (book (S.state self.old.store) self.old.links) (book (S.state self.new.store) self.new.links)) }
         ensures refused { OnErr result ((S.state self.new.store ≡ S.state self.old.store)
-            × (self.new.revision ≡ self.old.revision)) }
-        ensures cause { IfErr result (IsUnruled (record { state = S.state self.old.store; revision = self.old.revision }) key) }
+            × (self.new.revision ≡ self.old.revision)
+            × (self.new.links.marks.known.items ≡ self.old.links.marks.known.items)
+            × (self.new.links.web ≡ self.old.links.web)) }
+        ensures cause { IfErr result (IsUnruled (record {
+          state = S.state self.old.store;
+          revision = self.old.revision;
+          known = self.old.links.marks.known.items;
+        }) key) }
     {
         let Some(next) = self.revision.checked_add(1) else {
             return Err(Fault::Store(StoreError::NumbersExhausted));
@@ -455,6 +544,7 @@ impl<T: Value + Drop, R: Rule<T>, S: Storage<Node<T, R>>> Nodes<T, R, S> {
         }) else {
             return Err(Fault::Gone(key));
         };
+        self.links.marks.forget(&self.links.web, key.id.slot);
         self.revision = next;
         Ok(())
     }
@@ -466,8 +556,11 @@ impl<T: Value + Drop, R: Rule<T>, S: Storage<Node<T, R>>> Nodes<T, R, S> {
         ensures lost { OnOk result (HasLost (nodes_in (S.state self.old.store)) keys.now
             (nodes_in (S.state self.new.store))) }
         ensures later { OnOk result (self.old.revision < self.new.revision) }
+        ensures forgotten { OnOk result (AreForgotten (book (S.state self.old.store) self.old.links) (book (S.state self.new.store) self.new.links)) }
         ensures refused { OnErr result ((S.state self.new.store ≡ S.state self.old.store)
-            × (self.new.revision ≡ self.old.revision)) }
+            × (self.new.revision ≡ self.old.revision)
+            × (self.new.links.marks.known.items ≡ self.old.links.marks.known.items)
+            × (self.new.links.web ≡ self.old.links.web)) }
         ensures cause { IfErr result (λ f. (f ≡ fault.Store NumbersExhausted) × (self.old.revision + 1 ≡ 2 ^ 64)) }
     {
         let Some(next) = self.revision.checked_add(1) else {

@@ -16,6 +16,7 @@ ghost use Rattle.reactive.specs.Refreshing.{Answers, Blames};
 
 use crate::fault::Fault;
 use crate::key::Key;
+use crate::links::{Links, Marks, Web};
 use crate::node::Node;
 use crate::nodes::{Nodes, known_value, node_of};
 use crate::rule::Rule;
@@ -43,10 +44,18 @@ impl<T: Value + Drop, R: Rule<T>, S: Storage<Node<T, R>>> Model for Reactive<T, 
 
     ghost coded = { Prim.hlevel (codes, map.code) };
 
-    ghost view = { λ g. record { state = S.state g.nodes.store; revision = g.nodes.revision } };
+    ghost view = { λ g. record {
+      state = S.state g.nodes.store;
+      revision = g.nodes.revision;
+      known = g.nodes.links.marks.known.items;
+    } };
 
     ghost invariant = { λ g. IsKept R.plan
-        (record { state = S.state g.nodes.store; revision = g.nodes.revision }) };
+        (record {
+          state = S.state g.nodes.store;
+          revision = g.nodes.revision;
+          known = g.nodes.links.marks.known.items;
+        }) g.nodes.links.web };
 }
 
 impl<T: Value + Drop, R: Rule<T>, S: Storage<Node<T, R>>> Reactive<T, R, S> {
@@ -60,6 +69,8 @@ impl<T: Value + Drop, R: Rule<T>, S: Storage<Node<T, R>>> Reactive<T, R, S> {
         requires { IsFresh (S.state store) }
         ensures { (k : Key) → plans_in R.plan result k ≡ Stop }
     {
+        let marks = Marks::new(alloc);
+        let web = Web::new(alloc);
         Reactive {
             nodes: Nodes {
                 alloc,
@@ -67,6 +78,7 @@ impl<T: Value + Drop, R: Rule<T>, S: Storage<Node<T, R>>> Reactive<T, R, S> {
                 revision: 1,
                 runs: 0,
                 places: Vec::new(alloc),
+                links: Links { marks, web },
                 marker: PhantomData,
             },
         }
@@ -147,10 +159,11 @@ impl<T: Value + Drop, R: Rule<T>, S: Storage<Node<T, R>>> Reactive<T, R, S> {
     /// Refused, and then the node means nothing, by `Gone`, where it or a node that it needs has ended;
     /// by `Cycle`, where one of them needs itself; by `NoValue`, where a rule gives none. Refused too
     /// if memory runs out, and after 2^64 steps by `NumbersExhausted`. A later call begins again. A
-    /// node that is known already, as a source always is, is never refused.
+    /// node that is known already, as a source always is, is never refused, and that is O(1).
     ///
     /// A rule is run only where something that it read has changed since its last run. Time is linear in
-    /// the questions of the nodes that are looked at, and takes memory for a path of them.
+    /// the questions of the nodes that are looked at, of which none is known. Takes memory for a path of
+    /// them, and for links of those that ask for other nodes than before.
     ///
     /// ```rust
     /// graph.refresh(key)?;
@@ -170,7 +183,8 @@ impl<T: Value + Drop, R: Rule<T>, S: Storage<Node<T, R>>> Reactive<T, R, S> {
         self.nodes.refresh(key)
     }
 
-    /// The value of a node, if it is known without a step, as a source's always is: what the node means.
+    /// The value of a node, if it is known without a step, as a source's always is: what the node means. A
+    /// memo is known from a call that returned its value until something that it needs is changed.
     /// It is borrowed from the graph. Takes no memory, and is O(1).
     ///
     /// ```rust
@@ -183,7 +197,7 @@ impl<T: Value + Drop, R: Rule<T>, S: Storage<Node<T, R>>> Reactive<T, R, S> {
         ensures shown { option_copied result ≡ shown_in self.now key }
         ensures means { IfSome result (λ v. Means (plans_in R.plan self.now) key v.now) }
     {
-        known_value(&self.nodes.store, self.nodes.revision, key)
+        known_value(&self.nodes.store, &self.nodes.links.marks, key)
     }
 
     /// Brings a node up to date, and copies what it means now. No node means something else afterwards.
@@ -215,11 +229,12 @@ impl<T: Value + Drop, R: Rule<T>, S: Storage<Node<T, R>>> Reactive<T, R, S> {
         }
     }
 
-    /// Sets a source, unless it has the value already. Nothing is computed: several sets are a batch.
+    /// Sets a source, unless it has the value already. No rule is run: several sets are a batch. The memos
+    /// that need the source are known no longer, in time linear in the links between those that were; the
+    /// others stay known. If there is no memory for a list of what is left to visit, no memo stays known.
     ///
     /// Refused, in this order: `Gone`, where the node has ended, or is another graph's; `NoSource`, where
-    /// it has a rule; `NumbersExhausted`, after 2^64 sets. The graph is unchanged then. Takes no
-    /// memory, and is O(1).
+    /// it has a rule; `NumbersExhausted`, after 2^64 sets. The graph is unchanged then.
     ///
     /// ```rust
     /// graph.set(pieces, 4)?;
@@ -257,10 +272,11 @@ impl<T: Value + Drop, R: Rule<T>, S: Storage<Node<T, R>>> Reactive<T, R, S> {
         }
     }
 
-    /// Gives a memo another rule, or makes a source a memo. Nothing is computed.
+    /// Gives a memo another rule, or makes a source a memo. No rule is run; what needs the node is known
+    /// no longer, as with `set`.
     ///
     /// Refused, in this order: `NumbersExhausted`, after 2^64 sets; `Gone`, where the node has ended, or
-    /// is another graph's. The graph is unchanged then. Takes no memory, and is O(1).
+    /// is another graph's. The graph is unchanged then.
     ///
     /// ```rust
     /// graph.set_rule(node, Formula::Same(to))
@@ -276,10 +292,11 @@ impl<T: Value + Drop, R: Rule<T>, S: Storage<Node<T, R>>> Reactive<T, R, S> {
     }
 
     /// Ends the nodes of these keys, where they haven't ended, and no other. What needs one of them means
-    /// nothing from then on, and its refusals name the one that is gone.
+    /// nothing from then on, and its refusals name the one that is gone. It is known no longer, as with
+    /// `set`.
     ///
-    /// Refused by `NumbersExhausted` alone, after 2^64 sets: the graph is unchanged. Takes no memory,
-    /// and is O(n).
+    /// Refused by `NumbersExhausted` alone, after 2^64 sets: the graph is unchanged. O(n), and linear in
+    /// the links of what is known no longer.
     ///
     /// ```rust
     /// graph.end_all(&[price])?;

@@ -123,7 +123,7 @@ impl Scope {
     /// Ends the scope: its nodes end, and no other.
     ///
     /// Refused by `NumbersExhausted` alone, after 2^64 sets: the scope comes back, and the graph is
-    /// unchanged. Takes no memory, and is O(n).
+    /// unchanged. Time as `Reactive::end_all` takes.
     ///
     /// ```rust
     /// match scope.end(graph) {

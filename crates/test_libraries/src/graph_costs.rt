@@ -1,7 +1,9 @@
 //! How often rules are run.
 
 use crate::graph_lines::Answer::{AnyCycle, AnyFault};
-use crate::graph_lines::Line::{Answers, Chain, Ladder, Memo, Ran, Set, SetRule, Shows, Source};
+use crate::graph_lines::Line::{
+    Answers, Chain, End, Known, Ladder, Memo, Ran, Set, SetRule, Shows, Source, Unknown,
+};
 use crate::graph_lines::{Lines, take_whole};
 use crate::graph_plain::Plain::{Add, Blank, Odd, Pick, Same};
 
@@ -54,6 +56,67 @@ fn what_reads_a_value_that_stays_is_not_run(rt: HostRuntime) {
         Shows(3, 101, 1),
         Set(0, 6),
         Shows(3, 100, 2),
+    ]);
+    take_whole(&rt, rt.alloc(), &lines);
+}
+
+#[test]
+fn what_a_change_does_not_reach_stays_known(rt: HostRuntime) {
+    let lines = Lines(&[
+        Source(1),
+        Source(10),
+        Memo(Same(0)),
+        Memo(Same(1)),
+        Memo(Add(2, 3)),
+        Memo(Same(3)),
+        Shows(4, 11, 3),
+        Shows(5, 10, 1),
+        Set(0, 2),
+        Known(3),
+        Known(5),
+        Unknown(2),
+        Unknown(4),
+        Shows(4, 12, 2),
+        Known(2),
+        // a rule that is put, and a node that ends, reach what reads them
+        SetRule(2, Add(0, 0)),
+        Known(5),
+        Unknown(2),
+        Unknown(4),
+        Shows(4, 14, 2),
+        End(3),
+        Known(2),
+        Unknown(4),
+        Unknown(5),
+        // a new node leaves what is known, also in the slot of one that has ended
+        Memo(Same(2)),
+        Unknown(6),
+        Known(2),
+        Shows(6, 4, 1),
+        Set(0, 3),
+        Unknown(6),
+        Shows(6, 6, 2),
+    ]);
+    take_whole(&rt, rt.alloc(), &lines);
+}
+
+#[test]
+fn what_is_read_no_longer_marks_nothing(rt: HostRuntime) {
+    let lines = Lines(&[
+        Source(1),
+        Source(10),
+        Source(20),
+        Memo(Pick(0, 1, 2)),
+        Shows(3, 10, 1),
+        Set(2, 21),
+        Known(3),
+        Set(0, 0),
+        Shows(3, 21, 1),
+        Set(1, 11),
+        Known(3),
+        Set(2, 22),
+        Unknown(3),
+        Shows(3, 22, 1),
     ]);
     take_whole(&rt, rt.alloc(), &lines);
 }

@@ -57,6 +57,8 @@ pub(crate) enum Line<'a> {
     Ran(u64),
     /// A `get` is answered so.
     Answers(usize, Answer),
+    /// This node is known without a step.
+    Known(usize),
     /// This node isn't known without a step.
     Unknown(usize),
     Watch(usize),
@@ -238,6 +240,7 @@ impl<G: Graph> Table<G> {
                 let answer = self.answer(key)?;
                 Some(self.is(rt, answer, wanted))
             }
+            Line::Known(node) => Some(self.graph.is_known(self.key(rt, node))),
             Line::Unknown(node) => Some(!self.graph.is_known(self.key(rt, node))),
             Line::Prints(answer, text) => {
                 assert_prints(rt, self.alloc, &self.fault(rt, answer), text);

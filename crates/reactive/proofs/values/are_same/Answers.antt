@@ -1,5 +1,5 @@
 use Rattle.reactive.proofs.Comparing.{one_more, one_same}
-use Rattle.reactive.proofs.{ap, arith, drop, rules, sym, ◌+◌, ◌∙◌, ◌≡◌}
+use Rattle.reactive.proofs.{ap, arith, drop, rules, sym, ◌+◌, ◌∙◌}
 use Rattle.std.specs.Prelude.{◌&&◌}
 use Rattle.std.specs.Cmp.Lexicographic.{pointwise}
 use Rattle.reactive.proofs.values.are_same.Goals as goal

@@ -14,7 +14,7 @@ pub returns-then-is_on-clause-went : goal.returns-then-is_on-clause-went
 returns-then-is_on-clause-went g c = λ G start o.
     let a = c.in-Needs.ensures.advanced G o.sound o.last in
     let is = c.is_on.ensures c.if-is_on.true in
-    rw c.note.ensures.store (
+    rw (c.note.ensures.store, c.note.ensures.links) (
       a.sound,
       way_round o a c.in-Needs.next c.in-Needs.place a.stepped.0 is.0 is.1
           (rw c.in-Ok.ensures.items at is.2) is.3,
@@ -23,7 +23,7 @@ returns-then-is_on-clause-went g c = λ G start o.
 pub returns-else-is_on-clause-went : goal.returns-else-is_on-clause-went
 returns-else-is_on-clause-went g c = λ G start o.
     let a = c.in-Needs.ensures.advanced G o.sound o.last in
-    rw (c.note.ensures.store, c.in-Ok.ensures.items)
+    rw (c.note.ensures.store, c.note.ensures.links, c.in-Ok.ensures.items)
     (way_on o a c.in-Needs.next c.in-Needs.place a.stepped.0 a.stepped.1)
 
 pub returns-in-Gone-clause-went : goal.returns-in-Gone-clause-went
@@ -34,3 +34,14 @@ returns-in-Gone-clause-went g c = λ G start o.
 pub returns-in-NoValue-clause-went : goal.returns-in-NoValue-clause-went
 returns-in-NoValue-clause-went g c = λ G start o.
     let a = c.in-NoValue.ensures.advanced G o.sound o.last in (a.sound, (way_mute o a a.stepped, a.stepped))
+
+pub returns-then-not-note-clause-went : goal.returns-then-not-note-clause-went
+returns-then-not-note-clause-went g c = λ G start o. rw (c.note.ensures.store, c.note.ensures.links)
+    ((c.in-Needs.ensures.advanced G o.sound o.last).sound, tt)
+
+pub returns-in-Err-clause-went : goal.returns-in-Err-clause-went
+returns-in-Err-clause-went g c = λ G start o. rw (c.note.ensures.store, c.note.ensures.links)
+    ((c.in-Needs.ensures.advanced G o.sound o.last).sound, tt)
+
+pub returns-in-Full-clause-went : goal.returns-in-Full-clause-went
+returns-in-Full-clause-went g c = λ G start o. ((c.in-Full.ensures.advanced G o.sound o.last).sound, tt)

@@ -1,4 +1,4 @@
-use Rattle.reactive.proofs.{made_none, made_puts, made_simple, make_short, sym}
+use Rattle.reactive.proofs.{book, forgotten, made_none, made_puts, made_simple, make_short, refl, sym}
 use Rattle.reactive.proofs.nodes.Nodes.insert.Goals as goal
 
 pub returns-in-Ok-clause-simple : goal.returns-in-Ok-clause-simple
@@ -15,3 +15,12 @@ returns-in-Ok-clause-put g c =
 
 pub returns-in-Err-clause-short : goal.returns-in-Err-clause-short
 returns-in-Err-clause-short g c = (make_short _ _ _ c.in-Err.ensures.step).1
+
+pub returns-in-Ok-clause-forgotten : goal.returns-in-Ok-clause-forgotten
+returns-in-Ok-clause-forgotten g c =
+    let put = made_puts (g.met.S.AnyStorage.sound _) c.args.node c.args.here c.in-Ok.raw (record { id = c.id.result })
+    (sym c.id.ensures) c.in-Ok.ensures.step in
+    forgotten (book (g.S.AnyStorage.state c.args.self.now.store) c.args.self.now.links)
+    (book (g.S.AnyStorage.state c.leak.new.store)
+    (record { marks = c.forget.new.self; web = c.args.self.now.links.web })) (record { id = c.id.result }) refl _ _ refl
+    refl c.forget.ensures put.others

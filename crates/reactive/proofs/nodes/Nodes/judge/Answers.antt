@@ -1,30 +1,43 @@
-use Rattle.reactive.proofs.{asked_goes, asked_needs, kept_leads, kept_walk, known_here, needs_gone, sym, ◌∙◌}
+use Rattle.reactive.proofs.{ap, asked_goes, asked_needs, is_some, kept_leads, kept_walk, known_by, known_here, needs_gone}
+use Rattle.reactive.proofs.{rules, Some, sym, ◌∙◌}
 use Rattle.reactive.proofs.nodes.Nodes.judge.Goals as goal
 
 pub returns-then-is_known-clause-looked : goal.returns-then-is_known-clause-looked
-returns-then-is_known-clause-looked g c = λ G k s at goes.
-    known_here s k c.args.node.now at (sym c.is_known.ensures ∙ c.if-is_known.true)
+returns-then-is_known-clause-looked g c = λ G s at goes.
+    known_here s c.args.key c.args.node.now at
+    (ap (λ b. is_some (known_by b (Some c.args.node.now))) (sym c.knows.ensures)
+    ∙ (sym c.is_known.ensures ∙ c.if-is_known.true))
 
 pub returns-in-Same-clause-looked : goal.returns-in-Same-clause-looked
-returns-in-Same-clause-looked g c = λ G k s at goes.
+returns-in-Same-clause-looked g c = λ G s at goes.
     let n = c.args.node.now in
-    let (v, value, (w, known)) = kept_walk s k n at c.in-Some-place.from (rw c.in-Some-place.is at goes)
-    (sym c.is_known.ensures ∙ c.if-is_known.false) (sym c.is_some.ensures ∙ c.if-is_some.true) in
+    let (v, value, (w, known)) = kept_walk s c.args.key n at c.in-Some-place.from (rw c.in-Some-place.is at goes)
+    (ap (λ b. is_some (known_by b (Some n))) (sym c.knows.ensures)
+    ∙ (sym c.is_known.ensures ∙ c.if-is_known.false)) (c.is_kept.ensures.value (search rules)) in
     let all = c.in-Same.ensures w.answers (w.asked ∙ sym c.deref.ensures.value) w.stand known in
-    (n, at, (v, value, kept_leads s k n at v value w c.in-Some.rule c.in-Some.is all))
+    (n, at, (v, value, kept_leads s c.args.key n at v value w c.in-Some.rule c.in-Some.is all))
 
 pub returns-in-Unknown-clause-looked : goal.returns-in-Unknown-clause-looked
-returns-in-Unknown-clause-looked g c = λ G k s at goes.
+returns-in-Unknown-clause-looked g c = λ G s at goes.
     let n = c.args.node.now in
-    let (v, value, (w, known)) = kept_walk s k n at c.in-Some-place.from (rw c.in-Some-place.is at goes)
-    (sym c.is_known.ensures ∙ c.if-is_known.false) (sym c.is_some.ensures ∙ c.if-is_some.true) in
+    let (v, value, (w, known)) = kept_walk s c.args.key n at c.in-Some-place.from (rw c.in-Some-place.is at goes)
+    (ap (λ b. is_some (known_by b (Some n))) (sym c.knows.ensures)
+    ∙ (sym c.is_known.ensures ∙ c.if-is_known.false)) (c.is_kept.ensures.value (search rules)) in
     let is = c.in-Unknown.ensures w.answers (w.asked ∙ sym c.deref.ensures.value) w.stand known in
-    (asked_needs s k n at v value w _ _ is, asked_goes s k n at v value w _ _ is)
+    (asked_needs s c.args.key n at v value w _ _ is, asked_goes s c.args.key n at v value w _ _ is)
 
 pub returns-in-Gone-clause-looked : goal.returns-in-Gone-clause-looked
-returns-in-Gone-clause-looked g c = λ G k s at goes.
+returns-in-Gone-clause-looked g c = λ G s at goes.
     let n = c.args.node.now in
-    let (v, value, (w, known)) = kept_walk s k n at c.in-Some-place.from (rw c.in-Some-place.is at goes)
-    (sym c.is_known.ensures ∙ c.if-is_known.false) (sym c.is_some.ensures ∙ c.if-is_some.true) in
+    let (v, value, (w, known)) = kept_walk s c.args.key n at c.in-Some-place.from (rw c.in-Some-place.is at goes)
+    (ap (λ b. is_some (known_by b (Some n))) (sym c.knows.ensures)
+    ∙ (sym c.is_known.ensures ∙ c.if-is_known.false)) (c.is_kept.ensures.value (search rules)) in
     let is = c.in-Gone.ensures w.answers (w.asked ∙ sym c.deref.ensures.value) w.stand known in
-    (needs_gone s k c.in-Gone.other (asked_needs s k n at v value w _ _ is.1.1) is.0, is.0)
+    (needs_gone s c.args.key c.in-Gone.other (asked_needs s c.args.key n at v value w _ _ is.1.1) is.0, is.0)
+
+pub returns-in_default-place-clause-looked : goal.returns-in_default-place-clause-looked
+returns-in_default-place-clause-looked g c = λ G s at goes.
+    c.rerun.ensures.looked G c.args.key c.args.node.now s at c.in-Some.is
+
+pub returns-clause-looked : goal.returns-clause-looked
+returns-clause-looked g c = λ G s at goes. c.rerun-2.ensures.looked G c.args.key c.args.node.now s at c.in-Some.is

@@ -1,6 +1,41 @@
+use Rattle.reactive.proofs.{arith, book, is_some, known_of, true, ◌∙◌, ◌≡◌}
 use Rattle.reactive.proofs.nodes.Nodes.refresh.Goals as goal
 
 pub returns-in-Ok-None-clause-refreshed : goal.returns-in-Ok-None-clause-refreshed
 returns-in-Ok-None-clause-refreshed g c = λ G s.
     let inv = c.loop-step.invariant in
     let went = rw (c.in-Ok-None.field-0-is, inv.1) at c.in-Ok-None.ensures.went in (went G c.args.key (inv.2 G s)).1
+
+pub returns-in-Ok-None-clause-sound : goal.returns-in-Ok-None-clause-sound
+returns-in-Ok-None-clause-sound g c = λ G s.
+    let inv = c.loop-step.invariant in
+    let went = rw (c.in-Ok-None.field-0-is, inv.1) at c.in-Ok-None.ensures.went in (went G c.args.key (inv.2 G s)).0
+
+pub returns-in-Err-clause-sound : goal.returns-in-Err-clause-sound
+returns-in-Err-clause-sound g c = λ G s.
+    let inv = c.loop-step.invariant in
+    let went = rw inv.1 at c.in-Err.ensures.went in (went G c.args.key (inv.2 G s)).0
+
+pub returns-in-Err-clause-refreshed : goal.returns-in-Err-clause-refreshed
+returns-in-Err-clause-refreshed g c = λ G s.
+    let inv = c.loop-step.invariant in
+    let went = rw inv.1 at c.in-Err.ensures.went in (went G c.args.key (inv.2 G s)).1
+
+pub returns-clause-sound : goal.returns-clause-sound
+returns-clause-sound g c = λ G s. (c.loop-step.invariant.2 G s).sound
+
+pub loop-step-preserved : goal.loop-step-preserved
+loop-step-preserved g c =
+    let inv = c.loop-step.invariant in (
+      c.go_on.ensures.simple,
+      c.go_on.ensures.revision ∙ inv.1,
+      (λ G s. let went = rw (c.in-Ok-Some.field-0-is, inv.1) at c.in-Ok-Some.ensures.went in went G c.args.key (inv.2 G s)),
+      c.go_on.ensures.kinds ∙ inv.3,
+      (λ sure.
+          let h = inv.4 sure in
+          let here : is_some (known_of (book (g.S.AnyStorage.state c.loop-step.self.store) c.loop-step.self.links)
+          c.loop-step.top.key) ≡ true = rw (h.3, h.4, h.1) sure in
+          let is = c.in-Ok-Some.ensures.known here h.0 in
+          let some = c.in-Ok-Some.field-0-is in
+          absurd (let wrong : ⊥ = grind arith in wrong)),
+    )

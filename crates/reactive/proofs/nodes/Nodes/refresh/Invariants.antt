@@ -1,15 +1,15 @@
-use Rattle.reactive.proofs.{Graph, is_some, IsOnTheWay, IsSimple, IsSound, kinds_of, known_of, nodes_in, true}
+use Rattle.reactive.proofs.{book, Graph, is_some, IsOnTheWay, IsSimple, IsSound, kinds_of, known_of, nodes_in, true}
 use Rattle.reactive.proofs.{[], ◌≡◌}
 use Rattle.reactive.proofs.nodes.Nodes.refresh.Given as goal
 
 -- It is on the way from the node that was asked for; where that was known, this is the first step.
 abbrev pub invariant-loop-step : goal.invariant-loop-step
 invariant-loop-step g l = IsSimple (g.S.AnyStorage.state l.self.store) × (l.self.revision ≡ l.fn.self.revision)
-    × ((G : Graph _) → IsSound g.R.Rule.plan G l.fn.self.revision (nodes_in (g.S.AnyStorage.state l.fn.self.store))
-    → IsOnTheWay g.R.Rule.plan G l.fn.self.revision (nodes_in (g.S.AnyStorage.state l.self.store)) l.fn.key
+    × ((G : Graph _) → IsSound g.R.Rule.plan G l.fn.self.revision (book (g.S.AnyStorage.state l.fn.self.store) l.fn.self.links)
+    → IsOnTheWay g.R.Rule.plan G l.fn.self.revision (book (g.S.AnyStorage.state l.self.store) l.self.links) l.fn.key
     l.path.items l.top)
     × (kinds_of (nodes_in (g.S.AnyStorage.state l.self.store))
     ≡ kinds_of (nodes_in (g.S.AnyStorage.state l.fn.self.store)))
-    × (is_some (known_of (nodes_in (g.S.AnyStorage.state l.fn.self.store)) l.fn.self.revision l.fn.key) ≡ true
+    × (is_some (known_of (book (g.S.AnyStorage.state l.fn.self.store) l.fn.self.links) l.fn.key) ≡ true
     → (l.path.items ≡ []) × (l.top.key ≡ l.fn.key) × (l._step ≡ 0)
-    × (g.S.AnyStorage.state l.self.store ≡ g.S.AnyStorage.state l.fn.self.store))
+    × (g.S.AnyStorage.state l.self.store ≡ g.S.AnyStorage.state l.fn.self.store) × (l.self.links ≡ l.fn.self.links))

@@ -1,3 +1,4 @@
+use Rattle.reactive.proofs.{book, forgotten, refl}
 use Rattle.reactive.proofs.{end_none, end_others, Err, not_found, pointer_in, quiet_ends, simple_still}
 use Rattle.reactive.proofs.{stuck_none, sym, true≢false}
 use Rattle.reactive.proofs.nodes.Nodes.remove.Goals as goal
@@ -24,3 +25,12 @@ returns-clause-ended g c = end_none (g.met.S.AnyStorage.sound _) c.requires.simp
 pub returns-clause-others : goal.returns-clause-others
 returns-clause-others g c = end_others (g.met.S.AnyStorage.sound _) c.requires.simple c.args.key c.in-Some.pointer
     c.in-Some.ensures c.can_write.ensures c.if-not-can_write.false c.in-Ok.ensures
+
+pub returns-clause-forgotten : goal.returns-clause-forgotten
+returns-clause-forgotten g c =
+    forgotten (book (g.S.AnyStorage.state c.args.self.now.store) c.args.self.now.links)
+    (book (g.S.AnyStorage.state c.recycle.new.self)
+    (record { marks = c.forget.new.self; web = c.args.self.now.links.web })) c.args.key refl _ _ refl refl
+    c.forget.ensures
+    (end_others (g.met.S.AnyStorage.sound _) c.requires.simple c.args.key c.in-Some.pointer c.in-Some.ensures
+    c.can_write.ensures c.if-not-can_write.false c.in-Ok.ensures)

@@ -1,23 +1,23 @@
 use Rattle.reactive.proofs.{needs_gone, rerun_leads, rerun_mute, rerun_needs, sym}
 use Rattle.reactive.proofs.nodes.Nodes.rerun.Goals as goal
 
-pub returns-in-Some-node_of : goal.returns-in-Some-node_of
-returns-in-Some-node_of g c = λ G k n s at has.
+pub returns-in-Some-node_of-clause-looked : goal.returns-in-Some-node_of-clause-looked
+returns-in-Some-node_of-clause-looked g c = λ G k n s at has.
     let run = c.run-result.ensures in
     (rerun_needs s k n at _ has run.0 run.3 _ _ (rw c.in-Some.is at (run.2 c.if-is_full.false)), tt)
 
-pub returns-in-Some : goal.returns-in-Some
-returns-in-Some g c = λ G k n s at has.
+pub returns-in-Some-clause-looked : goal.returns-in-Some-clause-looked
+returns-in-Some-clause-looked g c = λ G k n s at has.
     let run = c.run-result.ensures in
     let gone = sym c.in-None-node_of.ensures in
     (needs_gone s k _ (rerun_needs s k n at _ has run.0 run.3 _ _ (rw c.in-Some.is at (run.2 c.if-is_full.false))) gone, gone)
 
-pub returns-in-Some-result : goal.returns-in-Some-result
-returns-in-Some-result g c = λ G k n s at has.
+pub returns-in-Some-result-clause-looked : goal.returns-in-Some-result-clause-looked
+returns-in-Some-result-clause-looked g c = λ G k n s at has.
     let run = c.run-result.ensures in
     (n, at, rerun_leads s k n at _ has run.0 run.3 _ _ run.1 (rw (c.in-None.is, c.in-Some-result.is) at (run.2 c.if-is_full.false)))
 
-pub returns : goal.returns
-returns g c = λ G k n s at has.
+pub returns-clause-looked : goal.returns-clause-looked
+returns-clause-looked g c = λ G k n s at has.
     let run = c.run-result.ensures in
     rerun_mute s k n at _ has run.0 run.3 (rw (c.in-None.is, c.in-None-result.is) at (run.2 c.if-is_full.false))

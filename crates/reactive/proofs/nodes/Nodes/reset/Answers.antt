@@ -1,4 +1,5 @@
-use Rattle.reactive.proofs.{arith, none-some, Node, refl, rules, sym, ◌∙◌, ◌≡◌}
+use Rattle.reactive.proofs.{ap, arith, book, forgotten, HasForgotten, none-some, refl, rules, subst, sym, vec_items}
+use Rattle.reactive.proofs.{◌∙◌, ◌≡◌}
 use Rattle.reactive.proofs.nodes.Nodes.reset.Goals as goal
 
 pub returns-clause-put : goal.returns-clause-put
@@ -20,3 +21,13 @@ returns-clause-put g c =
 
 pub returns-clause-live : goal.returns-clause-live
 returns-clause-live g c = λ none. none-some _ (sym none ∙ c.in-Some-change.ensures.changed.had)
+
+pub returns-clause-forgotten : goal.returns-clause-forgotten
+returns-clause-forgotten g c =
+    let now = c.forget.new.self.known.items in
+    forgotten (book (g.S.AnyStorage.state c.args.self.now.store) c.args.self.now.links)
+    (book (g.S.AnyStorage.state c.change.new.self.store)
+    (record { marks = c.forget.new.self; web = c.change.new.self.links.web })) c.args.key
+    (ap (λ l. l.web) c.change.ensures.links) _ now refl refl
+    (subst (λ l. HasForgotten l.web (vec_items l.marks.known) c.args.key.id.slot now) c.change.ensures.links c.forget.ensures)
+    c.in-Some-change.ensures.changed.put.others

@@ -2,5 +2,5 @@ use Rattle.reactive.proofs.{kept_lost}
 use Rattle.reactive.proofs.reactive.Reactive.end_all.Goals as goal
 
 pub invariant_of-self : goal.invariant_of-self
-invariant_of-self g c = kept_lost c.remove_all.result _ _ c.args.keys.now c.remove_all.ensures.lost
-    c.remove_all.ensures.refused c.self.invariant c.remove_all.ensures.simple c.remove_all.ensures.later
+invariant_of-self g c = kept_lost c.remove_all.result _ _ _ _ c.args.keys.now c.remove_all.ensures.lost
+    c.remove_all.ensures.refused c.remove_all.ensures.forgotten c.self.invariant c.remove_all.ensures.simple c.remove_all.ensures.later

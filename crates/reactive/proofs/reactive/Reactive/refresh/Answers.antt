@@ -1,4 +1,4 @@
-use Rattle.reactive.proofs.{is_some, kept_refreshed, None, Option, refl, refreshed_blames, refreshed_shown}
+use Rattle.reactive.proofs.{GraphState, is_some, kept_refreshed, None, Option, refl, refreshed_blames, refreshed_shown}
 use Rattle.reactive.proofs.{same_plans, Some, true, ◌≡◌, ◌≢◌}
 use Rattle.reactive.proofs.reactive.Reactive.refresh.Goals as goal
 
@@ -7,18 +7,29 @@ some_is (Some v) not = refl
 some_is None not = absurd (not refl)
 
 pub invariant_of-self : goal.invariant_of-self
-invariant_of-self g c = kept_refreshed _ _ c.refresh.ensures.simple c.refresh.ensures.revision
+invariant_of-self g c =
+    let old : GraphState _ _ = record {
+      state = g.S.AnyStorage.state c.self.inside.nodes.store;
+      revision = c.self.inside.nodes.revision;
+      known = c.self.inside.nodes.links.marks.known.items;
+    } in
+    kept_refreshed old _ _ c.refresh.ensures.simple c.refresh.ensures.revision
     (c.refresh.ensures.sound _ c.self.invariant.sound)
 
 pub returns : goal.returns
 returns g c =
+    let old : GraphState _ _ = record {
+      state = g.S.AnyStorage.state c.self.inside.nodes.store;
+      revision = c.self.inside.nodes.revision;
+      known = c.self.inside.nodes.links.marks.known.items;
+    } in
     let simple = c.refresh.ensures.simple in
     let same = c.refresh.ensures.revision in
     let sound = c.refresh.ensures.sound _ c.self.invariant.sound in
     let refreshed = c.refresh.ensures.refreshed _ c.self.invariant.sound in rw (← c.self.view_is) (record {
-      shown = refreshed_shown _ _ simple same sound c.args.key _ refreshed;
-      blames = refreshed_blames _ _ simple same sound c.refresh.ensures.kinds c.args.key _ refreshed;
-      plans = same_plans _ _ simple same sound;
+      shown = refreshed_shown old _ _ simple same sound c.args.key _ refreshed;
+      blames = refreshed_blames old _ _ simple same sound c.refresh.ensures.kinds c.args.key _ refreshed;
+      plans = same_plans old _ _ simple same sound;
       kinds = c.refresh.ensures.kinds;
       known = λ shown. c.refresh.ensures.known (some_is _ shown);
     })

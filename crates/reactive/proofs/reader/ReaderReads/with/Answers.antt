@@ -1,10 +1,10 @@
-use Rattle.reactive.proofs.{ap, asked_more, asked_of, given_more, known_of, map_push, nodes_in, refl, rules, Some}
+use Rattle.reactive.proofs.{ap, asked_more, asked_of, given_more, map_push, nodes_in, refl, rules, shown_by, Some}
 use Rattle.reactive.proofs.{sym, [], ◌++◌, ◌∙◌, ◌∷◌, ◌≡◌}
 use Rattle.reactive.proofs.reader.ReaderReads.with.Goals as goal
 
 pub returns-in-Ok-clause-some : goal.returns-in-Ok-clause-some
 returns-in-Ok-clause-some g c =
-    let shown = known_of (nodes_in (g.S.AnyStorage.state c.args.self.now.store.now)) c.args.self.now.revision in
+    let shown = shown_by (nodes_in (g.S.AnyStorage.state c.args.self.now.store.now)) c.args.self.now.marks.now.known.items in
     let is : shown c.args.key ≡ Some c.in-Some.value.now = sym c.in-Some.ensures in
     let more = asked_more shown c.args.self.now.reads.items c.args.key c.in-Some.value.now is in (
       c.in-Some.value.now,
@@ -16,7 +16,7 @@ returns-in-Ok-clause-some g c =
 
 pub returns-in-Ok-clause-right : goal.returns-in-Ok-clause-right
 returns-in-Ok-clause-right g c = λ shown h.
-    let known = known_of (nodes_in (g.S.AnyStorage.state c.args.self.now.store.now)) c.args.self.now.revision in
+    let known = shown_by (nodes_in (g.S.AnyStorage.state c.args.self.now.store.now)) c.args.self.now.marks.now.known.items in
     let keys = c.args.self.now.reads.items in
     let is : known c.args.key ≡ Some c.in-Some.value.now = sym c.in-Some.ensures in
     rw (c.in-Ok.ensures.items, asked_more known keys c.args.key c.in-Some.value.now is) (

@@ -15,7 +15,7 @@ pub use Rattle.generational_core.specs.{Boxes.name_of, Answers.pointer_of, Seein
 pub use Rattle.generational_errors.specs.declared.error.Location.{Location}
 use Rattle.generational_sessions.proofs.callers as sessions
 pub use sessions.{found_sees, free_seen, fresh_sees, fresh_simple, made_simple, make_short}
-pub use sessions.{others_left, reach_apart, same_id_reach, same_id_sees, seen_store, simple_still}
+pub use sessions.{one_id, others_left, reach_apart, same_id_reach, same_id_sees, seen_store, simple_still}
 pub use sessions.{stuck_unseen}
 pub use Rattle.generational_sessions.specs.PlainStores.{IsSimple}
 pub use Rattle.reactive.specs.Graphs.{GraphState, IsKept, kind_by, kind_by_rule}
@@ -23,14 +23,19 @@ pub use Rattle.reactive.specs.Graphs.{kind_in, kinds_of, plans_in, shown_in}
 pub use Rattle.reactive.specs.Meaning.{AllMean, Gives, gives, goes_on, Graph, IsMute}
 pub use Rattle.reactive.specs.Plans.{AreGiven, Ask, Asked, Follows, Give, Plan, Ran, Stop}
 pub use Rattle.reactive.specs.Refreshing.{Blames, IsAdvanced, IsOnTheWay, Refreshed}
-pub use Rattle.reactive.specs.Tables.{AllStand, AreKnown, asked_of, graph_of, IsKnown, IsPut}
+pub use Rattle.reactive.specs.Tables.{AllStand, AreKnown, AreLinked, asked_of, book, book_by, Book, graph_of, IsHeld, IsKnown, IsPut, shown_by}
+pub use Rattle.reactive.specs.Links.{HasForgotten, holds, IsLinked, IsRelinked, Keeps, known_at, knows, owner_at, Owns}
+pub use Rattle.reactive.specs.declared.links.Web.{Web}
+pub use Rattle.std.specs.List.{Contains}
 pub use Rattle.reactive.specs.Tables.{IsSound, IsWalk, known_by, known_of, nodes_in, plan_at}
 pub use Rattle.reactive.specs.Tables.{plan_by, pointer_in, Shows, Stands, Table}
 pub use Rattle.reactive.specs.{Chains.AllGoOn, Hearing.AllHear, Chains.Chain}
 pub use Rattle.reactive.specs.{declared.effects.Effect.Effect, declared.fault.Fault.Fault}
 pub use Rattle.reactive.specs.{declared.look.Frame.Frame, Chains.GoesOn, Ending.HasLost}
+pub use Rattle.reactive.specs.Ending.{AreForgotten}
 pub use Rattle.reactive.specs.{Hearing.Hears, Ending.IsAmong, Looks.IsAsked}
 pub use Rattle.reactive.specs.{Changing.IsResetTo, Settling.IsSettled, declared.key.Key.Key}
+pub use Rattle.reactive.specs.Settling.{IsLearned, IsLeft}
 pub use Rattle.reactive.specs.{Looks.LeadsTo, Settling.Leaves, Meaning.Means, Meaning.Needs}
 pub use Rattle.reactive.specs.{declared.node.Node.Node, Hearing.Says}
 pub use Rattle.reactive.specs.{declared.look.Step.Step, Looks.Stepped, declared.effects.Told.Told}
@@ -39,6 +44,8 @@ pub use Rattle.std.proofs.Common.{Err, false, get_or, inl, inr, length, List, No
 pub use Rattle.std.proofs.Common.{refl, Result, rules, set, Some, subst, suc, sym, take, true, zero}
 pub use Rattle.std.proofs.Common.{ℕ, [], ⊎_elim, ◌++◌, ◌+◌, ◌<◌, ◌∙◌, ◌∷◌, ◌≡◌, ◌≢◌, ◌≤◌}
 pub use Rattle.std.proofs.lemmas.Bool.{cases_eq, true≢false}
+pub use Rattle.std.proofs.lemmas.Bool.Decides.{eqb_tells}
+pub use Rattle.std.specs.Prelude.{nat_eq}
 pub use Rattle.std.proofs.lemmas.List.{append-nil, map_push, nil_from_length, set-get_or, take_more}
 pub use Rattle.std.proofs.lemmas.Option.{none-some, same_Some, slice_get-get_or}
 pub use Rattle.std.proofs.{lemmas.Fn.filter_same, Math.Seq.take-append_seam}

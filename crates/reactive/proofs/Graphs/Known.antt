@@ -1,0 +1,371 @@
+-- What is known of nodes is what they mean, and what looks at them find.
+pub mod Meanings
+unfoldable pub use Meanings.*
+
+-- ==== what is known of a table's nodes is what they mean
+
+pub live_node : {X : Type 0} (o : Option X) → o ≢ None → (x : X) × (o ≡ Some x)
+live_node (Some x) live = (x, refl)
+live_node None live = absurd (live refl)
+
+module _ {T : Type 0} (shown : Key → Option T) where
+  -- ---- questions that were answered by what is shown, with one more
+
+  pub asked_more : (keys : List Key) (k : Key) (v : T) → shown k ≡ Some v
+      → asked_of shown (keys ++ k ∷ []) ≡ asked_of shown keys ++ record { key = k; value = v } ∷ []
+  asked_more [] k v is = cc
+  asked_more (j ∷ rest) k v is = grind (arith, asked_more rest k v is)
+
+  pub given_more : (answers : List (Asked T)) (k : Key) (v : T) → shown k ≡ Some v
+      → AreGiven shown answers → AreGiven shown (answers ++ record { key = k; value = v } ∷ [])
+  given_more [] k v is all = (is, tt)
+  given_more (a ∷ rest) k v is (h, all) = (h, given_more rest k v is all)
+
+-- ---- what is known of slots is known of memos
+
+pub knows_is : (known : ℕ → Option ℕ) (k : Key) → knows known k ≡ true → known k.id.slot ≡ Some k.id.generation
+knows_is known k is = by_slot (known k.id.slot) is where
+  by_slot : (o : Option ℕ) → holds o k.id.generation ≡ true → o ≡ Some k.id.generation
+  by_slot None is = absurd (true≢false (sym is))
+  by_slot (Some g) is = ap Some (eqb-true g k.id.generation is)
+
+pub is_knows : (known : ℕ → Option ℕ) (k : Key) → known k.id.slot ≡ Some k.id.generation → knows known k ≡ true
+is_knows known k is = rw is (eq-eqb k.id.generation k.id.generation refl)
+
+pub unlike : (m n : ℕ) → m ≢ n → nat_eq m n ≡ false
+unlike m n ne = ⊎_elim (λ same. absurd (ne same.1)) (λ other. other.0) (eqb_tells m n)
+
+pub none_knows : (known : ℕ → Option ℕ) (k : Key) → known k.id.slot ≡ None → knows known k ≡ true → ⊥
+none_knows known k none is = none-some _ (sym none ∙ knows_is known k is)
+
+module _ {T R : Type 0} where
+  -- ---- what is found to be known is known, and the other way round
+
+  pub known_node : (sure : Bool) (n : Node T R) (v : T) → known_by sure (Some n) ≡ Some v → IsKnown sure n v
+  known_node true n v is = grind arith
+  known_node false n v is = grind arith
+
+  pub known_shows : (sure : Bool) (o : Option (Node T R)) (v : T) → known_by sure o ≡ Some v
+      → (n : Node T R) × (o ≡ Some n) × IsKnown sure n v
+  known_shows sure None v is = cc
+  known_shows sure (Some n) v is = (n, refl, known_node sure n v is)
+
+  known_if : (sure : Bool) (n : Node T R) (v : T) → IsKnown sure n v → known_by sure (Some n) ≡ Some v
+  known_if true n v is = grind arith
+  known_if false n v is = grind arith
+
+  pub shown_known : (b : Book T R) (k : Key) (v : T) → Shows b k v → known_of b k ≡ Some v
+  shown_known b k v (n, at, is) = rw at (known_if (knows b.known k) n v is)
+
+  pub given_known : (b : Book T R) (answers : List (Asked T)) → AreGiven (known_of b) answers → AreKnown b answers
+  given_known b [] all = tt
+  given_known b (a ∷ rest) (h, all) =
+      (known_shows (knows b.known a.key) (b.nodes a.key) a.value h, given_known b rest all)
+
+module _ {T R : Type 0} {plan : R → Plan T} {G : Graph T} {now : ℕ} {b : Book T R}
+    (s : IsSound plan G now b) where
+  -- ---- what is known is what is meant
+
+  pub plan_here : (k : Key) (n : Node T R) → b.nodes k ≡ Some n → G k ≡ plan_by plan n.rule n.value
+  plan_here k n at = cc (s.same k)
+
+  -- a key without a node has a plan that stops
+  pub none_stops : (k : Key) → b.nodes k ≡ None → G k ≡ Stop
+  none_stops k none = cc (s.same k)
+
+  pub known_means : (k : Key) (v : T) → Shows b k v → Means G k v
+  known_means k v (n, at, (has, known)) = ⊎_elim
+      (λ none. let e : G k ≡ Give v = cc (plan_here k n at) in rw e (gives v))
+      (λ is. let h = s.held k n at is v has in walked G (G k) h.answers (Give v) v h.leads h.mean (gives v))
+      known
+
+  pub all_mean : (answers : List (Asked T)) → AreKnown b answers → AllMean G answers
+  all_mean [] all = tt
+  all_mean (a ∷ rest) (h, all) = (known_means a.key a.value h, all_mean rest all)
+
+-- where answers stand one by one in another table too, they stand there all
+pub stand_all : {T R : Type 0} (G : Graph T) (now since : ℕ) (old new : Table T R)
+    → ((a : Asked T) → (since ≡ now → Means G a.key a.value) → Stands old since a → Stands new since a)
+    → (answers : List (Asked T)) → (since ≡ now → AllMean G answers) → AllStand old since answers
+    → AllStand new since answers
+stand_all G now since old new each [] mean all = tt
+stand_all G now since old new each (a ∷ rest) mean (h, all) =
+    (each a (λ e. (mean e).0) h, stand_all G now since old new each rest (λ e. (mean e).1) all)
+
+-- ==== effects hear one after another
+
+module _ {T : Type 0} (same : T → T → Bool) (G : Graph T) where
+  -- one more effect hears what its node means
+  pub hear_more : (n : ℕ) (old now : List (Effect T)) (told one : List (Told T)) (e f : Effect T)
+      (a : Result T Fault) → AllHear same G n old now told → slice_get now n ≡ Some e → Says G e.key a
+      → Hears same e a f one → AllHear same G (suc n) old (set now n f) (told ++ one)
+  hear_more zero (o ∷ old) (m ∷ now) told one e f a (same_now, none) is says hears =
+      let here : e ≡ o = cc in
+      let rest : now ≡ old = cc in
+      rw (← here) (a, says, (one, [], rw none (sym (append-nil one)), hears, (rest, refl)))
+  hear_more zero old now told one e f a (same_now, none) is says hears = cc
+  hear_more (suc n) (o ∷ old) (m ∷ now) told one e f a (b, said, (first, more, told_is, heard, rest)) is says hears = (
+    b,
+    said,
+    (
+      first,
+      more ++ one,
+      rw told_is (append_assoc first more one),
+      heard,
+      hear_more n old now more one e f a rest is says hears,
+    ),
+  )
+  hear_more (suc n) old now told one e f a h is says hears = absurd h
+
+  -- there are as many effects as before, and at least those that have heard
+  all_length : (n : ℕ) (old now : List (Effect T)) (told : List (Told T)) → AllHear same G n old now told
+      → (length now ≡ length old) × (n ≤ length old)
+  all_length zero old now told h = (ap length h.0, omega arith)
+  all_length (suc n) (o ∷ old) (m ∷ now) told h = grind (arith, all_length n old now h.2.1 h.2.4)
+  all_length (suc n) old now told h = absurd h
+
+  -- the effects that are left are these
+  pub all_kept : (n k : ℕ) (old now : List (Effect T)) (told : List (Told T)) → n ≡ length old
+      → AllHear same G k old now told
+      → AllHear same G k old (take n (now ++ drop (length now) old)) told
+  all_kept n k old now told is h = grind (arith, all_length, take-append_seam)
+
+  -- all of them have heard in the end
+  pub all_heard : (k : ℕ) (old now : List (Effect T)) (told : List (Told T)) → AllHear same G k old now told
+      → length now ≤ k → k ≡ length old
+  all_heard k old now told h past = let long = all_length k old now told h in omega arith
+
+  -- an effect that was never told is told
+  told_first : (k : Key) (a : Result T Fault) (f : Effect T) (one : List (Told T))
+      → Hears same (record { key = k; told = None }) a f one
+      → (f ≡ record { key = k; told = Some a }) × (one ≡ record { key = k; answer = a } ∷ [])
+  told_first k a f one h = grind arith
+
+  first_heard : (k : Key) (new : List (Effect T)) (told : List (Told T))
+      → AllHear same G (suc zero) (record { key = k; told = None } ∷ []) new told
+      → (a : Result T Fault) × Says G k a × (told ≡ record { key = k; answer = a } ∷ [])
+  first_heard k new told h = grind (arith, told_first)
+
+  pub first_told : (n : ℕ) (k : Key) (old new : List (Effect T)) (told : List (Told T))
+      → old ≡ record { key = k; told = None } ∷ [] → n ≡ length old → AllHear same G n old new told
+      → (a : Result T Fault) × Says G k a × (told ≡ record { key = k; answer = a } ∷ [])
+  first_told n k old new told is len h = first_heard k new told (rw (len, is) at h)
+
+  -- what an effect was last told when it has heard is what its node means
+  heard_says : (e f : Effect T) (a : Result T Fault) (one : List (Told T)) → Says G e.key a
+      → Hears same e a f one → (b : Result T Fault) × Says G f.key b × (f.told ≡ Some b)
+  heard_says e f (Ok v) [] says (stays, told) = (Ok v, rw stays says, rw stays told)
+  heard_says e f (Err g) [] says (stays, (was, told)) = (Err was, rw stays says, rw stays told)
+  heard_says e f a (t ∷ []) says (new, is, told) = (a, rw is says, rw is refl)
+  heard_says e f a (t ∷ u ∷ rest) says h = absurd h
+
+  pub all_say : (n : ℕ) (old new : List (Effect T)) (told : List (Told T)) (i : ℕ) (f : Effect T)
+      → n ≡ length old → AllHear same G n old new told → slice_get new i ≡ Some f
+      → (a : Result T Fault) × Says G f.key a × (f.told ≡ Some a)
+  all_say zero old new told i f len (stays, _) there = let none = nil_from_length old (sym len) in cc
+  all_say (suc n) (o ∷ old) (m ∷ new) told zero f len h there =
+      rw (same_Some m f there) at (heard_says o m h.0 h.2.0 h.1 h.2.3)
+  all_say (suc n) (o ∷ old) (m ∷ new) told (suc i) f len h there =
+      all_say n old new h.2.1 i f (omega (arith, len)) h.2.4 there
+  all_say (suc n) old new told i f len h there = absurd h
+
+-- ==== the nodes of a store are found by their keys, and change as the machine says
+
+-- ---- the box that is seen_found by an id
+
+module _ {N : Type 0} (S : State N) where
+  seen_found : (b : GenerationalPointer) (v : N) → value_in S b ≡ Some v → is_some (box_with S b.id) ≡ true
+  seen_found b v is = grind (arith, seen_reached, reaches, led_box)
+
+  pub not_found : (b : GenerationalPointer) → None ≡ box_with S b.id → value_in S b ≡ None
+  not_found b none = grind (arith, seen_found)
+
+  pub found_id : (id : GenerationalBoxId) (b : GenerationalPointer) → Some b ≡ box_with S id → b.id ≡ id
+  found_id id b seen_found = grind arith
+
+pub same_key : (j k : Key) → j.id ≡ k.id → j ≡ k
+same_key j k e = λ i. record { id = e i }
+
+module _ {T R : Type 0} where
+  -- a making puts a node where none was
+  module _ {S Q : State (Node T R)} (s : IsSoundStore S) (n : Node T R) (l : Location)
+      (b : GenerationalBox (Node T R)) (k : Key) (is : (pointer_of b).id ≡ k.id)
+      (m : Meets S (Make None n l) (Made (pointer_of b)) Q) where
+    pub made_none : nodes_in S k ≡ None
+    made_none = grind (arith, made_apart None n l (Ok b) s m (pointer_in k))
+
+    pub made_puts : IsPut (nodes_in S) k n (nodes_in Q)
+    made_puts = record {
+      here = same_id_sees Q (pointer_in k) (pointer_of b) (sym is) ∙ made None n l (Ok b) m;
+      others = λ j ne. others_left _ _ m (pointer_of b) (pointer_in j) (made_new _ _ _ _ m).0
+          (same_value _ _ _ _ s m (pointer_in j) tt) (λ e. ne (same_key j k (sym e ∙ is)));
+    }
+
+  -- where a key's box was seen_found
+  module _ {S : State (Node T R)} (s : IsSoundStore S) (simple : IsSimple S) (k : Key) (b : GenerationalPointer)
+      (seen_found : Some b ≡ box_with S k.id) {can : Bool} (writes : can ≡ can_write S b) where
+    is : b.id ≡ k.id
+    is = found_id S k.id b seen_found
+
+    pub stuck_none : can ≡ false → nodes_in S k ≡ None
+    stuck_none stuck = same_id_sees S (pointer_in k) b (sym is) ∙ stuck_unseen b s simple writes stuck
+
+    module _ (free : can ≡ true) where
+      own : b.id.store ≡ S.number
+      own = seen_store S b s (free_seen b s simple writes free)
+
+      -- a set puts a node in the place of one
+      pub set_had : {Q : State (Node T R)} (new old : Node T R) → Meets S (SetValue b new) (Old old) Q
+          → nodes_in S k ≡ Some old
+      set_had new old m = same_id_sees S (pointer_in k) b (sym is) ∙ (sets b new old m).0
+
+      pub set_puts : {Q : State (Node T R)} (new old : Node T R) → Meets S (SetValue b new) (Old old) Q
+          → IsPut (nodes_in S) k new (nodes_in Q)
+      set_puts new old m = record {
+        here = (sets b new old m).2 (pointer_in k) (same_id_reach S (pointer_in k) b (sym is));
+        others = λ j ne. let to = seen_reached S b old (sets b new old m).0 in
+            others_left _ _ m b (pointer_in j) own (λ apart. same_value _ _ _ _ s m (pointer_in j)
+            (λ e. apart (reach_apart S simple.plain b (pointer_in j) to.0 to.1 (sym e))) tt)
+            (λ e. ne (same_key j k (sym e ∙ is)));
+      }
+
+      -- an end leaves no node
+      pub end_none : {Q : State (Node T R)} → Meets S (End b) Done Q → nodes_in Q k ≡ None
+      end_none {Q} m = same_id_sees Q (pointer_in k) b (sym is) ∙ unseen Q b (ends b {U = Unit {0}} (Ok tt) m)
+
+      pub end_others : {Q : State (Node T R)} → Meets S (End b) Done Q → (j : Key) → j ≢ k
+          → nodes_in Q j ≡ nodes_in S j
+      end_others m j ne = others_left _ _ m b (pointer_in j) own
+          (λ apart. same_value _ _ _ _ s m (pointer_in j) apart tt) (λ e. ne (same_key j k (sym e ∙ is)))
+
+-- ==== what holds of a table when some of its nodes have ended
+
+among_last : (xs : List Key) (x k : Key) → IsAmong k (xs ++ x ∷ []) → IsAmong k xs ⊎ (x ≡ k)
+among_last [] x k e = grind arith
+among_last (y ∷ xs) x k e = grind (arith, among_last xs x k)
+
+among_first : (xs : List Key) (x k : Key) → IsAmong k xs ⊎ (x ≡ k) → IsAmong k (xs ++ x ∷ [])
+among_first [] x k e = grind arith
+among_first (y ∷ xs) x k e = grind (arith, among_first xs x k)
+
+module _ {T R : Type 0} where
+  lost_last : (old mid new : Table T R) (xs : List Key) (x : Key) → HasLost old xs mid
+      → new x ≡ None → ((j : Key) → j ≢ x → new j ≡ mid j) → HasLost old (xs ++ x ∷ []) new
+  lost_last old mid new xs x lost none same = grind (arith, key_cases, among_last, among_first)
+
+  pub lost_more : (old mid new : Table T R) (keys : List Key) (i : ℕ) (d : Key) → i < length keys
+      → HasLost old (take i keys) mid → new (get_or keys i d) ≡ None
+      → ((j : Key) → j ≢ get_or keys i d → new j ≡ mid j) → HasLost old (take (i + 1) keys) new
+  lost_more old mid new keys i d lt lost none same =
+      rw (take_more keys i d lt) (lost_last old mid new (take i keys) (get_or keys i d) lost none same)
+
+-- ==== what runs and kept answers say of a node
+
+module _ {T : Type 0} where
+  -- the answer to the question at a place
+  answer_at : (answers : List (Asked T)) (place : ℕ) (d : Key) → place < length (list_map (λ a. a.key) answers)
+      → (a : Asked T) × (slice_get answers place ≡ Some a)
+      × (a.key ≡ slice_index_or (list_map (λ a. a.key) answers) place d)
+  answer_at [] place d lt = absurd (omega (arith, lt))
+  answer_at (b ∷ rest) zero d lt = (b, refl, refl)
+  answer_at (b ∷ rest) (suc place) d lt = answer_at rest place d (omega (arith, lt))
+
+module _ {T R : Type 0} (b : Book T R) where
+  pub asked_at : (answers : List (Asked T)) (reads : List Key) (place : ℕ) (d : Key)
+      → list_map (λ a. a.key) answers ≡ reads → place < length reads
+      → AreKnown b (take place answers) → IsAsked b answers (slice_index_or reads place d) place
+  asked_at answers reads place d asked lt known =
+      let a = answer_at answers place d (rw asked lt) in
+      record { answer = a.0; there = a.1; of = rw asked at a.2; before = known }
+
+  stand_at : (since : ℕ) (answers : List (Asked T)) (place : ℕ) (a : Asked T) → AllStand b.nodes since answers
+      → slice_get answers place ≡ Some a → Stands b.nodes since a
+  stand_at since [] place a all is = absurd (none-some a is)
+  stand_at since (b ∷ rest) zero a (h, all) is = rw (same_Some b a is) at h
+  stand_at since (b ∷ rest) (suc place) a (h, all) is = stand_at since rest place a all is
+
+  known_next : (answers : List (Asked T)) (place : ℕ) (a : Asked T) → slice_get answers place ≡ Some a
+      → AreKnown b (take place answers) → Shows b a.key a.value
+      → AreKnown b (take (suc place) answers)
+  known_next [] place a is all h = absurd (none-some a is)
+  known_next (b ∷ rest) zero a is all h = (rw (same_Some b a is) h, tt)
+  known_next (b ∷ rest) (suc place) a is (g, all) h = (g, known_next rest place a is all h)
+
+  -- an answer that stands, of a node that is known and hasn't changed, is right
+  pub known_more_at : (since : ℕ) (answers : List (Asked T)) (reads : List Key) (place : ℕ) (d : Key) (n : Node T R)
+      → list_map (λ a. a.key) answers ≡ reads → place < length reads → AllStand b.nodes since answers
+      → AreKnown b (take place answers) → b.nodes (slice_index_or reads place d) ≡ Some n
+      → is_some (known_by (knows b.known (slice_index_or reads place d)) (Some n)) ≡ true → n.changed ≤ since
+      → AreKnown b (take (place + 1) answers)
+  known_more_at since answers reads place d n asked lt stand known at hit low =
+      let a = asked_at answers reads place d asked lt known in
+      let there = ap b.nodes a.of ∙ at in
+      let v = some_live (known_by (knows b.known (slice_index_or reads place d)) (Some n)) hit in
+      let value = stand_at since answers place a.answer stand a.there n there low in
+      let is_known = known_node (knows b.known (slice_index_or reads place d)) n v.0 v.1 in
+      let sure = subst (λ k. (n.rule ≡ None) ⊎ (knows b.known k ≡ true)) (sym a.of) is_known.1 in
+      let next : suc place ≡ place + 1 = omega arith in
+      rw next at (known_next answers place a.answer a.there known (n, there, (value, sure)))
+
+module _ {T R : Type 0} {plan : R → Plan T} {G : Graph T} {now : ℕ} {b : Book T R}
+    (s : IsSound plan G now b) (k : Key) where
+  -- a node that needs one which has ended means nothing
+  pub needs_gone : (j : Key) → Needs G k j → b.nodes j ≡ None → IsMute G k
+  needs_gone j n none = needs_mute G k j n (λ v d. stopped G v (rw (none_stops s j none) at d))
+
+  module _ (n : Node T R) (at : b.nodes k ≡ Some n) where
+    pub known_here : is_some (known_by (knows b.known k) (Some n)) ≡ true → (v : T) × Shows b k v
+    known_here hit =
+        let v = some_live (known_by (knows b.known k) (Some n)) hit in
+        (v.0, known_shows (knows b.known k) (b.nodes k) v.0 (ap (known_by (knows b.known k)) at ∙ v.1))
+
+    -- ---- what a rule's run comes to
+
+    module _ (rule : R) (has : n.rule ≡ Some rule) (answers : List (Asked T))
+        (known : AreKnown b answers) where
+      plan_is : G k ≡ plan rule
+      plan_is = cc (plan_here s k n at)
+
+      pub rerun_needs : (j : Key) (result : Option T) → Ran (plan rule) answers (Some j) result → Needs G k j
+      rerun_needs j result ran =
+          let to = ran_to (plan rule) answers (Some j) result ran in
+          (answers, to.2.0, all_mean s answers known, rw (plan_is, ← to.2.1) to.1)
+
+      pub rerun_mute : Ran (plan rule) answers None None → IsMute G k
+      rerun_mute ran =
+          let to = ran_to (plan rule) answers None None ran in
+          gave_up G k answers (all_mean s answers known) (rw (plan_is, ← to.2) to.1)
+
+      pub rerun_leads : (v : T) (reads : List Key) → list_map (λ a. a.key) answers ≡ reads
+          → Ran (plan rule) answers None (Some v) → LeadsTo G now b k n v reads
+      rerun_leads v reads asked ran = grind (arith, ran_to, plan_is)
+
+    -- ---- what the kept answers come to
+
+    -- a look that goes on finds the walk, unless the node is known
+    pub kept_walk : (place : ℕ) → GoesOn G now b k (Some place)
+        → is_some (known_by (knows b.known k) (Some n)) ≡ false
+        → is_some n.value ≡ true → (v : T) × (n.value ≡ Some v)
+        × ((w : IsWalk G now b.nodes k n v) × AreKnown b (take place w.answers))
+    kept_walk place goes miss some = grind (arith, some_live, shown_known)
+
+    module _ (v : T) (value : n.value ≡ Some v) (w : IsWalk G now b.nodes k n v) where
+      pub kept_leads : (rule : R) → n.rule ≡ Some rule → AreKnown b w.answers
+          → LeadsTo G now b k n v (vec_items n.reads)
+      kept_leads rule has known = let asked = w.asked in let leads = w.leads in search
+
+      -- a kept answer's node is needed, where those before it are what their nodes mean
+      pub asked_needs : (j : Key) (place : ℕ) → IsAsked b w.answers j place → Needs G k j
+      asked_needs j place a =
+          let to = asked_to (G k) w.answers place a.answer (Give v) w.leads a.there in (
+            take place w.answers,
+            to.0,
+            all_mean s (take place w.answers) a.before,
+            subst (λ x. Follows (G k) (take place w.answers) (Ask x to.0)) a.of to.1,
+          )
+
+      pub asked_goes : (j : Key) (place : ℕ) → IsAsked b w.answers j place
+          → GoesOn G now b k (Some place)
+      asked_goes j place a = inr (λ m there u is.
+          let same = same_Some n m (sym at ∙ there) in
+          let one : v ≡ u = cc in rw (← same, ← one) (w, a.before))

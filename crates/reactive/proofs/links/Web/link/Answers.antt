@@ -1,0 +1,23 @@
+use Rattle.reactive.proofs.Linking.{get_same, put_edges}
+use Rattle.reactive.proofs.{length, refl, rules, sym, ◌<◌, ◌≡◌, true, subst, ◌⊎◌}
+use Rattle.reactive.specs.Links.{edges_by, is_current}
+use Rattle.std.specs.List.{Contains}
+use Rattle.std.proofs.lemmas.Option.{slice_get_read}
+use Rattle.reactive.proofs.links.Web.link.Goals as goal
+
+pub returns-clause-kept : goal.returns-clause-kept
+returns-clause-kept c = λ s e h why.
+    let rs = c.reserve_readers.new.self.readers.items in
+    let lt : c.args.to < length rs = search rules in
+    let there = slice_get_read rs _ c.args.to c.index_mut.result.now refl lt c.index_mut.ensures.value in
+    let current : (is_current c.reserve_readers.new.self.owners.items e ≡ true) ⊎ (e ≡ c.args.edge) =
+    rw c.reserve_readers.ensures.owners why in
+    put_edges rs c.args.to s c.add.new.edges e lt
+    (λ old. c.add.ensures.kept e (subst (λ x. Contains (edges_by x) e) there old) current)
+    (subst (λ es. Contains es e) (sym (c.reserve_readers.ensures.readers s)) h)
+
+pub returns-clause-added : goal.returns-clause-added
+returns-clause-added c = λ ok.
+    let rs = c.reserve_readers.new.self.readers.items in
+    let lt : c.args.to < length rs = search rules in
+    rw (get_same rs c.args.to c.add.new.edges lt) (c.add.ensures.added ok)

@@ -1,0 +1,86 @@
+-- Which nodes read which, and of which memos it is known what they mean, by slots.
+use Rattle.std.specs.Prelude.{◌≡◌, ◌≢◌, ◌⊎◌, ℕ, Bool, false, ◌&&◌, nat_eq, List, [], Option, None, Some, get_or, slice_get}
+use Rattle.std.specs.List.{Contains}
+use Rattle.std.specs.Global.{Vec}
+use Rattle.std.specs.Vec.{vec_items}
+use Rattle.reactive.specs.declared.key.Key.{Key}
+use Rattle.reactive.specs.declared.links.Edge.{Edge}
+use Rattle.reactive.specs.declared.links.Owner.{Owner}
+use Rattle.reactive.specs.declared.links.Web.{Web}
+
+-- ---- links
+
+-- a slot's links are no node's
+abbrev pub nobody : Owner
+nobody = record { generation = None; number = 0 }
+
+abbrev pub owner_at : List Owner → ℕ → Owner
+owner_at owners s = get_or owners s nobody
+
+abbrev pub edges_by : Option (Vec Edge) → List Edge
+edges_by None = []
+edges_by (Some edges) = vec_items edges
+
+-- the edges of a slot's readers
+abbrev pub edges_at : Web → ℕ → List Edge
+edges_at w s = edges_by (slice_get (vec_items w.readers) s)
+
+-- an edge isn't old
+abbrev pub is_current : List Owner → Edge → Bool
+is_current owners e = nat_eq (owner_at owners e.slot).number e.number
+
+-- two edges are one
+abbrev pub is_same : Edge → Edge → Bool
+is_same e f = nat_eq e.slot f.slot && nat_eq e.number f.number
+
+-- a slot is linked to another, which its node reads
+abbrev pub IsLinked : Web → ℕ → ℕ → Type 0
+IsLinked w r s = Contains (edges_at w s) (record { slot = r; number = (owner_at (vec_items w.owners) r).number })
+
+-- the links of its slot are a node's
+abbrev pub Owns : Web → Key → Type 0
+Owns w k = (owner_at (vec_items w.owners) k.id.slot).generation ≡ Some k.id.generation
+
+-- from one web to another no link was lost
+pub record Keeps (old new : Web) : Type 0 where
+  pub owners : (s : ℕ) → owner_at (vec_items new.owners) s ≡ owner_at (vec_items old.owners) s
+  pub links : (r s : ℕ) → IsLinked old r s → IsLinked new r s
+
+-- from one web to another a node was linked to those that it reads, and no link of another slot was lost
+pub record IsRelinked (old : Web) (k : Key) (reads : List Key) (new : Web) : Type 0 where
+  pub owned : Owns new k
+  pub linked : (a : Key) → Contains reads a → IsLinked new k.id.slot a.id.slot
+  pub owners : (s : ℕ) → s ≢ k.id.slot → owner_at (vec_items new.owners) s ≡ owner_at (vec_items old.owners) s
+  pub links : (r s : ℕ) → r ≢ k.id.slot → IsLinked old r s → IsLinked new r s
+
+-- ---- marks
+
+-- the generation of a slot's memo, if it is known what that means
+abbrev pub known_at : List (Option ℕ) → ℕ → Option ℕ
+known_at known s = get_or known s None
+
+abbrev pub holds : Option ℕ → ℕ → Bool
+holds None g = false
+holds (Some h) g = nat_eq h g
+
+-- it is known what a memo means, by the generations that are known of slots
+abbrev pub knows : (ℕ → Option ℕ) → Key → Bool
+knows known k = holds (known k.id.slot) k.id.generation
+
+-- whatever is known was known
+abbrev pub IsFewer : List (Option ℕ) → List (Option ℕ) → Type 0
+IsFewer old new = (s g : ℕ) → known_at new s ≡ Some g → known_at old s ≡ Some g
+
+-- From one state to another the readers of a slot were forgotten. What was forgotten is on a list.
+pub record Drops (w : Web) (old : List (Option ℕ)) (before : List ℕ) (slot : ℕ) (new : List (Option ℕ)) (list : List ℕ) : Type 0 where
+  pub fewer : IsFewer old new
+  pub readers : (r g : ℕ) → known_at new r ≡ Some g → IsLinked w r slot → ⊥
+  pub rest : (s : ℕ) → (known_at new s ≡ known_at old s) ⊎ Contains list s
+  pub todo : (s : ℕ) → Contains before s → Contains list s
+
+-- From one state to another a slot was forgotten: whoever is known still reads nothing but what is as it was.
+pub record HasForgotten (w : Web) (old : List (Option ℕ)) (slot : ℕ) (new : List (Option ℕ)) : Type 0 where
+  pub fewer : IsFewer old new
+  pub here : known_at new slot ≡ None
+  pub others : (r s g : ℕ) → known_at new r ≡ Some g → IsLinked w r s
+      → (s ≢ slot) × (known_at new s ≡ known_at old s)
