@@ -620,6 +620,12 @@ module _ {T R : Type 0} where
   IsSameAs old web new after = (new.state ≡ old.state) × (new.revision ≡ old.revision) × (new.known ≡ old.known)
       × (after ≡ web)
 
+  -- what was known is shown still
+  pub still_shown : (old new : Book T R) → Lasts old new
+      → (k : Key) (v : T) → known_of old k ≡ Some v → known_of new k ≡ Some v
+  still_shown old new lasts k v is =
+      shown_known new k v (lasts k v (known_shows (knows old.known k) (old.nodes k) v is))
+
   -- ---- a fresh graph
 
   pub fresh_stops : (S : State (Node T R)) → IsFresh S → (k : Key) → nodes_in S k ≡ None

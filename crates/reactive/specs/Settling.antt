@@ -32,6 +32,10 @@ pub record IsLearned {T R : Type 0} (old : Book T R) (k : Key) (new : Book T R) 
   pub here : new.known k.id.slot ≡ Some k.id.generation
   pub others : (s : ℕ) → s ≢ k.id.slot → new.known s ≡ old.known s
 
+-- from one book to another what was known is known, by the same value
+abbrev pub Lasts : {T R : Type 0} → Book T R → Book T R → Type 0
+Lasts {T} old new = (k : Key) (v : T) → Shows old k v → Shows new k v
+
 -- from one book to another nothing is lost
 pub record IsLeft {T R : Type 0} (old new : Book T R) : Type 0 where
   pub nodes : (k : Key) → new.nodes k ≡ old.nodes k

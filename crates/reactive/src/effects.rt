@@ -5,7 +5,7 @@ ghost use Rattle.reactive.specs.declared.effects.Told.{Told};
 ghost use Rattle.reactive.specs.declared.fault.Fault.{Fault};
 ghost use Rattle.reactive.specs.declared.key.Key.{Key};
 ghost use Rattle.reactive.specs.Hearing.{AllHear, Hears, Says, WasTold, is_old};
-ghost use Rattle.reactive.specs.Graphs.{kind_in, plans_in};
+ghost use Rattle.reactive.specs.Graphs.{kind_in, plans_in, shown_in};
 
 use crate::fault::Fault;
 use crate::key::Key;
@@ -109,6 +109,7 @@ impl<T: Value + Drop> Effect<T> {
             × Hears T.is_same self.old a self.new news)) }
         ensures plans { plans_in R.plan graph.new ≡ plans_in R.plan graph.old }
         ensures kinds { kind_in graph.new ≡ kind_in graph.old }
+        ensures lasts { (k : Key) (v : T) → shown_in graph.old k ≡ Some v → shown_in graph.new k ≡ Some v }
         ensures kept { OnErr result (self.new ≡ self.old) }
         ensures untold { OnErr result (told.new.items ≡ told.old.items) }
     {
@@ -206,6 +207,7 @@ impl<T: Value + Drop> Effects<T> {
             × (OnOk result (n ≡ length self.old.effects.items)) }
         ensures plans { plans_in R.plan graph.new ≡ plans_in R.plan graph.old }
         ensures kinds { kind_in graph.new ≡ kind_in graph.old }
+        ensures lasts { (k : Key) (v : T) → shown_in graph.old k ≡ Some v → shown_in graph.new k ≡ Some v }
     {
         for effect in self.effects.iter_mut() {
             effect.hear(graph, told)?;

@@ -22,7 +22,7 @@ ghost use Rattle.reactive.specs.Refreshing.{IsAdvanced, IsOnTheWay, Refreshed, W
 ghost use Rattle.reactive.specs.declared.look.Frame.{Frame};
 ghost use Rattle.reactive.specs.declared.look.Look.TheVariants as look;
 ghost use Rattle.reactive.specs.declared.look.Step.TheVariants as step;
-ghost use Rattle.reactive.specs.Settling.{IsLearned, IsLeft, IsSettled};
+ghost use Rattle.reactive.specs.Settling.{IsLearned, IsLeft, IsSettled, Lasts};
 ghost use Rattle.reactive.specs.Tables.{AllStand, AreKnown, AreLinked, IsPut, IsSound, book, known_by, known_of, nodes_in, shown_by};
 
 use crate::fault::Fault;
@@ -407,6 +407,8 @@ impl<T: Value + Drop, R: Rule<T>, S: Storage<Node<T, R>>> Nodes<T, R, S> {
             Went R.plan G self.old.revision (book (S.state self.new.store) self.new.links) start
             path.new.items result }
         ensures kinds { kinds_of (nodes_in (S.state self.new.store)) ≡ kinds_of (nodes_in (S.state self.old.store)) }
+        ensures lasts { (G : Graph T) (start : Key) →
+            IsOnTheWay R.plan G self.old.revision (book (S.state self.old.store) self.old.links) start path.old.items top → Lasts (book (S.state self.old.store) self.old.links) (book (S.state self.new.store) self.new.links) }
         ensures known { is_some (known_of (book (S.state self.old.store) self.old.links) top.key) ≡ true →
             path.old.items ≡ [] → result ≡ Ok None }
     {
@@ -448,6 +450,7 @@ impl<T: Value + Drop, R: Rule<T>, S: Storage<Node<T, R>>> Nodes<T, R, S> {
             IsSound R.plan G self.old.revision (book (S.state self.old.store) self.old.links) →
             Refreshed G (book (S.state self.new.store) self.new.links) key result }
         ensures kinds { kinds_of (nodes_in (S.state self.new.store)) ≡ kinds_of (nodes_in (S.state self.old.store)) }
+        ensures lasts { (G : Graph T) → IsSound R.plan G self.old.revision (book (S.state self.old.store) self.old.links) → Lasts (book (S.state self.old.store) self.old.links) (book (S.state self.new.store) self.new.links) }
         ensures known { is_some (known_of (book (S.state self.old.store) self.old.links) key) ≡ true →
             IsOk result }
     {

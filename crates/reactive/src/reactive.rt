@@ -178,6 +178,7 @@ impl<T: Value + Drop, R: Rule<T>, S: Storage<Node<T, R>>> Reactive<T, R, S> {
         ensures blames { IfErr result (Blames (plans_in R.plan self.old) (kind_in self.old) key) }
         ensures plans { plans_in R.plan self.new ≡ plans_in R.plan self.old }
         ensures kinds { kind_in self.new ≡ kind_in self.old }
+        ensures lasts { (k : Key) (v : T) → shown_in self.old k ≡ Some v → shown_in self.new k ≡ Some v }
         ensures known { shown_in self.old key ≢ None → IsOk result }
     {
         self.nodes.refresh(key)
@@ -214,6 +215,7 @@ impl<T: Value + Drop, R: Rule<T>, S: Storage<Node<T, R>>> Reactive<T, R, S> {
         ensures plans { plans_in R.plan self.new ≡ plans_in R.plan self.old }
         ensures kinds { kind_in self.new ≡ kind_in self.old }
         ensures shown { IfOk result (λ v. shown_in self.new key ≡ Some v) }
+        ensures lasts { (k : Key) (v : T) → shown_in self.old k ≡ Some v → shown_in self.new k ≡ Some v }
         ensures known { ((v : T) → T.is_plain v) → shown_in self.old key ≢ None → IsOk result }
     {
         match self.refresh(key) {

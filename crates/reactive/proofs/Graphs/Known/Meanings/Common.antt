@@ -35,7 +35,7 @@ pub use Rattle.reactive.specs.{declared.look.Frame.Frame, Chains.GoesOn, Ending.
 pub use Rattle.reactive.specs.Ending.{AreForgotten}
 pub use Rattle.reactive.specs.{Hearing.Hears, Ending.IsAmong, Looks.IsAsked}
 pub use Rattle.reactive.specs.{Changing.IsResetTo, Settling.IsSettled, declared.key.Key.Key}
-pub use Rattle.reactive.specs.Settling.{IsLearned, IsLeft}
+pub use Rattle.reactive.specs.Settling.{IsLearned, IsLeft, Lasts}
 pub use Rattle.reactive.specs.{Looks.LeadsTo, Settling.Leaves, Meaning.Means, Meaning.Needs}
 pub use Rattle.reactive.specs.{declared.node.Node.Node, Hearing.Says}
 pub use Rattle.reactive.specs.{declared.look.Step.Step, Looks.Stepped, declared.effects.Told.Told}

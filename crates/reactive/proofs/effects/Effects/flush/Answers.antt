@@ -17,6 +17,7 @@ returns-in_err-hear g c =
       );
       plans = c.hear.ensures.plans ∙ inv.0;
       kinds = c.hear.ensures.kinds ∙ inv.2;
+      lasts = λ k v h. c.hear.ensures.lasts k v (inv.3 k v h);
     }
 
 pub loop-effect-preserved : goal.loop-effect-preserved
@@ -34,6 +35,7 @@ loop-effect-preserved g c =
             (slice_get-get_or items place _ (omega (arith, c.loop-effect-test.true))) (rw inv.0 at heard.1) heard.2.2),
       ),
       c.hear.ensures.kinds ∙ inv.2,
+      λ k v h. c.hear.ensures.lasts k v (inv.3 k v h),
     )
 
 pub returns : goal.returns
@@ -48,4 +50,5 @@ returns g c =
       );
       plans = inv.0;
       kinds = inv.2;
+      lasts = inv.3;
     }

@@ -45,3 +45,34 @@ returns-in-Err-clause-went g c = λ G start o. rw (c.note.ensures.store, c.note.
 
 pub returns-in-Full-clause-went : goal.returns-in-Full-clause-went
 returns-in-Full-clause-went g c = λ G start o. ((c.in-Full.ensures.advanced G o.sound o.last).sound, tt)
+
+pub returns-in-Some-clause-lasts : goal.returns-in-Some-clause-lasts
+returns-in-Some-clause-lasts g c = λ G start o. (c.in-Settled.ensures.advanced G o.sound o.last).leaves.known
+
+pub returns-in-None-clause-lasts : goal.returns-in-None-clause-lasts
+returns-in-None-clause-lasts g c = λ G start o. (c.in-Settled.ensures.advanced G o.sound o.last).leaves.known
+
+pub returns-in-Gone-clause-lasts : goal.returns-in-Gone-clause-lasts
+returns-in-Gone-clause-lasts g c = λ G start o. (c.in-Gone.ensures.advanced G o.sound o.last).leaves.known
+
+pub returns-in-NoValue-clause-lasts : goal.returns-in-NoValue-clause-lasts
+returns-in-NoValue-clause-lasts g c = λ G start o. (c.in-NoValue.ensures.advanced G o.sound o.last).leaves.known
+
+pub returns-in-Full-clause-lasts : goal.returns-in-Full-clause-lasts
+returns-in-Full-clause-lasts g c = λ G start o. (c.in-Full.ensures.advanced G o.sound o.last).leaves.known
+
+pub returns-then-not-note-clause-lasts : goal.returns-then-not-note-clause-lasts
+returns-then-not-note-clause-lasts g c = λ G start o. rw (c.note.ensures.store, c.note.ensures.links)
+    (c.in-Needs.ensures.advanced G o.sound o.last).leaves.known
+
+pub returns-in-Err-clause-lasts : goal.returns-in-Err-clause-lasts
+returns-in-Err-clause-lasts g c = λ G start o. rw (c.note.ensures.store, c.note.ensures.links)
+    (c.in-Needs.ensures.advanced G o.sound o.last).leaves.known
+
+pub returns-then-is_on-clause-lasts : goal.returns-then-is_on-clause-lasts
+returns-then-is_on-clause-lasts g c = λ G start o. rw (c.note.ensures.store, c.note.ensures.links)
+    (c.in-Needs.ensures.advanced G o.sound o.last).leaves.known
+
+pub returns-else-is_on-clause-lasts : goal.returns-else-is_on-clause-lasts
+returns-else-is_on-clause-lasts g c = λ G start o. rw (c.note.ensures.store, c.note.ensures.links)
+    (c.in-Needs.ensures.advanced G o.sound o.last).leaves.known

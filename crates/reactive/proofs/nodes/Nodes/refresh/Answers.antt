@@ -38,4 +38,19 @@ loop-step-preserved g c =
           let is = c.in-Ok-Some.ensures.known here h.0 in
           let some = c.in-Ok-Some.field-0-is in
           absurd (let wrong : ⊥ = grind arith in wrong)),
+      (λ G s. let left = rw inv.1 at c.go_on.ensures.lasts in
+          λ k v h. left G c.args.key (inv.2 G s) k v (inv.5 G s k v h)),
     )
+
+pub returns-in-Ok-None-clause-lasts : goal.returns-in-Ok-None-clause-lasts
+returns-in-Ok-None-clause-lasts g c = λ G s.
+    let inv = c.loop-step.invariant in
+    let left = rw inv.1 at c.go_on.ensures.lasts in λ k v h. left G c.args.key (inv.2 G s) k v (inv.5 G s k v h)
+
+pub returns-in-Err-clause-lasts : goal.returns-in-Err-clause-lasts
+returns-in-Err-clause-lasts g c = λ G s.
+    let inv = c.loop-step.invariant in
+    let left = rw inv.1 at c.go_on.ensures.lasts in λ k v h. left G c.args.key (inv.2 G s) k v (inv.5 G s k v h)
+
+pub returns-clause-lasts : goal.returns-clause-lasts
+returns-clause-lasts g c = λ G s. c.loop-step.invariant.5 G s

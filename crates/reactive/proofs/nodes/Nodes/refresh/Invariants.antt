@@ -1,5 +1,6 @@
 use Rattle.reactive.proofs.{book, Graph, is_some, IsOnTheWay, IsSimple, IsSound, kinds_of, known_of, nodes_in, true}
 use Rattle.reactive.proofs.{[], ◌≡◌}
+use Rattle.reactive.specs.Settling.{Lasts}
 use Rattle.reactive.proofs.nodes.Nodes.refresh.Given as goal
 
 -- It is on the way from the node that was asked for; where that was known, this is the first step.
@@ -13,3 +14,6 @@ invariant-loop-step g l = IsSimple (g.S.AnyStorage.state l.self.store) × (l.sel
     × (is_some (known_of (book (g.S.AnyStorage.state l.fn.self.store) l.fn.self.links) l.fn.key) ≡ true
     → (l.path.items ≡ []) × (l.top.key ≡ l.fn.key) × (l._step ≡ 0)
     × (g.S.AnyStorage.state l.self.store ≡ g.S.AnyStorage.state l.fn.self.store) × (l.self.links ≡ l.fn.self.links))
+    × ((G : Graph _) → IsSound g.R.Rule.plan G l.fn.self.revision (book (g.S.AnyStorage.state l.fn.self.store) l.fn.self.links)
+    → Lasts (book (g.S.AnyStorage.state l.fn.self.store) l.fn.self.links)
+    (book (g.S.AnyStorage.state l.self.store) l.self.links))

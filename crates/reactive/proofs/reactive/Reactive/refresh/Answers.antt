@@ -1,5 +1,5 @@
-use Rattle.reactive.proofs.{GraphState, is_some, kept_refreshed, None, Option, refl, refreshed_blames, refreshed_shown}
-use Rattle.reactive.proofs.{same_plans, Some, true, ◌≡◌, ◌≢◌}
+use Rattle.reactive.proofs.{book, GraphState, is_some, kept_refreshed, None, Option, refl, refreshed_blames, refreshed_shown}
+use Rattle.reactive.proofs.{same_plans, Some, still_shown, true, ◌≡◌, ◌≢◌}
 use Rattle.reactive.proofs.reactive.Reactive.refresh.Goals as goal
 
 some_is : {A : Type 0} (o : Option A) → o ≢ None → is_some o ≡ true
@@ -31,5 +31,8 @@ returns g c =
       blames = refreshed_blames old _ _ simple same sound c.refresh.ensures.kinds c.args.key _ refreshed;
       plans = same_plans old _ _ simple same sound;
       kinds = c.refresh.ensures.kinds;
+      lasts = still_shown (book (g.S.AnyStorage.state c.self.inside.nodes.store) c.self.inside.nodes.links)
+          (book (g.S.AnyStorage.state c.refresh.new.self.store) c.refresh.new.self.links)
+          (c.refresh.ensures.lasts _ c.self.invariant.sound);
       known = λ shown. c.refresh.ensures.known (some_is _ shown);
     })
