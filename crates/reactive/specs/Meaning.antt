@@ -1,7 +1,7 @@
 -- What a node means in a graph, whatever is kept of it.
-use Rattle.std.specs.Prelude.{List, [], ◌∷◌}
+use Rattle.std.specs.Prelude.{List, [], ◌∷◌, Option, None, Some}
 use Rattle.reactive.specs.declared.key.Key.{Key}
-use Rattle.reactive.specs.Plans.{Plan, Give, Ask, Asked, Follows}
+use Rattle.reactive.specs.Plans.{Plan, Give, Stop, Ask, Asked, Follows}
 
 -- A graph has a plan for each node: a source's gives its value, a memo's is its rule's, and that of
 -- a node that has ended stops.
@@ -36,3 +36,15 @@ module _ {T : Type 0} (G : Graph T) where
   -- what the nodes of a set need is in the set
   abbrev pub IsClosed : (Key → Type 0) → Type 0
   IsClosed D = (j k : Key) → D j → Needs j k → D k
+
+-- what a plan that asks for a node goes on with, if that is a source
+abbrev pub value_from : {T : Type 0} → Plan T → (T → Option T) → Option T
+value_from (Give a) goes = goes a
+value_from Stop goes = None
+value_from (Ask k next) goes = None
+
+-- what a plan comes to by the values of sources, if it asks for nothing else
+abbrev pub value_by : {T : Type 0} → Graph T → Plan T → Option T
+value_by G (Give v) = Some v
+value_by G Stop = None
+value_by G (Ask k next) = value_from (G k) (λ a. value_by G (next a))

@@ -1,13 +1,15 @@
 //! What meanings are, for callers. It is the contract of a function that does nothing.
 
-ghost use Rattle.std.specs.Prelude.{◌≡◌, ◌≢◌, ℕ, Bool, List, [], ◌∷◌, length, slice_get, None, Some, Result};
+ghost use Rattle.std.specs.Prelude.{◌≡◌, ◌≢◌, ℕ, Bool, List, [], ◌∷◌, length, slice_get, None, Some, IfOk, Result};
 ghost use Rattle.reactive.specs.declared.effects.Effect.{Effect};
 ghost use Rattle.reactive.specs.declared.effects.Told.{Told};
 ghost use Rattle.reactive.specs.declared.fault.Fault.{Fault};
 ghost use Rattle.reactive.specs.declared.key.Key.{Key};
-ghost use Rattle.reactive.specs.Meaning.{Graph, Means};
+ghost use Rattle.reactive.specs.Meaning.{Graph, Means, value_by};
 ghost use Rattle.reactive.specs.Graphs.{GraphState, HasPlan, kind_in, plans_in, shown_in};
+ghost use Rattle.reactive.specs.Graphs.{Kind};
 ghost use Rattle.reactive.specs.Graphs.Kind.{Source};
+ghost use Rattle.reactive.specs.Refreshing.{Answers};
 ghost use Rattle.reactive.specs.Hearing.{AllHear, Says};
 ghost use Rattle.reactive.specs.Plans.{Ask, Give, Plan};
 
@@ -15,13 +17,16 @@ use crate::rule::Rule;
 
 /// A node means at most one value: so two questions for it, and two memos of one rule, never show
 /// different ones. A source means its value, and a memo that asks for one node means what its rule
-/// makes of what that node means.
+/// makes of what that node means. A `get` of a memo that asks for sources alone, however many, returns
+/// what its rule makes of their values.
 pub fn nodes_mean_one_value<T>()
     ensures one { (G : Graph T) (k : Key) (v w : T) → Means G k v → Means G k w → v ≡ w }
     ensures alike { (G H : Graph T) (j k : Key) (v w : T) → H ≡ G → G j ≡ G k → Means G j v → Means H k w → v ≡ w }
     ensures source { (G : Graph T) (k : Key) (v : T) → G k ≡ Give v → Means G k v }
     ensures memo { (G : Graph T) (k j : Key) (next : T → Plan T) (a v : T) → G k ≡ Ask j next →
         Means G j a → next a ≡ Give v → Means G k v }
+    ensures sources { (G : Graph T) (kind : Key → Kind) (k : Key) (v : T) (r : Result T Fault) →
+        value_by G (G k) ≡ Some v → Answers G kind k r → IfOk r (λ w. w ≡ v) }
 {}
 
 /// A source of a value is known, so that a `get` of it isn't refused where copies take no memory.

@@ -53,6 +53,25 @@ module _ {T : Type 0} (G : Graph T) where
   same _ _ (goes_on k next a v d e) w (goes_on _ _ b _ f g) =
       same (next b) v (rw (same (G k) a d b f) at e) w g
 
+  -- what a plan comes to by the values of sources it gives
+  from_source : (k : Key) (next : T → Plan T) (v : T) (p : Plan T) → G k ≡ p
+      → ((a : T) → value_by G (next a) ≡ Some v → Gives G (next a) v)
+      → value_from p (λ a. value_by G (next a)) ≡ Some v → Gives G (Ask k next) v
+  from_source k next v (Give a) at on is = goes_on k next a v (rw at (gives a)) (on a is)
+  from_source k next v Stop at on is = absurd (none-some v is)
+  from_source k next v (Ask j more) at on is = absurd (none-some v is)
+
+  pub valued : (p : Plan T) (v : T) → value_by G p ≡ Some v → Gives G p v
+  valued (Give a) v is = rw (same_Some a v is) (gives v)
+  valued Stop v is = absurd (none-some v is)
+  valued (Ask k next) v is = from_source k next v (G k) refl (λ a. valued (next a) v) is
+
+  -- an answer is the value that a node means
+  pub answered_by : (kind : Key → Kind) (k : Key) (v : T) → Means G k v
+      → (r : Result T Fault) → Answers G kind k r → IfOk r (λ w. w ≡ v)
+  answered_by kind k v d (Ok w) h = same (G k) w h v d
+  answered_by kind k v d (Err f) h = tt
+
   -- a plan gives what is left of it gives, after answers that are meant
   pub walked : (p : Plan T) (answers : List (Asked T)) (q : Plan T) (v : T)
       → Follows p answers q → AllMean G answers → Gives G q v → Gives G p v

@@ -20,9 +20,10 @@ pub use sessions.{stuck_unseen}
 pub use Rattle.generational_sessions.specs.PlainStores.{IsSimple}
 pub use Rattle.reactive.specs.Graphs.{GraphState, IsKept, kind_by, kind_by_rule}
 pub use Rattle.reactive.specs.Graphs.{kind_in, kinds_of, plans_in, shown_in}
-pub use Rattle.reactive.specs.Meaning.{AllMean, Gives, gives, goes_on, Graph, IsMute}
+pub use Rattle.reactive.specs.Meaning.{AllMean, Gives, gives, goes_on, Graph, IsMute, value_by, value_from}
 pub use Rattle.reactive.specs.Plans.{AreGiven, Ask, Asked, Follows, Give, Plan, Ran, Stop}
-pub use Rattle.reactive.specs.Refreshing.{Blames, IsAdvanced, IsOnTheWay, Refreshed}
+pub use Rattle.reactive.specs.Graphs.{Kind}
+pub use Rattle.reactive.specs.Refreshing.{Answers, Blames, IsAdvanced, IsOnTheWay, Refreshed}
 pub use Rattle.reactive.specs.Tables.{AllStand, AreKnown, AreLinked, asked_of, book, book_by, Book, graph_of, IsHeld, IsKnown, IsPut, shown_by}
 pub use Rattle.reactive.specs.Links.{HasForgotten, holds, IsLinked, IsRelinked, Keeps, known_at, knows, owner_at, Owns}
 pub use Rattle.reactive.specs.declared.links.Web.{Web}
