@@ -1,5 +1,7 @@
 -- What the answer to a question for a node says of its meaning.
-use Rattle.std.specs.Prelude.{◌≡◌, ℕ, List, Option, None, Some, Result, Ok, Err}
+use Rattle.std.specs.Prelude.{◌≡◌, ◌⊎◌, ℕ, List, Option, None, Some, Result, Ok, Err}
+use Rattle.generational_errors.specs.declared.error.StoreError.{StoreError}
+use Rattle.generational_errors.specs.declared.error.StoreError.TheVariants.{NumbersExhausted, OutOfMemory}
 use Rattle.reactive.specs.declared.fault.Fault.{Fault}
 use Rattle.reactive.specs.declared.fault.Fault.TheVariants as fault
 use Rattle.reactive.specs.declared.key.Key.{Key}
@@ -14,15 +16,19 @@ use Rattle.reactive.specs.Plans.{Plan}
 use Rattle.reactive.specs.Settling.{Leaves}
 use Rattle.reactive.specs.Tables.{Book, IsSound, Shows}
 
+-- memory ran out, or numbers did
+abbrev pub IsShort : StoreError → Type 0
+IsShort e = (e ≡ OutOfMemory) ⊎ (e ≡ NumbersExhausted)
+
 module _ {T : Type 0} (G : Graph T) (kind : Key → Kind) (k : Key) where
   -- That a node has ended, is on a cycle, or gives no value is true of it, and says that the node that
-  -- was asked for means nothing. A refusal of the store says nothing of it.
+  -- was asked for means nothing. That memory or numbers ran out says nothing of it.
   abbrev pub Blames : Fault → Type 0
   Blames (fault.Gone j) = IsMute G k × (kind j ≡ NoNode)
   Blames (fault.Cycle j) = IsMute G k × IsMute G j
   Blames (fault.NoValue j) = IsMute G k × IsMute G j
   Blames (fault.NoSource j) = ⊥
-  Blames (fault.Store e) = Unit {0}
+  Blames (fault.Store e) = IsShort e
 
   -- a value is what the node means
   abbrev pub Answers : Result T Fault → Type 0

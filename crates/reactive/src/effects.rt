@@ -1,11 +1,12 @@
 //! Effects: nodes that are watched, and told of where they mean something else.
 
-ghost use Rattle.std.specs.Prelude.{◌≡◌, ℕ, List, [], ◌∷◌, ◌++◌, length, IsTrue, OnOk, OnErr, Result, Ok, Err, None, Some, filter, not};
+ghost use Rattle.std.specs.Prelude.{◌≡◌, ℕ, List, [], ◌∷◌, ◌++◌, length, IsTrue, IfErr, OnOk, OnErr, Result, Ok, Err, None, Some, filter, not};
 ghost use Rattle.reactive.specs.declared.effects.Told.{Told};
 ghost use Rattle.reactive.specs.declared.fault.Fault.{Fault};
 ghost use Rattle.reactive.specs.declared.key.Key.{Key};
 ghost use Rattle.reactive.specs.Hearing.{AllHear, Hears, Says, WasTold, is_old};
 ghost use Rattle.reactive.specs.Graphs.{kind_in, plans_in, shown_in};
+ghost use Rattle.reactive.specs.Refreshing.{IsShort};
 
 use crate::fault::Fault;
 use crate::key::Key;
@@ -53,6 +54,7 @@ impl<T: Value + Drop> Effect<T> {
         ensures noted { OnOk result (self.new ≡ record { key = self.old.key; told = Some noted }) }
         ensures told { OnOk result (told.new.items
             ≡ told.old.items ++ record { key = self.old.key; answer = answer } ∷ []) }
+        ensures cause { IfErr result IsShort }
         ensures kept { OnErr result (self.new ≡ self.old) }
         ensures untold { OnErr result (told.new.items ≡ told.old.items) }
     {
@@ -69,6 +71,7 @@ impl<T: Value + Drop> Effect<T> {
     fn hear_value(&mut self, value: &T, told: &mut Vec<Told<T>>) -> Result<(), StoreError>
         ensures heard { OnOk result ((news : List (Told T)) × (told.new.items ≡ told.old.items ++ news)
             × Hears T.is_same self.old (Ok value.now) self.new news) }
+        ensures cause { IfErr result IsShort }
         ensures kept { OnErr result (self.new ≡ self.old) }
         ensures untold { OnErr result (told.new.items ≡ told.old.items) }
     {
@@ -88,6 +91,7 @@ impl<T: Value + Drop> Effect<T> {
     fn hear_fault(&mut self, fault: Fault, told: &mut Vec<Told<T>>) -> Result<(), StoreError>
         ensures heard { OnOk result ((news : List (Told T)) × (told.new.items ≡ told.old.items ++ news)
             × Hears T.is_same self.old (Err fault) self.new news) }
+        ensures cause { IfErr result IsShort }
         ensures kept { OnErr result (self.new ≡ self.old) }
         ensures untold { OnErr result (told.new.items ≡ told.old.items) }
     {
@@ -110,6 +114,7 @@ impl<T: Value + Drop> Effect<T> {
         ensures plans { plans_in R.plan graph.new ≡ plans_in R.plan graph.old }
         ensures kinds { kind_in graph.new ≡ kind_in graph.old }
         ensures lasts { (k : Key) (v : T) → shown_in graph.old k ≡ Some v → shown_in graph.new k ≡ Some v }
+        ensures cause { IfErr result IsShort }
         ensures kept { OnErr result (self.new ≡ self.old) }
         ensures untold { OnErr result (told.new.items ≡ told.old.items) }
     {
@@ -186,7 +191,7 @@ impl<T: Value + Drop> Effects<T> {
     /// fault is reported once, and nothing more until it means something. Its effect stays until
     /// `unwatch`.
     ///
-    /// Refused if memory runs out, or by the store as `Reactive::refresh` is: what was pushed until then is
+    /// Refused by `OutOfMemory`, or after 2^64 steps by `NumbersExhausted`: what was pushed until then is
     /// right, and a later flush reports the rest. Takes the time of a `refresh` of each watched node, and
     /// memory for what is reported.
     ///
@@ -205,6 +210,7 @@ impl<T: Value + Drop> Effects<T> {
         ensures told { (n : ℕ) × (news : List (Told T)) × (told.new.items ≡ told.old.items ++ news)
             × AllHear T.is_same (plans_in R.plan graph.old) n self.old.effects.items self.new.effects.items news
             × (OnOk result (n ≡ length self.old.effects.items)) }
+        ensures cause { IfErr result IsShort }
         ensures plans { plans_in R.plan graph.new ≡ plans_in R.plan graph.old }
         ensures kinds { kind_in graph.new ≡ kind_in graph.old }
         ensures lasts { (k : Key) (v : T) → shown_in graph.old k ≡ Some v → shown_in graph.new k ≡ Some v }

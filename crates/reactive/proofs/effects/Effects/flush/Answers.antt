@@ -15,6 +15,7 @@ returns-in_err-hear g c =
             (omega (arith, c.args.self.now.effects.ok.0)) inv.1.2),
         search rules,
       );
+      cause = (let short = c.in_err-hear.ensures.cause in search rules);
       plans = c.hear.ensures.plans ∙ inv.0;
       kinds = c.hear.ensures.kinds ∙ inv.2;
       lasts = λ k v h. c.hear.ensures.lasts k v (inv.3 k v h);
@@ -48,6 +49,7 @@ returns g c =
         all_kept g.T.Value.is_same _ _ _ _ _ _ (omega (arith, c.args.self.now.effects.ok.0)) inv.1.2,
         all_heard g.T.Value.is_same _ _ _ _ _ inv.1.2 (omega (arith, c.loop-effect-test.false)),
       );
+      cause = tt;
       plans = inv.0;
       kinds = inv.2;
       lasts = inv.3;

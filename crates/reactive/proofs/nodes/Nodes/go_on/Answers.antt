@@ -1,4 +1,4 @@
-use Rattle.reactive.proofs.{ap, arith, kind_by, rules, way_back, way_known, way_mute, way_on, way_round}
+use Rattle.reactive.proofs.{inl, refl, ap, arith, kind_by, rules, way_back, way_known, way_mute, way_on, way_round}
 use Rattle.reactive.proofs.nodes.Nodes.go_on.Goals as goal
 
 pub returns-in-Some-clause-went : goal.returns-in-Some-clause-went
@@ -37,14 +37,14 @@ returns-in-NoValue-clause-went g c = λ G start o.
 
 pub returns-then-not-note-clause-went : goal.returns-then-not-note-clause-went
 returns-then-not-note-clause-went g c = λ G start o. rw (c.note.ensures.store, c.note.ensures.links)
-    ((c.in-Needs.ensures.advanced G o.sound o.last).sound, tt)
+    ((c.in-Needs.ensures.advanced G o.sound o.last).sound, inl refl)
 
 pub returns-in-Err-clause-went : goal.returns-in-Err-clause-went
 returns-in-Err-clause-went g c = λ G start o. rw (c.note.ensures.store, c.note.ensures.links)
-    ((c.in-Needs.ensures.advanced G o.sound o.last).sound, tt)
+    ((c.in-Needs.ensures.advanced G o.sound o.last).sound, inl refl)
 
 pub returns-in-Full-clause-went : goal.returns-in-Full-clause-went
-returns-in-Full-clause-went g c = λ G start o. ((c.in-Full.ensures.advanced G o.sound o.last).sound, tt)
+returns-in-Full-clause-went g c = λ G start o. ((c.in-Full.ensures.advanced G o.sound o.last).sound, inl refl)
 
 pub returns-in-Some-clause-lasts : goal.returns-in-Some-clause-lasts
 returns-in-Some-clause-lasts g c = λ G start o. (c.in-Settled.ensures.advanced G o.sound o.last).leaves.known
