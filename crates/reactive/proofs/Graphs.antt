@@ -508,6 +508,13 @@ module _ {T : Type 0} (G : Graph T) where
   chain_mute start (p ∷ rest) top (e, (k, m, c)) mute =
       rw e (needs_mute G p.key k m (chain_mute k rest top c mute))
 
+  -- the first comes to whatever the last comes to
+  chain_reaches : (start : Key) (path : List Frame) (top goal : Key) → Chain G start path top → Reaches G top goal
+      → Reaches G start goal
+  chain_reaches start [] top goal c r = rw c r
+  chain_reaches start (p ∷ rest) top goal (e, (k, m, c)) r =
+      rw e (comes_by p.key k goal m (chain_reaches k rest top goal c r))
+
   -- a node leads to another by one step or more
   abbrev Leads : Key → Key → Type 0
   Leads goal j = (k : Key) × ((path : List Frame) × (Needs G j k × Chain G k path goal))
@@ -591,16 +598,22 @@ module _ {T R : Type 0} {plan : R → Plan T} {G : Graph T} {now : ℕ} {start :
   pub way_mute : IsMute G top.key → IsMute G start
   way_mute mute = chain_mute G start path top.key o.chain mute
 
+  pub way_reaches : (goal : Key) → Reaches G top.key goal → Reaches G start goal
+  way_reaches goal r = chain_reaches G start path top.key goal o.chain r
+
   pub way_round : (next : Key) (place : Option ℕ) → Needs G top.key next → (i : ℕ) (f : Frame)
       → slice_get (path ++ record { key = top.key; place = place } ∷ []) i ≡ Some f → f.key ≡ next
-      → IsMute G start × IsMute G next
+      → IsMute G start × Reaches G start next × NeedsItself G next
   way_round next place needs i f is same =
       let here : Frame = record { key = top.key; place = place } in
       let all = path ++ here ∷ [] in
       let chain = chain_more G start path here next o.chain needs in
-      let round = rw same at (leads_member G next start all chain i f is) in
-      let mute = cyclic_mute G (Leads G next) (cyclic G next round) next round in
-      (chain_mute G start all next chain mute, mute)
+      let round : Leads G next next = rw same at (leads_member G next start all chain i f is) in
+      let mute = cyclic_mute G (Leads G next) (cyclic G next round) next round in (
+        chain_mute G start all next chain mute,
+        chain_reaches G start all next next chain (arrives next),
+        (round.0, round.1.1.0, chain_reaches G round.0 round.1.0 next next round.1.1.1 (arrives next)),
+      )
 
 -- ==== what calls leave of a graph that is kept
 

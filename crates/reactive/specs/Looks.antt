@@ -10,7 +10,7 @@ use Rattle.reactive.specs.declared.look.Verdict.{Verdict}
 use Rattle.reactive.specs.declared.look.Verdict.TheVariants as verdict
 use Rattle.reactive.specs.declared.node.Node.{Node}
 use Rattle.reactive.specs.Plans.{Asked, Follows, Give}
-use Rattle.reactive.specs.Meaning.{Graph, Needs, IsMute}
+use Rattle.reactive.specs.Meaning.{GivesNone, Graph, IsMute, Needs, Reaches}
 use Rattle.reactive.specs.Chains.{GoesOn}
 use Rattle.reactive.specs.Tables.{AreKnown, Book, Shows}
 
@@ -44,14 +44,14 @@ module _ {T R : Type 0} (G : Graph T) (now : ℕ) (b : Book T R) (k : Key) where
       × LeadsTo n v (vec_items n.reads))
   Looked (look.New v reads) = (n : Node T R) × (b.nodes k ≡ Some n) × LeadsTo n v (vec_items reads)
   Looked (look.Needs j place) = Needs G k j × GoesOn G now b k place
-  Looked (look.Gone j) = IsMute G k × (b.nodes j ≡ None)
-  Looked look.NoValue = IsMute G k
+  Looked (look.Gone j) = IsMute G k × Reaches G k j × (b.nodes j ≡ None)
+  Looked look.NoValue = GivesNone G k
   Looked look.Full = Unit {0}
 
   -- what a step at a node comes to
   abbrev pub Stepped : Step → Type 0
   Stepped step.Settled = (v : T) × Shows b k v
   Stepped (step.Needs j place) = Needs G k j × GoesOn G now b k place
-  Stepped (step.Gone j) = IsMute G k × (b.nodes j ≡ None)
-  Stepped step.NoValue = IsMute G k
+  Stepped (step.Gone j) = IsMute G k × Reaches G k j × (b.nodes j ≡ None)
+  Stepped step.NoValue = GivesNone G k
   Stepped step.Full = Unit {0}

@@ -37,6 +37,19 @@ module _ {T : Type 0} (G : Graph T) where
   abbrev pub IsClosed : (Key → Type 0) → Type 0
   IsClosed D = (j k : Key) → D j → Needs j k → D k
 
+-- a node comes to another by what it needs, in any number of steps
+pub data Reaches {T : Type 0} (G : Graph T) : Key → Key → Type 0 where
+  arrives : (k : Key) → Reaches G k k
+  comes_by : (j k l : Key) → Needs G j k → Reaches G k l → Reaches G j l
+
+module _ {T : Type 0} (G : Graph T) where
+  abbrev pub NeedsItself : Key → Type 0
+  NeedsItself j = (k : Key) × Needs G j k × Reaches G k j
+
+  -- a node's rule gives no value, by what the nodes that it asks for mean
+  abbrev pub GivesNone : Key → Type 0
+  GivesNone j = (answers : List (Asked T)) × AllMean G answers × Follows (G j) answers Stop
+
 -- what a plan that asks for a node goes on with, if that is a source
 abbrev pub value_from : {T : Type 0} → Plan T → (T → Option T) → Option T
 value_from (Give a) goes = goes a

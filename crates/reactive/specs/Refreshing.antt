@@ -7,7 +7,7 @@ use Rattle.reactive.specs.declared.fault.Fault.TheVariants as fault
 use Rattle.reactive.specs.declared.key.Key.{Key}
 use Rattle.reactive.specs.Graphs.{Kind, kinds_of}
 use Rattle.reactive.specs.Graphs.Kind.{NoNode}
-use Rattle.reactive.specs.Meaning.{Graph, Means, IsMute}
+use Rattle.reactive.specs.Meaning.{GivesNone, Graph, IsMute, Means, NeedsItself, Reaches}
 use Rattle.reactive.specs.declared.look.Frame.{Frame}
 use Rattle.reactive.specs.declared.look.Step.{Step}
 use Rattle.reactive.specs.Chains.{AllGoOn, Chain, GoesOn}
@@ -21,12 +21,12 @@ abbrev pub IsShort : StoreError → Type 0
 IsShort e = (e ≡ OutOfMemory) ⊎ (e ≡ NumbersExhausted)
 
 module _ {T : Type 0} (G : Graph T) (kind : Key → Kind) (k : Key) where
-  -- That a node has ended, is on a cycle, or gives no value is true of it, and says that the node that
-  -- was asked for means nothing. That memory or numbers ran out says nothing of it.
+  -- That a node has ended, needs itself, or gives no value is true of it, and says that the node that was
+  -- asked for comes to it and means nothing. That memory or numbers ran out says nothing of it.
   abbrev pub Blames : Fault → Type 0
-  Blames (fault.Gone j) = IsMute G k × (kind j ≡ NoNode)
-  Blames (fault.Cycle j) = IsMute G k × IsMute G j
-  Blames (fault.NoValue j) = IsMute G k × IsMute G j
+  Blames (fault.Gone j) = IsMute G k × Reaches G k j × (kind j ≡ NoNode)
+  Blames (fault.Cycle j) = IsMute G k × Reaches G k j × NeedsItself G j
+  Blames (fault.NoValue j) = IsMute G k × Reaches G k j × GivesNone G j
   Blames (fault.NoSource j) = ⊥
   Blames (fault.Store e) = IsShort e
 

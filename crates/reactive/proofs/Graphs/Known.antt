@@ -319,6 +319,16 @@ module _ {T R : Type 0} {plan : R → Plan T} {G : Graph T} {now : ℕ} {b : Boo
         let v = some_live (known_by (knows b.known k) (Some n)) hit in
         (v.0, known_shows (knows b.known k) (b.nodes k) v.0 (ap (known_by (knows b.known k)) at ∙ v.1))
 
+    -- a node without a rule and a value gives none
+    stops : (o : Option T) → is_some o ≡ false → plan_by plan None o ≡ Stop
+    stops None none = refl
+    stops (Some v) none = absurd (true≢false none)
+
+    pub no_rule : (sure : Bool) → n.rule ≡ None → is_some (known_by sure (Some n)) ≡ false → GivesNone G k
+    no_rule sure none miss =
+        let empty : is_some n.value ≡ false = rw none at miss in
+        ([], tt, plan_here s k n at ∙ (ap (λ r. plan_by plan r n.value) none ∙ stops n.value empty))
+
     -- ---- what a rule's run comes to
 
     module _ (rule : R) (has : n.rule ≡ Some rule) (answers : List (Asked T))
@@ -331,10 +341,10 @@ module _ {T R : Type 0} {plan : R → Plan T} {G : Graph T} {now : ℕ} {b : Boo
           let to = ran_to (plan rule) answers (Some j) result ran in
           (answers, to.2.0, all_mean s answers known, rw (plan_is, ← to.2.1) to.1)
 
-      pub rerun_mute : Ran (plan rule) answers None None → IsMute G k
-      rerun_mute ran =
+      pub rerun_none : Ran (plan rule) answers None None → GivesNone G k
+      rerun_none ran =
           let to = ran_to (plan rule) answers None None ran in
-          gave_up G k answers (all_mean s answers known) (rw (plan_is, ← to.2) to.1)
+          (answers, all_mean s answers known, rw (plan_is, ← to.2) to.1)
 
       pub rerun_leads : (v : T) (reads : List Key) → list_map (λ a. a.key) answers ≡ reads
           → Ran (plan rule) answers None (Some v) → LeadsTo G now b k n v reads

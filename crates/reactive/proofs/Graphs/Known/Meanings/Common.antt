@@ -21,6 +21,7 @@ pub use Rattle.generational_sessions.specs.PlainStores.{IsSimple}
 pub use Rattle.reactive.specs.Graphs.{GraphState, IsKept, kind_by, kind_by_rule}
 pub use Rattle.reactive.specs.Graphs.{kind_in, kinds_of, plans_in, shown_in}
 pub use Rattle.reactive.specs.Meaning.{AllMean, Gives, gives, goes_on, Graph, IsMute, value_by, value_from}
+pub use Rattle.reactive.specs.Meaning.{arrives, comes_by, GivesNone, NeedsItself, Reaches}
 pub use Rattle.reactive.specs.Plans.{AreGiven, Ask, Asked, Follows, Give, Plan, Ran, Stop}
 pub use Rattle.reactive.specs.Graphs.{Kind}
 pub use Rattle.reactive.specs.Refreshing.{Answers, Blames, IsAdvanced, IsOnTheWay, Refreshed}

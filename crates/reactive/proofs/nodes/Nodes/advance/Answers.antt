@@ -41,3 +41,7 @@ returns-in-Needs-clause-advanced g c = λ G s goes.
 pub returns-in-Gone-clause-advanced : goal.returns-in-Gone-clause-advanced
 returns-in-Gone-clause-advanced g c = λ G s goes.
     as_it_was s c.args.key (step.Gone c.in-Gone.other) (c.in-Gone.ensures.looked G s goes)
+
+pub returns-in-NoValue-clause-advanced : goal.returns-in-NoValue-clause-advanced
+returns-in-NoValue-clause-advanced g c = λ G s goes.
+    as_it_was s c.args.key step.NoValue (c.in-NoValue.ensures.looked G s goes)

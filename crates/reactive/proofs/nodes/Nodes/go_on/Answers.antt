@@ -1,3 +1,4 @@
+use Rattle.reactive.proofs.{arrives, gave_up, way_reaches}
 use Rattle.reactive.proofs.{inl, refl, ap, arith, kind_by, rules, way_back, way_known, way_mute, way_on, way_round}
 use Rattle.reactive.proofs.nodes.Nodes.go_on.Goals as goal
 
@@ -29,11 +30,19 @@ returns-else-is_on-clause-went g c = λ G start o.
 pub returns-in-Gone-clause-went : goal.returns-in-Gone-clause-went
 returns-in-Gone-clause-went g c = λ G start o.
     let a = c.in-Gone.ensures.advanced G o.sound o.last in
-    (a.sound, (way_mute o a a.stepped.0, ap kind_by a.stepped.1))
+    (a.sound, (way_mute o a a.stepped.0, way_reaches o a c.in-Gone.other a.stepped.1, ap kind_by a.stepped.2))
 
 pub returns-in-NoValue-clause-went : goal.returns-in-NoValue-clause-went
 returns-in-NoValue-clause-went g c = λ G start o.
-    let a = c.in-NoValue.ensures.advanced G o.sound o.last in (a.sound, (way_mute o a a.stepped, a.stepped))
+    let a = c.in-NoValue.ensures.advanced G o.sound o.last in
+    let none = a.stepped in (
+      a.sound,
+      (
+        way_mute o a (gave_up G c.args.top.key none.0 none.1 none.2),
+        way_reaches o a c.args.top.key (arrives c.args.top.key),
+        none,
+      ),
+    )
 
 pub returns-then-not-note-clause-went : goal.returns-then-not-note-clause-went
 returns-then-not-note-clause-went g c = λ G start o. rw (c.note.ensures.store, c.note.ensures.links)

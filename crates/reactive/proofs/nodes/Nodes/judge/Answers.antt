@@ -1,3 +1,4 @@
+use Rattle.reactive.proofs.{arrives, comes_by, no_rule}
 use Rattle.reactive.proofs.{ap, asked_goes, asked_needs, is_some, kept_leads, kept_walk, known_by, known_here, needs_gone}
 use Rattle.reactive.proofs.{rules, Some, sym, ◌∙◌}
 use Rattle.reactive.proofs.nodes.Nodes.judge.Goals as goal
@@ -33,7 +34,8 @@ returns-in-Gone-clause-looked g c = λ G s at goes.
     (ap (λ b. is_some (known_by b (Some n))) (sym c.knows.ensures)
     ∙ (sym c.is_known.ensures ∙ c.if-is_known.false)) (c.is_kept.ensures.value (search rules)) in
     let is = c.in-Gone.ensures w.answers (w.asked ∙ sym c.deref.ensures.value) w.stand known in
-    (needs_gone s c.args.key c.in-Gone.other (asked_needs s c.args.key n at v value w _ _ is.1.1) is.0, is.0)
+    let need = asked_needs s c.args.key n at v value w _ _ is.1.1 in
+    (needs_gone s c.args.key c.in-Gone.other need is.0, comes_by c.args.key _ _ need (arrives _), is.0)
 
 pub returns-in_default-place-clause-looked : goal.returns-in_default-place-clause-looked
 returns-in_default-place-clause-looked g c = λ G s at goes.
@@ -41,3 +43,9 @@ returns-in_default-place-clause-looked g c = λ G s at goes.
 
 pub returns-clause-looked : goal.returns-clause-looked
 returns-clause-looked g c = λ G s at goes. c.rerun-2.ensures.looked G c.args.key c.args.node.now s at c.in-Some.is
+
+pub returns-in_default-clause-looked : goal.returns-in_default-clause-looked
+returns-in_default-clause-looked g c = λ G s at goes.
+    let n = c.args.node.now in
+    no_rule s c.args.key n at _ (search rules)
+    (ap (λ b. is_some (known_by b (Some n))) (sym c.knows.ensures) ∙ (sym c.is_known.ensures ∙ c.if-is_known.false))
