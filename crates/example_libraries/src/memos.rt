@@ -76,6 +76,43 @@ pub fn odd_after_set<S: Storage<Node<u64, Formula>>>(
     }
 }
 
+/// Sets two sources, and gets a memo of their sum: that of the values that were set.
+pub fn sum_after_sets<S: Storage<Node<u64, Formula>>>(
+    graph: &mut Reactive<u64, Formula, S>,
+    one: Key,
+    other: Key,
+    sum: Key,
+    x: u64,
+    y: u64,
+) -> Result<u64, Fault>
+    requires memo { plans_in plan_of graph.old sum ≡ Ask one (λ x. Ask other (λ y. Give ((x + y) % 2 ^ 64))) }
+    requires sources { one ≢ other }
+    requires first { sum ≢ one }
+    requires second { sum ≢ other }
+    ensures { IfOk result (λ v. v ≡ (x + y) % 2 ^ 64) }
+{
+    nodes_mean_one_value::<u64>();
+    graph.set(one, x)?;
+    graph.set(other, y)?;
+    graph.get(sum)
+}
+
+/// Brings two nodes up to date, and looks at the first: it is known still.
+pub fn known_still<S: Storage<Node<u64, Formula>>>(
+    graph: &mut Reactive<u64, Formula, S>,
+    one: Key,
+    other: Key,
+) -> Result<u64, Fault>
+    ensures { IfOk result (λ v. Means (plans_in plan_of graph.old) one v) }
+{
+    graph.refresh(one)?;
+    graph.refresh(other)?;
+    match graph.peek(one) {
+        Some(value) => Ok(*value),
+        None => unreachable!(),
+    }
+}
+
 /// Sets a source that lives, which isn't refused.
 pub fn set_live<S: Storage<Node<u64, Formula>>>(
     graph: &mut Reactive<u64, Formula, S>,
