@@ -14,8 +14,8 @@ import sys
 
 ROOT = pathlib.Path(__file__).resolve().parent.parent
 FOLDER = ROOT / "docs" / "api"
-CRATES = ["generational_box", "generational_sync", "signals", "reactive", "entity_table", "session_table",
-          "scene_tree", "document_tree"]
+CRATES = ["generational_box", "generational_sync", "generational_workers", "signals", "reactive",
+          "entity_table", "session_table", "scene_tree", "document_tree"]
 # Crates that users take through generational_box.
 HANDED_ON = {"generational_errors", "generational_core", "generational_sessions"}
 TAKEN = "# What users take."
