@@ -29,10 +29,10 @@ PAGES += [it for it in sorted((ROOT / "docs").rglob("*.md")) if it.parent.name !
 # Each page of the guide, but for the questions, and each of a library begins with a program.
 WITH_MAIN = [it for it in (ROOT / "docs/guide").glob("*.md") if it.name != "faq.md"]
 WITH_MAIN += [ROOT / f"docs/{it}.md" for it in ("signals", "reactive", "entities", "sessions", "scenes", "documents")]
-USES = ["example_callers", "example_libraries", "example_guide"]
+USES = ["example_callers", "example_libraries", "example_guide", "example_workers"]
 # What the gate runs, the last one with those programs among the callers whose `main` it calls.
 RUN = ["test_boxes", "test_libraries", "test_shared", "test_shared_workers", "bench_shared",
-       "example_guide"]
+       "example_workers", "example_guide"]
 PROGRAMS = set(re.findall(r"(\w+)::main\(", (ROOT / "crates/example_guide/src/main.rt").read_text(encoding="utf-8")))
 SOURCES = [
     path

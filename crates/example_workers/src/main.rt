@@ -1,0 +1,8 @@
+//! Runs the program with which the page on threads begins.
+#![tactic(auto)]
+
+mod workers;
+
+fn main(rt: HostRuntime) -> anyhow::Result<()> {
+    workers::main(&rt)
+}
