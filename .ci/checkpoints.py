@@ -30,7 +30,7 @@ VALUES, PAGES = 100_000, 20
 # Lists of reads at so many places, and how many times the time at one place their steps may take; how often that is
 # measured; how many reads these are; and how many bytes a step may take where places have numbers.
 PLACES = (("places", 500, 1.5), ("places", 70_000, 3), ("forgotten", 70_000, 3))
-TURNS, READS, PLACED = 3, 1_000_000, 10
+TURNS, READS, PLACED = 9, 1_000_000, 10
 
 
 class Failure(Exception):
@@ -102,8 +102,9 @@ def seconds(program, name, places):
 
 
 def finds_places(program, name, places, limit):
-    ratios = [seconds(program, name, places) / seconds(program, "places", 1) for _ in range(TURNS)]
-    times = statistics.median(ratios)
+    taken = [(seconds(program, name, places), seconds(program, "places", 1)) for _ in range(TURNS)]
+    many, one = (statistics.median(it) for it in zip(*taken))
+    times = many / one
     if times > limit:
         raise Failure(f"{name}: reads at {places} places take {times:.2f} times those at one, and not {limit}")
     return f"{name}: reads at {places} places take {times:.2f} times those at one, of {limit}"
