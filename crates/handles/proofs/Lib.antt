@@ -1,3 +1,4 @@
 -- Lemmas of maps.
 pub mod Maps
 pub mod Told
+pub mod Visits

@@ -1,7 +1,9 @@
 -- Locations that are told, before and after others come.
 use Rattle.std.proofs.Common.{◌≡◌, ◌<◌, ◌≤◌, ◌++◌, ◌∙◌, ◌∷◌, ℕ, Bool, true, false, List, [], Some, arith, ap, if◌then◌else◌}
-use Rattle.std.proofs.Common.{length, refl, slice_get, sym, take}
-use Rattle.std.proofs.lemmas.List.{take-append-le}
+use Rattle.std.proofs.Common.{drop, length, refl, slice_get, sym, take}
+use Rattle.std.proofs.lemmas.List.Folds.{list_any-append}
+use Rattle.std.proofs.lemmas.List.{take-append-drop, take-append-le}
+use Rattle.generational_errors.specs.Texts.{same_location}
 use Rattle.generational_errors.specs.declared.error.Location.{Location}
 use Rattle.generational_sessions.proofs.callers.{get_take, take_within}
 use Rattle.location_list.specs.Locations.{is_among, with_location}
@@ -26,3 +28,9 @@ told_more s t site l le same is =
     let lt = take_within s.all s.told site l is in
     get_take t.all t.told site (omega (arith, lt, le)) ∙ (ap (λ list. slice_get list site) same
     ∙ (sym (get_take s.all s.told site lt) ∙ is))
+
+-- a location that isn't there isn't told
+pub untold : (n : ℕ) (list : List Location) (at : Location) → is_among list at ≡ false
+    → is_among (take n list) at ≡ false
+untold n list at none =
+    grind (arith, list_any-append (same_location at) (take n list) (drop n list), take-append-drop n list)

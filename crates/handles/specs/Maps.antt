@@ -1,6 +1,7 @@
 -- Values by handles of one table: what each handle shows, and all of them in the order of the slots.
 use Rattle.std.specs.Prelude.{ℕ, ◌+◌, List, [], ◌∷◌, Option, None, Some, if◌then◌else◌, nat_eq}
-use Rattle.std.specs.Prelude.{slice_index_or}
+use Rattle.std.specs.Prelude.{option_map, slice_index_or}
+use Rattle.std.specs.List.{cons_option, filter_map}
 use Rattle.handles.specs.declared.handle.Handle.{Handle}
 use Rattle.handles.specs.declared.map.Row.{Row}
 use Rattle.handles.specs.declared.map.Row.TheVariants.{Vacant, Held}
@@ -53,3 +54,13 @@ module _ {V : Type 0} where
 
     abbrev pub listed : MapState V → List (Handle T K × V)
     listed m = listed_from m.number 0 m.rows
+
+-- the handles that have a value in each of two maps, with both values, in the order of their slots
+abbrev pub both : {V W T K : Type 0} → MapState V → MapState W → List (Handle T K × (V × W))
+both a b = filter_map (λ p. option_map (λ w. (p.0, (p.1, w))) (value_of b p.0)) (listed a)
+
+-- the same of two rows of one slot: one handle, or none
+abbrev pub both_held : {V W T K : Type 0} → ℕ → ℕ → Row V → Row W → List (Handle T K × (V × W))
+both_held number slot Vacant q = []
+both_held number slot (Held site generation v) q =
+    cons_option (option_map (λ w. (at_slot number slot site generation, (v, w))) (held q generation)) []

@@ -1,12 +1,13 @@
 //! Values by handles.
 
 ghost use Rattle.std.specs.Prelude.{◌≡◌, ◌<◌, ◌≤◌, ◌+◌, ◌^◌, ℕ, [], Some, IsFalse, IsTrue, IfSome, IfNone};
-ghost use Rattle.std.specs.Prelude.{length, option_copied, slice_set, vec_capacity};
+ghost use Rattle.std.specs.Prelude.{◌∷◌, length, option_copied, slice_set, vec_capacity};
 ghost use Rattle.std.specs.Borrow.{MutBor};
 ghost use Rattle.std.specs.Fn.{FnOnceReturnsAtMut};
 ghost use Rattle.handles.specs.declared.map.Row.TheVariants.{Held, Vacant};
 ghost use Rattle.handles.specs.Handles.{slot_in};
-ghost use Rattle.handles.specs.Maps.{count, handle_of, held, listed, refilled, row_at, value_of};
+ghost use Rattle.handles.specs.Maps.{both, both_held, count, handle_of, held, listed, listed_from, refilled, row_at, value_of};
+ghost use Rattle.handles.specs.Visits.{AreChanged, CalledOn, CalledOnBoth};
 
 use crate::handle::Handle;
 use crate::walk::HandleIter;
@@ -70,6 +71,55 @@ impl<V> Row<V> {
             _ => None,
         }
     }
+
+    // Calls a closure on the row's handle and value, if it holds one.
+    #[inline(always)]
+    fn visit<T, K, F: FnMut(Handle<T, K>, &mut V)>(&mut self, number: u64, slot: usize, f: &mut F)
+        requires callable { F.IsAlwaysCallable f.old }
+        requires fits { slot < 2 ^ 32 }
+        ensures callable { F.IsAlwaysCallable f.new }
+        ensures changed { AreChanged (CalledOn F.FnMut) f.old (listed_from number slot (self.old ∷ []))
+            (listed_from number slot (self.new ∷ [])) f.new }
+    {
+        if let Row::Held(site, generation, value) = self {
+            f(Handle::at(number, slot as u32, *site, *generation), value);
+        }
+    }
+
+    // Calls a closure on the row's handle and the values of this row and another, if they hold values of one
+    // generation.
+    #[inline(always)]
+    fn visit_both<T, K, W, F: FnMut(Handle<T, K>, &mut V, &mut W)>(
+        &mut self,
+        other: &mut Row<W>,
+        number: u64,
+        slot: usize,
+        f: &mut F,
+    )
+        requires callable { F.IsAlwaysCallable f.old }
+        requires fits { slot < 2 ^ 32 }
+        ensures callable { F.IsAlwaysCallable f.new }
+        ensures changed { AreChanged (CalledOnBoth F.FnMut) f.old (both_held {T = T} {K = K} number slot self.old other.old)
+            (both_held {T = T} {K = K} number slot self.new other.new) f.new }
+        ensures first { (g : ℕ) → held other.old g ≡ None → held self.new g ≡ held self.old g }
+        ensures second { (g : ℕ) → held self.old g ≡ None → held other.new g ≡ held other.old g }
+        ensures counts { (count (self.new ∷ []) ≡ count (self.old ∷ []))
+            × (count (other.new ∷ []) ≡ count (other.old ∷ [])) }
+    {
+        let Row::Held(site, generation, value) = self else {
+            return;
+        };
+        let Row::Held(_, own, with) = other else {
+            return;
+        };
+        if *generation == *own {
+            f(
+                Handle::at(number, slot as u32, *site, *generation),
+                value,
+                with,
+            );
+        }
+    }
 }
 
 /// Values by the handles of one table, with a row for each slot up to the highest that has had one.
@@ -84,7 +134,7 @@ pub struct HandleMap<T, K, V> {
 
 impl<T, K, V> Model for HandleMap<T, K, V> {
     ghost use Rattle.std.specs.Prelude.{◌≡◌, ◌≤◌, ◌^◌, length};
-    ghost use Rattle.handles.specs.Maps.{count, MapState};
+    ghost use Rattle.handles.specs.Maps.{both, both_held, count, MapState};
 
     ghost Value = { MapState V };
 
@@ -239,6 +289,54 @@ impl<T, K, V> HandleMap<T, K, V> {
             return None;
         }
         self.rows[handle.slot as usize].change(handle.generation, f)
+    }
+
+    /// Calls a closure once on each handle that has a value and on that value, which it may change, in the
+    /// order of their slots. Doesn't allocate itself.
+    pub fn for_each_mut<F: FnMut(Handle<T, K>, &mut V)>(&mut self, mut f: F)
+        requires { F.IsAlwaysCallable f }
+        ensures number { self.new.number ≡ self.old.number }
+        ensures visited { (last : F) × AreChanged (CalledOn F.FnMut) f (listed self.old) (listed self.new) last }
+    {
+        let number = self.number;
+        for slot in 0..self.rows.len() {
+            self.rows[slot].visit(number, slot, &mut f);
+        }
+    }
+
+    /// Calls a closure once on each handle that has a value in this map and in another, and on both values,
+    /// which it may change, in the order of their slots. Doesn't allocate itself.
+    pub fn for_each2_mut<W, F: FnMut(Handle<T, K>, &mut V, &mut W)>(
+        &mut self,
+        other: &mut HandleMap<T, K, W>,
+        mut f: F,
+    )
+        requires { F.IsAlwaysCallable f }
+        ensures numbers { (self.new.number ≡ self.old.number) × (other.new.number ≡ other.old.number) }
+        ensures visited { (last : F) × AreChanged (CalledOnBoth F.FnMut) f (both {T = T} {K = K} self.old other.old)
+            (both {T = T} {K = K} self.new other.new) last }
+        ensures first { (h : Handle T K) → value_of other.old h ≡ None →
+            value_of self.new h ≡ value_of self.old h }
+        ensures second { (h : Handle T K) → value_of self.old h ≡ None →
+            value_of other.new h ≡ value_of other.old h }
+    {
+        if self.number != other.number {
+            return;
+        }
+        let number = self.number;
+        for slot in 0..self.rows.len().min(other.rows.len()) {
+            self.rows[slot].visit_both(&mut other.rows[slot], number, slot, &mut f);
+        }
+    }
+
+    /// Drops all values. Doesn't allocate, and is O(n) for n rows.
+    pub fn clear(&mut self)
+    where
+        V: Drop,
+        ensures { self.new ≡ record { number = self.old.number; rows = [] } }
+    {
+        self.rows.clear();
+        self.live = 0;
     }
 
     /// The handles that have a value, with it, in the order of their slots. Doesn't allocate, and is O(1).

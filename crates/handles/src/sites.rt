@@ -1,7 +1,7 @@
 //! The locations that a table was given.
 
-ghost use Rattle.std.specs.Prelude.{◌≡◌, ◌≤◌, ◌<◌, [], OnErr, OnOk, IfOk, length, slice_get};
-ghost use Rattle.location_list.specs.Locations.{IsAt, with_location};
+ghost use Rattle.std.specs.Prelude.{◌≡◌, ◌≤◌, ◌<◌, [], false, OnErr, OnOk, IfOk, length, slice_get};
+ghost use Rattle.location_list.specs.Locations.{IsAt, is_among, with_location};
 ghost use Rattle.handles.specs.Sites.{SiteState, told_in};
 
 use generational_core::Location;
@@ -45,7 +45,7 @@ impl Sites {
     ///
     /// # Errors
     ///
-    /// If memory runs out. Nothing changes then.
+    /// If memory runs out. Nothing changes then, and a location that there is never fails.
     #[inline(always)]
     #[tactic(auto, using(crate::proofs::Told::take_with))]
     pub fn find_or_add(&mut self, here: Location) -> Result<u32, AllocError>
@@ -53,6 +53,7 @@ impl Sites {
         ensures told { told_in self.new ≡ told_in self.old }
         ensures found { IfOk result (λ site. IsAt self.new.all site here) }
         ensures err { OnErr result (self.new ≡ self.old) }
+        ensures absent { OnErr result (is_among self.old.all here ≡ false) }
     {
         self.list.find_or_add(here)
     }
