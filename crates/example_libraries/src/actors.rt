@@ -36,29 +36,17 @@ fn begin<A: Storage<u64>>(
     let cat = actors.spawn(9, here)?;
     let dog = actors.spawn(7, here)?;
     scores.attach(actors, cat, 100)?;
-    train(actors, scores)?;
+    train(actors, scores);
     Ok(dog)
 }
 
-// Adds to the strength of each actor that has a score. A change needs the whole table, so the loop
-// counts slots: an iterator would keep the table borrowed.
-fn train<A: Storage<u64>>(
-    actors: &mut EntityTable<u64, A>,
-    scores: &ComponentTable<u64, u64>,
-) -> Result<()> {
-    for slot in 0..actors.slots() {
-        let Some(actor) = actors.at(slot) else {
-            continue;
-        };
-        let Some(score) = scores.get(actor).copied() else {
-            continue;
-        };
-        actors.update(
-            actor,
-            |strength: &mut u64| *strength = strength.wrapping_add(score / 100),
-        )?;
-    }
-    Ok(())
+// Adds to the strength of each actor that has a score.
+fn train<A: Storage<u64>>(actors: &mut EntityTable<u64, A>, scores: &ComponentTable<u64, u64>) {
+    actors.for_each_mut(|actor: Entity<u64>, strength: &mut u64| {
+        if let Some(score) = scores.get(actor) {
+            *strength = strength.wrapping_add(*score / 100);
+        }
+    });
 }
 
 fn show<R: Print, A: Storage<u64>>(

@@ -3,16 +3,18 @@
 ghost use Rattle.std.specs.Prelude.{◌≡◌, ◌≤◌, ◌⊎◌, ◌∷◌, slice_get, ◌++◌, [], List, ℕ, Err, IfOk, IsErr, None, OnOk, IfSome, Some};
 ghost use Rattle.generational_errors.specs.declared.error.StoreError.TheVariants.{OutOfMemory};
 ghost use Rattle.scene_tree.specs.declared.node.TreeError.TheVariants as error;
-ghost use Rattle.scene_tree.specs.declared.node.Node.{Node};
-ghost use Rattle.scene_tree.specs.Nodes.{IsOther, made_at, without};
-ghost use Rattle.scene_tree.specs.Trees.{IsBelow, NodeIsUnchanged, WasMade, children_of, outline_of, parent_of, value_of};
+ghost use Rattle.generational_errors.specs.declared.error.Location.{Location};
+ghost use Rattle.handles.specs.Handles.{IsOther};
+ghost use Rattle.scene_tree.specs.Nodes.{Node, without};
+ghost use Rattle.scene_tree.specs.Trees.{IsBelow, NodeIsUnchanged, WasMade, children_of, created_at, outline_of, parent_of};
+ghost use Rattle.scene_tree.specs.Trees.{value_of};
 
 use generational_box::{HandedBack, Location, Storage};
 use scene_tree::{Node, SceneTree, Spot, Stale, TreeError};
 
-/// Removes a node with all below it, adds another, and looks at the first: the answer is that the first
-/// is gone, and where that was made, whichever slot the second took. Only a removal that lacks memory
-/// is told instead.
+/// Removes a node with all below it, adds another, and looks at the first: that fails, and the error says
+/// where the first was made, whichever slot the second took. Only a removal for which memory runs out fails
+/// in another way.
 pub fn told_after<S: Storage<u64>>(
     tree: &mut SceneTree<u64, S>,
     first: Node<u64>,
@@ -20,14 +22,14 @@ pub fn told_after<S: Storage<u64>>(
     here: Location,
 ) -> Result<u64, TreeError>
     requires { WasMade tree.old first }
-    ensures { (result ≡ Err (error.Stale (made_at first)))
-        ⊎ (result ≡ Err (error.Store OutOfMemory)) }
+    ensures { (l : Location) → created_at tree.old first ≡ Some l →
+        (result ≡ Err (error.Stale (record { created_at = Some l }))) ⊎ (result ≡ Err (error.Store OutOfMemory)) }
 {
     tree.remove_subtree(first)?;
     let _ = tree.add_root(next, here);
     match tree.get(first) {
         Ok(value) => Ok(*value),
-        Err(stale) => Err(TreeError::Stale(stale.made_at)),
+        Err(stale) => Err(TreeError::Stale(stale)),
     }
 }
 

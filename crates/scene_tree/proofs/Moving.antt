@@ -46,20 +46,27 @@ module _ {T : Type 0} (fs : List (Family T)) where
         at None is = tt
         at (Some up) is = above_within fs f slot (slot_in up) (ap slot_of is)
 
+-- a list from an item on
+pub drop_read : {X : Type 0} (xs : List X) (i : ℕ) (x : X) → slice_get xs i ≡ Some x → drop i xs ≡ x ∷ drop (i + 1) xs
+drop_read [] i x is = grind arith
+drop_read (y ∷ xs) zero x is = grind arith
+drop_read (y ∷ xs) (suc i) x is = grind (arith, drop_read xs i x is)
+
 -- the way from a live node's parent on has its ancestors
-module _ {T : Type 0} {S : State T} {fs : List (Family T)} (sound : IsSound S) (k : IsKept S fs) where
+module _ {T : Type 0} {S : State T} {fs : List (Family T)} (sound : IsSound S) (k : IsKept S fs)
+    (sites : List Location) where
   abbrev walked : TreeState T
-  walked = record { state = S; families = fs }
+  walked = record { state = S; families = fs; sites = sites }
 
   way_ancestors : (n d : ℕ) (node : Node T) → IsLiveIn S node → IsRooted fs d (slot_in node) → d ≤ n
       → (o : Option (Node T)) → parent_at fs (slot_in node) ≡ o
       → AreAncestors walked node (way_up fs n o)
-  way_ancestors n d node live r le None is = rw (way_none fs n) (live_parent sound k node live ∙ is)
+  way_ancestors n d node live r le None is = rw (way_none fs n) (live_parent sound k sites node live ∙ is)
   way_ancestors zero d node live r le (Some up) is = grind arith
   way_ancestors (suc n) d node live r le (Some up) is =
       let less = rooted_up fs d (slot_in node) (slot_in up) (ap slot_of is) r in
       let one = less.1 in (
-        live_parent sound k node live ∙ is,
+        live_parent sound k sites node live ∙ is,
         way_ancestors n less.0 up (k.parents (slot_in node) up is) less.2 (omega (arith, le, one))
             (parent_at fs (slot_in up)) refl,
       )
@@ -113,7 +120,7 @@ module _ {T : Type 0} (S : State T) (roots : Bool) where
 -- lists of nodes: one stands in a list if it stands there some times, and a list is of different nodes if
 -- each stands there once
 module _ {T : Type 0} where
-  same_equivalence : IsEquivalence (is_same {T = T})
+  same_equivalence : IsEquivalence (is_same {T = T} {K = NodeKind})
   same_equivalence = record {
     refl = λ a. grind arith;
     symm = λ a b. grind arith;
@@ -152,9 +159,9 @@ module _ {T : Type 0} where
       )
 
 module _ {T : Type 0} {S : State T} (sound : IsSound S) (links : List (Link T)) (k : IsKept S (families links))
-    (a : AreNoted S links) where
+    (a : AreNoted S links) (sites : List Location) where
   abbrev met_tree : TreeState T
-  met_tree = record { state = S; families = families links }
+  met_tree = record { state = S; families = families links; sites = sites }
 
   placed_row : (i : ℕ) (h : Node T) → noted links i ≡ Some h → slot_in h ≡ 0 + i
   placed_row i h is = let at = a.placed i h is in omega (arith, at)
@@ -183,7 +190,7 @@ module _ {T : Type 0} {S : State T} (sound : IsSound S) (links : List (Link T)) 
   -- its parent is the link's
   link_parent : (n : Node T) → IsLiveIn S n → (l : Link T) → slice_get links (slot_in n) ≡ Some l
       → parent_of met_tree n ≡ l.parent
-  link_parent n live l there = live_parent sound k n live ∙ (parent_from links (slot_in n) ∙ ap upper there)
+  link_parent n live l there = live_parent sound k sites n live ∙ (parent_from links (slot_in n) ∙ ap upper there)
 
   sees : (l : Link T) (n : Node T) → IsSame l.node n
       → value_in S (pointer_in l.node) ≡ value_in S (pointer_in n)
@@ -223,15 +230,7 @@ module _ {T : Type 0} {S : State T} (sound : IsSound S) (links : List (Link T)) 
 
   -- the node with a name
   abbrev node_named : Name → Node T
-  node_named q = record {
-    raw = record {
-      raw = record {
-        id = record { store = S.number; slot = q.slot; generation = q.generation };
-        created_at = record { file = record { ref_ptr = (0, 0); now = [] }; line = 0; column = 0 };
-      };
-      marker = record {};
-    };
-  }
+  node_named q = at_slot S.number q.slot 0 q.generation
 
   -- it is live if its cell is there
   named_live : (q : Name) → map.contains_key S.cells q ≡ true → IsLiveIn S (node_named q)
@@ -392,18 +391,18 @@ module _ {T : Type 0} where
     alike sound child live s i x at same =
         same_id x child (one_live S x child sound k.simple (k.children s i x at) live same)
 
-    sibling_in : IsSound S → (by up : Node T)
-        → parent_of (record { state = S; families = fs }) by ≡ Some up
+    sibling_in : (sites : List Location) → IsSound S → (by up : Node T)
+        → parent_of (record { state = S; families = fs; sites = sites }) by ≡ Some up
         → IsAmong (children_at fs (slot_in up)) by
-    sibling_in sound by up is =
-        let has = has_parent sound k by up is in among by (children_at fs (slot_in up))
+    sibling_in sites sound by up is =
+        let has = has_parent sound k sites by up is in among by (children_at fs (slot_in up))
         (grind (arith, k.forest.once (slot_in by) (slot_in up))) (alike sound by has.0 (slot_in up))
 
     -- a sibling that a spot names is among the children of its parent
-    pub spot_in : IsSound S → (at : Spot T) (up : Node T)
-        → parent_for (record { state = S; families = fs }) at ≡ Some up
+    pub spot_in : (sites : List Location) → IsSound S → (at : Spot T) (up : Node T)
+        → parent_for (record { state = S; families = fs; sites = sites }) at ≡ Some up
         → IsSpotIn (children_at fs (slot_in up)) at
-    spot_in sound to up is = grind (arith, sibling_in)
+    spot_in sites sound to up is = grind (arith, sibling_in sites)
 
     pub kept_detached : IsSound S → (gs : List (Family T)) (child : Node T) → IsLiveIn S child
         → IsDetached fs child gs → IsKept S gs
@@ -432,59 +431,111 @@ module _ {T : Type 0} where
             λ s i x is. grind (arith, live x, k.children s i x, c.cleared s, c.others s, parent_is fs k.forest s i x, out);
       }
 
+  -- ---- a new node, whose cell was made
+
+  module _ {S R : State T} (v : T) (l : Location) (n : Node T) (h : HasMade S v l n R) where
+    pub made_shown : value_in R (pointer_in n) ≡ Some v
+    made_shown = same_id_sees R (pointer_in n) h.0 h.2 ∙ (meets_tells S R (Make None v l) (Made h.0) h.1).1
+
+    pub made_given : IsGiven R (name_of (pointer_in n))
+    made_given = subst (λ id. IsGiven R (name_in id)) (sym h.2) (made_new S R (Make None v l) h.0 h.1).2
+
+    pub made_fresh : IsGiven S (name_of (pointer_in n)) → ⊥
+    made_fresh was = true≢false (sym (subst (λ id. IsGiven S (name_in id)) h.2 was)
+        ∙ (made_new S R (Make None v l) h.0 h.1).1)
+
+    pub made_number : number_in n ≡ S.number
+    made_number = ap (λ i. i.store) h.2 ∙ (made_new S R (Make None v l) h.0 h.1).0
+
+  module _ {S R : State T} (sound : IsSound S) (v : T) (l : Location) (n : Node T) (h : HasMade S v l n R) where
+    pub made_others : (f : Node T) → IsOther n f → value_in R (pointer_in f) ≡ value_in S (pointer_in f)
+    made_others f other = others_left _ _ h.1 h.0 (pointer_in f) (made_new S R (Make None v l) h.0 h.1).0
+        (same_value S R (Make None v l) (Made h.0) sound h.1 (pointer_in f) tt) (λ same. other (h.2 ∙ same))
+
+    pub made_left : (f : Node T) → IsGiven S (name_of (pointer_in f))
+        → value_in R (pointer_in f) ≡ value_in S (pointer_in f)
+    made_left f was = same_value S R (Make None v l) (Made h.0) sound h.1 (pointer_in f) tt
+        (given_other S R (Make None v l) (Made h.0) (pointer_in f) h.1 was)
+
+  module _ {S R : State T} {fs : List (Family T)} (k : IsKept S fs) (sound : IsSound S) (v : T) (l : Location)
+      (n : Node T) (h : HasMade S v l n R) where
+    pub made_apart : (f : Node T) → IsLiveIn S f → slot_in f ≢ slot_in n
+    made_apart f live is = made_beside sound k.simple v l h.0 h.1 f live (is ∙ ap (λ i. i.slot) h.2)
+
+    pub made_one_more : map.len R.cells ≡ map.len S.cells + 1
+    made_one_more = made_count sound k.simple v l h.0 h.1
+
+    pub made_is_simple : IsSimple R
+    made_is_simple = made_simple sound k.simple v l h.0 h.1
+
+    module _ (gs : List (Family T)) (o : IsOpened fs (slot_in n) gs) where
+      opened_at : IsOpened fs h.0.id.slot gs
+      opened_at = subst (λ (i : GenerationalBoxId). IsOpened fs i.slot gs) h.2 o
+
+      pub new_kept : IsKept R gs
+      new_kept = kept_opened k sound v l h.0 h.1 gs opened_at
+
+      pub new_alone : family_at gs (slot_in n) ≡ alone
+      new_alone = ap (family_at gs) (ap (λ i. i.slot) h.2) ∙ opened_alone k sound v l h.0 h.1 gs opened_at
+
+      pub new_within : slot_in n < length gs
+      new_within = subst (λ (i : GenerationalBoxId). i.slot < length gs) (sym h.2)
+          (opened_within k sound v l h.0 h.1 gs opened_at)
+
   -- both: a new child
   module _ {S R : State T} {fs : List (Family T)} (k : IsKept S fs) (sound : IsSound S) (v : T) (l : Location)
-      (parent child : Node T) (spot : Spot T) (m : Meets S (Make None v l) (Made (pointer_in child)) R)
+      (sites : List Location) (parent child : Node T) (spot : Spot T) (h : HasMade S v l child R)
       (live : IsLiveIn S parent)
-      (is : parent_for (record { state = S; families = fs }) spot ≡ Some parent)
+      (is : parent_for (record { state = S; families = fs; sites = sites }) spot ≡ Some parent)
       (gs hs : List (Family T)) (o : IsOpened fs (slot_in child) gs)
       (a : IsAttached gs parent spot child hs) where
     apart : (n : Node T) → IsLiveIn S n → slot_in n ≢ slot_in child
-    apart = made_beside sound k.simple v l (pointer_in child) m
+    apart = made_apart k sound v l child h
 
     lone_child : family_at gs (slot_in child) ≡ alone
-    lone_child = opened_alone k sound v l (pointer_in child) m gs o
+    lone_child = new_alone k sound v l child h gs o
 
     -- a live node is left
     left : (n : Node T) → IsLiveIn S n → value_in R (pointer_in n) ≡ value_in S (pointer_in n)
-    left n lives = grind (arith, same_value S R (Make None v l) (Made (pointer_in child)) sound m, apart)
+    left n lives = same_value S R (Make None v l) (Made h.0) sound h.1 (pointer_in n) tt
+        (λ is. apart n lives (sym (ap (λ q. q.slot) is) ∙ sym (ap (λ i. i.slot) h.2)))
 
     shown : IsLiveIn R child
-    shown = ap is_some (made None v l (Ok child.raw) m)
+    shown = ap is_some (made_shown v l child h)
 
     pub kept_added : IsKept R hs
     kept_added =
-        let opened = kept_opened k sound v l (pointer_in child) m gs o in
+        let opened = new_kept k sound v l child h gs o in
         kept_attached opened hs parent child spot (ap is_some (left parent live) ∙ live) shown
         (ap (λ x. slot_of x.parent) lone_child) (λ e under. apart parent live
         (under_alone gs opened.forest (slot_in child) e (slot_in parent) lone_child under)) a
 
-    abbrev old : TreeState T
-    old = record { state = S; families = fs }
+    module _ (now : List Location) where
+      abbrev old : TreeState T
+      old = record { state = S; families = fs; sites = sites }
 
-    abbrev new : TreeState T
-    new = record { state = R; families = hs }
+      abbrev new : TreeState T
+      new = record { state = R; families = hs; sites = now }
 
-    pub added_child : family_of new child ≡ record { parent = parent_for old spot; children = [] }
-    added_child = rw is (grind (arith, live_family, shown, apart, lone_child))
+      pub added_child : family_of new child ≡ record { parent = parent_for old spot; children = [] }
+      added_child = rw is (grind (arith, live_family, shown, apart, lone_child))
 
-    pub added_parent : (up : Node T) → parent_for old spot ≡ Some up
-        → (value_of new up ≡ value_of old up) × (family_of new up ≡ record {
-          parent = parent_of old up;
-          children = placed spot child (children_of old up);
-        })
-    added_parent up some =
-        grind (arith, same_Some, live_parent, live_children, left, live_family, apart)
+      pub added_parent : (up : Node T) → parent_for old spot ≡ Some up
+          → (value_of new up ≡ value_of old up) × (family_of new up ≡ record {
+            parent = parent_of old up;
+            children = placed spot child (children_of old up);
+          })
+      added_parent up some =
+          grind (arith, same_Some, live_parent, live_children, left, live_family, apart)
 
-    pub added_others : (n : Node T) → IsOther child n
-        → ((up : Node T) → parent_for old spot ≡ Some up → IsOther up n) → NodeIsUnchanged old n new
-    added_others n other beside = left_with old new n
-        (others_left _ _ m (pointer_in child) (pointer_in n) (made_new _ _ _ _ m).0
-        (same_value _ _ _ _ sound m _ tt) other)
-        (λ lives. let off = one_live S parent n sound k.simple live lives in
-        let to = beside parent is in
-        let same = o.same (slot_in n) in
-        grind (arith, a.parents (slot_in n) (apart n lives), a.others (slot_in n)))
+      pub added_others : (n : Node T) → IsOther child n
+          → ((up : Node T) → parent_for old spot ≡ Some up → IsOther up n) → NodeIsUnchanged old n new
+      added_others n other beside = left_with old new n
+          (made_others sound v l child h n other)
+          (λ lives. let off = one_live S parent n sound k.simple live lives in
+          let to = beside parent is in
+          let same = o.same (slot_in n) in
+          grind (arith, a.parents (slot_in n) (apart n lives), a.others (slot_in n)))
 
   module _ {S : State T} (links : List (Link T)) (sound : IsSound S) (k : IsKept S (families links)) where
     -- a live node's slot has links
@@ -497,38 +548,58 @@ module _ {T : Type 0} where
       pub next_root : above (families links) b.id.slot ≡ None
       next_root = ap (λ f. slot_of f.parent) (lone k b.id.slot (made_beside sound k.simple v l b m))
 
+      pub next_within_links : b.id.slot ≤ length links
+      next_within_links = grind (
+        arith,
+        cell_within S (name_of b) k.simple.bounded (making {S = S} {R = R} v l b m).fits,
+        k.whole,
+        length-map links (family_in links),
+      )
+
 -- links that stayed are kept as they were
-module _ {T : Type 0} {S R : State T} (sound : IsSound S) (node : Node T) (v old : T)
-    (m : Meets S (SetValue (pointer_in node) v) (Old old) R) where
-  pub set_still : {links : List (Link T)} → IsKept S (families links) × IsLinked links × AreNoted S links
-      → IsKept R (families links) × IsLinked links × AreNoted R links
+module _ {T : Type 0} {S R : State T} (sound : IsSound S) (node : Node T) (b : GenerationalPointer)
+    (own : b.id ≡ id_in node) (v old : T) (m : Meets S (SetValue b v) (Old old) R) where
+  pub set_still : {links : List (Link T)} {number : ℕ}
+      → IsKept S (families links) × IsLinked links × AreNoted S links × (number ≡ S.number)
+      → IsKept R (families links) × IsLinked links × AreNoted R links × (number ≡ R.number)
   set_still was = (
     kept_still was.0 (simple_still sound was.0.simple _ _ m tt tt) (same_slots _ _ refl m) seen,
     was.1,
     noted_left was.2 (λ s. refl) (λ n now. sym (seen n) ∙ now),
+    was.3 ∙ sym (meets_number S R (SetValue b v) (Old old) m),
   )
     where
       seen : (n : Node T) → is_some (value_in R (pointer_in n)) ≡ is_some (value_in S (pointer_in n))
       seen n = set_seen sound was.0.simple.unborrowed _ _ _ m (pointer_in n)
 
-  pub set_others : IsSimple S → (fs : List (Family T)) (n : Node T) → IsOther node n
-      → NodeIsUnchanged (record { state = S; families = fs }) n (record { state = R; families = fs })
-  set_others simple fs n other =
-      let before = (sets (pointer_in node) v old m).0 in
-      let to = seen_reached S (pointer_in node) old before in
-      left_with _ _ n (others_left _ _ m (pointer_in node) (pointer_in n) (seen_store _ _ sound (ap is_some before))
+  -- the node shows the old value, and then the new one
+  pub set_shows : (value_in S (pointer_in node) ≡ Some old) × (value_in R (pointer_in node) ≡ Some v)
+  set_shows =
+      let sees = sets b v old m in (
+        sym (same_id_sees S b (pointer_in node) own) ∙ sees.0,
+        sym (same_id_sees R b (pointer_in node) own) ∙ sees.2 b refl,
+      )
+
+  pub set_others : IsSimple S → (fs : List (Family T)) (sites : List Location) (n : Node T) → IsOther node n
+      → NodeIsUnchanged (record { state = S; families = fs; sites = sites }) n
+      (record { state = R; families = fs; sites = sites })
+  set_others simple fs sites n other =
+      let before = (sets b v old m).0 in
+      let to = seen_reached S b old before in
+      left_with _ _ n (others_left _ _ m b (pointer_in n) (seen_store _ _ sound (ap is_some before))
       (λ ne. same_value _ _ _ _ sound m _
-      (λ same. ne (reach_apart _ simple.plain _ _ to.0 to.1 (sym same))) tt) other) (λ live. refl)
+      (λ same. ne (reach_apart _ simple.plain _ _ to.0 to.1 (sym same))) tt) (λ same. other (sym own ∙ same)))
+      (λ live. refl)
 
 -- ==== a tree in which a node was moved, was made a root, or was removed with all below it
 
-module _ {T : Type 0} {S : State T} {fs gs : List (Family T)} (sound : IsSound S)
+module _ {T : Type 0} {S : State T} {fs gs : List (Family T)} (sites : List Location) (sound : IsSound S)
     (k : IsKept S fs) (node : Node T) (live : IsLiveIn S node) (d : IsDetached fs node gs) where
   abbrev moved_tree : TreeState T
-  moved_tree = record { state = S; families = fs }
+  moved_tree = record { state = S; families = fs; sites = sites }
 
   abbrev freed : TreeState T
-  freed = record { state = S; families = gs }
+  freed = record { state = S; families = gs; sites = sites }
 
   -- each other node has the parent that it had, and each but its parent the children
   parents_left : (n : Node T) → IsOther node n → IsLiveIn S n → parent_at gs (slot_in n) ≡ parent_at fs (slot_in n)
@@ -538,7 +609,7 @@ module _ {T : Type 0} {S : State T} {fs gs : List (Family T)} (sound : IsSound S
       → children_at gs (slot_in n) ≡ children_at fs (slot_in n)
   children_left n beside lives =
       d.others (slot_in n) (λ is. let p = above_parent fs (slot_in node) (slot_in n) is in
-      beside p.0 (live_parent sound k node live ∙ p.1)
+      beside p.0 (live_parent sound k sites node live ∙ p.1)
       (one_live S p.0 n sound k.simple (k.parents (slot_in node) p.0 p.1) lives p.2))
 
   pub freed_others : (n : Node T) → ((up : Node T) → parent_of moved_tree node ≡ Some up → IsOther up n)
@@ -549,7 +620,7 @@ module _ {T : Type 0} {S : State T} {fs gs : List (Family T)} (sound : IsSound S
   sibling_left : (by up : Node T) → parent_of moved_tree by ≡ Some up → (IsBelow moved_tree node by → ⊥)
       → IsAmong (children_at gs (slot_in up)) by
   sibling_left by up is apart =
-      let has = has_parent sound k by up is in
+      let has = has_parent sound k sites by up is in
       let left = kept_detached k sound gs node live d in
       let parent = parents_left by (λ same. apart (0, sym same)) has.0 in
       among by (children_at gs (slot_in up))
@@ -563,7 +634,7 @@ module _ {T : Type 0} {S : State T} {fs gs : List (Family T)} (sound : IsSound S
   module _ {hs : List (Family T)} (parent : Node T) (at : Spot T) (may : CanMove moved_tree node parent)
       (is : parent_for moved_tree at ≡ Some parent) (a : IsAttached gs parent at node hs) where
     abbrev moved : TreeState T
-    moved = record { state = S; families = hs }
+    moved = record { state = S; families = hs; sites = sites }
 
     -- what is under the node once it is detached was so before
     under_before : (e s : ℕ) → IsUnder gs (slot_in node) e s → IsUnder fs (slot_in node) e s
@@ -573,7 +644,7 @@ module _ {T : Type 0} {S : State T} {fs gs : List (Family T)} (sound : IsSound S
     pub kept_moved : IsKept S hs
     kept_moved =
         let left = kept_detached k sound gs node live d in
-        let below = under_below sound k node live in
+        let below = under_below sound k sites node live in
         kept_attached left hs parent node at may.parent live (ap slot_of d.here)
         (λ e under. may.apart (e, below e parent may.parent (under_before e (slot_in parent) under))) a
 
@@ -650,24 +721,48 @@ module _ {T : Type 0} {S R : State T} {fs hs : List (Family T)} (sound : IsSound
       let r = k.forest.rooted (slot_in node) in
       grind (arith, no_cycle fs r.0 (slot_in node) up, under up, cases_lt 0 (count_at up list))
 
-  abbrev whole : TreeState T
-  whole = record { state = S; families = fs }
+  module _ (sites : List Location) where
+    abbrev whole : TreeState T
+    whole = record { state = S; families = fs; sites = sites }
 
-  abbrev cut_tree : TreeState T
-  cut_tree = record { state = R; families = hs }
+    abbrev cut_tree : TreeState T
+    cut_tree = record { state = R; families = hs; sites = sites }
 
-  pub cut_parent : (up : Node T) → parent_of whole node ≡ Some up → (value_of cut_tree up ≡ value_of whole up)
-      × (family_of cut_tree up ≡ record { parent = parent_of whole up; children = without node (children_of whole up) })
-  cut_parent up is = grind (arith, parent_free (slot_in up), same_times up, not_node (slot_in up))
+    pub cut_parent : (up : Node T) → parent_of whole node ≡ Some up → (value_of cut_tree up ≡ value_of whole up)
+        × (family_of cut_tree up ≡ record { parent = parent_of whole up; children = without node (children_of whole up) })
+    cut_parent up is = grind (arith, parent_free (slot_in up), same_times up, not_node (slot_in up))
 
-  -- each other node is as it was
-  pub cut_others : (n : Node T) → times n list ≡ 0
-      → ((up : Node T) → parent_of whole node ≡ Some up → IsOther up n) → NodeIsUnchanged whole n cut_tree
-  cut_others n out other = left_with whole cut_tree n (lost.others n out) (λ lives.
-      let none = sym (same_times n lives) ∙ out in
-      cut.cleared.others (slot_in n) none ∙ λ i. record {
-        parent = cut.detached.parents (slot_in n) (not_node (slot_in n) none) i;
-        children = cut.detached.others (slot_in n) (λ is. let p = above_parent fs (slot_in node) (slot_in n) is in
-            other p.0 (live_parent sound k node live ∙ p.1)
-            (one_live S p.0 n sound k.simple (k.parents (slot_in node) p.0 p.1) lives p.2)) i;
-      })
+    -- each other node is as it was
+    pub cut_others : (n : Node T) → times n list ≡ 0
+        → ((up : Node T) → parent_of whole node ≡ Some up → IsOther up n) → NodeIsUnchanged whole n cut_tree
+    cut_others n out other = left_with whole cut_tree n (lost.others n out) (λ lives.
+        let none = sym (same_times n lives) ∙ out in
+        cut.cleared.others (slot_in n) none ∙ λ i. record {
+          parent = cut.detached.parents (slot_in n) (not_node (slot_in n) none) i;
+          children = cut.detached.others (slot_in n) (λ is. let p = above_parent fs (slot_in node) (slot_in n) is in
+              other p.0 (live_parent sound k sites node live ∙ p.1)
+              (one_live S p.0 n sound k.simple (k.parents (slot_in node) p.0 p.1) lives p.2)) i;
+        })
+
+-- ==== where nodes were made
+
+module _ {T : Type 0} where
+  -- what is told of the locations, it is told when more are
+  pub still_told : (number : ℕ) (s t : SiteState) (old : List Location) (n : Node T) (l : Location)
+      → s.told ≤ t.told → t.all ≡ s.all → told_in s ≡ old → told_at number old n ≡ Some l
+      → told_at number (told_in t) n ≡ Some l
+  still_told number s t old n l le same was is = both (nat_eq n.store number) refl
+    where
+      both : (b : Bool) → nat_eq n.store number ≡ b → told_at number (told_in t) n ≡ Some l
+      both true own = rw own (told_more s t n.site l le same
+          (rw was (sym (ap (λ b. cond b (slice_get old n.site) None) own) ∙ is)))
+      both false other = absurd (none-some l (sym (ap (λ b. cond b (slice_get old n.site) None) other) ∙ is))
+
+  pub tells_here : (number : ℕ) (s : SiteState) (n : Node T) (here : Location) → n.store ≡ number → n.site < s.told
+      → IsAt s.all n.site here → Tells (told_at number (told_in s) n) here
+  tells_here number s n here own lt at =
+      (at.kept, rw (own, nat_eq_equiv.refl number) (told_here s n.site at.kept lt at.there), at.alike)
+
+  -- a live node is of the tree's store
+  pub live_number : {S : State T} → IsSound S → (n : Node T) → IsLiveIn S n → number_in n ≡ S.number
+  live_number {S} sound n live = seen_store S (pointer_in n) sound live

@@ -1,8 +1,8 @@
 -- Chains: how a list of children lies in the links of their slots.
 use Rattle.std.specs.Prelude.{◌≡◌, ◌++◌, ℕ, suc, zero, List, [], ◌∷◌, Option, None, Some, slice_get}
 use Rattle.scene_tree.specs.declared.links.Link.{Link}
-use Rattle.scene_tree.specs.declared.node.Node.{Node}
-use Rattle.scene_tree.specs.Nodes.{slot_in}
+use Rattle.handles.specs.Handles.{slot_in}
+use Rattle.scene_tree.specs.Nodes.{Node}
 
 module _ {T : Type 0} where
   -- of a slot's link: its node with the slots of the siblings before and after it, and the slots of the
@@ -60,6 +60,11 @@ module _ {T : Type 0} where
       (tie_of (slice_get links (slot_in c)) ≡ Some (c, before, head_or cs after))
       × IsChain links (Some (slot_in c)) cs after
 
+  -- the link of a node without parent and children
+  abbrev pub alone_at : Node T → Link T
+  alone_at node =
+      record { node = node; parent = None; first = None; last = None; before = None; after = None }
+
   -- a list has the children of a slot
   pub record IsHeld (links : List (Link T)) (slot : ℕ) (list : List (Node T)) : Type 0 where
     pub first : first_of (slice_get links slot) ≡ head_or list None
@@ -81,3 +86,9 @@ module _ {T : Type 0} where
   abbrev pub before_put : List (Link T) → ℕ → Option ℕ → Option ℕ → List (Link T)
   before_put links slot None next = changed links slot (λ l. record l { last = next })
   before_put links slot (Some at) next = changed links at (λ l. record l { before = next })
+
+-- the number of the store of a tree's nodes, the links of its slots, and for how many there is room
+pub record LinkState (T : Type 0) : Type 0 where
+  pub number : ℕ
+  pub items : List (Link T)
+  pub room : ℕ

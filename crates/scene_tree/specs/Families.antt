@@ -4,11 +4,11 @@ use Rattle.std.specs.Prelude.{◌≡◌, ◌≢◌, ◌++◌, ℕ, suc, zero, Li
 use Rattle.std.specs.Prelude.{slice_index_or, length, ◌+◌, ◌<◌}
 use Rattle.std.specs.List.{count_by, flat_map}
 use Rattle.scene_tree.specs.declared.links.Link.{Link}
-use Rattle.scene_tree.specs.declared.node.Node.{Node}
 use Rattle.scene_tree.specs.declared.spot.Spot.{Spot}
 use Rattle.scene_tree.specs.declared.spot.Spot.TheVariants as spot
 use Rattle.scene_tree.specs.Chains.{IsHeld, chain, head_or, last_or}
-use Rattle.scene_tree.specs.Nodes.{slot_in, without}
+use Rattle.handles.specs.Handles.{slot_in}
+use Rattle.scene_tree.specs.Nodes.{Node, without}
 use Rattle.scene_tree.specs.Spots.{place_of, placed}
 
 -- a node's parent, if it has one, and its children in order

@@ -5,12 +5,17 @@ use Rattle.generational_core.specs.Names.{Name}
 use Rattle.generational_core.specs.Seeing.{value_in}
 use Rattle.generational_core.specs.Slots.{slots}
 use Rattle.generational_core.specs.State.{State, IsGiven}
+use Rattle.generational_core.specs.Steps.{Meets}
+use Rattle.generational_core.specs.Machine.Action.{Make}
+use Rattle.generational_core.specs.Machine.Answer.{Made}
+use Rattle.generational_core.specs.declared.boxes.GenerationalPointer.{GenerationalPointer}
+use Rattle.generational_errors.specs.declared.error.Location.{Location}
 use Rattle.generational_sessions.specs.PlainStores.{IsSimple}
-use Rattle.scene_tree.specs.declared.node.Node.{Node}
 use Rattle.scene_tree.specs.declared.links.Link.{Link}
 use Rattle.scene_tree.specs.Chains.{noted}
 use Rattle.scene_tree.specs.Families.{Family, IsForest, children_at, parent_at}
-use Rattle.scene_tree.specs.Nodes.{IsSame, pointer_in, slot_in, times}
+use Rattle.handles.specs.Handles.{id_in, IsSame, pointer_in, slot_in}
+use Rattle.scene_tree.specs.Nodes.{Node, times}
 
 module _ {T : Type 0} where
   -- a node is live in a state
@@ -22,6 +27,11 @@ module _ {T : Type 0} where
     pub live : (n : Node T) → IsLiveIn S n
         → (h : Node T) × (noted links (slot_in n) ≡ Some h) × IsSame h n
     pub placed : (slot : ℕ) (h : Node T) → noted links slot ≡ Some h → slot_in h ≡ slot
+
+  -- a node's cell was made with a value
+  abbrev pub HasMade : State T → T → Location → Node T → State T → Type 0
+  HasMade old v here n new = (b : GenerationalPointer) × Meets old (Make None v here) (Made b) new
+      × (id_in n ≡ b.id)
 
   -- from one state to another the nodes of a list are gone, and each other shows what it showed
   pub record HasLost (old : State T) (gone : List (Node T)) (new : State T) : Type 0 where

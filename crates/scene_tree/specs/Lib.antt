@@ -3,6 +3,7 @@ pub mod Families
 pub mod Keeping
 pub mod Meeting
 pub mod Nodes
+pub mod Packing
 pub mod Rows
 pub mod Spots
 pub mod Texts

@@ -3,8 +3,8 @@ use Rattle.std.specs.Prelude.{Bool, List, [], ◌∷◌, cond, is_some, not, ◌
 use Rattle.generational_core.specs.Seeing.{value_in}
 use Rattle.generational_core.specs.State.{State}
 use Rattle.scene_tree.specs.declared.links.Link.{Link}
-use Rattle.scene_tree.specs.declared.node.Node.{Node}
-use Rattle.scene_tree.specs.Nodes.{pointer_in}
+use Rattle.handles.specs.Handles.{pointer_in}
+use Rattle.scene_tree.specs.Nodes.{Node}
 
 module _ {T : Type 0} where
   -- whether a link's node is met: it is live, and where roots alone are met it has no parent

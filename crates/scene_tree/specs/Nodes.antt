@@ -1,32 +1,17 @@
--- Handles of nodes: the box of each, and which are of one node.
-use Rattle.std.specs.Prelude.{◌≡◌, ◌≢◌, ℕ, Bool, List, not, filter}
+-- Handles of nodes, and lists of them.
+use Rattle.std.specs.Prelude.{ℕ, List, not, filter}
 use Rattle.std.specs.List.{count_by}
-use Rattle.generational_core.specs.Answers.{pointer_of}
-use Rattle.generational_core.specs.Boxes.{has_same_id}
-use Rattle.generational_core.specs.declared.boxes.GenerationalPointer.{GenerationalPointer}
-use Rattle.generational_errors.specs.declared.error.Location.{Location}
-use Rattle.scene_tree.specs.declared.node.Node.{Node}
+use Rattle.handles.specs.Handles.{id_in, is_same}
+use Rattle.handles.specs.declared.handle.Handle.{Handle}
+use Rattle.scene_tree.specs.declared.node.NodeKind.{NodeKind}
+
+abbrev pub Node : Type 0 → Type 0
+Node T = Handle T NodeKind
 
 module _ {T : Type 0} where
-  -- a node's box without its element type, its slot, and where it was made
-  abbrev pub pointer_in : Node T → GenerationalPointer
-  pointer_in n = pointer_of n.raw
-
-  abbrev pub slot_in : Node T → ℕ
-  slot_in n = (pointer_in n).id.slot
-
-  abbrev pub made_at : Node T → Location
-  made_at n = (pointer_in n).created_at
-
-  -- two handles are of one node, and of two; and whether they are of one
-  abbrev pub IsSame : Node T → Node T → Type 0
-  IsSame a b = (pointer_in a).id ≡ (pointer_in b).id
-
-  abbrev pub IsOther : Node T → Node T → Type 0
-  IsOther a b = (pointer_in a).id ≢ (pointer_in b).id
-
-  abbrev pub is_same : Node T → Node T → Bool
-  is_same a b = has_same_id (pointer_in a) (pointer_in b)
+  -- the number of the store of a node's tree
+  abbrev pub number_in : Node T → ℕ
+  number_in n = (id_in n).store
 
   -- how many times a node stands in a list, and the list without it
   abbrev pub times : Node T → List (Node T) → ℕ

@@ -1,10 +1,10 @@
 -- Rows of an outline: nodes, each with how many steps it is below the first.
 use Rattle.std.specs.Prelude.{◌<◌, ◌+◌, ◌++◌, ℕ, suc, zero, List, [], ◌∷◌, Option, None, Some, length, map, slice_get}
 use Rattle.scene_tree.specs.declared.links.Link.{Link}
-use Rattle.scene_tree.specs.declared.node.Node.{Node}
 use Rattle.scene_tree.specs.Chains.{after_tied, chain, tie_of}
 use Rattle.scene_tree.specs.Families.{Family, IsUnder, above, children_at, families}
-use Rattle.scene_tree.specs.Nodes.{slot_in}
+use Rattle.handles.specs.Handles.{slot_in}
+use Rattle.scene_tree.specs.Nodes.{Node}
 
 module _ {T : Type 0} where
   -- nodes at a depth

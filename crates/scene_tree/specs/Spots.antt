@@ -1,10 +1,10 @@
 -- Spots: where a node is put among the children of another.
 use Rattle.std.specs.Prelude.{ℕ, ◌+◌, ◌++◌, ◌∷◌, [], List}
 use Rattle.std.specs.List.{insert, position_or_len}
-use Rattle.scene_tree.specs.declared.node.Node.{Node}
 use Rattle.scene_tree.specs.declared.spot.Spot.{Spot}
 use Rattle.scene_tree.specs.declared.spot.Spot.TheVariants as spot
-use Rattle.scene_tree.specs.Nodes.{is_same}
+use Rattle.handles.specs.Handles.{is_same}
+use Rattle.scene_tree.specs.Nodes.{Node}
 
 module _ {T : Type 0} where
   -- the node that a spot names: a parent, or a sibling

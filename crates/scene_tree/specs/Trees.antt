@@ -6,16 +6,21 @@ use Rattle.std.specs.Prelude.{is_some, if◌then◌else◌}
 use Rattle.generational_core.specs.Boxes.{name_of}
 use Rattle.generational_core.specs.Seeing.{value_in}
 use Rattle.generational_core.specs.State.{State, IsGiven}
-use Rattle.scene_tree.specs.declared.node.Node.{Node}
+use Rattle.generational_errors.specs.declared.error.Location.{Location}
+use Rattle.handles.specs.Sites.{told_at}
+use Rattle.handles.specs.declared.stale.Stale.{Stale}
 use Rattle.scene_tree.specs.declared.spot.Spot.{Spot}
 use Rattle.scene_tree.specs.declared.spot.Spot.TheVariants as spot
 use Rattle.scene_tree.specs.Families.{Family, alone, family_at}
-use Rattle.scene_tree.specs.Nodes.{IsOther, IsSame, pointer_in, slot_in, times}
+use Rattle.handles.specs.Handles.{IsOther, IsSame, pointer_in, slot_in}
+use Rattle.scene_tree.specs.Nodes.{Node, times}
 
--- the state of the store, and of each slot the family of the node that lives there
+-- the state of the store, of each slot the family of the node that lives there, and the locations at which
+-- nodes were made
 pub record TreeState (T : Type 0) : Type 0 where
   pub state : State T
   pub families : List (Family T)
+  pub sites : List Location
 
 module _ {T : Type 0} where
   -- what a node shows: its value, or nothing once it was removed
@@ -32,6 +37,18 @@ module _ {T : Type 0} where
   -- a handle that the tree gave, once
   abbrev pub WasMade : TreeState T → Node T → Type 0
   WasMade t n = IsGiven t.state (name_of (pointer_in n))
+
+  -- where a node was made, as the tree tells it: nothing of another tree's
+  abbrev pub created_at : TreeState T → Node T → Option Location
+  created_at t n = told_at t.state.number t.sites n
+
+  abbrev pub stale_of : TreeState T → Node T → Stale
+  stale_of t n = record { created_at = created_at t n }
+
+  -- what a tree tells of where a node was made, it tells for good
+  abbrev pub KeepsTelling : TreeState T → TreeState T → Type 0
+  KeepsTelling old new =
+      (n : Node T) (l : Location) → created_at old n ≡ Some l → created_at new n ≡ Some l
 
   -- a node's parent and children; a node that was removed has none
   abbrev pub family_of : TreeState T → Node T → Family T

@@ -1,10 +1,10 @@
 -- What a walk from parent to parent yields, and what is left of one over children.
 use Rattle.std.specs.Prelude.{◌≡◌, ℕ, suc, zero, ◌<◌, length, List, [], ◌∷◌, Option, None, Some}
 use Rattle.scene_tree.specs.declared.links.Link.{Link}
-use Rattle.scene_tree.specs.declared.node.Node.{Node}
 use Rattle.scene_tree.specs.Chains.{IsChain, chain, head_or}
 use Rattle.scene_tree.specs.Families.{Family, parent_at}
-use Rattle.scene_tree.specs.Nodes.{slot_in}
+use Rattle.handles.specs.Handles.{slot_in}
+use Rattle.scene_tree.specs.Nodes.{Node}
 
 module _ {T : Type 0} where
   -- the nodes that are met from one on, from parent to parent, in so many steps at most

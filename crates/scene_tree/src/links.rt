@@ -1,21 +1,21 @@
 //! The links of each slot's node: its parent, its first and last child, and the siblings beside it.
 
-ghost use Rattle.std.specs.Prelude.{◌≡◌, ◌≢◌, ◌<◌, ◌≤◌, ◌+◌, ◌++◌, ℕ, length, true, None, Some, IfOk, OnOk, OnErr, IsTrue, ◌↔◌, slice_get};
-ghost use Rattle.std.specs.Vec.{vec_capacity};
+ghost use Rattle.std.specs.Prelude.{◌≡◌, ◌≢◌, ◌<◌, ◌≤◌, ◌+◌, ◌-◌, ◌^◌, ◌++◌, ◌⊎◌, ℕ, length, true, None, Some, IfOk, OnOk, OnErr, IsTrue, ◌↔◌, slice_get};
+ghost use Rattle.handles.specs.Handles.{is_same, slot_in};
 ghost use Rattle.scene_tree.specs.Chains.{after_put, before_put, changed, noted, tie_of};
-ghost use Rattle.scene_tree.specs.Nodes.{slot_in, is_same};
+ghost use Rattle.scene_tree.specs.Nodes.{Node, number_in};
 ghost use Rattle.scene_tree.specs.Families.{families, parent_at, children_at, above, alone};
 ghost use Rattle.scene_tree.specs.Families.{IsForest, IsLinked, IsInLevels, IsUnder, IsOpened, IsAttached};
 ghost use Rattle.scene_tree.specs.Families.{IsDetached, IsCleared, IsCut, IsRooted, count_at, slot_of, IsGap, IsSpotIn};
 ghost use Rattle.scene_tree.specs.Rows.{IsPlaced, IsRow, behind, rows_at, waiting};
 ghost use Rattle.scene_tree.specs.declared.links.Link.{Link};
-ghost use Rattle.scene_tree.specs.declared.node.Node.{Node};
 
 use crate::node::Node;
+use crate::packed::Links;
 use crate::spot::Spot;
 use crate::walk::Children;
+use handles::parts::slot_of;
 use std::alloc::{AllocError, Global};
-use store_room::reserve_more;
 
 /// The node of a slot, its parent, and by their slots its first and last child and the siblings before
 /// and after it.
@@ -29,44 +29,16 @@ pub(crate) struct Link<T> {
     pub(crate) after: Option<usize>,
 }
 
-impl<T> Link<T> {
-    // The link of a node without parent and children.
-    fn alone(node: Node<T>) -> Self
-        ensures { result ≡ record {
-          node = node;
-          parent = None;
-          first = None;
-          last = None;
-          before = None;
-          after = None;
-        } }
-    {
-        Link {
-            node,
-            parent: None,
-            first: None,
-            last: None,
-            before: None,
-            after: None,
-        }
-    }
-}
-
-/// Room for one more in a list, and mostly for many.
-pub(crate) fn reserve_one<X>(list: &mut Vec<X>) -> bool
-    ensures same { list.new.items ≡ list.old.items }
-    ensures room { result ≡ true → length list.new.items < vec_capacity list.new }
-{
-    reserve_more(list, 1).is_ok()
-}
-
 /// Opens the slot of a new node, where it is the next one, and notes the node there.
-pub(crate) fn open_slot<T>(links: &mut Vec<Link<T>>, node: Node<T>)
-    requires room { length links.old.items < vec_capacity links.old }
+pub(crate) fn open_slot<T>(links: &mut Links<T>, node: Node<T>)
+    requires room { length links.old.items < links.old.room }
+    requires fits { length links.old.items < 2 ^ 32 - 1 }
     requires linked { IsLinked links.old.items }
     requires forest { IsForest (families links.old.items) }
+    requires number { number_in node ≡ links.old.number }
     requires within { slot_in node ≤ length links.old.items }
     requires root { above (families links.old.items) (slot_in node) ≡ None }
+    ensures number { links.new.number ≡ links.old.number }
     ensures linked { IsLinked links.new.items }
     ensures opened { IsOpened (families links.old.items) (slot_in node) (families links.new.items) }
     ensures longer { length links.old.items ≤ length links.new.items }
@@ -74,30 +46,23 @@ pub(crate) fn open_slot<T>(links: &mut Vec<Link<T>>, node: Node<T>)
     ensures others { (s : ℕ) → s ≢ slot_in node →
         noted links.new.items s ≡ noted links.old.items s }
 {
-    if node.slot() == links.len() {
-        links.push_reserved(Link::alone(node));
+    if slot_of(node) == links.len() {
+        links.push(node);
     } else {
-        note(links, node);
+        links.set_node(node);
     }
 }
 
-// Notes a node at its slot.
-fn note<T>(links: &mut Vec<Link<T>>, node: Node<T>)
-    requires within { slot_in node < length links.old.items }
-    ensures { links.new.items
-        ≡ changed links.old.items (slot_in node) (λ l. record l { node = node }) }
-{
-    links[node.slot()].node = node;
-}
-
 /// Makes a node without parent a child of another, at a spot among its children.
-pub(crate) fn attach<T>(links: &mut Vec<Link<T>>, parent: Node<T>, spot: Spot<T>, child: Node<T>)
+pub(crate) fn attach<T>(links: &mut Links<T>, parent: Node<T>, spot: Spot<T>, child: Node<T>)
     requires linked { IsLinked links.old.items }
     requires forest { IsForest (families links.old.items) }
     requires spot { IsSpotIn (children_at (families links.old.items) (slot_in parent)) spot }
     requires parent { slot_in parent < length links.old.items }
     requires child { slot_in child < length links.old.items }
+    requires numbers { (number_in child ≡ links.old.number) × (number_in parent ≡ links.old.number) }
     requires root { above (families links.old.items) (slot_in child) ≡ None }
+    ensures number { links.new.number ≡ links.old.number }
     ensures linked { IsLinked links.new.items }
     ensures attached { IsAttached (families links.old.items) parent spot child
         (families links.new.items) }
@@ -105,8 +70,8 @@ pub(crate) fn attach<T>(links: &mut Vec<Link<T>>, parent: Node<T>, spot: Spot<T>
     ensures others { (s : ℕ) → s ≢ slot_in child →
         noted links.new.items s ≡ noted links.old.items s }
 {
-    let up = parent.slot();
-    let slot = child.slot();
+    let up = slot_of(parent);
+    let slot = slot_of(child);
     let (before, after) = gap_at(links, up, spot);
     place(links, child, parent, before, after);
     put_after(links, up, before, Some(slot));
@@ -114,112 +79,114 @@ pub(crate) fn attach<T>(links: &mut Vec<Link<T>>, parent: Node<T>, spot: Spot<T>
 }
 
 /// Takes a node out of its parent's children, if it has a parent.
-pub(crate) fn detach<T>(links: &mut Vec<Link<T>>, node: Node<T>)
+pub(crate) fn detach<T>(links: &mut Links<T>, node: Node<T>)
     requires linked { IsLinked links.old.items }
     requires forest { IsForest (families links.old.items) }
     requires node { slot_in node < length links.old.items }
     requires alike { (s k : ℕ) (n : Node T) →
         slice_get (children_at (families links.old.items) s) k ≡ Some n →
         slot_in n ≡ slot_in node → is_same n node ≡ true }
+    ensures number { links.new.number ≡ links.old.number }
     ensures linked { IsLinked links.new.items }
     ensures detached { IsDetached (families links.old.items) node (families links.new.items) }
     ensures noted { (s : ℕ) → noted links.new.items s ≡ noted links.old.items s }
 {
-    let slot = node.slot();
+    let slot = slot_of(node);
     let Some(parent) = parent_at(links, slot) else {
         return;
     };
-    let up = parent.slot();
+    let up = slot_of(parent);
     let (before, after) = sides_at(links, slot);
-    remove_parent(links, slot);
+    links.remove_parent(slot);
     put_after(links, up, before, after);
     put_before(links, up, after, before);
 }
 
 // The slots of the children of a slot's node on both sides of a spot.
-fn gap_at<T>(links: &Vec<Link<T>>, slot: usize, spot: Spot<T>) -> (Option<usize>, Option<usize>)
+fn gap_at<T>(links: &Links<T>, slot: usize, spot: Spot<T>) -> (Option<usize>, Option<usize>)
     requires linked { IsLinked links.now.items }
     requires within { slot < length links.now.items }
     requires spot { IsSpotIn (children_at (families links.now.items) slot) spot }
     ensures { IsGap (children_at (families links.now.items) slot) spot result }
 {
     match spot {
-        Spot::FirstOf(_) => (None, links[slot].first),
-        Spot::LastOf(_) => (links[slot].last, None),
-        Spot::Before(sibling) => (sides_at(links, sibling.slot()).0, Some(sibling.slot())),
-        Spot::After(sibling) => (Some(sibling.slot()), sides_at(links, sibling.slot()).1),
+        Spot::FirstOf(_) => (None, links.at(slot).first),
+        Spot::LastOf(_) => (links.at(slot).last, None),
+        Spot::Before(sibling) => (sides_at(links, slot_of(sibling)).0, Some(slot_of(sibling))),
+        Spot::After(sibling) => (Some(slot_of(sibling)), sides_at(links, slot_of(sibling)).1),
     }
 }
 
 // The slots of the siblings before and after a slot's node.
-fn sides_at<T>(links: &Vec<Link<T>>, slot: usize) -> (Option<usize>, Option<usize>)
+fn sides_at<T>(links: &Links<T>, slot: usize) -> (Option<usize>, Option<usize>)
     requires within { slot < length links.now.items }
     ensures { (node : Node T) × (tie_of (slice_get links.now.items slot)
         ≡ Some (node, result.0, result.1)) }
 {
-    let link = &links[slot];
+    let link = links.at(slot);
     (link.before, link.after)
 }
 
 // Gives a node its parent, and the siblings beside it.
+#[tactic(auto, using(crate::proofs::Moving::Trees::Links::changed_length))]
 fn place<T>(
-    links: &mut Vec<Link<T>>,
-    node: Node<T>,
+    links: &mut Links<T>,
+    child: Node<T>,
     parent: Node<T>,
     before: Option<usize>,
     after: Option<usize>,
 )
-    requires within { slot_in node < length links.old.items }
-    ensures { links.new.items ≡ changed links.old.items (slot_in node) (λ l. record l {
-      node = node;
+    requires within { slot_in child < length links.old.items }
+    requires parent { slot_in parent < length links.old.items }
+    requires numbers { (number_in child ≡ links.old.number) × (number_in parent ≡ links.old.number) }
+    requires beside { (s : ℕ) → (before ≡ Some s) ⊎ (after ≡ Some s) → s < length links.old.items }
+    ensures number { links.new.number ≡ links.old.number }
+    ensures items { links.new.items ≡ changed links.old.items (slot_in child) (λ l. record l {
+      node = child;
       parent = Some parent;
       before = before;
       after = after;
     }) }
 {
-    let link = &mut links[node.slot()];
-    link.node = node;
-    link.parent = Some(parent);
-    link.before = before;
-    link.after = after;
-}
-
-// Leaves a slot's node without parent.
-fn remove_parent<T>(links: &mut Vec<Link<T>>, slot: usize)
-    requires within { slot < length links.old.items }
-    ensures { links.new.items ≡ changed links.old.items slot (λ l. record l { parent = None }) }
-{
-    links[slot].parent = None;
+    let slot = slot_of(child);
+    links.set_node(child);
+    links.set_parent(slot, parent);
+    links.set_before(slot, before);
+    links.set_after(slot, after);
 }
 
 // Puts another after one child of a slot's node, or first where there is none.
-fn put_after<T>(links: &mut Vec<Link<T>>, slot: usize, child: Option<usize>, next: Option<usize>)
+fn put_after<T>(links: &mut Links<T>, slot: usize, child: Option<usize>, next: Option<usize>)
     requires within { slot < length links.old.items }
     requires child { (s : ℕ) → child ≡ Some s → s < length links.old.items }
-    ensures { links.new.items ≡ after_put links.old.items slot child next }
+    requires next { (s : ℕ) → next ≡ Some s → s < length links.old.items }
+    ensures number { links.new.number ≡ links.old.number }
+    ensures items { links.new.items ≡ after_put links.old.items slot child next }
 {
     match child {
-        Some(at) => links[at].after = next,
-        None => links[slot].first = next,
+        Some(at) => links.set_after(at, next),
+        None => links.set_first(slot, next),
     }
 }
 
 // Puts another before one child of a slot's node, or last where there is none.
-fn put_before<T>(links: &mut Vec<Link<T>>, slot: usize, child: Option<usize>, next: Option<usize>)
+fn put_before<T>(links: &mut Links<T>, slot: usize, child: Option<usize>, next: Option<usize>)
     requires within { slot < length links.old.items }
     requires child { (s : ℕ) → child ≡ Some s → s < length links.old.items }
-    ensures { links.new.items ≡ before_put links.old.items slot child next }
+    requires next { (s : ℕ) → next ≡ Some s → s < length links.old.items }
+    ensures number { links.new.number ≡ links.old.number }
+    ensures items { links.new.items ≡ before_put links.old.items slot child next }
 {
     match child {
-        Some(at) => links[at].before = next,
-        None => links[slot].last = next,
+        Some(at) => links.set_before(at, next),
+        None => links.set_last(slot, next),
     }
 }
 
 /// Takes a node with all below it out of the links, and answers them, level by level.
 pub(crate) fn cut<T>(
     alloc: Global,
-    links: &mut Vec<Link<T>>,
+    links: &mut Links<T>,
     top: Node<T>,
 ) -> Result<Vec<Node<T>>, AllocError>
     requires linked { IsLinked links.old.items }
@@ -228,6 +195,7 @@ pub(crate) fn cut<T>(
     requires alike { (s k : ℕ) (n : Node T) →
         slice_get (children_at (families links.old.items) s) k ≡ Some n →
         slot_in n ≡ slot_in top → is_same n top ≡ true }
+    ensures number { links.new.number ≡ links.old.number }
     ensures linked { IsLinked links.new.items }
     ensures cut { IfOk result (λ list.
         IsCut (families links.old.items) top list.items (families links.new.items)) }
@@ -241,36 +209,38 @@ pub(crate) fn cut<T>(
 }
 
 // Leaves each node of a list without parent and children.
-fn clear_all<T>(links: &mut Vec<Link<T>>, nodes: &Vec<Node<T>>)
+fn clear_all<T>(links: &mut Links<T>, nodes: &Vec<Node<T>>)
     requires linked { IsLinked links.old.items }
     requires within { (s : ℕ) → 0 < count_at s nodes.now.items → s < length links.old.items }
     ensures linked { IsLinked links.new.items }
+    ensures number { links.new.number ≡ links.old.number }
     ensures length { length links.new.items ≡ length links.old.items }
     ensures cleared { IsCleared (families links.old.items) (families links.new.items) nodes.now.items }
     ensures noted { (s : ℕ) → noted links.new.items s ≡ noted links.old.items s }
 {
     for node in nodes {
-        clear(links, node.slot());
+        clear(links, slot_of(*node));
     }
 }
 
 // Leaves the node of a slot without parent and children.
-fn clear<T>(links: &mut Vec<Link<T>>, slot: usize)
+#[tactic(auto, using(crate::proofs::Moving::Trees::Links::changed_length))]
+fn clear<T>(links: &mut Links<T>, slot: usize)
     requires within { slot < length links.old.items }
-    ensures { links.new.items ≡ changed links.old.items slot (λ l. record l {
+    ensures number { links.new.number ≡ links.old.number }
+    ensures items { links.new.items ≡ changed links.old.items slot (λ l. record l {
       parent = None;
       first = None;
       last = None;
     }) }
 {
-    let at = &mut links[slot];
-    at.parent = None;
-    at.first = None;
-    at.last = None;
+    links.remove_parent(slot);
+    links.set_first(slot, None);
+    links.set_last(slot, None);
 }
 
 /// Whether one node is another, or below it.
-pub(crate) fn is_under<T>(links: &Vec<Link<T>>, slot: usize, top: usize) -> bool
+pub(crate) fn is_under<T>(links: &Links<T>, slot: usize, top: usize) -> bool
     requires forest { IsForest (families links.now.items) }
     requires within { slot < length links.now.items }
     ensures { IsTrue result ↔ (steps : ℕ) × IsUnder (families links.now.items) top steps slot }
@@ -287,7 +257,7 @@ pub(crate) fn is_under<T>(links: &Vec<Link<T>>, slot: usize, top: usize) -> bool
             return false;
         }
         match parent_at(links, at) {
-            Some(parent) => at = parent.slot(),
+            Some(parent) => at = slot_of(parent),
             None => return false,
         }
     }
@@ -299,13 +269,13 @@ fn is_at<T>(node: Option<Node<T>>, slot: usize) -> bool
     ensures { IsTrue result → slot_of node ≡ Some slot }
 {
     match node {
-        Some(node) => node.slot() == slot,
+        Some(node) => slot_of(node) == slot,
         None => false,
     }
 }
 
 /// How many steps a root is above a slot.
-pub(crate) fn depth_at<T>(links: &Vec<Link<T>>, slot: usize) -> usize
+pub(crate) fn depth_at<T>(links: &Links<T>, slot: usize) -> usize
     requires forest { IsForest (families links.now.items) }
     requires within { slot < length links.now.items }
     ensures { IsRooted (families links.now.items) result slot }
@@ -314,7 +284,7 @@ pub(crate) fn depth_at<T>(links: &Vec<Link<T>>, slot: usize) -> usize
     // No way to a root is longer than there are slots.
     for steps in 0..links.len() {
         match parent_at(links, at) {
-            Some(parent) => at = parent.slot(),
+            Some(parent) => at = slot_of(parent),
             None => return steps,
         }
     }
@@ -322,31 +292,27 @@ pub(crate) fn depth_at<T>(links: &Vec<Link<T>>, slot: usize) -> usize
 }
 
 /// The parent of a slot's node.
-pub(crate) fn parent_at<T>(links: &Vec<Link<T>>, slot: usize) -> Option<Node<T>>
+pub(crate) fn parent_at<T>(links: &Links<T>, slot: usize) -> Option<Node<T>>
     ensures { result ≡ parent_at (families links.now.items) slot }
 {
-    match links.get(slot) {
-        Some(at) => at.parent,
-        None => None,
+    if slot >= links.len() {
+        return None;
     }
+    links.at(slot).parent
 }
 
 /// The children of a slot's node, in order.
-pub(crate) fn children_at<T>(links: &Vec<Link<T>>, slot: usize) -> Children<'_, T>
+pub(crate) fn children_at<T>(links: &Links<T>, slot: usize) -> Children<'_, T>
     requires linked { IsLinked links.now.items }
     requires within { slot < length links.now.items }
     ensures { result ≡ children_at (families links.now.items) slot }
 {
-    Children::new(links, links[slot].first)
+    Children::new(links, links.at(slot).first)
 }
 
 /// The row that follows that of a slot's node in an outline: its first child, or what follows it and all
 /// below it.
-pub(crate) fn next_row<T>(
-    links: &Vec<Link<T>>,
-    depth: usize,
-    slot: usize,
-) -> Option<(usize, Node<T>)>
+pub(crate) fn next_row<T>(links: &Links<T>, depth: usize, slot: usize) -> Option<(usize, Node<T>)>
     requires linked { IsLinked links.now.items }
     requires forest { IsForest (families links.now.items) }
     requires placed { IsPlaced links.now.items depth slot }
@@ -355,14 +321,14 @@ pub(crate) fn next_row<T>(
         ++ behind links.now.items depth (Some slot) }
     ensures row { IsRow links.now.items result }
 {
-    match links[slot].first {
-        Some(child) => Some((depth + 1, links[child].node)),
+    match links.at(slot).first {
+        Some(child) => Some((depth + 1, links.at(child).node)),
         None => row_behind(links, depth, slot),
     }
 }
 
 // The row that follows that of a slot's node and those of all below it.
-fn row_behind<T>(links: &Vec<Link<T>>, depth: usize, slot: usize) -> Option<(usize, Node<T>)>
+fn row_behind<T>(links: &Links<T>, depth: usize, slot: usize) -> Option<(usize, Node<T>)>
     requires linked { IsLinked links.now.items }
     requires forest { IsForest (families links.now.items) }
     requires placed { IsPlaced links.now.items depth slot }
@@ -372,11 +338,11 @@ fn row_behind<T>(links: &Vec<Link<T>>, depth: usize, slot: usize) -> Option<(usi
     let mut at = slot;
     let mut steps = depth;
     while steps > 0 {
-        if let Some(sibling) = links[at].after {
-            return Some((steps, links[sibling].node));
+        if let Some(sibling) = links.at(at).after {
+            return Some((steps, links.at(sibling).node));
         }
         match parent_at(links, at) {
-            Some(parent) => at = parent.slot(),
+            Some(parent) => at = slot_of(parent),
             None => return None,
         }
         steps -= 1;
@@ -387,7 +353,7 @@ fn row_behind<T>(links: &Vec<Link<T>>, depth: usize, slot: usize) -> Option<(usi
 /// A node and all below it, level by level.
 pub(crate) fn gather<T>(
     alloc: Global,
-    links: &Vec<Link<T>>,
+    links: &Links<T>,
     top: Node<T>,
 ) -> Result<Vec<Node<T>>, AllocError>
     requires linked { IsLinked links.now.items }
@@ -407,7 +373,7 @@ pub(crate) fn gather<T>(
 // Adds the children of a node of a list at its end.
 fn push_children<T>(
     list: &mut Vec<Node<T>>,
-    links: &Vec<Link<T>>,
+    links: &Links<T>,
     next: usize,
 ) -> Result<(), AllocError>
     requires linked { IsLinked links.now.items }
@@ -418,7 +384,7 @@ fn push_children<T>(
         list.new.items ≡ list.old.items ++ children_at (families links.now.items) (slot_in n)) }
 {
     let node = list[next];
-    for child in children_at(links, node.slot()) {
+    for child in children_at(links, slot_of(node)) {
         list.push(child)?;
     }
     Ok(())

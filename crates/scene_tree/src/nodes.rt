@@ -8,8 +8,10 @@ ghost use Rattle.scene_tree.specs.Trees.{AreAll, AreRoots, count_of};
 
 use crate::links::Link;
 use crate::node::Node;
+use crate::packed::Links;
 use crate::tree::SceneTree;
 use generational_core::Storage;
+use handles::parts::peek;
 use std::iter::FusedIterator;
 use std::marker::Model;
 
@@ -60,7 +62,7 @@ impl<T, S: Storage<T>> SceneTree<T, S> {
 /// of those that are left.
 #[derive(Drop)]
 pub struct Nodes<'a, T, S: Storage<T>> {
-    links: &'a Vec<Link<T>>,
+    links: &'a Links<T>,
     store: &'a S,
     next: usize,
     left: usize,
@@ -68,7 +70,7 @@ pub struct Nodes<'a, T, S: Storage<T>> {
 
 impl<'a, T, S: Storage<T>> Model for Nodes<'a, T, S> {
     ghost use Rattle.std.specs.Prelude.{◌≡◌, List, drop, false, length};
-    ghost use Rattle.scene_tree.specs.declared.node.Node.{Node};
+    ghost use Rattle.scene_tree.specs.Nodes.{Node};
     ghost use Rattle.scene_tree.specs.Meeting.{met};
 
     ghost Value = { List (Node T) };
@@ -114,14 +116,14 @@ impl<'a, T, S: Storage<T>> FusedIterator for Nodes<'a, T, S> {}
 /// Contracts see the list of those that are left.
 #[derive(Drop)]
 pub struct Roots<'a, T, S: Storage<T>> {
-    links: &'a Vec<Link<T>>,
+    links: &'a Links<T>,
     store: &'a S,
     next: usize,
 }
 
 impl<'a, T, S: Storage<T>> Model for Roots<'a, T, S> {
     ghost use Rattle.std.specs.Prelude.{List, drop, true};
-    ghost use Rattle.scene_tree.specs.declared.node.Node.{Node};
+    ghost use Rattle.scene_tree.specs.Nodes.{Node};
     ghost use Rattle.scene_tree.specs.Meeting.{met};
 
     ghost Value = { List (Node T) };
@@ -149,12 +151,12 @@ impl<'a, T, S: Storage<T>> FusedIterator for Roots<'a, T, S> {}
 fn is_met<T, S: Storage<T>>(store: &S, only_roots: bool, link: &Link<T>) -> bool
     ensures { result ≡ is_met (S.state store.now) only_roots link.now }
 {
-    link.node.raw.peek(store).is_some() && !(only_roots && link.parent.is_some())
+    peek(store, link.node).is_some() && !(only_roots && link.parent.is_some())
 }
 
 // The first node that is met from a slot on, and the slot behind its own.
 fn next_met<T, S: Storage<T>>(
-    links: &Vec<Link<T>>,
+    links: &Links<T>,
     store: &S,
     only_roots: bool,
     from: usize,
@@ -166,9 +168,9 @@ fn next_met<T, S: Storage<T>>(
 {
     let mut slot = from;
     while slot < links.len() {
-        let link = &links[slot];
+        let link = links.at(slot);
         slot += 1;
-        if is_met(store, only_roots, link) {
+        if is_met(store, only_roots, &link) {
             return Some((link.node, slot));
         }
     }

@@ -1,48 +1,57 @@
 //! Trees of nodes.
 
 ghost use Rattle.std.specs.Prelude.{ℕ, ◌<◌, ◌≤◌, ◌+◌, true, List, length, slice_get};
-ghost use Rattle.std.specs.Prelude.{◌≡◌, ◌↔◌, ◌⊎◌, ◌++◌, ◌∷◌, [], None, Some, Err};
+ghost use Rattle.std.specs.Prelude.{◌≡◌, ◌≢◌, ◌↔◌, ◌⊎◌, ◌++◌, ◌∷◌, [], None, Some, Err};
 ghost use Rattle.std.specs.Prelude.{IfOk, OnOk, IfErr, OnErr, IsErr, IsErrAnd};
 ghost use Rattle.std.specs.Borrow.{MutBor};
 ghost use Rattle.std.specs.Fn.{FnOnceReturnsAtMut};
 ghost use Rattle.generational_core.specs.Conditions.{IsFresh};
 ghost use Rattle.generational_errors.specs.declared.error.StoreError.TheVariants.{OutOfMemory};
-ghost use Rattle.scene_tree.specs.declared.node.Node.{Node};
+ghost use Rattle.generational_errors.specs.declared.error.Location.{Location};
+ghost use Rattle.handles.specs.Handles.{id_in, pointer_in, slot_in, IsOther};
+ghost use Rattle.handles.specs.Sites.{Tells, told_at, told_in};
 ghost use Rattle.scene_tree.specs.declared.node.TreeError.TheVariants as error;
-ghost use Rattle.scene_tree.specs.Families.{alone};
+ghost use Rattle.scene_tree.specs.Chains.{noted};
+ghost use Rattle.scene_tree.specs.Families.{IsLinked, IsOpened, alone, families};
 ghost use Rattle.generational_sessions.specs.PlainStores.{IsSimple};
-ghost use Rattle.scene_tree.specs.Keeping.{HasLost, IsLiveIn};
+ghost use Rattle.scene_tree.specs.Keeping.{HasLost, HasMade, IsKept, IsLiveIn};
 ghost use Rattle.generational_core.specs.Seeing.{value_in};
-ghost use Rattle.scene_tree.specs.Nodes.{made_at, pointer_in, times, without, IsOther};
+ghost use Rattle.scene_tree.specs.Nodes.{Node, number_in, times, without};
 ghost use Rattle.scene_tree.specs.Trees.{TreeState, value_of, is_live, family_of, parent_of};
-ghost use Rattle.scene_tree.specs.Trees.{children_of, WasMade, IsBelow, NodeIsUnchanged, CanMove};
-ghost use Rattle.scene_tree.specs.Trees.{AreAncestors, IsRootedIn, IsSubtree, IsTree, count_of, outline_of, parent_for};
+ghost use Rattle.scene_tree.specs.Trees.{children_of, created_at, stale_of, WasMade, IsBelow, NodeIsUnchanged, CanMove};
+ghost use Rattle.scene_tree.specs.Trees.{AreAncestors, IsRootedIn, IsSubtree, IsTree, KeepsTelling, count_of, outline_of, parent_for};
 ghost use Rattle.scene_tree.specs.Spots.{named, placed};
 
 use crate::links::{
-    Link, attach, children_at, cut, depth_at, detach, gather, is_under, open_slot, parent_at,
-    reserve_one,
+    attach, children_at, cut, depth_at, detach, gather, is_under, open_slot, parent_at,
 };
-use crate::node::{Node, Stale, TreeError};
+use crate::node::{Node, TreeError};
+use crate::packed::Links;
 use crate::spot::Spot;
 use crate::walk::{Ancestors, Children, Outline};
-use generational_core::{GenerationalBox, HandedBack, Location, Refusal, Storage, StoreError};
+use generational_core::{HandedBack, Location, Refusal, Storage, StoreError};
+use handles::Stale;
+use handles::parts::{Sites, handle_at, number_of, peek, pointer_to, site_of, slot_of};
 use std::alloc::Global;
 use std::marker::Model;
 
 /// Nodes, each with a value, a parent or none, and children in order. Contracts see the machine's
-/// state, which says what each node shows, and the families of the nodes.
+/// state, which says what each node shows, the families of the nodes, and the locations where nodes were
+/// made.
 #[derive(Drop)]
 pub struct SceneTree<T, S: Storage<T>> {
     alloc: Global,
     pub(crate) store: S,
     // of each slot the node that lives there, or did last, and those around it
-    pub(crate) links: Vec<Link<T>>,
+    pub(crate) links: Links<T>,
+    sites: Sites,
 }
 
 impl<T, S: Storage<T>> Model for SceneTree<T, S> {
     ghost use Rattle.std.specs.Coded.{codes};
     ghost use Rattle.std.specs.FinMap as map;
+    ghost use Rattle.std.specs.Prelude.{◌≡◌};
+    ghost use Rattle.handles.specs.Sites.{told_in};
     ghost use Rattle.scene_tree.specs.Families.{IsLinked, families};
     ghost use Rattle.scene_tree.specs.Keeping.{AreNoted, IsKept};
     ghost use Rattle.scene_tree.specs.Trees.{TreeState};
@@ -54,11 +63,13 @@ impl<T, S: Storage<T>> Model for SceneTree<T, S> {
     ghost view = { λ t. record {
       state = S.state t.store;
       families = families t.links.items;
+      sites = told_in t.sites;
     } };
 
     ghost invariant = { λ t. IsKept (S.state t.store) (families t.links.items)
         × IsLinked t.links.items
-        × AreNoted (S.state t.store) t.links.items };
+        × AreNoted (S.state t.store) t.links.items
+        × (t.links.number ≡ (S.state t.store).number) };
 }
 
 impl<T, S: Storage<T>> SceneTree<T, S> {
@@ -70,13 +81,15 @@ impl<T, S: Storage<T>> SceneTree<T, S> {
     /// ```
     pub fn new(alloc: Global, store: S) -> Self
         requires { IsFresh (S.state store) }
-        ensures tree { result ≡ record { state = S.state store; families = [] } }
+        ensures tree { result ≡ record { state = S.state store; families = []; sites = [] } }
         ensures none { (n : Node T) → value_of result n ≡ None }
     {
+        let number = store.number();
         SceneTree {
             alloc,
             store,
-            links: Vec::new(alloc),
+            links: Links::new(alloc, number),
+            sites: Sites::new(alloc),
         }
     }
 
@@ -98,19 +111,15 @@ impl<T, S: Storage<T>> SceneTree<T, S> {
         ensures left { (f : Node T) → WasMade self.old f → NodeIsUnchanged self.old f self.new }
         ensures new { IfOk result (λ n. WasMade self.old n → ⊥) }
         ensures made { IfOk result (λ n. WasMade self.new n) }
-        ensures here { IfOk result (λ n. made_at n ≡ here) }
+        ensures here { IfOk result (λ n. Tells (created_at self.new n) here) }
+        ensures tells { KeepsTelling self.old self.new }
         ensures kept { (f : Node T) → WasMade self.old f → WasMade self.new f }
         ensures refused { OnErr result (self.new ≡ self.old) }
         ensures back { IfErr result (λ refusal. refusal.value ≡ value) }
         ensures cause { IfErr result (λ refusal. refusal.cause ≡ OutOfMemory) }
     {
-        if !reserve_one(&mut self.links) {
-            let cause = StoreError::OutOfMemory;
-            return Err(Refusal { value, cause });
-        }
-        let raw = GenerationalBox::leak(&mut self.store, value, here)?;
-        let node = Node { raw };
-        open_slot(&mut self.links, node);
+        let store = &mut self.store;
+        let node = make(store, &mut self.links, &mut self.sites, value, here)?;
         Ok(node)
     }
 
@@ -143,10 +152,11 @@ impl<T, S: Storage<T>> SceneTree<T, S> {
             NodeIsUnchanged self.old f self.new) }
         ensures new { IfOk result (λ n. WasMade self.old n → ⊥) }
         ensures made { IfOk result (λ n. WasMade self.new n) }
-        ensures here { IfOk result (λ n. made_at n ≡ here) }
+        ensures here { IfOk result (λ n. Tells (created_at self.new n) here) }
+        ensures tells { KeepsTelling self.old self.new }
         ensures kept { (f : Node T) → WasMade self.old f → WasMade self.new f }
         ensures stale { value_of self.old parent ≡ None →
-            IsErrAnd result (λ refusal. refusal.cause ≡ error.Stale (made_at parent)) }
+            IsErrAnd result (λ refusal. refusal.cause ≡ error.Stale (stale_of self.old parent)) }
         ensures short { IfErr result (λ refusal. (value_of self.old parent ≡ None)
             ⊎ (refusal.cause ≡ error.Store OutOfMemory)) }
         ensures back { IfErr result (λ refusal. refusal.value ≡ value) }
@@ -186,12 +196,13 @@ impl<T, S: Storage<T>> SceneTree<T, S> {
             NodeIsUnchanged self.old f self.new) }
         ensures new { IfOk result (λ n. WasMade self.old n → ⊥) }
         ensures made { IfOk result (λ n. WasMade self.new n) }
-        ensures here { IfOk result (λ n. made_at n ≡ here) }
+        ensures here { IfOk result (λ n. Tells (created_at self.new n) here) }
+        ensures tells { KeepsTelling self.old self.new }
         ensures kept { (f : Node T) → WasMade self.old f → WasMade self.new f }
         ensures stale { value_of self.old (named spot) ≡ None →
-            IsErrAnd result (λ refusal. refusal.cause ≡ error.Stale (made_at (named spot))) }
+            IsErrAnd result (λ refusal. refusal.cause ≡ error.Stale (stale_of self.old (named spot))) }
         ensures root { is_live self.old (named spot) ≡ true → parent_for self.old spot ≡ None →
-            IsErrAnd result (λ refusal. refusal.cause ≡ error.NoParent (made_at (named spot))) }
+            IsErrAnd result (λ refusal. refusal.cause ≡ error.NoParent (created_at self.old (named spot))) }
         ensures short { IfErr result (λ refusal. (value_of self.old (named spot) ≡ None)
             ⊎ (parent_for self.old spot ≡ None)
             ⊎ (refusal.cause ≡ error.Store OutOfMemory)) }
@@ -202,19 +213,14 @@ impl<T, S: Storage<T>> SceneTree<T, S> {
             Ok(parent) => parent,
             Err(cause) => return Err(HandedBack { value, cause }),
         };
-        if !reserve_one(&mut self.links) {
-            let cause = TreeError::Store(StoreError::OutOfMemory);
-            return Err(HandedBack { value, cause });
-        }
-        let raw = match GenerationalBox::leak(&mut self.store, value, here) {
-            Ok(raw) => raw,
+        let store = &mut self.store;
+        let child = match make(store, &mut self.links, &mut self.sites, value, here) {
+            Ok(child) => child,
             Err(Refusal { value, cause }) => {
                 let cause = TreeError::Store(cause);
                 return Err(HandedBack { value, cause });
             }
         };
-        let child = Node { raw };
-        open_slot(&mut self.links, child);
         attach(&mut self.links, parent, spot, child);
         Ok(child)
     }
@@ -224,9 +230,9 @@ impl<T, S: Storage<T>> SceneTree<T, S> {
         ensures parent { IfOk result (λ up. parent_for self.now spot ≡ Some up) }
         ensures live { IfOk result (λ up. is_live self.now up ≡ true) }
         ensures stale { value_of self.now (named spot) ≡ None →
-            result ≡ Err (error.Stale (made_at (named spot))) }
+            result ≡ Err (error.Stale (stale_of self.now (named spot))) }
         ensures root { is_live self.now (named spot) ≡ true → parent_for self.now spot ≡ None →
-            result ≡ Err (error.NoParent (made_at (named spot))) }
+            result ≡ Err (error.NoParent (created_at self.now (named spot))) }
         ensures why { IfErr result (λ e. (value_of self.now (named spot) ≡ None)
             ⊎ (parent_for self.now spot ≡ None)) }
     {
@@ -242,13 +248,13 @@ impl<T, S: Storage<T>> SceneTree<T, S> {
     fn if_alive(&self, node: Node<T>) -> Result<Node<T>, TreeError>
         ensures same { IfOk result (λ n. n ≡ node) }
         ensures live { OnOk result (is_live self.now node ≡ true) }
-        ensures stale { IfErr result (λ e. e ≡ error.Stale (made_at node)) }
+        ensures stale { IfErr result (λ e. e ≡ error.Stale (stale_of self.now node)) }
         ensures gone { OnErr result (value_of self.now node ≡ None) }
     {
         if self.is_alive(node) {
             Ok(node)
         } else {
-            Err(TreeError::Stale(node.made_at()))
+            Err(TreeError::Stale(self.stale(node)))
         }
     }
 
@@ -256,19 +262,19 @@ impl<T, S: Storage<T>> SceneTree<T, S> {
     fn parent_or(&self, node: Node<T>) -> Result<Node<T>, TreeError>
         ensures parent { IfOk result (λ up. parent_of self.now node ≡ Some up) }
         ensures live { IfOk result (λ up. is_live self.now up ≡ true) }
-        ensures stale { value_of self.now node ≡ None → result ≡ Err (error.Stale (made_at node)) }
+        ensures stale { value_of self.now node ≡ None → result ≡ Err (error.Stale (stale_of self.now node)) }
         ensures root { is_live self.now node ≡ true → parent_of self.now node ≡ None →
-            result ≡ Err (error.NoParent (made_at node)) }
+            result ≡ Err (error.NoParent (created_at self.now node)) }
         ensures why { OnErr result ((value_of self.now node ≡ None)
             ⊎ (parent_of self.now node ≡ None)) }
     {
         let links = &self.links;
         if !self.is_alive(node) {
-            return Err(TreeError::Stale(node.made_at()));
+            return Err(TreeError::Stale(self.stale(node)));
         }
-        match parent_at(links, node.slot()) {
+        match parent_at(links, slot_of(node)) {
             Some(parent) => Ok(parent),
-            None => Err(TreeError::NoParent(node.made_at())),
+            None => Err(TreeError::NoParent(self.created_at(node))),
         }
     }
 
@@ -291,18 +297,17 @@ impl<T, S: Storage<T>> SceneTree<T, S> {
         ensures count { count_of self.new ≡ count_of self.old }
         ensures others { (f : Node T) → IsOther node f → NodeIsUnchanged self.old f self.new }
         ensures kept { (f : Node T) → WasMade self.old f → WasMade self.new f }
+        ensures tells { (f : Node T) → created_at self.new f ≡ created_at self.old f }
         ensures stale { IsErr result ↔ value_of self.old node ≡ None }
-        ensures told { IfErr result (λ refusal. refusal.cause.made_at ≡ made_at node) }
+        ensures told { IfErr result (λ refusal. refusal.cause.created_at ≡ created_at self.old node) }
         ensures back { IfErr result (λ refusal. refusal.value ≡ value) }
         ensures refused { OnErr result (self.new ≡ self.old) }
     {
         if !self.is_alive(node) {
-            let cause = Stale {
-                made_at: node.made_at(),
-            };
+            let cause = self.stale(node);
             return Err(HandedBack { value, cause });
         }
-        node.raw.set(&mut self.store, value);
+        self.store.replace_value(pointer_to(node), value);
         Ok(())
     }
 
@@ -325,16 +330,15 @@ impl<T, S: Storage<T>> SceneTree<T, S> {
         ensures count { count_of self.new ≡ count_of self.old }
         ensures others { (n : Node T) → IsOther node n → NodeIsUnchanged self.old n self.new }
         ensures kept { (n : Node T) → WasMade self.old n → WasMade self.new n }
+        ensures tells { (n : Node T) → created_at self.new n ≡ created_at self.old n }
         ensures stale { IsErr result ↔ value_of self.old node ≡ None }
-        ensures told { IfErr result (λ stale. stale.made_at ≡ made_at node) }
+        ensures told { IfErr result (λ stale. stale.created_at ≡ created_at self.old node) }
         ensures refused { OnErr result (self.new ≡ self.old) }
     {
-        let Some(answer) = node.raw.with_mut(&mut self.store, f) else {
-            return Err(Stale {
-                made_at: node.made_at(),
-            });
-        };
-        Ok(answer)
+        if !self.is_alive(node) {
+            return Err(self.stale(node));
+        }
+        Ok(self.store.change_value(pointer_to(node), f))
     }
 
     /// A node's value. The tree is lent meanwhile.
@@ -347,13 +351,11 @@ impl<T, S: Storage<T>> SceneTree<T, S> {
     pub fn get(&self, node: Node<T>) -> Result<&T, Stale>
         ensures seen { IfOk result (λ value. value_of self.now node ≡ Some value.now) }
         ensures stale { IsErr result ↔ value_of self.now node ≡ None }
-        ensures told { IfErr result (λ stale. stale.made_at ≡ made_at node) }
+        ensures told { IfErr result (λ stale. stale.created_at ≡ created_at self.now node) }
     {
-        match node.raw.peek(&self.store) {
+        match peek(&self.store, node) {
             Some(value) => Ok(value),
-            None => Err(Stale {
-                made_at: node.made_at(),
-            }),
+            None => Err(self.stale(node)),
         }
     }
 
@@ -366,7 +368,34 @@ impl<T, S: Storage<T>> SceneTree<T, S> {
     pub fn is_alive(&self, node: Node<T>) -> bool
         ensures { result ≡ is_live self.now node }
     {
-        node.raw.can_read(&self.store)
+        peek(&self.store, node).is_some()
+    }
+
+    /// Where a node was made, also once it is gone; None of another tree's. Doesn't allocate, and is O(1).
+    ///
+    /// ```rust
+    /// if let Some(created_at) = tree.created_at(child) {
+    ///     println!(rt; "made at {created_at}")?;
+    /// }
+    /// ```
+    pub fn created_at(&self, node: Node<T>) -> Option<Location>
+        ensures { result ≡ created_at self.now node }
+    {
+        if number_of(node) != self.links.number() {
+            return None;
+        }
+        self.sites.get(site_of(node))
+    }
+
+    // That a node shows nothing, and where it was made.
+    #[cold]
+    #[inline(never)]
+    fn stale(&self, node: Node<T>) -> Stale
+        ensures { result ≡ stale_of self.now node }
+    {
+        Stale {
+            created_at: self.created_at(node),
+        }
     }
 
     /// How many nodes are live: as many as the store has live cells. Doesn't allocate, and is O(1).
@@ -390,14 +419,12 @@ impl<T, S: Storage<T>> SceneTree<T, S> {
     pub fn parent(&self, node: Node<T>) -> Result<Option<Node<T>>, Stale>
         ensures parent { IfOk result (λ parent. parent ≡ parent_of self.now node) }
         ensures stale { IsErr result ↔ value_of self.now node ≡ None }
-        ensures told { IfErr result (λ stale. stale.made_at ≡ made_at node) }
+        ensures told { IfErr result (λ stale. stale.created_at ≡ created_at self.now node) }
     {
         if !self.is_alive(node) {
-            return Err(Stale {
-                made_at: node.made_at(),
-            });
+            return Err(self.stale(node));
         }
-        Ok(parent_at(&self.links, node.slot()))
+        Ok(parent_at(&self.links, slot_of(node)))
     }
 
     /// The nodes above a node: its parent, the parent of that, and so on up to its root. The tree is
@@ -414,15 +441,13 @@ impl<T, S: Storage<T>> SceneTree<T, S> {
     pub fn ancestors(&self, node: Node<T>) -> Result<Ancestors<'_, T>, Stale>
         ensures ancestors { IfOk result (λ above. AreAncestors self.now node above) }
         ensures stale { IsErr result ↔ value_of self.now node ≡ None }
-        ensures told { IfErr result (λ stale. stale.made_at ≡ made_at node) }
+        ensures told { IfErr result (λ stale. stale.created_at ≡ created_at self.now node) }
     {
         let links = &self.links;
         if !self.is_alive(node) {
-            return Err(Stale {
-                made_at: node.made_at(),
-            });
+            return Err(self.stale(node));
         }
-        Ok(Ancestors::new(links, parent_at(links, node.slot())))
+        Ok(Ancestors::new(links, parent_at(links, slot_of(node))))
     }
 
     /// How many steps a node is below its root: as many as it has ancestors, none at a root.
@@ -436,15 +461,13 @@ impl<T, S: Storage<T>> SceneTree<T, S> {
     pub fn depth(&self, node: Node<T>) -> Result<usize, Stale>
         ensures depth { IfOk result (λ steps. IsRootedIn self.now steps node) }
         ensures stale { IsErr result ↔ value_of self.now node ≡ None }
-        ensures told { IfErr result (λ stale. stale.made_at ≡ made_at node) }
+        ensures told { IfErr result (λ stale. stale.created_at ≡ created_at self.now node) }
     {
         let links = &self.links;
         if !self.is_alive(node) {
-            return Err(Stale {
-                made_at: node.made_at(),
-            });
+            return Err(self.stale(node));
         }
-        Ok(depth_at(links, node.slot()))
+        Ok(depth_at(links, slot_of(node)))
     }
 
     /// A node's children, in order. The tree is lent meanwhile.
@@ -461,15 +484,13 @@ impl<T, S: Storage<T>> SceneTree<T, S> {
         ensures children { IfOk result (λ children. children ≡ children_of self.now node) }
         ensures tree { IsTree self.now }
         ensures stale { IsErr result ↔ value_of self.now node ≡ None }
-        ensures told { IfErr result (λ stale. stale.made_at ≡ made_at node) }
+        ensures told { IfErr result (λ stale. stale.created_at ≡ created_at self.now node) }
     {
         let links = &self.links;
         if !self.is_alive(node) {
-            return Err(Stale {
-                made_at: node.made_at(),
-            });
+            return Err(self.stale(node));
         }
-        Ok(children_at(links, node.slot()))
+        Ok(children_at(links, slot_of(node)))
     }
 
     /// A node and all below it, each once, level by level: first the node, and then the children of
@@ -487,12 +508,12 @@ impl<T, S: Storage<T>> SceneTree<T, S> {
     pub fn subtree(&self, node: Node<T>) -> Result<Vec<Node<T>>, TreeError>
         ensures subtree { IfOk result (λ list. IsSubtree self.now node list.items) }
         ensures stale { value_of self.now node ≡ None →
-            result ≡ Err (error.Stale (made_at node)) }
+            result ≡ Err (error.Stale (stale_of self.now node)) }
         ensures short { IfErr result (λ e. (value_of self.now node ≡ None)
             ⊎ (e ≡ error.Store OutOfMemory)) }
     {
         if !self.is_alive(node) {
-            return Err(TreeError::Stale(node.made_at()));
+            return Err(TreeError::Stale(self.stale(node)));
         }
         match gather(self.alloc, &self.links, node) {
             Ok(list) => Ok(list),
@@ -517,13 +538,11 @@ impl<T, S: Storage<T>> SceneTree<T, S> {
         ensures outline { IfOk result (λ rows.
             rows ≡ outline_of self.now limit ((0, node) ∷ [])) }
         ensures stale { IsErr result ↔ value_of self.now node ≡ None }
-        ensures told { IfErr result (λ stale. stale.made_at ≡ made_at node) }
+        ensures told { IfErr result (λ stale. stale.created_at ≡ created_at self.now node) }
     {
         let links = &self.links;
         if !self.is_alive(node) {
-            return Err(Stale {
-                made_at: node.made_at(),
-            });
+            return Err(self.stale(node));
         }
         Ok(Outline::new(links, node, limit))
     }
@@ -540,6 +559,7 @@ impl<T, S: Storage<T>> SceneTree<T, S> {
     /// ```
     pub fn move_to(&mut self, node: Node<T>, parent: Node<T>) -> Result<(), TreeError>
         ensures state { self.new.state ≡ self.old.state }
+        ensures sites { self.new.sites ≡ self.old.sites }
         ensures moved { OnOk result (parent_of self.new node ≡ Some parent) }
         ensures last { OnOk result (children_of self.new parent
             ≡ without node (children_of self.old parent) ++ node ∷ []) }
@@ -551,9 +571,9 @@ impl<T, S: Storage<T>> SceneTree<T, S> {
         ensures others { (n : Node T) → IsOther parent n →
             ((up : Node T) → parent_of self.old node ≡ Some up → IsOther up n) →
             children_of self.new n ≡ children_of self.old n }
-        ensures gone { value_of self.old node ≡ None → result ≡ Err (error.Stale (made_at node)) }
+        ensures gone { value_of self.old node ≡ None → result ≡ Err (error.Stale (stale_of self.old node)) }
         ensures stale { is_live self.old node ≡ true → value_of self.old parent ≡ None →
-            result ≡ Err (error.Stale (made_at parent)) }
+            result ≡ Err (error.Stale (stale_of self.old parent)) }
         ensures cycle { is_live self.old node ≡ true → IsBelow self.old node parent →
             result ≡ Err error.Cycle }
         ensures why { OnErr result ((value_of self.old node ≡ None)
@@ -578,6 +598,7 @@ impl<T, S: Storage<T>> SceneTree<T, S> {
     /// ```
     pub fn move_at(&mut self, node: Node<T>, spot: Spot<T>) -> Result<(), TreeError>
         ensures state { self.new.state ≡ self.old.state }
+        ensures sites { self.new.sites ≡ self.old.sites }
         ensures moved { OnOk result (parent_of self.new node ≡ parent_for self.old spot) }
         ensures placed { OnOk result ((up : Node T) → parent_for self.old spot ≡ Some up →
             children_of self.new up ≡ placed spot node (without node (children_of self.old up))) }
@@ -590,13 +611,13 @@ impl<T, S: Storage<T>> SceneTree<T, S> {
             ((to : Node T) → parent_for self.old spot ≡ Some to → IsOther to n) →
             ((up : Node T) → parent_of self.old node ≡ Some up → IsOther up n) →
             children_of self.new n ≡ children_of self.old n }
-        ensures gone { value_of self.old node ≡ None → result ≡ Err (error.Stale (made_at node)) }
+        ensures gone { value_of self.old node ≡ None → result ≡ Err (error.Stale (stale_of self.old node)) }
         ensures stale { is_live self.old node ≡ true → value_of self.old (named spot) ≡ None →
-            result ≡ Err (error.Stale (made_at (named spot))) }
+            result ≡ Err (error.Stale (stale_of self.old (named spot))) }
         ensures cycle { is_live self.old node ≡ true → IsBelow self.old node (named spot) →
             result ≡ Err error.Cycle }
         ensures root { CanMove self.old node (named spot) → parent_for self.old spot ≡ None →
-            result ≡ Err (error.NoParent (made_at (named spot))) }
+            result ≡ Err (error.NoParent (created_at self.old (named spot))) }
         ensures why { OnErr result ((value_of self.old node ≡ None)
             ⊎ (value_of self.old (named spot) ≡ None)
             ⊎ IsBelow self.old node (named spot)
@@ -620,6 +641,7 @@ impl<T, S: Storage<T>> SceneTree<T, S> {
     /// ```
     pub fn detach(&mut self, node: Node<T>) -> Result<(), Stale>
         ensures state { self.new.state ≡ self.old.state }
+        ensures sites { self.new.sites ≡ self.old.sites }
         ensures root { OnOk result (parent_of self.new node ≡ None) }
         ensures lost { OnOk result ((up : Node T) → parent_of self.old node ≡ Some up →
             children_of self.new up ≡ without node (children_of self.old up)) }
@@ -629,13 +651,11 @@ impl<T, S: Storage<T>> SceneTree<T, S> {
             ((up : Node T) → parent_of self.old node ≡ Some up → IsOther up n) →
             children_of self.new n ≡ children_of self.old n }
         ensures stale { IsErr result ↔ value_of self.old node ≡ None }
-        ensures told { IfErr result (λ stale. stale.made_at ≡ made_at node) }
+        ensures told { IfErr result (λ stale. stale.created_at ≡ created_at self.old node) }
         ensures refused { OnErr result (self.new ≡ self.old) }
     {
         if !self.is_alive(node) {
-            return Err(Stale {
-                made_at: node.made_at(),
-            });
+            return Err(self.stale(node));
         }
         detach(&mut self.links, node);
         Ok(())
@@ -646,13 +666,13 @@ impl<T, S: Storage<T>> SceneTree<T, S> {
         ensures parent { IfOk result (λ up. parent_for self.now spot ≡ Some up) }
         ensures may { IfOk result (λ up. CanMove self.now node up) }
         ensures apart { OnOk result (IsBelow self.now node (named spot) → ⊥) }
-        ensures gone { value_of self.now node ≡ None → result ≡ Err (error.Stale (made_at node)) }
+        ensures gone { value_of self.now node ≡ None → result ≡ Err (error.Stale (stale_of self.now node)) }
         ensures stale { is_live self.now node ≡ true → value_of self.now (named spot) ≡ None →
-            result ≡ Err (error.Stale (made_at (named spot))) }
+            result ≡ Err (error.Stale (stale_of self.now (named spot))) }
         ensures cycle { is_live self.now node ≡ true → IsBelow self.now node (named spot) →
             result ≡ Err error.Cycle }
         ensures root { CanMove self.now node (named spot) → parent_for self.now spot ≡ None →
-            result ≡ Err (error.NoParent (made_at (named spot))) }
+            result ≡ Err (error.NoParent (created_at self.now (named spot))) }
         ensures why { OnErr result ((value_of self.now node ≡ None)
             ⊎ (value_of self.now (named spot) ≡ None)
             ⊎ IsBelow self.now node (named spot)
@@ -665,9 +685,9 @@ impl<T, S: Storage<T>> SceneTree<T, S> {
     // Whether a node may become a child of another, or why not.
     fn test_move(&self, node: Node<T>, parent: Node<T>) -> Result<(), TreeError>
         ensures may { OnOk result (CanMove self.now node parent) }
-        ensures gone { value_of self.now node ≡ None → result ≡ Err (error.Stale (made_at node)) }
+        ensures gone { value_of self.now node ≡ None → result ≡ Err (error.Stale (stale_of self.now node)) }
         ensures stale { is_live self.now node ≡ true → value_of self.now parent ≡ None →
-            result ≡ Err (error.Stale (made_at parent)) }
+            result ≡ Err (error.Stale (stale_of self.now parent)) }
         ensures cycle { is_live self.now node ≡ true → IsBelow self.now node parent →
             result ≡ Err error.Cycle }
         ensures why { IfErr result (λ e. (value_of self.now node ≡ None)
@@ -675,12 +695,12 @@ impl<T, S: Storage<T>> SceneTree<T, S> {
             ⊎ IsBelow self.now node parent) }
     {
         if !self.is_alive(node) {
-            return Err(TreeError::Stale(node.made_at()));
+            return Err(TreeError::Stale(self.stale(node)));
         }
         if !self.is_alive(parent) {
-            return Err(TreeError::Stale(parent.made_at()));
+            return Err(TreeError::Stale(self.stale(parent)));
         }
-        if is_under(&self.links, parent.slot(), node.slot()) {
+        if is_under(&self.links, slot_of(parent), slot_of(node)) {
             return Err(TreeError::Cycle);
         }
         Ok(())
@@ -713,14 +733,15 @@ impl<T, S: Storage<T>> SceneTree<T, S> {
             ((up : Node T) → parent_of self.old node ≡ Some up → IsOther up n) →
             NodeIsUnchanged self.old n self.new) }
         ensures kept { (f : Node T) → WasMade self.old f → WasMade self.new f }
+        ensures tells { (f : Node T) → created_at self.new f ≡ created_at self.old f }
         ensures stale { value_of self.old node ≡ None →
-            result ≡ Err (error.Stale (made_at node)) }
+            result ≡ Err (error.Stale (stale_of self.old node)) }
         ensures short { IfErr result (λ e. (value_of self.old node ≡ None)
             ⊎ (e ≡ error.Store OutOfMemory)) }
         ensures refused { OnErr result (self.new ≡ self.old) }
     {
         if !self.is_alive(node) {
-            return Err(TreeError::Stale(node.made_at()));
+            return Err(TreeError::Stale(self.stale(node)));
         }
         let list = match cut(self.alloc, &mut self.links, node) {
             Ok(list) => list,
@@ -755,20 +776,76 @@ impl<T, S: Storage<T>> SceneTree<T, S> {
             ((up : Node T) → parent_of self.old node ≡ Some up → IsOther up n) →
             NodeIsUnchanged self.old n self.new) }
         ensures kept { (f : Node T) → WasMade self.old f → WasMade self.new f }
+        ensures tells { (f : Node T) → created_at self.new f ≡ created_at self.old f }
         ensures stale { value_of self.old node ≡ None →
-            result ≡ Err (error.Stale (made_at node)) }
+            result ≡ Err (error.Stale (stale_of self.old node)) }
         ensures short { IfErr result (λ e. (value_of self.old node ≡ None)
             ⊎ (e ≡ error.Store OutOfMemory)) }
         ensures refused { OnErr result (self.new ≡ self.old) }
     {
         if !self.is_alive(node) {
-            return Err(TreeError::Stale(node.made_at()));
+            return Err(TreeError::Stale(self.stale(node)));
         }
         let list = match cut(self.alloc, &mut self.links, node) {
             Ok(list) => list,
             Err(_) => return Err(TreeError::Store(StoreError::OutOfMemory)),
         };
         Ok(take_first(&mut self.store, &list))
+    }
+}
+
+// Makes a node's cell, and opens its slot. Where the node was made is told from then on.
+#[inline(always)]
+fn make<T, S: Storage<T>>(
+    store: &mut S,
+    links: &mut Links<T>,
+    sites: &mut Sites,
+    value: T,
+    here: Location,
+) -> Result<Node<T>, Refusal<T>>
+    requires kept { IsKept (S.state store.old) (families links.old.items) }
+    requires linked { IsLinked links.old.items }
+    requires number { links.old.number ≡ (S.state store.old).number }
+    ensures made { IfOk result (λ n. HasMade (S.state store.old) value here n (S.state store.new)) }
+    ensures number { links.new.number ≡ links.old.number }
+    ensures linked { IsLinked links.new.items }
+    ensures opened { IfOk result (λ n.
+        IsOpened (families links.old.items) (slot_in n) (families links.new.items)) }
+    ensures longer { length links.old.items ≤ length links.new.items }
+    ensures noted { IfOk result (λ n. noted links.new.items (slot_in n) ≡ Some n) }
+    ensures others { IfOk result (λ n. (s : ℕ) → s ≢ slot_in n →
+        noted links.new.items s ≡ noted links.old.items s) }
+    ensures here { IfOk result (λ n. Tells (told_at links.old.number (told_in sites.new) n) here) }
+    ensures tells { (n : Node T) (l : Location) →
+        told_at links.old.number (told_in sites.old) n ≡ Some l →
+        told_at links.old.number (told_in sites.new) n ≡ Some l }
+    ensures store { OnErr result (S.state store.new ≡ S.state store.old) }
+    ensures links { OnErr result (links.new.items ≡ links.old.items) }
+    ensures sites { OnErr result (told_in sites.new ≡ told_in sites.old) }
+    ensures back { IfErr result (λ refusal. refusal.value ≡ value) }
+    ensures cause { IfErr result (λ refusal. refusal.cause ≡ OutOfMemory) }
+{
+    if !links.reserve() {
+        return Err(lacking(value));
+    }
+    let Ok(site) = sites.find_or_add(here) else {
+        return Err(lacking(value));
+    };
+    let raw = store.new(value, here, None)?;
+    let node = handle_at(raw.id, site);
+    sites.tell(site);
+    open_slot(links, node);
+    Ok(node)
+}
+
+// That memory runs out before a value is kept.
+fn lacking<T>(value: T) -> Refusal<T>
+    ensures value { result.value ≡ value }
+    ensures cause { result.cause ≡ OutOfMemory }
+{
+    Refusal {
+        value,
+        cause: StoreError::OutOfMemory,
     }
 }
 
@@ -799,7 +876,7 @@ fn take_value<T, S: Storage<T>>(store: &mut S, node: Node<T>) -> T
     ensures value { value_in (S.state store.old) (pointer_in node) ≡ Some result }
     ensures lost { HasLost (S.state store.old) (node ∷ []) (S.state store.new) }
 {
-    match node.raw.take(store) {
+    match store.take_value(pointer_to(node)) {
         Some(value) => value,
         None => unreachable!(),
     }
@@ -824,7 +901,7 @@ fn end<T, S: Storage<T>>(store: &mut S, node: Node<T>)
     requires live { IsLiveIn (S.state store.old) node }
     ensures { HasLost (S.state store.old) (node ∷ []) (S.state store.new) }
 {
-    match node.raw.manually_drop(store) {
+    match store.recycle(pointer_to(node)) {
         Ok(()) => {}
         Err(_) => unreachable!(),
     }

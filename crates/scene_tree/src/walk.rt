@@ -1,15 +1,17 @@
 //! Walks from a node to its root, over its children, and over all below it.
 
 ghost use Rattle.std.specs.Prelude.{◌≡◌, ◌<◌, ◌∷◌, [], length, Option, ℕ};
-ghost use Rattle.scene_tree.specs.Nodes.{slot_in};
+ghost use Rattle.handles.specs.Handles.{slot_in};
 ghost use Rattle.std.specs.Iterator.{YieldsFirst, item_count};
 ghost use Rattle.scene_tree.specs.Families.{IsForest, IsLinked, families};
 ghost use Rattle.scene_tree.specs.Walking.{IsRest, IsWithin, way_up};
 ghost use Rattle.scene_tree.specs.Chains.{chain};
 ghost use Rattle.scene_tree.specs.Rows.{IsRow, rows, waiting};
 
-use crate::links::{Link, next_row, parent_at};
+use crate::links::{next_row, parent_at};
 use crate::node::Node;
+use crate::packed::Links;
+use handles::parts::slot_of;
 use std::iter::FusedIterator;
 use std::marker::Model;
 
@@ -18,13 +20,13 @@ use std::marker::Model;
 /// that are left.
 #[derive(Drop)]
 pub struct Ancestors<'a, T> {
-    links: &'a Vec<Link<T>>,
+    links: &'a Links<T>,
     next: Option<Node<T>>,
 }
 
 impl<'a, T> Model for Ancestors<'a, T> {
     ghost use Rattle.std.specs.Prelude.{List, length};
-    ghost use Rattle.scene_tree.specs.declared.node.Node.{Node};
+    ghost use Rattle.scene_tree.specs.Nodes.{Node};
     ghost use Rattle.scene_tree.specs.Families.{IsForest, families};
     ghost use Rattle.scene_tree.specs.Walking.{IsWithin, way_up};
 
@@ -38,7 +40,7 @@ impl<'a, T> Model for Ancestors<'a, T> {
 }
 
 impl<'a, T> Ancestors<'a, T> {
-    pub(crate) fn new(links: &'a Vec<Link<T>>, next: Option<Node<T>>) -> Self
+    pub(crate) fn new(links: &'a Links<T>, next: Option<Node<T>>) -> Self
         requires forest { IsForest (families links.now.items) }
         requires within { IsWithin (families links.now.items) next }
         ensures { result ≡ way_up (families links.now.items)
@@ -57,7 +59,7 @@ impl<'a, T> Iterator for Ancestors<'a, T> {
 
     fn next(&mut self) -> Option<Node<T>> {
         let node = self.next?;
-        self.next = parent_at(self.links, node.slot());
+        self.next = parent_at(self.links, slot_of(node));
         Some(node)
     }
 }
@@ -68,13 +70,13 @@ impl<'a, T> FusedIterator for Ancestors<'a, T> {}
 /// Contracts see the list of those that are left.
 #[derive(Drop)]
 pub struct Children<'a, T> {
-    links: &'a Vec<Link<T>>,
+    links: &'a Links<T>,
     next: Option<usize>,
 }
 
 impl<'a, T> Model for Children<'a, T> {
     ghost use Rattle.std.specs.Prelude.{List, length};
-    ghost use Rattle.scene_tree.specs.declared.node.Node.{Node};
+    ghost use Rattle.scene_tree.specs.Nodes.{Node};
     ghost use Rattle.scene_tree.specs.Chains.{chain};
     ghost use Rattle.scene_tree.specs.Walking.{IsRest};
 
@@ -86,7 +88,7 @@ impl<'a, T> Model for Children<'a, T> {
 }
 
 impl<'a, T> Children<'a, T> {
-    pub(crate) fn new(links: &'a Vec<Link<T>>, next: Option<usize>) -> Self
+    pub(crate) fn new(links: &'a Links<T>, next: Option<usize>) -> Self
         requires { IsRest links.now.items next }
         ensures { result ≡ chain links.now.items (length links.now.items) next }
     {
@@ -103,7 +105,7 @@ impl<'a, T> Iterator for Children<'a, T> {
 
     fn next(&mut self) -> Option<Node<T>> {
         let slot = self.next?;
-        let link = &self.links[slot];
+        let link = self.links.at(slot);
         self.next = link.after;
         Some(link.node)
     }
@@ -116,14 +118,14 @@ impl<'a, T> FusedIterator for Children<'a, T> {}
 /// left.
 #[derive(Drop)]
 pub struct Outline<'a, T> {
-    links: &'a Vec<Link<T>>,
+    links: &'a Links<T>,
     left: usize,
     next: Option<(usize, Node<T>)>,
 }
 
 impl<'a, T> Model for Outline<'a, T> {
     ghost use Rattle.std.specs.Prelude.{List, ℕ};
-    ghost use Rattle.scene_tree.specs.declared.node.Node.{Node};
+    ghost use Rattle.scene_tree.specs.Nodes.{Node};
     ghost use Rattle.scene_tree.specs.Families.{IsForest, IsLinked, families};
     ghost use Rattle.scene_tree.specs.Rows.{IsRow, rows, waiting};
 
@@ -138,7 +140,7 @@ impl<'a, T> Model for Outline<'a, T> {
 }
 
 impl<'a, T> Outline<'a, T> {
-    pub(crate) fn new(links: &'a Vec<Link<T>>, node: Node<T>, limit: usize) -> Self
+    pub(crate) fn new(links: &'a Links<T>, node: Node<T>, limit: usize) -> Self
         requires linked { IsLinked links.now.items }
         requires forest { IsForest (families links.now.items) }
         requires within { slot_in node < length links.now.items }
@@ -165,7 +167,7 @@ impl<'a, T> Iterator for Outline<'a, T> {
         }
         let (depth, node) = self.next?;
         self.left -= 1;
-        self.next = next_row(self.links, depth, node.slot());
+        self.next = next_row(self.links, depth, slot_of(node));
         Some((depth, node))
     }
 }

@@ -1,6 +1,8 @@
 //! Stores of which nothing was made yet, for what is tested over any store: they are made here, once
 //! for all tests.
 
+ghost use Rattle.std.specs.Prelude.{◌≤◌};
+
 use generational_box::{LastFirst, Numbers, OldestFirst, Storage, Store};
 use std::alloc::Global;
 use std::process::Abort;
@@ -47,6 +49,23 @@ pub(crate) fn play_at_ticket<T: Drop, P: Scene<T>>(
     scene: &P,
 ) {
     play_oldest_first(rt, alloc, 1, ticket, scene);
+}
+
+/// Plays a scene over a new store whose slots begin with this generation.
+pub(crate) fn play_at_generation<T: Drop, P: Scene<T>>(
+    rt: &impl Abort,
+    alloc: Global,
+    generation: u64,
+    scene: &P,
+)
+    requires { 1 ≤ generation }
+{
+    let numbers = Numbers {
+        generation,
+        ticket: 0,
+    };
+    let store: Store<T, LastFirst> = Store::new_at(alloc, 1, numbers);
+    scene.play(rt, alloc, store);
 }
 
 /// What is done over two new stores, which go in the end.

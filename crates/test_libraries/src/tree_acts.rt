@@ -64,6 +64,13 @@ pub(crate) fn made_at(number: usize) -> Location {
     Location::new("t.rs", u32::try_from(number).unwrap_or(0), 1)
 }
 
+/// How a call on a node that is gone fails, by its number.
+pub(crate) fn stale_of(number: usize) -> Stale {
+    Stale {
+        created_at: Some(made_at(number)),
+    }
+}
+
 /// A tree over a new store.
 pub(crate) fn tree_over<T, S: Storage<T>>(
     rt: &impl Abort,
@@ -218,9 +225,9 @@ pub(crate) fn node_at(rt: &impl Abort, nodes: &[Node<u64>], number: usize) -> No
 fn reply_is(rt: &impl Abort, answer: Result<(), TreeError>, reply: Reply) {
     let wanted = match reply {
         Reply::Done => Ok(()),
-        Reply::Stale(number) => Err(TreeError::Stale(made_at(number))),
+        Reply::Stale(number) => Err(TreeError::Stale(stale_of(number))),
         Reply::Cycle => Err(TreeError::Cycle),
-        Reply::NoParent(number) => Err(TreeError::NoParent(made_at(number))),
+        Reply::NoParent(number) => Err(TreeError::NoParent(Some(made_at(number)))),
     };
     assert_same(rt, &answer, &wanted);
 }
@@ -312,10 +319,8 @@ fn is_gone<S: Storage<u64>>(
     node: Node<u64>,
     number: usize,
 ) {
-    let stale = Stale {
-        made_at: made_at(number),
-    };
-    let error = TreeError::Stale(stale.made_at);
+    let stale = stale_of(number);
+    let error = TreeError::Stale(stale);
     assert!(rt; !tree.is_alive(node));
     assert_same(rt, &tree.get(node).copied(), &Err(stale));
     assert_same(rt, &tree.parent(node).err(), &Some(stale));
@@ -323,4 +328,5 @@ fn is_gone<S: Storage<u64>>(
     assert_same(rt, &tree.subtree(node).err(), &Some(error));
     assert_same(rt, &tree.depth(node), &Err(stale));
     assert_same(rt, &tree.detach(node), &Err(stale));
+    assert_same(rt, &tree.created_at(node), &stale.created_at);
 }

@@ -1,8 +1,8 @@
 //! Handles of nodes: the ways up from them, what errors print, and maps that have them as keys.
 
 use crate::expected::{assert_same, given};
-use crate::fresh::{Scene, play};
-use crate::tree_acts::{are_nodes, made_at, node_at, tree_over};
+use crate::fresh::{Scene, SceneOfTwo, play, play_two};
+use crate::tree_acts::{are_nodes, made_at, node_at, stale_of, tree_over};
 use crate::tree_memory::{child_or_again, root_or_again};
 use example_libraries::trees::root_of;
 use generational_box::{Storage, StoreError};
@@ -51,10 +51,7 @@ impl Scene<u64> for WaysUp {
             &Ok(second.id()),
         );
         given(rt, tree.remove_subtree(second));
-        let stale = Stale {
-            made_at: made_at(1),
-        };
-        assert_same(rt, &tree.ancestors(leaf).err(), &Some(stale));
+        assert_same(rt, &tree.ancestors(leaf).err(), &Some(stale_of(1)));
     }
 }
 
@@ -135,13 +132,15 @@ fn errors_of_trees_print_their_causes(rt: HostRuntime) {
     let alloc = rt.alloc();
     let rows = [
         (
-            TreeError::Stale(made_at(7)),
-            "the node made at t.rs:7:1 is gone",
+            TreeError::Stale(stale_of(7)),
+            "the value made at t.rs:7:1 is gone",
         ),
+        (TreeError::Stale(FOREIGN), "the handle is of another table"),
         (
-            TreeError::NoParent(made_at(7)),
+            TreeError::NoParent(Some(made_at(7))),
             "the node made at t.rs:7:1 has no parent",
         ),
+        (TreeError::NoParent(None), "the node has no parent"),
         (TreeError::Cycle, "the node would be below itself"),
         (TreeError::Store(StoreError::OutOfMemory), "out of memory"),
     ];
@@ -168,6 +167,84 @@ impl Scene<u64> for Keys {
         assert!(rt; keys.contains(&first));
         assert!(rt; first != next);
     }
+}
+
+/// How a call on another tree's node fails.
+const FOREIGN: Stale = Stale { created_at: None };
+
+/// Sees that each call that reads fails on a node.
+fn is_unknown<S: Storage<u64>>(
+    rt: &impl Abort,
+    tree: &SceneTree<u64, S>,
+    node: Node<u64>,
+    stale: Stale,
+) {
+    assert_same(rt, &tree.created_at(node), &stale.created_at);
+    assert!(rt; !tree.is_alive(node));
+    assert_same(rt, &tree.get(node).err(), &Some(stale));
+    assert_same(rt, &tree.parent(node).err(), &Some(stale));
+    assert_same(rt, &tree.children(node).err(), &Some(stale));
+    assert_same(rt, &tree.ancestors(node).err(), &Some(stale));
+    assert_same(rt, &tree.outline(node, 9).err(), &Some(stale));
+    assert_same(rt, &tree.depth(node), &Err(stale));
+    let error = TreeError::Stale(stale);
+    assert_same(rt, &tree.subtree(node).err(), &Some(error));
+}
+
+/// Sees that each call that changes the tree fails on a node, beside one that is live.
+fn is_refused<S: Storage<u64>>(
+    rt: &impl Abort,
+    tree: &mut SceneTree<u64, S>,
+    live: Node<u64>,
+    node: Node<u64>,
+    stale: Stale,
+) {
+    let error = TreeError::Stale(stale);
+    let set = tree.set(node, 8).map_err(|refusal| refusal.cause);
+    assert_same(rt, &set, &Err(stale));
+    let updated = tree.update(node, |value: &mut u64| *value = 8);
+    assert_same(rt, &updated, &Err(stale));
+    assert_same(rt, &tree.detach(node), &Err(stale));
+    assert_same(rt, &tree.move_to(node, live), &Err(error));
+    assert_same(rt, &tree.move_to(live, node), &Err(error));
+    assert_same(rt, &tree.move_at(live, Spot::Before(node)), &Err(error));
+    let added = tree.add_child(node, 8, made_at(8)).err();
+    assert_same(rt, &added.map(|refusal| refusal.cause), &Some(error));
+    let beside = tree.add_at(Spot::After(node), 8, made_at(8)).err();
+    assert_same(rt, &beside.map(|refusal| refusal.cause), &Some(error));
+    assert_same(rt, &tree.remove_subtree(node).err(), &Some(error));
+    assert_same(rt, &tree.take(node), &Err(error));
+    assert_same(rt, &tree.len(), &1);
+}
+
+/// A node that is gone, whose slot another has, and one of another tree.
+struct GoneAndForeign;
+
+impl SceneOfTwo<u64, u64> for GoneAndForeign {
+    fn play<R: Abort, S: Storage<u64> + Drop, P: Storage<u64> + Drop>(
+        &self,
+        rt: &R,
+        alloc: Global,
+        store: S,
+        others: P,
+    ) {
+        let mut tree = tree_over(rt, alloc, store);
+        let mut other = tree_over(rt, alloc, others);
+        let gone = root_or_again(rt, &mut tree);
+        given(rt, tree.remove_subtree(gone));
+        let live = root_or_again(rt, &mut tree);
+        let foreign = root_or_again(rt, &mut other);
+        is_unknown(rt, &tree, gone, stale_of(0));
+        is_refused(rt, &mut tree, live, gone, stale_of(0));
+        is_unknown(rt, &tree, foreign, FOREIGN);
+        is_refused(rt, &mut tree, live, foreign, FOREIGN);
+        assert_same(rt, &other.created_at(foreign), &Some(made_at(0)));
+    }
+}
+
+#[test]
+fn gone_and_foreign_nodes_are_refused_by_each_call(rt: HostRuntime) {
+    play_two::<u64, u64, GoneAndForeign>(&rt, rt.alloc(), &GoneAndForeign);
 }
 
 #[test]

@@ -3,7 +3,7 @@
 use crate::counted::{Counted, another, assert_count, let_go, new_counted};
 use crate::expected::{assert_same, given};
 use crate::fresh::{Scene, play, play_at_ticket};
-use crate::tree_acts::{made_at, tree_over};
+use crate::tree_acts::{made_at, stale_of, tree_over};
 use example_libraries::trees::{greatest_root, greatest_value, moved_round, taken_out, told_after};
 use generational_box::Storage;
 use scene_tree::{Node, SceneTree, TreeError};
@@ -98,7 +98,7 @@ fn stale_is_told<S: Storage<u64>>(rt: &impl Abort, tree: &mut SceneTree<u64, S>)
         Ok(node) => node,
         Err(_lacking) => rt.abort(),
     };
-    let told = Err(TreeError::Stale(made_at(3)));
+    let told = Err(TreeError::Stale(stale_of(3)));
     assert_same(rt, &told_after(tree, first, 4, made_at(4)), &told);
 }
 

@@ -8,9 +8,10 @@ pub use Rattle.generational_sessions.proofs.callers.{err_so, get_pushed, left_ti
 pub use Rattle.generational_sessions.proofs.callers.{read_short, same_id_sees, set_free}
 pub use Rattle.reactive.specs.Graphs.{kind_in}
 pub use Rattle.scene_tree.proofs.Moving.Trees.Links.Forests.{is_id, times_apart}
-pub use Rattle.scene_tree.specs.Nodes.{is_same, pointer_in, times}
+pub use Rattle.handles.specs.Handles.{is_same, pointer_in}
+pub use Rattle.scene_tree.specs.Nodes.{Node, times}
 pub use Rattle.scene_tree.specs.Trees.{AreAncestors, IsRootedIn, IsStepsBelow, parent_of, TreeState}
-pub use Rattle.scene_tree.specs.{declared.node.Node.Node, Trees.value_of}
+pub use Rattle.scene_tree.specs.Trees.{value_of}
 pub use Rattle.session_table.specs.Tables.{live}
 pub use Rattle.std.proofs.Common.{All, ap, arith, Err, false, inl, inr, length, List, map, nat_eq}
 pub use Rattle.std.proofs.Common.{None, Option, refl, rules, Some, subst, suc, sym, true, zero, ℕ}

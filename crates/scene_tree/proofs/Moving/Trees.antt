@@ -59,9 +59,6 @@ module _ {T : Type 0} where
   AreLive S list = Each (IsLiveIn S) list
 
   module _ {S : State T} {fs : List (Family T)} (sound : IsSound S) (k : IsKept S fs) where
-    abbrev tree : TreeState T
-    tree = record { state = S; families = fs }
-
     pub times_live : (n : Node T) → IsLiveIn S n → (list : List (Node T)) → AreLive S list
         → times n list ≡ count_at (slot_in n) list
     times_live n live list lives = search (arith, times_at, same_id, one_live)
@@ -70,6 +67,14 @@ module _ {T : Type 0} where
         → AreLive S list → times n list ≡ 0
     times_gone n gone list lives =
         times_none n list (λ i x at. grind (arith, lives i x at, same_shown S x n, is_id x n))
+
+    pub list_live : (top : Node T) → IsLiveIn S top → (list : List (Node T)) → IsInLevels fs top list → AreLive S list
+    list_live top live list level = rw level (both_each (IsLiveIn S) (top ∷ []) _ (λ i c at. grind arith)
+        (flat_each (IsLiveIn S) (λ n. children_at fs (slot_in n)) (λ n. k.children (slot_in n)) list))
+
+  module _ {S : State T} {fs : List (Family T)} (sound : IsSound S) (k : IsKept S fs) (sites : List Location) where
+    abbrev tree : TreeState T
+    tree = record { state = S; families = fs; sites = sites }
 
     pub live_children : (n : Node T) → IsLiveIn S n → children_of tree n ≡ children_at fs (slot_in n)
     live_children n live = ap (λ f. f.children) (live_family tree n live)
@@ -92,16 +97,16 @@ module _ {T : Type 0} where
     kept_tree = record {
       once = λ n up is.
           let at = has_parent n up is in
-          let same = times_live n at.0 (children_at fs (slot_in up)) (k.children (slot_in up)) in
+          let same = times_live sound k n at.0 (children_at fs (slot_in up)) (k.children (slot_in up)) in
           grind (arith, live_children up, k.parents (slot_in n) up, k.forest.once (slot_in n));
       only = λ n other apart. ⊎_elim
           (λ live. ap (times n) (live_children other live) ∙ ⊎_elim
-          (λ lives. times_live n lives (children_at fs (slot_in other)) (k.children (slot_in other))
+          (λ lives. times_live sound k n lives (children_at fs (slot_in other)) (k.children (slot_in other))
           ∙ k.forest.only (slot_in n) (slot_in other) (λ is.
           let p = above_parent fs (slot_in n) (slot_in other) is in
           apart p.0 (live_parent n lives ∙ p.1)
           (one_live S p.0 other sound k.simple (k.parents (slot_in n) p.0 p.1) live p.2)))
-          (λ gone. times_gone n gone (children_at fs (slot_in other)) (k.children (slot_in other)))
+          (λ gone. times_gone sound k n gone (children_at fs (slot_in other)) (k.children (slot_in other)))
           (cases_Bool (is_live tree n)))
           (λ gone. ap (λ f. times n f.children) (gone_family tree other gone))
           (cases_Bool (is_live tree other));
@@ -124,11 +129,6 @@ module _ {T : Type 0} where
       below_under (suc e) n below = grind (arith, has_parent n below.0 below.1, below_under e below.0 below.2)
 
       module _ (list : List (Node T)) (level : IsInLevels fs top list) where
-        pub list_live : AreLive S list
-        list_live = rw level (both_each (IsLiveIn S) (top ∷ []) _ (λ i c at. grind arith)
-            (flat_each (IsLiveIn S) (λ n. children_at fs (slot_in n)) (λ n. k.children (slot_in n))
-            list))
-
         flat_same : (xs : List (Node T)) → AreLive S xs
             → flat_map (λ n. children_at fs (slot_in n)) xs ≡ flat_map (children_of tree) xs
         flat_same [] lives = grind arith
@@ -137,21 +137,21 @@ module _ {T : Type 0} where
         pub subtree : IsSubtree tree top list
         subtree =
             let whole = part_whole fs k.forest top list level in record {
-              levels = level ∙ ap (λ rest. top ∷ rest) (flat_same list list_live);
+              levels = level ∙ ap (λ rest. top ∷ rest) (flat_same list (list_live sound k top live list level));
               below = λ n. (
                 λ some. ⊎_elim
                     (λ lives. let under = listed_below fs k.forest top list _ whole (slot_in n)
-                    (grind (arith, times_live n lives list list_live)) in
+                    (grind (arith, times_live sound k n lives list (list_live sound k top live list level))) in
                     (under.0, under_below under.0 n lives under.1))
-                    (λ gone. absurd (grind (arith, times_gone n gone list list_live)))
+                    (λ gone. absurd (grind (arith, times_gone sound k n gone list (list_live sound k top live list level))))
                     (cases_Bool (is_live tree n)),
                 λ below. let at = below_under below.0 n below.1 in
-                    rw (times_live n at.0 list list_live)
+                    rw (times_live sound k n at.0 list (list_live sound k top live list level))
                     (all_listed fs k.forest top list level below.0 (slot_in n) at.1),
               );
-              once = λ n. ⊎_elim (λ lives. rw (times_live n lives list list_live)
+              once = λ n. ⊎_elim (λ lives. rw (times_live sound k n lives list (list_live sound k top live list level))
                   (listed_once fs k.forest top list _ whole (slot_in n)))
-                  (λ gone. rw (times_gone n gone list list_live) (omega arith))
+                  (λ gone. rw (times_gone sound k n gone list (list_live sound k top live list level)) (omega arith))
                   (cases_Bool (is_live tree n));
             }
 
@@ -239,12 +239,12 @@ module _ {T : Type 0} where
 
     -- after a making
     pub noted_made : IsSound S → IsSound R → IsSimple R → (v : T) (l : Location) (child : Node T)
-        → Meets S (Make None v l) (Made (pointer_in child)) R → IsLiveIn R child
-        → noted new (slot_in child) ≡ Some child
+        → HasMade S v l child R → IsLiveIn R child → noted new (slot_in child) ≡ Some child
         → ((s : ℕ) → s ≢ slot_in child → noted new s ≡ noted old s) → AreNoted R new
     noted_made s sound simple v l child m lives here others = noted_put child here others
         (λ n now same. one_live R child n sound simple lives now (sym same))
-        (λ n now ne. grind (arith, same_value S R (Make None v l) (Made (pointer_in child)) s m))
+        (λ n now ne. sym (ap is_some (same_value S R (Make None v l) (Made m.0) s m.1 (pointer_in n) tt
+        (λ is. ne (sym (ap (λ q. q.slot) is) ∙ sym (ap (λ i. i.slot) m.2))))) ∙ now)
 
     -- and after the ends of nodes
     pub noted_lost : {list : List (Node T)} → HasLost S list R → ((s : ℕ) → noted new s ≡ noted old s)
@@ -296,7 +296,8 @@ module _ {T : Type 0} where
       left_is = grind (arith, after_is, chain_is, lies, few_after)
 
       over : (y : Node T) → slice_get part.2 0 ≡ Some y → above fs (slot_in y) ≡ Some up
-      over y at = grind (arith, get_behind part.0 (part.1 ∷ part.2) 1 y at, parent_is fs f up)
+      over y at = let behind_it = get_behind part.0 (part.1 ∷ part.2) 1 y at in
+          parent_is fs f up behind_it.0 y (ap (λ cs. slice_get cs behind_it.0) part.3 ∙ behind_it.1)
 
     -- a node that is first of what follows has a link, with what follows it
     head_there : (before : Option ℕ) (y : Node T) (ys : List (Node T)) → IsChain links before (y ∷ ys) None
@@ -377,25 +378,30 @@ module _ {T : Type 0} (links : List (Link T)) where
 
   module _ (linked : IsLinked links) (f : IsForest (families links)) where
     -- both cases of a row behind, as the links are read
-    pub sibling_row : (d s : ℕ) → IsPlaced links d s → 0 < d → (l : Link T) → l ≡ slice_index_or links s l
-        → (at : ℕ) → l.after ≡ Some at → (m : Link T) → m ≡ slice_index_or links at m
+    pub sibling_row : (d s : ℕ) → IsPlaced links d s → 0 < d → (l : Link T) → slice_get links s ≡ Some l
+        → (at : ℕ) → l.after ≡ Some at → (m : Link T) → slice_get links at ≡ Some m
         → (waiting links (Some (d, m.node)) ≡ behind links d (Some s)) × IsPlaced links d (slot_in m.node)
-    sibling_row zero s placed lt l read at next m read2 = absurd (omega arith)
-    sibling_row (suc d) s placed lt l read at next m read2 =
+    sibling_row zero s placed lt l here at next m there = absurd (omega arith)
+    sibling_row (suc d) s placed lt l here at next m there =
         let up = placed.1.0 in
         let is = placed.1.1 in
-        let here = slice_get-get_or links s l placed.2 ∙ ap Some (sym read) in
         let after = ap (λ o. after_tied (tie_of o)) here ∙ next in
-        let there = slice_get-get_or links at m (after_within links linked f s up at is after) ∙ ap Some (sym read2) in
         let row = next_sibling links linked f d s up at m is after there in
         (row.0, (placed.0, (up, row.1, placed.1.2), row.2))
 
-    pub behind_up : (d s : ℕ) → IsPlaced links d s → 0 < d → (l : Link T) → l ≡ slice_index_or links s l
+    -- the sibling of a link has one
+    pub sibling_within : (d s : ℕ) → IsPlaced links d s → 0 < d → (l : Link T) → slice_get links s ≡ Some l
+        → (at : ℕ) → l.after ≡ Some at → at < length links
+    sibling_within zero s placed lt l here at next = absurd (omega arith)
+    sibling_within (suc d) s placed lt l here at next =
+        after_within links linked f s placed.1.0 at placed.1.1 (ap (λ o. after_tied (tie_of o)) here ∙ next)
+
+    pub behind_up : (d s : ℕ) → IsPlaced links d s → 0 < d → (l : Link T) → slice_get links s ≡ Some l
         → l.after ≡ None → (up : ℕ) → above (families links) s ≡ Some up
         → IsPlaced links (d - 1) up × (behind links (d - 1) (Some up) ≡ behind links d (Some s))
     behind_up zero s placed lt l read none up is = grind arith
     behind_up (suc d) s placed lt l read none up is =
-        grind (arith, slice_get-get_or, length-map, above_within, no_sibling)
+        grind (arith, length-map, above_within, no_sibling)
 
   -- what is read of rows, one_above at a time
   pub rows_more : (left d : ℕ) (n : Node T) → left ≢ 0 → (slot : ℕ) → slot ≡ slot_in n
@@ -416,9 +422,10 @@ module _ {T : Type 0} (fs : List (Family T)) where
   rows_end left = grind arith
 
 -- rows of live nodes are those that the told_tree shows
-module _ {T : Type 0} {S : State T} {fs : List (Family T)} (sound : IsSound S) (k : IsKept S fs) where
+module _ {T : Type 0} {S : State T} {fs : List (Family T)} (sound : IsSound S) (k : IsKept S fs)
+    (sites : List Location) where
   abbrev told_tree : TreeState T
-  told_tree = record { state = S; families = fs }
+  told_tree = record { state = S; families = fs; sites = sites }
 
   get_row : (d : ℕ) (cs : List (Node T)) (i : ℕ) (r : ℕ × Node T) → slice_get (rows_at d cs) i ≡ Some r
       → slice_get cs i ≡ Some r.1
@@ -438,7 +445,7 @@ module _ {T : Type 0} {S : State T} {fs : List (Family T)} (sound : IsSound S) (
       (get_row (r.0 + 1) (children_at fs (slot_in r.1)) i x at))
       (λ i. lives (suc i)))
       ∙ ap (λ cs. outline_of told_tree limit (rows_at (r.0 + 1) cs ++ list))
-      (sym (live_children sound k r.1 (lives 0 r refl))))
+      (sym (live_children sound k sites r.1 (lives 0 r refl))))
 
   pub outline_from : (limit : ℕ) (node : Node T) → IsLiveIn S node
       → rows fs limit ((0, node) ∷ []) ≡ outline_of told_tree limit ((0, node) ∷ [])

@@ -36,11 +36,12 @@ module _ {T : Type 0} where
   changed_length [] slot f = grind arith
   changed_length (l ∷ links) slot f = grind (arith, changed_length links)
 
-  -- what is read at a slot is changed and written there
-  pub written : (links : List (Link T)) (slot : ℕ) (f : Link T → Link T) (old : Link T)
-      → old ≡ slice_index_or links slot old → slice_set links slot (f old) ≡ changed links slot f
-  written [] slot f old is = grind arith
-  written (l ∷ links) slot f old is = grind (arith, written links)
+  -- a link that is changed twice
+  pub changed_twice : (links : List (Link T)) (slot : ℕ) (f g : Link T → Link T)
+      → changed (changed links slot f) slot g ≡ changed links slot (λ l. g (f l))
+  changed_twice [] slot f g = refl
+  changed_twice (l ∷ links) zero f g = refl
+  changed_twice (l ∷ links) (suc slot) f g = ap (λ rest. l ∷ rest) (changed_twice links slot f g)
 
   -- a slot within has a link
   pub link_there : (links : List (Link T)) (s : ℕ) → s < length links
@@ -482,11 +483,16 @@ module _ {T : Type 0} where
         record { before = Some (slot_in c); first = grind arith; lies = grind arith },
       )
 
+  -- its first slot has a link
+  pub rest_within : (links : List (Link T)) (next : Option ℕ) (s : ℕ) → IsRest links next → next ≡ Some s
+      → s < length links
+  rest_within links next s rest is = grind (arith, walk_next, chain_short, slice_get_within)
+
   -- the same, as the link is read
   pub rest_read : (links : List (Link T)) (next : Option ℕ) (s : ℕ) (l : Link T) → IsRest links next
-      → next ≡ Some s → l ≡ slice_index_or links s l
+      → next ≡ Some s → slice_get links s ≡ Some l
       → (chain links (length links) next ≡ l.node ∷ chain links (length links) l.after) × IsRest links l.after
-  rest_read links next s l rest is read = grind (arith, walk_next, chain_short, slice_get_read, slice_get_within)
+  rest_read links next s l rest is read = grind (arith, walk_next, chain_short)
 
   -- ---- a slot more
 

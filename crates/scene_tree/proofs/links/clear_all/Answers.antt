@@ -1,4 +1,4 @@
-use Rattle.scene_tree.proofs.{arith, bared_by, clear_more, count_at, counts, get_or, IsBared, length, List, Node, noted}
+use Rattle.scene_tree.proofs.{arith, bared_by, clear_more, count_at, counts, get_or, IsBared, length, List, Node}
 use Rattle.scene_tree.proofs.{slice_get-get_or, slot_in, subst, sym, ℕ, ◌<◌, ◌∙◌, ◌≡◌}
 use Rattle.scene_tree.proofs.links.clear_all.Goals as goal
 
@@ -10,23 +10,24 @@ read_counts items nodes i s d same lt is =
 
 pub clear-requires : goal.clear-requires
 clear-requires g c =
-    let lt = c.requires.within c.slot.result (read_counts _ _ c.loop-node.node-index _ _ c.deref-node-items.ensures.value
-    c.loop-node-test.true c.slot.ensures) in
+    let lt = c.requires.within c.slot_of.result (read_counts _ _ c.loop-node.node-index _ _ c.deref-node-items.ensures.value
+    c.loop-node-test.true c.slot_of.ensures) in
     record { within = omega (arith, lt, c.loop-node.invariant.length) }
 
 pub loop-node-preserved : goal.loop-node-preserved
 loop-node-preserved g c =
     let links = c.loop-node.links.items in
     let was = c.loop-node.invariant in
-    let first = c.requires.within c.slot.result (read_counts _ _ c.loop-node.node-index _ _
-    c.deref-node-items.ensures.value c.loop-node-test.true c.slot.ensures) in
-    let lt : c.slot.result < length links = omega (arith, first, was.length) in
-    let left : IsBared links c.slot.result c.clear.new.links.items =
-    rw c.clear.ensures (bared_by links was.linked c.slot.result lt) in record {
+    let first = c.requires.within c.slot_of.result (read_counts _ _ c.loop-node.node-index _ _
+    c.deref-node-items.ensures.value c.loop-node-test.true c.slot_of.ensures) in
+    let lt : c.slot_of.result < length links = omega (arith, first, was.length) in
+    let left : IsBared links c.slot_of.result c.clear.new.links.items =
+    rw c.clear.ensures.items (bared_by links was.linked c.slot_of.result lt) in record {
+      number = c.clear.ensures.number ∙ was.number;
       linked = left.linked;
       length = left.long ∙ was.length;
       cleared = clear_more _ _ _ c.args.nodes.now.items c.deref-node-items.result.now c.loop-node.node-index
-          c.slot.result _ c.deref-node-items.ensures.value c.loop-node-test.true c.slot.ensures was.cleared
+          c.slot_of.result _ c.deref-node-items.ensures.value c.loop-node-test.true c.slot_of.ensures was.cleared
           left.alone left.others;
       noted = λ s. left.noted s ∙ was.noted s;
     }

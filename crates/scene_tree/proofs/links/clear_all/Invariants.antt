@@ -3,6 +3,7 @@ use Rattle.scene_tree.proofs.links.clear_all.Given as goal
 
 abbrev pub invariant-loop-node : goal.invariant-loop-node
 invariant-loop-node g l = record {
+  number : l.links.number ≡ l.fn.links.number;
   linked : IsLinked l.links.items;
   length : length l.links.items ≡ length l.fn.links.items;
   cleared : IsCleared (families l.fn.links.items) (families l.links.items)

@@ -11,18 +11,18 @@ returns-in-None g c = grind (arith, root_under)
 pub loop-preserved : goal.loop-preserved
 loop-preserved g c =
     let fs = families c.args.links.now.items in
-    let up : above fs c.loop.at ≡ Some c.slot-at.result =
-    ap slot_of (sym c.parent_at.ensures ∙ c.in-Some.is) ∙ ap Some (sym c.slot-at.ensures) in
+    let up : above fs c.loop.at ≡ Some c.slot_of-at.result =
+    ap slot_of (sym c.parent_at.ensures ∙ c.in-Some.is) ∙ ap Some (sym c.slot_of-at.ensures) in
     let r = c.loop.invariant.rooted in
     let lt = r.1 in
-    let less = rooted_up fs r.0 c.loop.at c.slot-at.result up r.2 in
+    let less = rooted_up fs r.0 c.loop.at c.slot_of-at.result up r.2 in
     let one = less.1 in record {
       rooted = (less.0, omega (arith, lt, one), less.2);
       same = (
         λ under. let here = c.loop.invariant.same.0 under in
-            under_up fs c.args.top here.0 c.loop.at c.slot-at.result up c.if-at-top.false here.1,
+            under_up fs c.args.top here.0 c.loop.at c.slot_of-at.result up c.if-at-top.false here.1,
         λ under. c.loop.invariant.same.1
-            (suc under.0, step_under fs c.args.top under.0 c.loop.at c.slot-at.result up under.1),
+            (suc under.0, step_under fs c.args.top under.0 c.loop.at c.slot_of-at.result up under.1),
       );
     }
 

@@ -6,4 +6,5 @@ unreachable-requires g c = true≢false (sym (quiet_ends _ {U = Unit {0}} (Err c
     c.requires.simple.unborrowed c.in-Err.ensures))
 
 pub returns : goal.returns
-returns g c = lost_one (g.met.S.AnyStorage.sound _) c.requires.simple c.args.node c.requires.live c.in-Ok.ensures
+returns g c = lost_one (g.met.S.AnyStorage.sound _) c.requires.simple c.args.node c.pointer_to.result c.pointer_to.ensures
+    c.requires.live c.in-Ok.ensures

@@ -563,52 +563,58 @@ module _ {T : Type 0} where
 
   -- ---- an end
 
-  -- a live node's cell has a value, and is no reference
-  value_cell : (S : State T) (n : Node T) → IsSimple S → IsLiveIn S n
-      → (c : Content T) × (l : Location) × (map.get S.cells (name_of (pointer_in n)) ≡ Some (Value c l))
-  value_cell S n k live = grind (arith, some_live, seen_reached, reaches)
+  -- the cell of what is seen has a value, and is no reference
+  value_cell : (S : State T) (b : GenerationalPointer) → IsSimple S → is_some (value_in S b) ≡ true
+      → (c : Content T) × (l : Location) × (map.get S.cells (name_of b) ≡ Some (Value c l))
+  value_cell S b k seen = grind (arith, some_live, seen_reached, reaches)
 
   -- with its end there is one live node less
-  pub ended_count : {S R : State T} → IsSound S → IsSimple S → (n : Node T) → IsLiveIn S n
-      → Meets S (End (pointer_in n)) Done R → map.len R.cells + 1 ≡ map.len S.cells
-  ended_count {S} {R} s k n live m =
+  pub ended_count : {S R : State T} → IsSound S → IsSimple S → (b : GenerationalPointer)
+      → is_some (value_in S b) ≡ true → Meets S (End b) Done R → map.len R.cells + 1 ≡ map.len S.cells
+  ended_count {S} {R} s k b seen m =
       let none = map.get-empty {X = Cell T} name_cmp name in
-      let some = live_cell S n live in
+      let some = seen_cell S b seen in
       grind (arith, less, map.empty_of_len S.cells, cases_lt 0 (map.len S.cells))
     where
       name : Name
-      name = name_of (pointer_in n)
+      name = name_of b
 
-      left : R ≡ close S (own_name S (pointer_in n))
+      left : R ≡ close S (own_name S b)
       left = grind arith
 
       cells : R.cells ≡ map.remove S.cells name
-      cells = let cell = value_cell S n k live in
-          let own = seen_store S (pointer_in n) s live in
+      cells = let cell = value_cell S b k seen in
+          let own = seen_store S b s seen in
           let way = Some (Value cell.0 cell.1) in
           grind (arith, left, close_one S.cells name (sound_linked S s) way)
 
       less : map.len R.cells ≡ map.len S.cells - 1
-      less = grind (arith, cells, map.len-remove name_total S.cells name, live_cell S n live)
+      less = grind (arith, cells, map.len-remove name_total S.cells name, seen_cell S b seen)
 
 module _ {T : Type 0} where
-  -- of one node
-  pub lost_one : {S R : State T} → IsSound S → IsSimple S → (a : Node T) → IsLiveIn S a
-      → Meets S (End (pointer_in a)) Done R → HasLost S (a ∷ []) R
-  lost_one {S} {R} s k a live m = record {
-    simple = simple_still s k (End (pointer_in a)) Done m tt tt;
-    same = same_slots (End (pointer_in a)) Done refl m;
-    number = meets_number S R (End (pointer_in a)) Done m;
-    count = ended_count s k a live m;
-    given = meets_given S R (End (pointer_in a)) Done m;
-    ended = λ n some. let gone =
-        unseen R (pointer_in a) (ends (pointer_in a) {U = Unit {0}} (Ok tt) m) in
-        grind (arith, same_shown R a n, is_id a n, times_apart n a [], cases_Bool (is_same a n));
-    others = λ n none. others_left (End (pointer_in a)) Done m (pointer_in a) (pointer_in n)
-        (seen_store S (pointer_in a) s live)
-        (λ ne. same_value S R (End (pointer_in a)) Done s m (pointer_in n) ne tt)
-        (λ same. grind (arith, times_more n a [], same_id a n));
+  -- of one node, by a box of its id
+  pub lost_one : {S R : State T} → IsSound S → IsSimple S → (a : Node T) (b : GenerationalPointer) → b.id ≡ id_in a
+      → IsLiveIn S a → Meets S (End b) Done R → HasLost S (a ∷ []) R
+  lost_one {S} {R} s k a b own live m = record {
+    simple = simple_still s k (End b) Done m tt tt;
+    same = same_slots (End b) Done refl m;
+    number = meets_number S R (End b) Done m;
+    count = ended_count s k b seen m;
+    given = meets_given S R (End b) Done m;
+    ended = λ n some. grind (arith, gone, same_shown R a n, is_id a n, times_apart n a [], cases_Bool (is_same a n));
+    others = λ n none. others_left (End b) Done m b (pointer_in n) (seen_store S b s seen)
+        (λ ne. same_value S R (End b) Done s m (pointer_in n) ne tt)
+        (λ same. absurd (once n none (sym own ∙ same)));
   }
+    where
+      seen : is_some (value_in S b) ≡ true
+      seen = ap is_some (same_id_sees S b (pointer_in a) own) ∙ live
+
+      gone : value_in R (pointer_in a) ≡ None
+      gone = sym (same_id_sees R b (pointer_in a) own) ∙ unseen R b (ends b {U = Unit {0}} (Ok tt) m)
+
+      once : (n : Node T) → times n (a ∷ []) ≡ 0 → IsSame a n → ⊥
+      once n none same = grind (arith, times_more n a [], same_id a n)
 
   -- a node that was live, and stands once in the list, is live until its turn comes
   pub still_live : {S R : State T} {nodes items : List (Node T)} {i : ℕ} (d : Node T)

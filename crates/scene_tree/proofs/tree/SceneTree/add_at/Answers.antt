@@ -1,49 +1,45 @@
-use Rattle.scene_tree.proofs.{above, added_child, added_others, added_parent, ap, arith, families, family_in, is_some}
-use Rattle.scene_tree.proofs.{kept_added, kept_opened, length, length-map, live_slot, made, made_count, made_new}
-use Rattle.scene_tree.proofs.{made_simple, meets_given, next_root, Node, None, noted, noted_made, Ok, opened_alone}
-use Rattle.scene_tree.proofs.{opened_within, pointer_of, rules, slot_in, slot_of, spot_in, ◌∙◌}
+use Rattle.scene_tree.proofs.{added_child, added_others, added_parent, ap, arith, family_in, is_some, kept_added}
+use Rattle.scene_tree.proofs.{length-map, live_number, live_slot, made_fresh, made_given, made_is_simple, made_number}
+use Rattle.scene_tree.proofs.{made_one_more, made_shown, meets_given, meets_number, new_alone, new_kept, new_within, noted_made}
+use Rattle.scene_tree.proofs.{rules, slot_in, slot_of, spot_in, sym, told_in, ◌∙◌}
 use Rattle.scene_tree.proofs.tree.SceneTree.add_at.Goals as goal
-
-pub open_slot-requires-clause-root : goal.open_slot-requires-clause-root
-open_slot-requires-clause-root g c =
-    let b = pointer_of c.in-Ok-leak.raw in
-    ap (λ ls. above (families ls) b.id.slot) c.reserve_one.ensures.same ∙ next_root _
-    (g.met.S.AnyStorage.sound _) c.self.invariant.0 _ _ b c.in-Ok-leak.ensures.step
 
 pub attach-requires : goal.attach-requires
 attach-requires g c =
     let sound = g.met.S.AnyStorage.sound in
     let k = c.self.invariant.0 in
-    let b = pointer_of c.in-Ok-leak.raw in
-    let step = c.in-Ok-leak.ensures.step in
-    let same = c.reserve_one.ensures.same in
-    let opened = rw same at c.open_slot.ensures.opened in
+    let n = c.in-Ok-make.child in
+    let made = c.in-Ok-make.ensures in
+    let opened = made.opened in
     let live = rw (← c.self.view_is) at c.in-Ok.ensures.live in
-    let long = length-map c.open_slot.new.links.items (family_in c.open_slot.new.links.items) in record {
-      linked = c.open_slot.ensures.linked;
-      forest = (kept_opened k (sound _) _ _ b step _ opened).forest;
-      spot = rw (ap (λ f. f.children) (opened.same (slot_in c.in-Ok.parent))) (spot_in k (sound _) c.args.spot
+    let long = length-map c.make.new.links.items (family_in c.make.new.links.items) in record {
+      linked = made.linked;
+      forest = (new_kept k (sound _) _ _ n made.made _ opened).forest;
+      spot = rw (ap (λ f. f.children) (opened.same (slot_in c.in-Ok.parent))) (spot_in k (told_in c.self.inside.sites) (sound _) c.args.spot
           c.in-Ok.parent (rw (← c.self.view_is) at c.in-Ok.ensures.parent));
-      parent = omega (arith, live_slot _ (sound _) k c.in-Ok.parent live, c.open_slot.ensures.longer, ap length same);
-      child = omega (arith, opened_within k (sound _) _ _ b step _ opened, long);
-      root = ap (λ f. slot_of f.parent) (opened_alone k (sound _) _ _ b step _ opened);
+      parent = omega (arith, live_slot _ (sound _) k c.in-Ok.parent live, made.longer);
+      child = omega (arith, new_within k (sound _) _ _ n made.made _ opened, long);
+      numbers = (
+        made_number _ _ n made.made ∙ sym (made.number ∙ c.self.invariant.3),
+        live_number (sound _) c.in-Ok.parent live ∙ sym (made.number ∙ c.self.invariant.3),
+      );
+      root = ap (λ f. slot_of f.parent) (new_alone k (sound _) _ _ n made.made _ opened);
     }
 
 pub invariant_of-self-2 : goal.invariant_of-self-2
 invariant_of-self-2 g c =
     let sound = g.met.S.AnyStorage.sound in
-    let child : Node _ = record { raw = c.in-Ok-leak.raw } in
-    let step = c.in-Ok-leak.ensures.step in
-    let same = c.reserve_one.ensures.same in
+    let n = c.in-Ok-make.child in
+    let made = c.in-Ok-make.ensures in
     let live = rw (← c.self.view_is) at c.in-Ok.ensures.live in
     let is = rw (← c.self.view_is) at c.in-Ok.ensures.parent in (
-      kept_added c.self.invariant.0 (sound _) _ _ c.in-Ok.parent child c.args.spot step live is _ _
-          (rw same at c.open_slot.ensures.opened) c.attach.ensures.attached,
+      kept_added c.self.invariant.0 (sound _) _ _ (told_in c.self.inside.sites) c.in-Ok.parent n c.args.spot made.made live is _ _
+          made.opened c.attach.ensures.attached,
       c.attach.ensures.linked,
-      noted_made c.self.invariant.2 (sound _) (sound _) (made_simple (sound _) c.self.invariant.0.simple _ _
-          (pointer_of c.in-Ok-leak.raw) step) _ _ child step (ap is_some (made None _ _ (Ok c.in-Ok-leak.raw) step))
-          c.attach.ensures.noted (λ s ne. c.attach.ensures.others s ne ∙ (c.open_slot.ensures.others s ne
-          ∙ ap (λ ls. noted ls s) same)),
+      noted_made c.self.invariant.2 (sound _) (sound _) (made_is_simple c.self.invariant.0 (sound _) _ _ n made.made)
+          _ _ n made.made (ap is_some (made_shown _ _ n made.made)) c.attach.ensures.noted
+          (λ s ne. c.attach.ensures.others s ne ∙ made.others s ne),
+      c.attach.ensures.number ∙ (made.number ∙ (c.self.invariant.3 ∙ sym (meets_number _ _ _ _ made.made.1))),
     )
 
 pub returns : goal.returns
@@ -51,18 +47,30 @@ returns g c =
     let sound = g.met.S.AnyStorage.sound in
     let k = c.self.invariant.0 in
     let parent = c.in-Ok.parent in
-    let child : Node _ = record { raw = c.in-Ok-leak.raw } in
-    let step = c.in-Ok-leak.ensures.step in
+    let n = c.in-Ok-make.child in
+    let h = c.in-Ok-make.ensures.made in
     let live = rw (← c.self.view_is) at c.in-Ok.ensures.live in
     let is = rw (← c.self.view_is) at c.in-Ok.ensures.parent in
-    let opened = rw c.reserve_one.ensures.same at c.open_slot.ensures.opened in
+    let opened = c.in-Ok-make.ensures.opened in
     let put = c.attach.ensures.attached in
-    let shown = made None _ _ (Ok c.in-Ok-leak.raw) step in
-    let below = added_child k (sound _) _ _ parent child c.args.spot step live is _ _ opened put in
-    let placed = added_parent k (sound _) _ _ parent child c.args.spot step live is _ _ opened put
-    in
-    let others = added_others k (sound _) _ _ parent child c.args.spot step live is _ _ opened put
-    in
-    let count = made_count (sound _) k.simple _ _ (pointer_of c.in-Ok-leak.raw) step in
-    let made = made_new _ _ _ _ step in
-    let kept = meets_given _ _ _ _ step in rw (← c.self.view_is) (search rules)
+    let number = meets_number _ _ _ _ h.1 ∙ sym c.self.invariant.3 in
+    rw (← c.self.view_is) (record {
+      shown = made_shown _ _ n h;
+      below = added_child k (sound _) _ _ (told_in c.self.inside.sites) parent n c.args.spot h live is _ _
+          opened put (told_in c.make.new.sites);
+      placed = added_parent k (sound _) _ _ (told_in c.self.inside.sites) parent n c.args.spot h live is _ _
+          opened put (told_in c.make.new.sites);
+      count = made_one_more k (sound _) _ _ n h;
+      others = added_others k (sound _) _ _ (told_in c.self.inside.sites) parent n c.args.spot h live is _ _
+          opened put (told_in c.make.new.sites);
+      new = made_fresh _ _ n h;
+      made = made_given _ _ n h;
+      here = rw number c.in-Ok-make.ensures.here;
+      tells = λ f l told. rw number (c.in-Ok-make.ensures.tells f l (rw (← c.self.invariant.3) at told));
+      kept = λ f. meets_given _ _ _ _ h.1 _;
+      stale = search rules;
+      root = search rules;
+      short = search rules;
+      back = search rules;
+      refused = search rules;
+    })

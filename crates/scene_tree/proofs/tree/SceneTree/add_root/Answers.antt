@@ -1,47 +1,42 @@
-use Rattle.scene_tree.proofs.{above, ap, families, given_other, is_some, kept_opened, left_with, live_family, made}
-use Rattle.scene_tree.proofs.{made_count, made_new, made_simple, meets_given, next_root, None, noted, noted_made, Ok}
-use Rattle.scene_tree.proofs.{opened_alone, others_left, pointer_in, pointer_of, rules, same_value, slot_in, ◌∙◌}
+use Rattle.scene_tree.proofs.{ap, is_some, left_with, live_family, made_fresh, made_given, made_is_simple, made_left}
+use Rattle.scene_tree.proofs.{made_one_more, made_others, made_shown, meets_given, meets_number, new_alone, new_kept}
+use Rattle.scene_tree.proofs.{noted_made, rules, slot_in, sym, told_in, ◌∙◌}
 use Rattle.scene_tree.proofs.tree.SceneTree.add_root.Goals as goal
-
-pub open_slot-requires-clause-root : goal.open_slot-requires-clause-root
-open_slot-requires-clause-root g c =
-    let b = pointer_of c.in_ok-raw.raw in
-    ap (λ ls. above (families ls) b.id.slot) c.reserve_one.ensures.same ∙ next_root _
-    (g.met.S.AnyStorage.sound _) c.self.invariant.0 _ _ b c.in_ok-raw.ensures.step
 
 pub invariant_of-self-2 : goal.invariant_of-self-2
 invariant_of-self-2 g c =
     let sound = g.met.S.AnyStorage.sound in
-    let b = pointer_of c.in_ok-raw.raw in
-    let step = c.in_ok-raw.ensures.step in
-    let same = c.reserve_one.ensures.same in (
-      kept_opened c.self.invariant.0 (sound _) _ _ b step _ (rw same at c.open_slot.ensures.opened),
-      c.open_slot.ensures.linked,
-      noted_made c.self.invariant.2 (sound _) (sound _) (made_simple (sound _) c.self.invariant.0.simple _ _ b step)
-          _ _ (record { raw = c.in_ok-raw.raw }) step (ap is_some (made None _ _ (Ok c.in_ok-raw.raw) step))
-          c.open_slot.ensures.noted (λ s ne. c.open_slot.ensures.others s ne ∙ ap (λ ls. noted ls s) same),
+    let n = c.in_ok-node.node in
+    let made = c.in_ok-node.ensures in (
+      new_kept c.self.invariant.0 (sound _) _ _ n made.made _ made.opened,
+      made.linked,
+      noted_made c.self.invariant.2 (sound _) (sound _) (made_is_simple c.self.invariant.0 (sound _) _ _ n made.made)
+          _ _ n made.made (ap is_some (made_shown _ _ n made.made)) made.noted made.others,
+      made.number ∙ (c.self.invariant.3 ∙ sym (meets_number _ _ _ _ made.made.1)),
     )
 
 pub returns : goal.returns
 returns g c =
     let sound = g.met.S.AnyStorage.sound in
-    let b = pointer_of c.in_ok-raw.raw in
-    let step = c.in_ok-raw.ensures.step in
-    let shown = made None _ _ (Ok c.in_ok-raw.raw) step in
-    let opened = rw c.reserve_one.ensures.same at c.open_slot.ensures.opened in
-    let given = made_new _ _ _ _ step in
+    let k = c.self.invariant.0 in
+    let n = c.in_ok-node.node in
+    let h = c.in_ok-node.ensures.made in
+    let opened = c.in_ok-node.ensures.opened in
+    let shown = made_shown _ _ n h in
+    let number = meets_number _ _ _ _ h.1 ∙ sym c.self.invariant.3 in
     rw (← c.self.view_is) (record {
       shown = shown;
-      alone = live_family _ _ (ap is_some shown) ∙ opened_alone c.self.invariant.0 (sound _) _ _ b step _ opened;
-      count = made_count (sound _) c.self.invariant.0.simple _ _ b step;
-      others = λ f other. left_with _ _ f (others_left _ _ step b (pointer_in f) given.0
-          (same_value _ _ _ _ (sound _) step _ tt) other) (λ _. opened.same (slot_in f));
-      left = λ f was. left_with _ _ f (same_value _ _ _ _ (sound _) step _ tt
-          (given_other _ _ _ _ (pointer_in f) step was)) (λ _. opened.same (slot_in f));
-      new = search rules;
-      made = given.2;
-      here = search rules;
-      kept = λ f. meets_given _ _ _ _ step _;
+      alone = live_family (record { state = _; families = _; sites = (told_in c.make.new.sites) }) n (ap is_some shown) ∙ new_alone k (sound _) _ _ n h _ opened;
+      count = made_one_more k (sound _) _ _ n h;
+      others = λ f other. left_with (record { state = _; families = _; sites = (told_in c.self.inside.sites) })
+          (record { state = _; families = _; sites = (told_in c.make.new.sites) }) f (made_others (sound _) _ _ n h f other) (λ _. opened.same (slot_in f));
+      left = λ f was. left_with (record { state = _; families = _; sites = (told_in c.self.inside.sites) })
+          (record { state = _; families = _; sites = (told_in c.make.new.sites) }) f (made_left (sound _) _ _ n h f was) (λ _. opened.same (slot_in f));
+      new = made_fresh _ _ n h;
+      made = made_given _ _ n h;
+      here = rw number c.in_ok-node.ensures.here;
+      tells = λ f l told. rw number (c.in_ok-node.ensures.tells f l (rw (← c.self.invariant.3) at told));
+      kept = λ f. meets_given _ _ _ _ h.1 _;
       refused = search rules;
       back = search rules;
       cause = search rules;

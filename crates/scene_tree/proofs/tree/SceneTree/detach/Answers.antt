@@ -1,4 +1,4 @@
-use Rattle.scene_tree.proofs.{alike, freed_others, kept_detached, noted_left, told_live}
+use Rattle.scene_tree.proofs.{alike, freed_others, kept_detached, noted_left, told_live, ◌∙◌, told_in}
 use Rattle.scene_tree.proofs.tree.SceneTree.detach.Goals as goal
 
 pub detach-requires-clause-alike : goal.detach-requires-clause-alike
@@ -11,10 +11,11 @@ invariant_of-self g c = (
       (told_live c.args.node c.self.view_is c.is_alive.ensures c.if-not-is_alive.false) c.detach.ensures.detached,
   c.detach.ensures.linked,
   noted_left c.self.invariant.2 c.detach.ensures.noted (λ n now. now),
+  c.detach.ensures.number ∙ c.self.invariant.3,
 )
 
 pub returns-clause-others : goal.returns-clause-others
 returns-clause-others g c =
     let live = told_live c.args.node c.self.view_is c.is_alive.ensures c.if-not-is_alive.false in
     let sound = g.met.S.AnyStorage.sound in rw (← c.self.view_is)
-    (freed_others (sound _) c.self.invariant.0 c.args.node live c.detach.ensures.detached)
+    (freed_others (told_in c.self.inside.sites) (sound _) c.self.invariant.0 c.args.node live c.detach.ensures.detached)

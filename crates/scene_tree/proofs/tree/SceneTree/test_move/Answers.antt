@@ -1,4 +1,4 @@
-use Rattle.scene_tree.proofs.{arith, below_live, below_under, inr, IsBelow, live_slot, rules, sym, told_live}
+use Rattle.scene_tree.proofs.{arith, below_live, below_under, inr, IsBelow, live_slot, rules, sym, told_live, told_in}
 use Rattle.scene_tree.proofs.{true≢false, under_at, under_below, ◌∙◌}
 use Rattle.scene_tree.proofs.tree.SceneTree.test_move.Goals as goal
 
@@ -9,7 +9,7 @@ pub is_under-requires-clause-within : goal.is_under-requires-clause-within
 is_under-requires-clause-within g c =
     let lives = told_live c.args.parent c.self.view_is c.is_alive-2.ensures c.if-not-is_alive-2.false in
     let lt = live_slot _ (g.met.S.AnyStorage.sound _) c.self.invariant.0 c.args.parent lives in
-    omega (arith, lt, c.slot.ensures)
+    omega (arith, lt, c.slot_of.ensures)
 
 pub returns-then-is_under-clause-why : goal.returns-then-is_under-clause-why
 returns-then-is_under-clause-why g c =
@@ -18,8 +18,8 @@ returns-then-is_under-clause-why g c =
     let under = c.is_under.ensures.0 c.if-is_under.true in
     rw (← c.self.view_is) (inr (inr (
       under.0,
-      under_below (g.met.S.AnyStorage.sound _) c.self.invariant.0 c.args.node
-          live under.0 c.args.parent lives (under_at _ under.0 c.slot-2.ensures c.slot.ensures under.1),
+      under_below (g.met.S.AnyStorage.sound _) c.self.invariant.0 (told_in c.self.inside.sites) c.args.node
+          live under.0 c.args.parent lives (under_at _ under.0 c.slot_of-2.ensures c.slot_of.ensures under.1),
     )))
 
 pub returns : goal.returns
@@ -27,10 +27,10 @@ returns g c =
     let live = told_live c.args.node c.self.view_is c.is_alive.ensures c.if-not-is_alive.false in
     let lives = told_live c.args.parent c.self.view_is c.is_alive-2.ensures c.if-not-is_alive-2.false in
     rw (← c.self.view_is) (
-    let apart = λ (below : IsBelow _ c.args.node c.args.parent). true≢false (sym (c.is_under.ensures.1 (
+    let apart = λ (below : IsBelow (record { state = _; families = _; sites = told_in c.self.inside.sites }) c.args.node c.args.parent). true≢false (sym (c.is_under.ensures.1 (
       below.0,
-      under_at _ below.0 (sym c.slot-2.ensures) (sym c.slot.ensures) (below_under (g.met.S.AnyStorage.sound _)
-          c.self.invariant.0 c.args.node live below.0 c.args.parent below.1).1,
+      under_at _ below.0 (sym c.slot_of-2.ensures) (sym c.slot_of.ensures) (below_under (g.met.S.AnyStorage.sound _)
+          c.self.invariant.0 (told_in c.self.inside.sites) c.args.node live below.0 c.args.parent below.1).1,
     )) ∙ c.if-is_under.false) in record {
       may = record { node = live; parent = lives; apart = apart };
       gone = search rules;

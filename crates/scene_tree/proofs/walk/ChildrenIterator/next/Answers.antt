@@ -1,9 +1,12 @@
-use Rattle.scene_tree.proofs.{ap, arith, length, rest_read, rules}
+use Rattle.scene_tree.proofs.{ap, arith, length, rest_read, rest_within, rules}
 use Rattle.scene_tree.proofs.walk.ChildrenIterator.next.Goals as goal
+
+pub at-link-requires : goal.at-link-requires
+at-link-requires g c = rest_within _ _ _ c.self.invariant c.in_ok-slot.was
 
 pub invariant_of-self : goal.invariant_of-self
 invariant_of-self g c =
-    (rest_read _ _ _ c.index-link.result.now c.self.invariant c.in_ok-slot.was c.index-link.ensures).1
+    (rest_read _ _ _ c.at-link.result c.self.invariant c.in_ok-slot.was c.at-link.ensures.link).1
 
 pub returns-clause-steps : goal.returns-clause-steps
 returns-clause-steps g c = grind (arith, rest_read)

@@ -1,8 +1,8 @@
 -- The names of std, of the machine and of the specs that most proofs here cite, passed on from one place.
-pub use Rattle.generational_core.proofs.machine.{given_other, lasts_insert, no_slots, quiet_ends}
+pub use Rattle.generational_core.proofs.machine.{given_other, lasts_insert, no_slots, quiet_ends, slot_within as cell_within}
 pub use Rattle.generational_core.proofs.machine.{quiet_sees, same_value, slot_apart, slot_made}
 pub use Rattle.generational_core.proofs.machine.{test_sees}
-pub use Rattle.generational_core.proofs.machine.Calls.{ends, made, seen_reached, sets, unseen}
+pub use Rattle.generational_core.proofs.machine.Calls.{ends, meets_tells, refused_make, seen_reached, sets, unseen}
 use Rattle.generational_core.proofs.machine.Calls.Steps
 pub use Steps.{act_start, close_one, made_new, meets_cases, meets_given, meets_number, reaches}
 pub use Rattle.generational_core.proofs.machine.Calls.Steps.Changes.{is_making, some_live}
@@ -15,7 +15,8 @@ pub use Rattle.generational_core.specs.Names.{Name, name_cmp, NameMap}
 pub use Rattle.generational_core.specs.declared.boxes.GenerationalPointer.{GenerationalPointer}
 pub use Rattle.generational_core.specs.{Cells.Cell, Ending.close, Cells.Content, Conditions.fresh}
 pub use Rattle.generational_core.specs.{State.IsSound, Steps.Meets, Boxes.name_of}
-pub use Rattle.generational_core.specs.{Answers.pointer_of, Slots.slots, Slots.slots_of}
+pub use Rattle.generational_core.specs.{Slots.slots, Slots.slots_of, State.IsGiven, Boxes.name_in}
+pub use Rattle.generational_core.specs.declared.boxes.GenerationalBoxId.{GenerationalBoxId}
 pub use Rattle.generational_core.specs.{State.State, Cells.Cell.Value}
 unfoldable pub use Rattle.generational_core.specs.{Names.change, Borrowing.reach, Seeing.value_in}
 pub use Rattle.generational_errors.specs.declared.error.Location.{Location}
@@ -24,21 +25,30 @@ pub use sessions.{fresh_sees, fresh_simple, get_pushed, made_simple, making, oth
 pub use sessions.{pushed_old, reach_apart, same_id_sees, seen_cell, seen_store, set_seen}
 pub use sessions.{simple_still, simple_taken, taken_seen}
 pub use Rattle.generational_sessions.specs.PlainStores.{IsSimple}
-pub use Rattle.scene_tree.specs.Chains.{after_put, after_tied, before_put, chain, changed, first_of}
-pub use Rattle.scene_tree.specs.Chains.{head_or, IsChain, IsHeld, last_of, last_or, node_in, noted}
+pub use Rattle.scene_tree.specs.Chains.{after_put, after_tied, alone_at, before_put, chain, changed, first_of}
+pub use Rattle.scene_tree.specs.Chains.{head_or, IsChain, IsHeld, LinkState, last_of, last_or, node_in, noted}
 pub use Rattle.scene_tree.specs.Families.{above, alone, children_at, count_at, families, Family}
 pub use Rattle.scene_tree.specs.Families.{family_at, family_in, IsAmong, IsAttached, IsCleared}
 pub use Rattle.scene_tree.specs.Families.{IsCut, IsDetached, IsForest, IsGap, IsInLevels, IsLinked}
 pub use Rattle.scene_tree.specs.Families.{IsOpened, IsRooted, IsSpotIn, IsUnder, parent_at, slot_of}
-pub use Rattle.scene_tree.specs.Keeping.{AreNoted, HasLost, IsKept, IsLiveIn}
-pub use Rattle.scene_tree.specs.Nodes.{is_same, IsOther, IsSame, pointer_in, slot_in, times}
+pub use Rattle.scene_tree.specs.Keeping.{AreNoted, HasLost, HasMade, IsKept, IsLiveIn}
+pub use Rattle.handles.proofs.Told.{told_here, told_more}
+pub use Rattle.handles.specs.Sites.{SiteState, Tells, told_at, told_in}
+pub use Rattle.location_list.specs.Locations.{IsAt}
+pub use Rattle.std.specs.Cmp.{nat_eq_equiv}
+pub use Rattle.handles.specs.Handles.{at_slot, id_in, is_same, IsOther, IsSame, pointer_in, slot_in}
+pub use Rattle.scene_tree.specs.Nodes.{Node, number_in, times}
+pub use Rattle.scene_tree.specs.Packing.{parent_in, slot_named, unpacked, unpacked_from}
+pub use Rattle.scene_tree.specs.declared.node.NodeKind.{NodeKind}
+pub use Rattle.scene_tree.specs.declared.packed.PackedLink.{PackedLink}
 pub use Rattle.scene_tree.specs.Rows.{behind, IsPlaced, rows_at, waiting}
 pub use Rattle.scene_tree.specs.Trees.{AreAll, AreAncestors, AreRoots, CanMove, children_of, count_of}
+pub use Rattle.scene_tree.specs.Trees.{created_at, KeepsTelling, stale_of}
 pub use Rattle.scene_tree.specs.Trees.{family_of, is_live, IsBelow, IsRootedIn, IsStepsBelow}
 pub use Rattle.scene_tree.specs.Trees.{IsSubtree, IsTree, NodeIsUnchanged, parent_for, parent_of}
 pub use Rattle.scene_tree.specs.Walking.{IsRest, IsWithin, way_up}
 pub use Rattle.scene_tree.specs.{Meeting.is_met, declared.links.Link.Link, Meeting.met, Spots.named}
-pub use Rattle.scene_tree.specs.{declared.node.Node.Node, Spots.placed, declared.spot.Spot.Spot}
+pub use Rattle.scene_tree.specs.{Spots.placed, declared.spot.Spot.Spot}
 pub use Rattle.scene_tree.specs.{Chains.tie_of, Trees.TreeState, Trees.value_of, Nodes.without}
 unfoldable pub use Rattle.scene_tree.specs.{Trees.outline_of, Rows.rows}
 pub use Rattle.std.proofs.Common.{ap, append-nil, append_assoc, arith, Bool, cond, drop, eq-eqb}

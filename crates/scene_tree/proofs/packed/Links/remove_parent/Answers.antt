@@ -1,0 +1,12 @@
+use Rattle.scene_tree.proofs.{arith, None, packed_within, refl, repacked}
+use Rattle.scene_tree.proofs.packed.Links.remove_parent.Goals as goal
+
+pub index_mut-packed-requires : goal.index_mut-packed-requires
+index_mut-packed-requires g c =
+    let lt = packed_within _ _ _ _ c.args.slot c.self.view_is c.requires.within in
+    omega (arith, lt, c.self.inside.packed.ok.0)
+
+pub returns-clause-items : goal.returns-clause-items
+returns-clause-items g c =
+    rw (← c.self.view_is) (repacked _ _ 0 _ _ c.args.slot c.index_mut-packed.result.now _ (λ l. record l { parent = None })
+    (omega arith) c.index_mut-packed.ensures.value refl)
