@@ -2,17 +2,17 @@
 
 ghost use Rattle.std.specs.Prelude.{◌≡◌, ℕ, true, false, None, Some, IfOk, IfErr, IfSome, IsErr};
 ghost use Rattle.std.specs.Prelude.{◌≤◌, ◌<◌, ◌+◌, ◌^◌, nat_eq, OnErr};
-ghost use Rattle.session_table.specs.declared.entry.Entry.{Entry};
-ghost use Rattle.session_table.specs.Entries.{put_at, IsOther};
-ghost use Rattle.session_table.specs.Sessions.{LiveSession, entry_in};
+ghost use Rattle.generational_errors.specs.declared.error.Location.{Location};
+ghost use Rattle.handles.specs.Handles.{IsOther};
+ghost use Rattle.session_table.specs.Sessions.{Entry, LiveSession, entry_in};
 ghost use Rattle.std.specs.Map.{lookup};
-ghost use Rattle.session_table.specs.Tables.{keeps, session_in, shown_in, WasPut};
+ghost use Rattle.session_table.specs.Tables.{created_at, keeps, session_in, shown_in, WasPut};
 
 use generational_box::{Location, Storage};
 use session_table::{Entry, Session, SessionTable, Stale};
 
-/// Logs a session out, puts a value into another, and looks at what the first kept: the answer is
-/// that its session is gone, and where it was put, whichever slot the new value took.
+/// Logs a session out, puts a value into another, and looks at what the first kept: that fails, and the
+/// error says where it was put, whichever slot the new value took.
 pub fn told_after_logout<S: Storage<u64>>(
     table: &mut SessionTable<u64, u64, u64, S>,
     id: u64,
@@ -24,7 +24,8 @@ pub fn told_after_logout<S: Storage<u64>>(
     requires put { WasPut table.old entry }
     requires kept { keeps nat_eq table.old id entry ≡ true }
     ensures gone { IsErr result }
-    ensures told { IfErr result (λ stale. stale.put_at ≡ put_at entry) }
+    ensures told { (l : Location) → created_at table.old entry ≡ Some l →
+        IfErr result (λ stale. stale.created_at ≡ Some l) }
 {
     let _ = table.logout(&id);
     let _ = table.put(&other, 1, next, here);

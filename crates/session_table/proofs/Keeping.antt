@@ -1,8 +1,8 @@
 -- What a table of sessions keeps.
 pub mod Common
-use Rattle.generational_core.specs.Conditions.{names_in as owned_names}
 use Rattle.std.proofs.lemmas.List.Folds.{list_any_none}
 use Rattle.std.specs.FinMap as map
+use Rattle.std.specs.FinSet as set
 unfoldable pub use Common.*
 
 -- ==== a table's store and its rows after each call
@@ -17,16 +17,6 @@ none_twice : IsDistinct is_name []
 unfolding IsDistinct
 none_twice = tt
 
--- two owners are one, or two
-owner_cases : (a o : OwnerName) → (a ≡ o) ⊎ (a ≢ o)
-owner_cases a o = grind arith
-
--- boxes of one store and name reach the same
-reach_alike : {T : Type 0} (S : State T) (a b : GenerationalPointer) → a.id.store ≡ b.id.store
-    → name_of a ≡ name_of b → reach S a ≡ reach S b
-unfolding reach
-reach_alike S a b store name = grind arith
-
 -- no rows
 abbrev pub no_rows : {I : Type 0} → I → Option Held
 no_rows _ = None
@@ -34,17 +24,13 @@ no_rows _ = None
 module _ {I T : Type 0} (eq : I → I → Bool) where
   pub fresh_kept : (number start next : ℕ) → IsKept (fresh {T = T} number start next) eq no_rows
   fresh_kept number start next =
-      let quiet = quiet_fresh {T = T} number start next in
-      let plain = fresh_plain {T = T} number start next in
-      let listed = fresh_listed {T = T} number start next in
-      grind (arith, quiet, plain, listed, reaches, map.get-empty {X = Ownership} nat_cmp, map.get-empty {X = Cell T} name_cmp)
+      let simple = fresh_simple {T = T} number start next in
+      let sees = fresh_sees {T = T} number start next in
+      grind (arith, simple, sees, map.get-empty {X = Ownership} nat_cmp)
 
-  -- where there are no rows a box shows nothing, and the store has no record of an owner
+  -- where there are no rows a box shows nothing
   pub empty_shows : (S : State T) → IsKept S eq no_rows → (b : GenerationalPointer) → value_in S b ≡ None
-  empty_shows S k b = by_option (reach S b) (unseen S b) (λ m is. let was = k.kept b m is in cc)
-
-  pub empty_owns : (S : State T) → IsKept S eq no_rows → (o : OwnerName) → ownership S o ≡ None
-  empty_owns S k o = by_option (ownership S o) (λ none. none) (λ r is. let was = k.known o r is in cc)
+  empty_shows S k b = by_option (value_in S b) (λ none. none) (λ v is. let was = k.kept b (ap is_some is) in cc)
 
 -- rows that are the same
 pub same_kept : {I T : Type 0} {eq : I → I → Bool} {S : State T} {rows after : I → Option Held}
@@ -52,100 +38,95 @@ pub same_kept : {I T : Type 0} {eq : I → I → Bool} {S : State T} {rows after
 same_kept {I} {T} {eq} {S} k same = subst (IsKept S eq) (λ j i. sym (same i) j) k
 
 -- what a store has for a row
-record IsRow {T : Type 0} (S : State T) (h : Held) : Type 0 where
-  held : (r : Ownership) × (ownership S h.owner ≡ Some r) × IsOf h r
-  once : IsDistinct is_name h.names
-  own : AllByRecursion (λ n. n ≡ S.number) h.stores
-  live : (b : GenerationalPointer) → among h.names (name_of b) ≡ true → b.id.store ≡ S.number
-      → (m : Name) × (reach S b ≡ Some m)
+pub record IsRow {T : Type 0} (S : State T) (h : Held) : Type 0 where
+  pub once : IsDistinct is_name h.names
+  pub own : AllByRecursion (λ n. n ≡ S.number) h.stores
+  pub live : (b : GenerationalPointer) → among h.names (name_of b) ≡ true → b.id.store ≡ S.number → Shows S b
 
 -- the names of a row, where there is one
-abbrev listed_in : Option Held → List Name
+abbrev pub listed_in : Option Held → List Name
 listed_in None = []
 listed_in (Some h) = h.names
 
-module _ {I T : Type 0} {eq : I → I → Bool} (S R : State T) (s : IsSound S) {rows : I → Option Held}
-    (k : IsKept S eq rows) where
-  module _ (call : Action T) (answer : Answer T) (m : Meets S call answer R) where
-    -- a row stays whose owner and boxes the call leaves
-    row_still : (i : I) (h : Held) → rows i ≡ Some h → LeavesOwner call h.owner
-        → ((b : GenerationalPointer) → among h.names (name_of b) ≡ true
-        → LeavesBox S call b × GivesOther call answer b) → IsRow R h
-    row_still i h is leaves left =
-        let number = meets_number S R call answer m in
-        let own : AllByRecursion (λ n. n ≡ R.number) h.stores = rw number (k.own i h is) in
-        let known = keeps_known call answer s m h.owner in
-        let same = same_reach S R call answer s m in
-        grind (arith, k.held i h is, k.once i h is, own, k.live i h is, number, known, same, left)
+-- a name that isn't among those of a list but for one is that one
+pub grown : (names : List Name) (new n : Name) → among (names ++ new ∷ []) n ≡ (among names n || is_name n new)
+grown names new n = grind (arith, list_any-append)
 
-    -- the row of an id becomes another, or comes, or goes, and the call leaves what isn't its owner's
-    module _ (quiet : BeginsNoBorrow call) (plain : MakesNoReference call) (laws : IsEquivalence eq)
-        {after : I → Option Held} (at : I) (own : OwnerName) (was now : Option Held)
-        (there : (i : I) → eq at i ≡ true → rows i ≡ was)
-        (update : (i : I) → after i ≡ cond (eq at i) now (rows i))
-        (owned : IfSome was (λ h. h.owner ≡ own)) (row : IfSome now (λ h. (h.owner ≡ own) × IsRow R h))
-        (beside : (i : I) (h : Held) → eq at i ≡ false → rows i ≡ Some h → (own ≢ h.owner) × IsRow R h)
-        (others : (o : OwnerName) → own ≢ o → ownership R o ≡ ownership S o)
-        (owner : (r : Ownership) → ownership R own ≡ Some r → is_some now ≡ true)
-        (reached : (b : GenerationalPointer) (m : Name) → reach R b ≡ Some m
-        → (among (listed_in now) (name_of b) ≡ true)
-        ⊎ ((among (listed_in was) (name_of b) ≡ false) × (reach S b ≡ Some m))) where
-      split : (i : I) (h : Held) → after i ≡ Some h
-          → ((eq at i ≡ true) × (h.owner ≡ own) × IsRow R h)
-          ⊎ ((eq at i ≡ false) × (rows i ≡ Some h) × (own ≢ h.owner) × IsRow R h)
-      split i h is = grind (arith, update i, beside i h)
+module _ {I T : Type 0} {eq : I → I → Bool} (S R : State T) {rows : I → Option Held} (k : IsKept S eq rows) where
+  -- the row of an id becomes another, or comes, or goes, and what isn't its own shows what it showed
+  module _ (simple : IsSimple R) (number : R.number ≡ S.number) (owners : (o : OwnerName) → ownership R o ≡ ownership S o)
+      (laws : IsEquivalence eq) {after : I → Option Held} (at : I) (was now : Option Held)
+      (there : (i : I) → eq at i ≡ true → rows i ≡ was)
+      (update : (i : I) → after i ≡ cond (eq at i) now (rows i))
+      (row : (h : Held) → now ≡ Some h → IsRow R h)
+      (left : (i : I) (h : Held) → eq at i ≡ false → rows i ≡ Some h → (b : GenerationalPointer)
+      → among h.names (name_of b) ≡ true → Shows S b → Shows R b)
+      (fresh_names : (i : I) (h : Held) → eq at i ≡ false → rows i ≡ Some h → (n : Name)
+      → among (listed_in now) n ≡ true → among h.names n ≡ true → ⊥)
+      (reached : (b : GenerationalPointer) → Shows R b → (among (listed_in now) (name_of b) ≡ true)
+      ⊎ ((among (listed_in was) (name_of b) ≡ false) × Shows S b)) where
+    split : (i : I) (h : Held) → after i ≡ Some h
+        → ((eq at i ≡ true) × (now ≡ Some h)) ⊎ ((eq at i ≡ false) × (rows i ≡ Some h))
+    split i h is = ⊎_elim (λ t. inl (t, sym (ap (λ b. cond b now (rows i)) t) ∙ (sym (update i) ∙ is)))
+        (λ f. inr (f, sym (ap (λ b. cond b now (rows i)) f) ∙ (sym (update i) ∙ is))) (cases_Bool (eq at i))
 
-      here : (h : Held) → now ≡ Some h → after at ≡ Some h
-      here h is = grind (arith, update at, laws.refl at)
+    here : (h : Held) → now ≡ Some h → after at ≡ Some h
+    here h is = update at ∙ (ap (λ b. cond b now (rows at)) (laws.refl at) ∙ is)
 
-      changed_kept : IsKept R eq after
-      changed_kept = record {
-        unborrowed = quiet_stays call answer m quiet k.unborrowed;
-        plain = stays_plain call answer m plain k.plain;
-        listed = stays_listed call answer s m k.listed;
-        apart = λ i j h g is on same. grind (arith, split i h is, split j g on, k.apart i j h g, laws.congr at i j);
-        held = λ i h is. ⊎_elim (λ new. new.2.held) (λ old. old.3.held) (split i h is);
-        once = λ i h is. grind (arith, split i h is);
-        own = λ i h is. grind (arith, split i h is);
-        known = λ o r is.
-            grind (arith, k.known o, others o, owner, here, update, there, owned, owner_cases own o);
-        kept = λ b n to. grind (arith, reached b n to, k.kept b, update, there, here);
-        live = λ i h is. ⊎_elim (λ new. new.2.live) (λ old. old.3.live) (split i h is);
-      }
+    stays : (i : I) (h : Held) → eq at i ≡ false → rows i ≡ Some h → after i ≡ Some h
+    stays i h f is = update i ∙ (ap (λ b. cond b now (rows i)) f ∙ is)
+
+    old_row : (i : I) (h : Held) → eq at i ≡ false → rows i ≡ Some h → IsRow R h
+    old_row i h f is = record {
+      once = k.once i h is;
+      own = subst (λ m. AllByRecursion (λ n. n ≡ m) h.stores) (sym number) (k.own i h is);
+      live = λ b listed own. left i h f is b listed (k.live i h is b listed (own ∙ number));
+    }
+
+    each_row : (i : I) (h : Held) → after i ≡ Some h → IsRow R h
+    each_row i h is = ⊎_elim (λ new. row h new.1) (λ old. old_row i h old.0 old.1) (split i h is)
+
+    pub changed_kept : IsKept R eq after
+    changed_kept = record {
+      simple = simple;
+      unowned = λ o. owners o ∙ k.unowned o;
+      apart = λ i j h g is on n x y. ⊎_elim
+          (λ new. ⊎_elim (λ too. sym (laws.congr at i j new.0) ∙ too.0)
+          (λ old. absurd (fresh_names j g old.0 old.1 n (ap (λ o. among (listed_in o) n) new.1 ∙ x) y)) (split j g on))
+          (λ old. ⊎_elim (λ new. absurd (fresh_names i h old.0 old.1 n (ap (λ o. among (listed_in o) n) new.1 ∙ y) x))
+          (λ too. k.apart i j h g old.1 too.1 n x y) (split j g on)) (split i h is);
+      once = λ i h is. (each_row i h is).once;
+      own = λ i h is. (each_row i h is).own;
+      kept = λ b shows. ⊎_elim
+          (λ listed. some_row b now refl listed)
+          (λ old. let was_row = k.kept b old.1 in
+          ⊎_elim (λ t. absurd (true≢false (sym was_row.3
+          ∙ (ap (λ o. among (listed_in o) (name_of b)) (sym was_row.2 ∙ there was_row.0 t) ∙ old.0))))
+          (λ f. (was_row.0, was_row.1, stays was_row.0 was_row.1 f was_row.2, was_row.3)) (cases_Bool (eq at was_row.0)))
+          (reached b shows);
+      live = λ i h is. (each_row i h is).live;
+    }
+      where
+        some_row : (b : GenerationalPointer) (o : Option Held) → now ≡ o → among (listed_in o) (name_of b) ≡ true
+            → (i : I) × (h : Held) × (after i ≡ Some h) × (among h.names (name_of b) ≡ true)
+        some_row b None is listed = absurd (true≢false (sym listed))
+        some_row b (Some h) is listed = (at, h, here h is, listed)
 
   -- ---- a value that is set
 
-  pub set_kept : (b : GenerationalPointer) (v old : T) → Meets S (SetValue b v) (Old old) R
-      → IsKept R eq rows
-  set_kept a v old m =
-      let still = λ (i : I) (h : Held) (is : rows i ≡ Some h).
-      row_still (SetValue a v) (Old old) m i h is tt (λ _ _. (tt, tt)) in
+  pub set_kept : IsSound S → (b : GenerationalPointer) (v old : T) → Meets S (SetValue b v) (Old old) R → IsKept R eq rows
+  set_kept s a v old m =
+      let sees = set_seen s k.simple.unborrowed a v old m in
+      let number = meets_number S R (SetValue a v) (Old old) m in
       record {
-        unborrowed = quiet_stays _ _ m tt k.unborrowed;
-        plain = stays_plain _ _ m tt k.plain;
-        listed = stays_listed _ _ s m k.listed;
+        simple = simple_still s k.simple (SetValue a v) (Old old) m tt tt;
+        unowned = λ o. keeps_record (SetValue a v) (Old old) m o tt tt ∙ k.unowned o;
         apart = k.apart;
-        held = λ i h is. (still i h is).held;
         once = k.once;
-        own = λ i h is. (still i h is).own;
-        known = λ o r is. k.known o r (sym (keeps_record _ _ m o tt tt) ∙ is);
-        kept = λ b n to. k.kept b n (sym (same_reach S R _ _ s m b tt tt) ∙ to);
-        live = λ i h is. (still i h is).live;
+        own = λ i h is. subst (λ m. AllByRecursion (λ n. n ≡ m) h.stores) (sym number) (k.own i h is);
+        kept = λ b shows. k.kept b (sym (sees b) ∙ shows);
+        live = λ i h is b listed own. sees b ∙ k.live i h is b listed (own ∙ number);
       }
-
-  -- ---- a login
-
-  module _ (laws : IsEquivalence eq) {after : I → Option Held} (at : I) (o : OwnerName)
-      (update : (i : I) → after i ≡ cond (eq at i) (Some (record { owner = o; names = []; stores = [] })) (rows i))
-      (free : (i : I) → eq at i ≡ true → rows i ≡ None) (m : Meets S NewOwner (Owned o) R) where
-    pub login_kept : IsKept R eq after
-    login_kept = changed_kept _ _ m tt tt laws at o None (Some (record { owner = o; names = []; stores = [] }))
-        free update tt (refl, grind (arith, owned (Ok o) m, none_twice))
-        (λ i h f is. let was = k.held i h is in
-        let still = row_still _ _ m i h is tt (λ b listed. (tt, tt)) in
-        ((λ e. cc (unknown_owner (Ok o) s m)), still))
-        (λ p ne. keeps_record NewOwner (Owned o) m p tt ne) (λ r is. refl)
-        (λ b n to. inr (refl, sym (same_reach S R NewOwner (Owned o) s m b tt tt) ∙ to))
 
   -- ---- a session that has a row
 
@@ -154,138 +135,155 @@ module _ {I T : Type 0} {eq : I → I → Bool} (S R : State T) (s : IsSound S) 
     has : rows at ≡ Some x
     has = there at (laws.refl at)
 
-    its : (r : Ownership) × (ownership S x.owner ≡ Some r) × IsOf x r
-    its = k.held at x has
-
-    -- another's owner is another, and lists none of what this one's lists
-    other_owner : (i : I) (h : Held) → eq at i ≡ false → rows i ≡ Some h → x.owner ≢ h.owner
-    other_owner i h f is e = cc (k.apart at i x h has is e)
-
+    -- another lists none of what this one lists
     other_names : (i : I) (h : Held) → eq at i ≡ false → rows i ≡ Some h → (n : Name)
-        → among h.names n ≡ true → among its.0.names n ≡ false
-    other_names i h f is n listed =
-        grind (arith, k.held i h is, its, k.listed.apart h.owner x.owner, other_owner i h f is)
+        → among x.names n ≡ true → among h.names n ≡ true → ⊥
+    other_names i h f is n mine theirs = true≢false (sym (k.apart at i x h has is n mine theirs) ∙ f)
 
     -- ---- a value that is put
 
-    module _ {after : I → Option Held} (y : Held)
+    module _ (s : IsSound S) {after : I → Option Held} (y : Held)
         (update : (i : I) → after i ≡ cond (eq at i) (Some y) (rows i))
-        (v : T) (l : Location) (a : GenerationalBox T) (owner : y.owner ≡ x.owner)
-        (names : y.names ≡ x.names ++ name_of (pointer_of a) ∷ [])
-        (stores : y.stores ≡ x.stores ++ (pointer_of a).id.store ∷ [])
-        (m : Meets S (Make (Some x.owner) v l) (Made (pointer_of a)) R) where
+        (v : T) (l : Location) (e : Entry T)
+        (names : y.names ≡ x.names ++ name_of (pointer_in e) ∷ [])
+        (stores : y.stores ≡ x.stores ++ (pointer_in e).id.store ∷ [])
+        (put : HasPut S v l e R) where
       abbrev new : Name
-      new = name_of (pointer_of a)
+      new = name_of (pointer_in e)
 
-      -- no owner lists the new name
-      unnamed : (i : I) (h : Held) → rows i ≡ Some h → (n : Name) → among h.names n ≡ true → new ≢ n
-      unnamed i h is n listed e =
-          let was = k.held i h is in
-          let none = unlisted S h.owner was.0 new s was.1 (made_new S R _ _ m).1 in
-          cc (was.2.lists n listed)
+      number : R.number ≡ S.number
+      number = meets_number S R (Make None v l) (Made put.0) put.1
 
-      grown : (names : List Name) (n : Name) → among (names ++ new ∷ []) n ≡ (among names n || is_name n new)
-      grown names n = grind (arith, list_any-append)
+      own_number : (pointer_in e).id.store ≡ S.number
+      own_number = ap (λ i. i.store) put.2 ∙ (made_new S R (Make None v l) put.0 put.1).0
+
+      same_name : name_of (pointer_in e) ≡ name_of put.0
+      same_name = ap name_in put.2
+
+      -- a box that shows something has another name
+      not_new : (b : GenerationalPointer) → Shows S b → name_of b ≢ new
+      not_new b shows is = true≢false (sym (s.given (name_of b) (seen_cell S b shows))
+          ∙ (ap (λ n. set.contains S.given n) (is ∙ same_name) ∙ (made_new S R (Make None v l) put.0 put.1).1))
+
+      put_left : (b : GenerationalPointer) → name_of b ≢ new → value_in R b ≡ value_in S b
+      put_left b ne = same_value S R (Make None v l) (Made put.0) s put.1 b tt (λ is. ne (sym is ∙ sym same_name))
+
+      -- a name that a row lists is that of a box that shows something
+      listed_old : (i : I) (h : Held) → rows i ≡ Some h → (n : Name) → among h.names n ≡ true → n ≢ new
+      listed_old i h is n listed same =
+          let b : GenerationalPointer = record {
+            id = record { store = S.number; slot = n.slot; generation = n.generation };
+            created_at = nowhere;
+          } in
+          not_new b (k.live i h is b listed refl) same
+
+      new_shows : (b : GenerationalPointer) → name_of b ≡ new → b.id.store ≡ R.number → Shows R b
+      new_shows b name own = ap is_some (same_id_sees R b put.0 (grind (arith, own, number, own_number, put.2))
+          ∙ (meets_tells S R (Make None v l) (Made put.0) put.1).1)
 
       pub put_kept : IsKept R eq after
-      put_kept =
-          let given = made_new S R _ _ m in
-          let number = meets_number S R _ _ m in
-          let now = lists x.owner v l (Ok a) m its.0 its.1 in
-          let to = seen_reached R (pointer_of a) v (made (Some x.owner) v l (Ok a) m) in
-          let all = All-from_recursion (λ n. n ≡ S.number) _ (k.own at x has) in
-          changed_kept _ _ m tt tt laws at x.owner (Some x) (Some y) there update refl (
-            owner,
-            record {
-              held =
-                  let more = grown x.names in
-                  let whole = grown its.0.names in
-                  (_, ap (ownership R) owner ∙ now, grind (arith, names, its.2, more, whole));
-              once = rw names (IsDistinct-push name_equal x.names new (k.once at x has)
-                  (false_from_ne_true _ (λ listed. unnamed at x has new listed refl)));
-              own =
-                  let every = All-push (λ n. n ≡ S.number) x.stores _ all given.0 in
-                  rw (stores, number) (recursion_from_All (λ n. n ≡ S.number) _ every);
-              live = λ b listed own.
-                  let alike = reach_alike R b (pointer_of a) in
-                  let same = same_reach S R _ _ s m b tt in
-                  let more = grown x.names (name_of b) in
-                  let one = name_same (name_of b) new in
-                  let was = k.live at x has b in
-                  grind (arith, names, to, alike, given, number, was, more, one, same);
-            },
-          )
-          (λ i h f is. let still = row_still _ _ m i h is (other_owner i h f is) in
-          (other_owner i h f is, still (λ b listed. (tt, unnamed i h is (name_of b) listed))))
-          (λ o ne. keeps_record _ _ m o ne tt) (λ r is. refl)
-          (λ b n to. let same = same_reach S R _ _ s m b tt in
-          grind (arith, names, grown x.names (name_of b), name_here new, same))
+      put_kept = changed_kept (made_simple s k.simple v l put.0 put.1) number
+          (λ o. keeps_record (Make None v l) (Made put.0) put.1 o tt tt) laws at (Some x) (Some y) there update
+          (λ h is. subst (IsRow R) (same_Some y h is) (record {
+            once = rw names (IsDistinct-push name_equal x.names new (k.once at x has)
+                (false_from_ne_true _ (λ listed. listed_old at x has new listed refl)));
+            own =
+                let every = All-push (λ n. n ≡ S.number) x.stores _ (All-from_recursion (λ n. n ≡ S.number) _ (k.own at x has))
+                own_number in
+                rw (stores, number) (recursion_from_All (λ n. n ≡ S.number) _ every);
+            live = λ b listed own. ⊎_elim
+                (λ old. ap is_some (put_left b (listed_old at x has (name_of b) old))
+                ∙ k.live at x has b old (own ∙ number))
+                (λ one. new_shows b one own) (in_grown b listed);
+          }))
+          (λ i h f is b listed shows. ap is_some (put_left b (not_new b shows)) ∙ shows)
+          (λ i h f is n mine theirs. ⊎_elim (λ old. other_names i h f is n old theirs)
+          (λ one. listed_old i h is n theirs one) (named n mine))
+          (λ b shows. ⊎_elim (λ one. inl (rw names (new_listed b one)))
+          (λ ne. ⊎_elim (λ mine. inl (rw names (old_listed b mine)))
+          (λ none. inr (none, sym (ap is_some (put_left b ne)) ∙ shows)) (cases_Bool (among x.names (name_of b))))
+          (name_cases (name_of b) new))
+        where
+          named : (n : Name) → among y.names n ≡ true → (among x.names n ≡ true) ⊎ (n ≡ new)
+          named n listed = grind (arith, names, grown x.names new n, name_same n new)
+
+          in_grown : (b : GenerationalPointer) → among y.names (name_of b) ≡ true
+              → (among x.names (name_of b) ≡ true) ⊎ (name_of b ≡ new)
+          in_grown b = named (name_of b)
+
+          new_listed : (b : GenerationalPointer) → name_of b ≡ new → among (x.names ++ new ∷ []) (name_of b) ≡ true
+          new_listed b one = grind (arith, grown x.names new (name_of b), name_here new)
+
+          old_listed : (b : GenerationalPointer) → among x.names (name_of b) ≡ true
+              → among (x.names ++ new ∷ []) (name_of b) ≡ true
+          old_listed b mine = grind (arith, grown x.names new (name_of b))
 
     -- ---- a session that ends
 
     module _ {after : I → Option Held} (update : (i : I) → after i ≡ cond (eq at i) None (rows i))
-        (m : Meets S (ReleaseOwner x.owner) Done R) where
-      owned_reach : (b : GenerationalPointer) → among its.0.names (name_of b) ≡ true → reach R b ≡ None
-      owned_reach b = ends_owned x.owner {U = Unit {0}} {V = OwnerName} (Ok tt) m _ b its.1 (omega (arith, its.2.single))
-
-      -- what its owner lists and it doesn't had ended before
-      ended_before : (b : GenerationalPointer) → among its.0.names (name_of b) ≡ true
-          → among x.names (name_of b) ≡ false → reach S b ≡ None
-      ended_before b owns out = grind (arith, k.kept b, there, other_names)
-
-      pub ended_shows : (b : GenerationalPointer) → among x.names (name_of b) ≡ true → value_in R b ≡ None
-      ended_shows b was = unseen R b (owned_reach b (its.2.lists (name_of b) was))
-
-      -- and each other box is left
-      pub ended_left : (b : GenerationalPointer) → among x.names (name_of b) ≡ false → IsUnchanged S b R
-      ended_left b out =
-          let left = release_leaves S R x.owner Done s m its.0 its.1 b in
-          grind (arith, ended_before b, owned_reach b, left, unseen S b, unseen R b)
-
-      gone : ownership R x.owner ≡ None
-      gone = by_cond (λ o. o ≡ None) (nat_eq x.owner.store R.number)
-          (λ _. last_record (record { held = its.1; done = m }) (omega (arith, its.2.single))) (λ _. refl)
-
+        (lost : HasLost S x.names R) where
       pub ended_kept : IsKept R eq after
-      ended_kept = changed_kept _ _ m tt tt laws at x.owner (Some x) None there update refl tt
-          (λ i h f is. let still = row_still _ _ m i h is (other_owner i h f is) in
-          let own = ap owned_names (held_record S x.owner its.0 its.1) in
-          let out = other_names i h f is in
-          (other_owner i h f is, still (λ b listed. (rw own (out (name_of b) listed), tt))))
-          (λ o ne. keeps_record _ _ m o ne tt) (λ r is. cc gone)
-          (λ b n to. let left = release_leaves S R x.owner Done s m its.0 its.1 b in
-          grind (arith, owned_reach b, its.2.lists (name_of b), left))
+      ended_kept = changed_kept lost.simple lost.number lost.owners laws at (Some x) None there update
+          (λ h is. absurd (none-some h is))
+          (λ i h f is b listed shows. ap is_some (lost.others b
+          (false_from_ne_true _ (λ mine. other_names i h f is (name_of b) mine listed))) ∙ shows)
+          (λ i h f is n mine theirs. true≢false (sym mine))
+          (λ b shows. inr (⊎_elim
+          (λ mine. absurd (true≢false (sym shows ∙ ap is_some (lost.ended b mine))))
+          (λ none. (none, sym (ap is_some (lost.others b none)) ∙ shows)) (cases_Bool (among x.names (name_of b)))))
 
     -- ---- an entry that ends
 
     module _ {after : I → Option Held} (y : Held) (update : (i : I) → after i ≡ cond (eq at i) (Some y) (rows i))
-        (b : GenerationalPointer) (m : Meets S (End b) Done R) (owner : y.owner ≡ x.owner)
-        (names : (n : Name) → among y.names n ≡ cond (is_name n (name_of b)) false (among x.names n)) where
+        (gone : Name) (lost : HasLost S (gone ∷ []) R)
+        (names : (n : Name) → among y.names n ≡ cond (is_name n gone) false (among x.names n)) where
       -- what the row lists it listed, and has another name
-      named : (n : Name) → among y.names n ≡ true → (among x.names n ≡ true) × (name_of b ≢ n)
-      named n now = (grind (arith, names n), λ same. grind (arith, names n, name_here n))
+      named : (n : Name) → among y.names n ≡ true → (among x.names n ≡ true) × (among (gone ∷ []) n ≡ false)
+      named n now = grind (arith, names n)
 
       pub forgotten_kept : IsDistinct is_name y.names → AllByRecursion (λ n. n ≡ S.number) y.stores
-          → among x.names (name_of b) ≡ true → b.id.store ≡ S.number → IsKept R eq after
-      forgotten_kept once own had store =
-          let number = meets_number S R _ _ m in
-          let stores : AllByRecursion (λ n. n ≡ R.number) y.stores = rw number own in
-          let known = keeps_known _ _ s m x.owner its.0 tt its.1 in
-          let same = same_reach S R _ _ s m in
-          let live = k.live at x has in
-          let lists = its.2.lists (name_of b) had in
-          let over = ends b {U = Unit {0}} (Ok tt) m in
-          changed_kept _ _ m tt tt laws at x.owner (Some x) (Some y) there update refl
-          (owner, grind (arith, known, owner, its.2, once, stores, named, live, number, same))
-          (λ i h f is. let out = other_names i h f is in
-          let still = row_still _ _ m i h is tt in
-          (other_owner i h f is, still (λ c listed. ((λ e. cc (out (name_of c) listed)), tt))))
-          (λ o ne. keeps_record _ _ m o tt tt) (λ r is. refl)
-          (λ c n to. let at = (reaches R c n to).number in
-          let listed = names (name_of c) in
-          grind (arith, over, reach_alike R b c, store, number, at, listed, name_same, same c))
+          → among x.names gone ≡ true → IsKept R eq after
+      forgotten_kept once own had = changed_kept lost.simple lost.number lost.owners laws at (Some x) (Some y) there update
+          (λ h is. subst (IsRow R) (same_Some y h is) (record {
+            once = once;
+            own = subst (λ m. AllByRecursion (λ n. n ≡ m) y.stores) (sym lost.number) own;
+            live = λ b listed store. let at_it = named (name_of b) listed in
+                ap is_some (lost.others b at_it.1) ∙ k.live at x has b at_it.0 (store ∙ lost.number);
+          }))
+          (λ i h f is b listed shows. ap is_some (lost.others b (beside i h f is (name_of b) listed)) ∙ shows)
+          (λ i h f is n mine theirs. other_names i h f is n (named n mine).0 theirs)
+          (λ b shows. ⊎_elim
+          (λ one. absurd (true≢false (sym shows ∙ ap is_some (lost.ended b (one_listed b one)))))
+          (λ ne. let was = sym (ap is_some (lost.others b (not_listed b ne))) ∙ shows in
+          ⊎_elim (λ mine. inl (names (name_of b) ∙ grind (arith, name_same (name_of b) gone)))
+          (λ none. inr (none, was)) (cases_Bool (among x.names (name_of b))))
+          (name_cases (name_of b) gone))
+        where
+          one_listed : (b : GenerationalPointer) → name_of b ≡ gone → among (gone ∷ []) (name_of b) ≡ true
+          one_listed b one = grind (arith, name_here gone)
 
--- ---- a session that gets another id
+          not_listed : (b : GenerationalPointer) → name_of b ≢ gone → among (gone ∷ []) (name_of b) ≡ false
+          not_listed b ne = grind (arith, name_same (name_of b) gone)
+
+          beside : (i : I) (h : Held) → eq at i ≡ false → rows i ≡ Some h → (n : Name) → among h.names n ≡ true
+              → among (gone ∷ []) n ≡ false
+          beside i h f is n theirs = false_from_ne_true _ (λ one. other_names i h f is n (grind (arith, name_same n gone)) theirs)
+
+-- ---- a session that begins, and one that gets another id
+
+module _ {I T : Type 0} {eq : I → I → Bool} {S : State T} {rows after : I → Option Held}
+    (kept : IsKept S eq rows) (laws : IsEquivalence eq) where
+  pub login_kept : (at : I)
+      → ((i : I) → after i ≡ cond (eq at i) (Some (record { names = []; stores = [] })) (rows i))
+      → ((i : I) → eq at i ≡ true → rows i ≡ None) → IsKept S eq after
+  login_kept at update free = changed_kept S S kept kept.simple refl (λ o. refl) laws at None
+      (Some (record { names = []; stores = [] })) free update
+      (λ h is. subst (IsRow S) (same_Some _ h is) (record {
+        once = none_twice;
+        own = tt;
+        live = λ b listed own. absurd (true≢false (sym listed));
+      }))
+      (λ i h f is b listed shows. shows) (λ i h f is n mine theirs. true≢false (sym mine)) (λ b shows. inr (refl, shows))
 
 module _ {I T : Type 0} {eq : I → I → Bool} {S : State T} {rows after : I → Option Held}
     (kept : IsKept S eq rows) (laws : IsEquivalence eq) (k t : I) (h : Held)
@@ -302,54 +300,108 @@ module _ {I T : Type 0} {eq : I → I → Bool} {S : State T} {rows after : I �
 
     pub renamed_kept : IsKept S eq after
     renamed_kept = record {
-      unborrowed = kept.unborrowed;
-      plain = kept.plain;
-      listed = kept.listed;
-      apart = λ i j g f is on same.
-          let first = kept.apart k j g f in
-          let second = kept.apart i k g f in
+      simple = kept.simple;
+      unowned = kept.unowned;
+      apart = λ i j g f is on n mine theirs.
+          let first = λ (was : rows k ≡ Some g) (now : rows j ≡ Some f). kept.apart k j g f was now n mine theirs in
+          let second = λ (was : rows i ≡ Some g) (now : rows k ≡ Some f). kept.apart i k g f was now n mine theirs in
+          let both = λ (was : rows i ≡ Some g) (now : rows j ≡ Some f). kept.apart i j g f was now n mine theirs in
           let alike = laws.congr t i j in
-          grind (arith, update i, update j, kept.apart i j g f, first, second, there k, laws.refl k, alike, laws.symm k i);
-      held = λ i g is. let was = was_row i g is in kept.held was.0 g was.1;
+          grind (arith, update i, update j, both, first, second, there k, laws.refl k, alike, laws.symm k i);
       once = λ i g is. let was = was_row i g is in kept.once was.0 g was.1;
       own = λ i g is. let was = was_row i g is in kept.own was.0 g was.1;
-      known = λ o r is. grind (arith, kept.known o r is, now_row);
-      kept = λ b m to. grind (arith, kept.kept b m to, now_row);
+      kept = λ b shows. let was = kept.kept b shows in
+          let now = now_row was.0 was.1 was.2 in (now.0, was.1, now.1, was.3);
       live = λ i g is. let was = was_row i g is in kept.live was.0 g was.1;
     }
 
+-- ==== values that end, one after the other
+
+module _ {T : Type 0} where
+  -- of none
+  pub lost_none : (S : State T) → IsSimple S → HasLost S [] S
+  lost_none S simple = record {
+    simple = simple;
+    number = refl;
+    next = refl;
+    owners = λ o. refl;
+    given = λ n was. was;
+    ended = λ b is. absurd (true≢false (sym is));
+    others = λ b is. refl;
+  }
+
+  -- of one, by a box of its id
+  pub lost_one : {S R : State T} → IsSound S → IsSimple S → (e : Entry T) (b : GenerationalPointer) → b.id ≡ id_in e
+      → Shows S (pointer_in e) → Meets S (End b) Done R → HasLost S (name_of (pointer_in e) ∷ []) R
+  lost_one {S} {R} s k e b own shows m = record {
+    simple = simple_still s k (End b) Done m tt tt;
+    number = number;
+    next = ended_next b Done m;
+    owners = λ o. keeps_record (End b) Done m o tt tt;
+    given = meets_given S R (End b) Done m;
+    ended = λ c listed. ⊎_elim
+        (λ same. sym (same_id_sees R b c (own ∙ grind (arith, name_same (name_of c) name, same, seen_store S (pointer_in e) s shows))) ∙ gone)
+        (λ other. absent R c (λ is. other (seen_store R c sound is ∙ number))) (cases_store c);
+    others = λ c out. same_value S R (End b) Done s m c (λ is. not_it c out (sym is ∙ ap name_in own)) tt;
+  }
+    where
+      name : Name
+      name = name_of (pointer_in e)
+
+      number : R.number ≡ S.number
+      number = meets_number S R (End b) Done m
+
+      sound : IsSound R
+      sound = meets_sound S R (End b) Done s m
+
+      seen : Shows S b
+      seen = ap is_some (same_id_sees S b (pointer_in e) own) ∙ shows
+
+      gone : value_in R b ≡ None
+      gone = unseen R b (ends b {U = Unit {0}} (Ok tt) m)
+
+      cases_store : (c : GenerationalPointer) → (c.id.store ≡ S.number) ⊎ (c.id.store ≢ S.number)
+      cases_store c = cases_eq c.id.store S.number
+
+      absent : (X : State T) (c : GenerationalPointer) → (Shows X c → ⊥) → value_in X c ≡ None
+      absent X c never = by_option (value_in X c) (λ none. none) (λ v is. absurd (never (ap is_some is)))
+
+      not_it : (c : GenerationalPointer) → among (name ∷ []) (name_of c) ≡ false → name_of c ≡ name → ⊥
+      not_it c out is = grind (arith, name_here name)
+
 -- ==== what a caller sees of rows, and what they say of the store
 
-module _ {I K T : Type 0} (eq : I → I → Bool) (S : State T) (rows : List (I × Session K T)) where
+module _ {I K T : Type 0} (eq : I → I → Bool) (S : State T) (rows : List (I × Session K T)) (sites : List Location) where
   -- the session of an id is that of its row
-  pub session_row : (i : I) → session_in eq (table_of S rows) i ≡ option_map live (lookup (eq i) rows)
+  pub session_row : (i : I) → session_in eq (table_of S rows sites) i ≡ option_map live (lookup (eq i) rows)
   session_row i = lookup-map_values live (eq i) rows
 
   -- an id keeps what its row lists
   pub keeps_row : (i : I) (h : Held) (e : Entry T) → held_in eq rows i ≡ Some h
-      → keeps eq (table_of S rows) i e ≡ among h.names (name_of (pointer_in e))
+      → keeps eq (table_of S rows sites) i e ≡ among h.names (name_of (pointer_in e))
   keeps_row i h e is = grind (arith, session_row i)
 
-  pub kept_row : (i : I) (e : Entry T) → keeps eq (table_of S rows) i e ≡ true
+  pub kept_row : (i : I) (e : Entry T) → keeps eq (table_of S rows sites) i e ≡ true
       → (h : Held) × (held_in eq rows i ≡ Some h) × (among h.names (name_of (pointer_in e)) ≡ true)
   kept_row i e kept = by_option (lookup (eq i) rows) (λ none. cc (session_row i))
       (λ s some. (held_of s, ap (option_map held_of) some, cc (session_row i)))
 
   module _ (k : IsKept S eq (held_in eq rows)) where
-    -- the store has an owner of each row
-    pub row_known : (i : I) (s : Session K T) → lookup (eq i) rows ≡ Some s
-        → is_some (ownership S s.owner) ≡ true
-    row_known i s is = ap is_some (k.held i (held_of s) (ap (option_map held_of) is)).1
-
     -- no entry is kept by two ids
-    pub kept_once : (i j : I) (e : Entry T) → eq i j ≡ false → keeps eq (table_of S rows) i e ≡ true
-        → keeps eq (table_of S rows) j e ≡ false
-    kept_once i j e ne one =
-        grind (arith, kept_row i e, kept_row j e, k.held i, k.held j, k.listed.apart, k.apart i j)
+    pub kept_once : (i j : I) (e : Entry T) → eq i j ≡ false → keeps eq (table_of S rows sites) i e ≡ true
+        → keeps eq (table_of S rows sites) j e ≡ false
+    kept_once i j e ne one = false_from_ne_true _ (λ two.
+        let a = kept_row i e one in
+        let b = kept_row j e two in
+        true≢false (sym (k.apart i j a.0 b.0 a.1 b.1 (name_of (pointer_in e)) a.2 b.2) ∙ ne))
 
-    pub kept_orderly : IsSound S → IsDistinct eq (keys_of rows) → IsOrderly eq (table_of S rows)
-    kept_orderly s once = let keys = keys_of-map_values live rows in
-        grind (arith, keys, kept_once, kept_row, keeps_row, k.kept, k.live, seen_reached, free_sees, quiet_free S k.unborrowed)
+    pub kept_orderly : IsDistinct eq (keys_of rows) → IsOrderly eq (table_of S rows sites)
+    kept_orderly once = let keys = keys_of-map_values live rows in record {
+      once = rw keys once;
+      kept = λ e shows. let at = k.kept (pointer_in e) shows in (at.0, keeps_row at.0 at.1 e at.2 ∙ at.3);
+      apart = kept_once;
+      live = λ i e kept own. let at = kept_row i e kept in k.live i at.0 at.1 (pointer_in e) at.2 own;
+    }
 
 -- ==== entries of which one is taken out
 
@@ -418,7 +470,7 @@ dropped_from (x ∷ []) (suc i) d lt = absurd (omega (arith, lt))
 dropped_from (x ∷ y ∷ ys) (suc i) d lt = ap (drop (suc i)) (swap_cons x y ys i d) ∙ dropped_from (y ∷ ys) i d (omega (arith, lt))
 
 -- the row at a place
-row_within : {X : Type 0} (xs : List X) (i : ℕ) → i < length xs → (x : X) × (slice_get xs i ≡ Some x)
+pub row_within : {X : Type 0} (xs : List X) (i : ℕ) → i < length xs → (x : X) × (slice_get xs i ≡ Some x)
 row_within [] i lt = absurd (omega (arith, lt))
 row_within (x ∷ xs) zero lt = (x, refl)
 row_within (x ∷ xs) (suc i) lt = row_within xs i (omega (arith, lt))
@@ -510,6 +562,7 @@ module _ {I K T : Type 0} (eq : I → I → Bool) (time : ℕ) where
     pub left : (e : Entry T) → (shown_in b e ≡ shown_in a e)
         ⊎ ((shown_in b e ≡ None) × ((id : I) × (keeps eq a id e ≡ true) × (session_in eq b id ≡ None)))
     pub put : (e : Entry T) → WasPut a e → WasPut b e
+    pub told : (e : Entry T) → created_at b e ≡ created_at a e
     pub ticket : b.state.next ≡ a.state.next
 
 module _ {I K T : Type 0} {eq : I → I → Bool} {time : ℕ} where
@@ -529,9 +582,10 @@ module _ {I K T : Type 0} {eq : I → I → Bool} {time : ℕ} where
         let before = get_take b.sessions place in
         let after = get_take c.sessions place in
         let front = ap (take place) e.order ∙ taken_before b.sessions place e.ended within in
+        let told = λ (f : Entry T). e.told f ∙ s.told f in
         let order = s.order ∙ retained_old (λ (row : I × LiveSession K T). is_young time row.1) b.sessions place e.ended
         c.sessions e.there old e.fewer e.order in
-        grind (arith, e.sessions, s.sessions, was, alike, own, e.gone, e.left, s.left, s.young, before, after, within, front, order)
+        grind (arith, e.sessions, s.sessions, was, alike, own, e.gone, e.left, s.left, s.young, before, after, within, front, order, told)
 
     -- the session at the place is young, and stays
     pub sheds_young : place < length b.sessions → ((e : I × LiveSession K T)
@@ -574,11 +628,11 @@ begun_last eq old k s none is =
     ∙ map-append live_row old ((k, s) ∷ [])
 
 -- no rows are left where none are counted
-pub none_left : {I K T : Type 0} {eq : I → I → Bool} (S : State T) (rows : List (I × Session K T))
-    {t : TableState I K T} (n : ℕ) → IsKept S eq (held_in eq rows) → table_of S rows ≡ t
+pub none_left : {I K T : Type 0} {eq : I → I → Bool} (S : State T) (rows : List (I × Session K T)) (sites : List Location)
+    {t : TableState I K T} (n : ℕ) → IsKept S eq (held_in eq rows) → table_of S rows sites ≡ t
     → n ≡ length t.sessions → n ≤ 0 → IsKept S eq no_rows
-none_left S [] n k is len low = k
-none_left S (x ∷ rows) n k is len low = absurd (omega (arith, ap (λ t. length t.sessions) is))
+none_left S [] sites n k is len low = k
+none_left S (x ∷ rows) sites n k is len low = absurd (omega (arith, ap (λ t. length t.sessions) is))
 
 -- ==== what a caller sees after one row has changed
 
@@ -649,10 +703,10 @@ module _ {I K T : Type 0} {eq : I → I → Bool} {old new : List (I × Session 
   grown_stores : stores_of w.entries.entries ≡ stores_of s.entries.entries ++ (pointer_in e).id.store ∷ []
   grown_stores = grind (arith, map-append (λ (x : K × Entry T). (pointer_in x.1).id.store) s.entries.entries ((key, e) ∷ []))
 
-  pub put_rows : {S R : State T} → IsSound S → IsKept S eq (held_in eq old) → w.owner ≡ s.owner → (v : T) (l : Location)
-      → Meets S (Make (Some s.owner) v l) (Made (pointer_in e)) R → IsKept R eq (held_in eq new)
-  put_rows {S} {R} sound kept owner v l m = put_kept S R sound kept c.laws k (held_of s)
-      (held_there c) (held_of w) (held_after c) v l e.raw owner grown_names grown_stores m
+  pub put_rows : {S R : State T} → IsSound S → IsKept S eq (held_in eq old) → (v : T) (l : Location)
+      → HasPut S v l e R → IsKept R eq (held_in eq new)
+  put_rows {S} {R} sound kept v l put = put_kept S R kept c.laws k (held_of s)
+      (held_there c) sound (held_of w) (held_after c) v l e grown_names grown_stores put
 
   -- what is listed is the new entry, and what was
   grown_listed : (f : Entry T) → among (names_of w.entries.entries) (name_of (pointer_in f))
@@ -678,7 +732,7 @@ module _ {I K T : Type 0} {eq : I → I → Bool} {old new : List (I × Session 
         grind (arith, now_session c q, same_id c q, session_of (eq q) old refl, grown_listed f, apart)
 
 -- an entry that is taken out
-module _ {I K T : Type 0} {eq : I → I → Bool} {S : State T} (sound : IsSound S) (old : List (I × Session K T)) (k : I)
+module _ {I K T : Type 0} {eq : I → I → Bool} {S : State T} (old : List (I × Session K T)) (k : I)
     {s : Session K T} (kept : IsKept S eq (held_in eq old)) (found : lookup (eq k) old ≡ Some s) (test : K → Bool)
     {e : Entry T} (there : lookup test s.entries.entries ≡ Some e) where
   row : held_in eq old k ≡ Some (held_of s)
@@ -689,46 +743,47 @@ module _ {I K T : Type 0} {eq : I → I → Bool} {S : State T} (sound : IsSound
   row_own = found_all test (λ (x : Entry T). (pointer_in x).id.store) (λ n. n ≡ S.number) s.entries.entries e there
       (kept.own k (held_of s) row)
 
-  pub row_shows : (v : T) × (value_in S (pointer_in e) ≡ Some v)
-  row_shows =
-      let to = kept.live k (held_of s) row (pointer_in e) (found_named test s.entries.entries e there) row_own in
-      free_sees S (pointer_in e) sound (quiet_free S kept.unborrowed (pointer_in e) to.0 to.1)
+  pub row_shows : Shows S (pointer_in e)
+  row_shows = kept.live k (held_of s) row (pointer_in e) (found_named test s.entries.entries e there) row_own
 
   pub forgotten_rows : {R : State T} {new : List (I × Session K T)} {w : Session K T}
       → IsChange eq old new k (Some s) (Some w) → w.entries.entries ≡ remove_entry test s.entries.entries
-      → w.owner ≡ s.owner → Meets S (End (pointer_in e)) Done R → IsKept R eq (held_in eq new)
-  forgotten_rows {R} {w = w} c entries owner m =
+      → HasLost S (name_of (pointer_in e) ∷ []) R → IsKept R eq (held_in eq new)
+  forgotten_rows {R} {w = w} c entries lost =
       let once = kept.once k (held_of s) row in
-      forgotten_kept S R sound kept c.laws k (held_of s) (held_there c) (held_of w) (held_after c) (pointer_in e) m owner
+      forgotten_kept S R kept c.laws k (held_of s) (held_there c) (held_of w) (held_after c) (name_of (pointer_in e)) lost
       (λ n. ap (λ es. among (names_of es) n) entries ∙ named_removed test s.entries.entries e there once n)
       (rw entries (removed_once test s.entries.entries once))
       (rw entries (removed_all test (λ (x : K × Entry T). (pointer_in x.1).id.store) (λ n. n ≡ S.number)
       s.entries.entries (kept.own k (held_of s) row)))
-      (found_named test s.entries.entries e there) row_own
+      (found_named test s.entries.entries e there)
 
 -- a session that ends
-module _ {I K T : Type 0} {eq : I → I → Bool} {S R : State T} (sound : IsSound S) {old new : List (I × Session K T)} {k : I}
+module _ {I K T : Type 0} {eq : I → I → Bool} {S R : State T} {old new : List (I × Session K T)} {k : I}
     {s : Session K T} (kept : IsKept S eq (held_in eq old)) (c : IsChange eq old new k (Some s) None)
-    (m : Meets S (ReleaseOwner s.owner) Done R) where
+    (lost : HasLost S (names_of s.entries.entries) R) where
   pub ended_rows : IsKept R eq (held_in eq new)
-  ended_rows = ended_kept S R sound kept c.laws k (held_of s) (held_there c) (held_after c) m
+  ended_rows = ended_kept S R kept c.laws k (held_of s) (held_there c) (held_after c) lost
 
-  -- what it kept shows nothing, and all else is left
-  pub row_ended : (e : Entry T) → among (names_of s.entries.entries) (name_of (pointer_in e)) ≡ true
-      → value_in R (pointer_in e) ≡ None
-  row_ended e = ended_shows S R sound kept c.laws k (held_of s) (held_there c) (held_after c) m (pointer_in e)
+-- what a row lists is live, and each entry once
+module _ {I K T : Type 0} {eq : I → I → Bool} {S : State T} (rows : List (I × Session K T))
+    (kept : IsKept S eq (held_in eq rows)) (k : I) (s : Session K T) (found : lookup (eq k) rows ≡ Some s) where
+  pub row_live : AreLive S s.entries.entries
+  row_live = record {
+    own = kept.own k (held_of s) (ap (option_map held_of) found);
+    live = kept.live k (held_of s) (ap (option_map held_of) found);
+  }
 
-  pub row_left : (e : Entry T) → among (names_of s.entries.entries) (name_of (pointer_in e)) ≡ false
-      → value_in R (pointer_in e) ≡ value_in S (pointer_in e)
-  row_left e out = (ended_left S R sound kept c.laws k (held_of s) (held_there c) (held_after c) m (pointer_in e) out).seen
+  pub row_once : IsDistinct is_name (names_of s.entries.entries)
+  row_once = kept.once k (held_of s) (ap (option_map held_of) found)
 
 -- a session that begins
-pub login_rows : {I K T : Type 0} {eq : I → I → Bool} {S R : State T} (sound : IsSound S) {old new : List (I × Session K T)}
+pub login_rows : {I K T : Type 0} {eq : I → I → Bool} {S : State T} {old new : List (I × Session K T)}
     {k : I} {s : Session K T} (kept : IsKept S eq (held_in eq old)) (c : IsChange eq old new k None (Some s))
-    → s.entries.entries ≡ [] → Meets S NewOwner (Owned s.owner) R → IsKept R eq (held_in eq new)
-login_rows {eq = eq} {S} {R} sound {old = old} {k = k} {s = s} kept c empty m = login_kept S R sound kept c.laws k s.owner
-    (λ q. held_after c q ∙ ap (λ es. cond (eq k q) (Some (record { owner = s.owner; names = names_of es; stores = stores_of es }))
-    (held_in eq old q)) empty) (held_there c) m
+    → s.entries.entries ≡ [] → IsKept S eq (held_in eq new)
+login_rows {eq = eq} {S} {old = old} {k = k} {s = s} kept c empty = login_kept kept c.laws k
+    (λ q. held_after c q ∙ ap (λ es. cond (eq k q) (Some (record { names = names_of es; stores = stores_of es }))
+    (held_in eq old q)) empty) (held_there c)
 
 -- an id that had no session has none after another went, and one whose session went to another has none
 pub still_none : {I R : Type 0} {eq : I → I → Bool} {old new : List (I × R)} {k : I} {was : Option R}
@@ -758,7 +813,156 @@ set_beside sound plain a b v old m other =
     others_left _ _ m a b (seen_store _ _ sound (ap is_some saw)) (λ ne. same_value _ _ _ _ sound m _
     (λ same. ne (reach_apart _ plain _ _ to.0 to.1 (sym same))) tt) other
 
--- a row whose owner and entries are as they were
-pub same_held : {K T : Type 0} (s w : Session K T) → w.owner ≡ s.owner → w.entries.entries ≡ s.entries.entries
+-- a row whose entries are as they were
+pub same_held : {K T : Type 0} (s w : Session K T) → w.entries.entries ≡ s.entries.entries
     → ◌≡◌ {A = Option Held} (Some (held_of w)) (Some (held_of s))
-same_held s w owner entries j = Some (record { owner = owner j; names = names_of (entries j); stores = stores_of (entries j) })
+same_held s w entries j = Some (record { names = names_of (entries j); stores = stores_of (entries j) })
+
+-- ==== entries that end, one after the other
+
+module _ {T : Type 0} where
+  pub lost_both : {S R Q : State T} {ns ms : List Name} → HasLost S ns R → HasLost R ms Q → HasLost S (ns ++ ms) Q
+  lost_both {ns = ns} {ms} a b = record {
+    simple = b.simple;
+    number = b.number ∙ a.number;
+    next = b.next ∙ a.next;
+    owners = λ o. b.owners o ∙ a.owners o;
+    given = λ n is. b.given n (a.given n is);
+    ended = λ c listed. ⊎_elim (λ late. b.ended c late)
+        (λ early. b.others c early ∙ a.ended c (first (name_of c) listed early)) (cases_Bool (among ms (name_of c)));
+    others = λ c out. let parts = neither (name_of c) out in b.others c parts.1 ∙ a.others c parts.0;
+  }
+    where
+      first : (n : Name) → among (ns ++ ms) n ≡ true → among ms n ≡ false → among ns n ≡ true
+      first n listed early = grind (arith, list_any-append)
+
+      neither : (n : Name) → among (ns ++ ms) n ≡ false → (among ns n ≡ false) × (among ms n ≡ false)
+      neither n out = grind (arith, list_any-append)
+
+-- a name of a list of different ones isn't among those before it
+pub front_apart : (names : List Name) (i : ℕ) (n : Name) → IsDistinct is_name names → slice_get names i ≡ Some n
+    → among (take i names) n ≡ false
+unfolding IsDistinct
+front_apart [] i n once is = cc
+front_apart (m ∷ names) zero n once is = refl
+front_apart (m ∷ names) (suc i) n once is =
+    let apart = each_apart names i once.0 is in
+    grind (arith, front_apart names i n once.1 is, name_same n m, name_here n)
+  where
+    each_apart : (ms : List Name) (j : ℕ) → AllByRecursion (λ x. is_name m x ≡ false) ms → slice_get ms j ≡ Some n
+        → is_name m n ≡ false
+    each_apart [] j all at = cc
+    each_apart (x ∷ ms) zero all at = ap (is_name m) (sym (same_Some x n at)) ∙ all.0
+    each_apart (x ∷ ms) (suc j) all at = each_apart ms j all.1 at
+
+pub take_one : {X : Type 0} (xs : List X) (i : ℕ) (x : X) → slice_get xs i ≡ Some x → take (i + 1) xs ≡ take i xs ++ x ∷ []
+take_one xs i x is = rw add-one (take-suc xs i x (slice_get_within xs i x is)
+    ∙ ap (λ v. take i xs ++ v ∷ []) (get_or_from_slice_get xs i x x is))
+
+-- a place of a session's entries: the name there, and that it isn't among those before it
+module _ {K T : Type 0} (es : List (K × Entry T)) (once : IsDistinct is_name (names_of es)) (i : ℕ) (p : K × Entry T)
+    (at : slice_get es i ≡ Some p) where
+  name_at : slice_get (names_of es) i ≡ Some (name_of (pointer_in p.1))
+  name_at = slice_get-map (λ (x : K × Entry T). name_of (pointer_in x.1)) es i
+      ∙ ap (option_map (λ (x : K × Entry T). name_of (pointer_in x.1))) at
+
+  named_there : among (names_of es) (name_of (pointer_in p.1)) ≡ true
+  named_there = among_at (names_of es) i (name_of (pointer_in p.1)) name_at
+    where
+      among_at : (ns : List Name) (j : ℕ) (n : Name) → slice_get ns j ≡ Some n → among ns n ≡ true
+      among_at [] j n is = cc
+      among_at (m ∷ ns) zero n is = grind (arith, name_here n, same_Some m n is)
+      among_at (m ∷ ns) (suc j) n is = grind (arith, among_at ns j n is)
+
+  module _ {S R : State T} (live : AreLive S es) (lost : HasLost S (take i (names_of es)) R) where
+    -- it still shows something
+    pub still_shows : (own : (pointer_in p.1).id.store ≡ S.number) → Shows R (pointer_in p.1)
+    still_shows own = ap is_some (lost.others (pointer_in p.1)
+        (front_apart (names_of es) i (name_of (pointer_in p.1)) once name_at))
+        ∙ live.live (pointer_in p.1) named_there own
+
+    -- and with it those up to it have ended
+    pub lost_next : {Q : State T} → HasLost R (name_of (pointer_in p.1) ∷ []) Q → HasLost S (take (i + 1) (names_of es)) Q
+    lost_next {Q} one = subst (λ ns. HasLost S ns Q)
+        (sym (take_one (names_of es) i (name_of (pointer_in p.1)) name_at)) (lost_both lost one)
+
+-- the store of each entry
+pub store_at : {K T : Type 0} (P : ℕ → Type 0) (es : List (K × Entry T)) (i : ℕ) (p : K × Entry T)
+    → AllByRecursion P (stores_of es) → slice_get es i ≡ Some p → P (pointer_in p.1).id.store
+store_at P [] i p all at = cc
+store_at P (x ∷ es) zero p all at = subst (λ q. P (pointer_in q.1).id.store) (same_Some x p at) all.0
+store_at P (x ∷ es) (suc i) p all at = store_at P es i p all.1 at
+
+-- ==== where values were put
+
+module _ {T : Type 0} where
+  -- what is told of the locations, it is told when more are
+  pub still_told : (number : ℕ) (s t : SiteState) (old : List Location) (e : Entry T) (l : Location)
+      → s.told ≤ t.told → t.all ≡ s.all → told_in s ≡ old → told_at number old e ≡ Some l
+      → told_at number (told_in t) e ≡ Some l
+  still_told number s t old e l le same was is = both (nat_eq e.store number) refl
+    where
+      both : (b : Bool) → nat_eq e.store number ≡ b → told_at number (told_in t) e ≡ Some l
+      both true own = rw own (told_more s t e.site l le same
+          (rw was (sym (ap (λ b. cond b (slice_get old e.site) None) own) ∙ is)))
+      both false other = absurd (none-some l (sym (ap (λ b. cond b (slice_get old e.site) None) other) ∙ is))
+
+  pub tells_here : (number : ℕ) (s : SiteState) (e : Entry T) (here : Location) → e.store ≡ number → e.site < s.told
+      → IsAt s.all e.site here → Tells (told_at number (told_in s) e) here
+  tells_here number s e here own lt at =
+      (at.kept, rw (own, nat_eq_equiv.refl number) (told_here s e.site at.kept lt at.there), at.alike)
+
+  pub put_number : {S R : State T} (v : T) (l : Location) (e : Entry T) → HasPut S v l e R → e.store ≡ S.number
+  put_number {S} {R} v l e put = ap (λ i. i.store) put.2 ∙ (made_new S R (Make None v l) put.0 put.1).0
+
+  pub put_shown : {S R : State T} (v : T) (l : Location) (e : Entry T) → HasPut S v l e R
+      → value_in R (pointer_in e) ≡ Some v
+  put_shown {S} {R} v l e put = same_id_sees R (pointer_in e) put.0 put.2
+      ∙ (meets_tells S R (Make None v l) (Made put.0) put.1).1
+
+  pub put_fresh : {S R : State T} (v : T) (l : Location) (e : Entry T) → HasPut S v l e R
+      → IsGiven S (name_of (pointer_in e)) → ⊥
+  put_fresh {S} {R} v l e put was = true≢false (sym (subst (λ id. IsGiven S (name_in id)) put.2 was)
+      ∙ (made_new S R (Make None v l) put.0 put.1).1)
+
+  pub put_given : {S R : State T} (v : T) (l : Location) (e : Entry T) → HasPut S v l e R
+      → IsGiven R (name_of (pointer_in e))
+  put_given {S} {R} v l e put = subst (λ id. IsGiven R (name_in id)) (sym put.2)
+      (made_new S R (Make None v l) put.0 put.1).2
+
+  pub put_beside : {S R : State T} → IsSound S → (v : T) (l : Location) (e f : Entry T) → HasPut S v l e R
+      → IsOther e f → value_in R (pointer_in f) ≡ value_in S (pointer_in f)
+  put_beside {S} {R} s v l e f put other = others_left _ _ put.1 put.0 (pointer_in f)
+      (made_new S R (Make None v l) put.0 put.1).0
+      (same_value S R (Make None v l) (Made put.0) s put.1 (pointer_in f) tt) (λ same. other (put.2 ∙ same))
+
+  pub put_leaves : {S R : State T} → IsSound S → (v : T) (l : Location) (e f : Entry T) → HasPut S v l e R
+      → IsGiven S (name_of (pointer_in f)) → value_in R (pointer_in f) ≡ value_in S (pointer_in f)
+  put_leaves {S} {R} s v l e f put was = same_value S R (Make None v l) (Made put.0) s put.1 (pointer_in f) tt
+      (given_other S R (Make None v l) (Made put.0) (pointer_in f) put.1 was)
+
+  pub put_apart : {S R : State T} (v : T) (l : Location) (e f : Entry T) → HasPut S v l e R
+      → IsGiven S (name_of (pointer_in f)) → name_of (pointer_in e) ≢ name_of (pointer_in f)
+  put_apart {S} {R} v l e f put was is = put_fresh v l e put (subst (IsGiven S) (sym is) was)
+
+-- one name is among a list of it
+pub one_named : (n : Name) → among (n ∷ []) n ≡ true
+one_named n = grind (arith, name_here n)
+
+-- where one entry's value ended, each other shows what it showed
+pub lost_beside : {T : Type 0} {S R : State T} → IsSound S → (e f : Entry T) → (pointer_in e).id.store ≡ S.number
+    → HasLost S (name_of (pointer_in e) ∷ []) R → IsOther e f → value_in R (pointer_in f) ≡ value_in S (pointer_in f)
+lost_beside {S = S} {R} s e f own lost other = ⊎_elim
+    (λ listed. ended_both listed)
+    (λ out. lost.others (pointer_in f) out) (cases_Bool (among (name_of (pointer_in e) ∷ []) (name_of (pointer_in f))))
+  where
+    ended_both : among (name_of (pointer_in e) ∷ []) (name_of (pointer_in f)) ≡ true
+        → value_in R (pointer_in f) ≡ value_in S (pointer_in f)
+    ended_both listed = lost.ended (pointer_in f) listed ∙ sym (by_option (value_in S (pointer_in f)) (λ none. none)
+        (λ v is. absurd (other (grind (
+          arith,
+          own,
+          seen_store S (pointer_in f) s (ap is_some is),
+          name_same (name_of (pointer_in f)) (name_of (pointer_in e)),
+          listed,
+        )))))

@@ -1,4 +1,3 @@
-pub mod Entries
 pub mod Keeping
 pub mod Sessions
 pub mod Tables

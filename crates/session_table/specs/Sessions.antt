@@ -3,8 +3,12 @@ use Rattle.std.specs.Prelude.{ℕ, Bool, not, nat_lt, List, [], ◌∷◌, ◌++
 use Rattle.std.specs.Map.{lookup, remove_entry}
 use Rattle.generational_core.specs.Boxes.{name_of}
 use Rattle.generational_core.specs.Names.{Name}
-use Rattle.session_table.specs.declared.entry.Entry.{Entry}
-use Rattle.session_table.specs.Entries.{pointer_in}
+use Rattle.handles.specs.Handles.{pointer_in}
+use Rattle.handles.specs.declared.handle.Handle.{Handle}
+use Rattle.session_table.specs.declared.entry.EntryKind.{EntryKind}
+
+abbrev pub Entry : Type 0 → Type 0
+Entry T = Handle T EntryKind
 
 -- a session: the time of its last use, and its entries by their keys, in the order in which they were put
 pub record LiveSession (K T : Type 0) : Type 0 where

@@ -8,15 +8,17 @@ use Rattle.generational_core.specs.Boxes.{name_of}
 use Rattle.generational_core.specs.Names.{among}
 use Rattle.generational_core.specs.Seeing.{value_in}
 use Rattle.generational_core.specs.State.{State, IsGiven}
-use Rattle.session_table.specs.declared.entry.Entry.{Entry}
+use Rattle.generational_errors.specs.declared.error.Location.{Location}
+use Rattle.handles.specs.Handles.{pointer_in}
+use Rattle.handles.specs.Sites.{told_at}
 use Rattle.session_table.specs.declared.session.Session.{Session}
-use Rattle.session_table.specs.Entries.{pointer_in}
-use Rattle.session_table.specs.Sessions.{LiveSession, names_in, names_of}
+use Rattle.session_table.specs.Sessions.{Entry, LiveSession, names_in, names_of}
 
--- the state of the store, and the sessions under their ids
+-- the state of the store, the sessions under their ids, and the locations at which values were put
 pub record TableState (I K T : Type 0) : Type 0 where
   pub state : State T
   pub sessions : List (I × LiveSession K T)
+  pub sites : List Location
 
 -- the rows that pass a test: from the front on, the last one takes the place of each that doesn't. So
 -- many are looked at as are left, or as the number says
@@ -34,8 +36,8 @@ abbrev pub live_row : {I K T : Type 0} → I × Session K T → I × LiveSession
 live_row e = (e.0, live e.1)
 
 module _ {I K T : Type 0} where
-  abbrev pub table_of : State T → List (I × Session K T) → TableState I K T
-  table_of S rows = record { state = S; sessions = list_map live_row rows }
+  abbrev pub table_of : State T → List (I × Session K T) → List Location → TableState I K T
+  table_of S rows sites = record { state = S; sessions = list_map live_row rows; sites = sites }
 
   -- what an entry shows: its value, or nothing once it was removed or its session has ended
   abbrev pub shown_in : TableState I K T → Entry T → Option T
@@ -44,6 +46,15 @@ module _ {I K T : Type 0} where
   -- an entry that the table gave, once
   abbrev pub WasPut : TableState I K T → Entry T → Type 0
   WasPut t e = IsGiven t.state (name_of (pointer_in e))
+
+  -- where an entry's value was put, as the table tells it: nothing of another table's
+  abbrev pub created_at : TableState I K T → Entry T → Option Location
+  created_at t e = told_at t.state.number t.sites e
+
+  -- what a table tells of where a value was put, it tells for good
+  abbrev pub KeepsTelling : TableState I K T → TableState I K T → Type 0
+  KeepsTelling old new =
+      (e : Entry T) (l : Location) → created_at old e ≡ Some l → created_at new e ≡ Some l
 
   -- by what `==` says of ids: the session of an id, if there is one, whether there is, and whether it
   -- keeps an entry
@@ -79,4 +90,5 @@ module _ {I K T : Type 0} where
       pub left : (e : Entry T) → among (names_of ended.1.entries) (name_of (pointer_in e)) ≡ false
           → shown_in u e ≡ shown_in t e
       pub put : (e : Entry T) → WasPut t e → WasPut u e
+      pub told : (e : Entry T) → created_at u e ≡ created_at t e
       pub ticket : u.state.next ≡ t.state.next

@@ -1,16 +1,12 @@
 -- What the errors of tables of sessions print.
-use Rattle.std.specs.Prelude.{ℕ, List, ◌++◌, codes}
-use Rattle.generational_errors.specs.declared.error.Location.{Location}
-use Rattle.generational_errors.specs.Texts.{location_text, store_error_text}
+use Rattle.std.specs.Prelude.{ℕ, List, codes}
+use Rattle.generational_errors.specs.Texts.{store_error_text}
 use Rattle.session_table.specs.declared.entry.PutError.{PutError}
 use Rattle.session_table.specs.declared.entry.PutError.TheVariants as put
 use Rattle.session_table.specs.declared.session.LoginError.{LoginError}
 use Rattle.session_table.specs.declared.session.LoginError.TheVariants as login
 use Rattle.session_table.specs.declared.session.RenameError.{RenameError}
 use Rattle.session_table.specs.declared.session.RenameError.TheVariants as rename
-
-abbrev pub stale_text : Location → List ℕ
-stale_text l = codes "the entry put at " ++ (location_text l ++ codes " is gone")
 
 abbrev pub put_error_text : PutError → List ℕ
 put_error_text put.NoSession = codes "the id has no session"

@@ -1,29 +1,36 @@
 //! Sessions: what a table keeps under an id, from its login to its end. They are a user's, and have
 //! nothing of the machine's runs, which `generational_sessions` calls so.
 
-ghost use Rattle.std.specs.Prelude.{◌≡◌, ◌⊎◌, ◌++◌, ◌∷◌, [], true, Some, is_some, IfOk, IfErr, IsErrAnd, OnErr, IfNone};
+ghost use Rattle.std.specs.Prelude.{◌≡◌, ◌⊎◌, ◌++◌, ◌∷◌, [], true, Some, is_some, slice_get, IfOk, IfErr, IsErrAnd, OnErr, IfNone};
+ghost use Rattle.std.specs.List.{IsDistinct};
 ghost use Rattle.std.specs.Map.{lookup, remove_entry};
-ghost use Rattle.generational_core.specs.Leaving.{HasNoBorrows};
-ghost use Rattle.generational_core.specs.Machine.{ownership};
-ghost use Rattle.generational_core.specs.Machine.Action.{Make, ReleaseOwner};
-ghost use Rattle.generational_core.specs.Machine.Answer.{Made, Done};
-ghost use Rattle.generational_core.specs.Steps.{Meets};
+ghost use Rattle.generational_core.specs.Boxes.{name_of};
+ghost use Rattle.generational_core.specs.Names.{is_name};
+ghost use Rattle.generational_core.specs.Seeing.{value_in};
+ghost use Rattle.generational_errors.specs.declared.error.Location.{Location};
 ghost use Rattle.generational_errors.specs.declared.error.StoreError.TheVariants.{OutOfMemory};
+ghost use Rattle.generational_sessions.specs.PlainStores.{IsSimple};
+ghost use Rattle.handles.specs.Handles.{pointer_in};
+ghost use Rattle.handles.specs.Sites.{Tells, told_at, told_in};
 ghost use Rattle.session_table.specs.declared.entry.PutError.TheVariants as put;
-ghost use Rattle.session_table.specs.Entries.{pointer_in};
+ghost use Rattle.session_table.specs.Keeping.{AreLive, HasLost, HasPut};
+ghost use Rattle.session_table.specs.Sessions.{Entry, names_of};
 
 use crate::entry::{Entry, PutError};
 use crate::walk::Entries;
-use generational_core::{HandedBack, Location, Owner, Refusal, Storage, StoreError};
+use generational_core::{HandedBack, Location, Refusal, Storage, StoreError};
+use handles::parts::{Sites, handle_at, pointer_to};
 use indexmap::IndexMap;
 use std::error::Error;
 use std::fmt;
 use std::hash::Hash;
 
+/// How many slots there may be: an entry has 32 bits for its own.
+const SLOTS: usize = 4294967296;
+
 /// A session that is logged in. Its table keeps it under its id.
 pub struct Session<K: Eq + Hash, T> {
     pub(crate) used_at: u64,
-    pub(crate) owner: Owner,
     pub(crate) entries: IndexMap<K, Entry<T>>,
 }
 
@@ -73,20 +80,23 @@ impl<K: Eq + Hash, T> Session<K, T> {
     pub(crate) fn keep<S: Storage<T>>(
         &mut self,
         store: &mut S,
+        sites: &mut Sites,
         key: K,
         value: T,
         here: Location,
     ) -> Result<Entry<T>, HandedBack<(K, T), PutError>>
     where
         K: Drop,
-        requires { is_some (ownership (S.state store.old) self.old.owner) ≡ true }
+        requires { IsSimple (S.state store.old) }
         ensures entries { IfOk result (λ e. self.new.entries.entries
             ≡ self.old.entries.entries ++ (key, e) ∷ []) }
-        ensures owner { self.new.owner ≡ self.old.owner }
         ensures used { self.new.used_at ≡ self.old.used_at }
-        ensures step { IfOk result (λ e. Meets (S.state store.old)
-            (Make (Some self.old.owner) value here) (Made (pointer_in e)) (S.state store.new)) }
-        ensures here { IfOk result (λ e. (pointer_in e).created_at ≡ here) }
+        ensures put { IfOk result (λ e. HasPut (S.state store.old) value here e (S.state store.new)) }
+        ensures here { IfOk result (λ e.
+            Tells (told_at (S.state store.old).number (told_in sites.new) e) here) }
+        ensures tells { (e : Entry T) (l : Location) →
+            told_at (S.state store.old).number (told_in sites.old) e ≡ Some l →
+            told_at (S.state store.old).number (told_in sites.new) e ≡ Some l }
         ensures in_use { is_some (lookup (K.eq key) self.old.entries.entries) ≡ true →
             IsErrAnd result (λ refusal. refusal.cause ≡ put.KeyInUse) }
         ensures short { IfErr result (λ refusal.
@@ -94,22 +104,27 @@ impl<K: Eq + Hash, T> Session<K, T> {
             ⊎ (refusal.cause ≡ put.Store OutOfMemory)) }
         ensures back { IfErr result (λ refusal. refusal.value ≡ (key, value)) }
         ensures same { OnErr result (self.new.entries.entries ≡ self.old.entries.entries) }
+        ensures sites { OnErr result (told_in sites.new ≡ told_in sites.old) }
         ensures refused { OnErr result (S.state store.new ≡ S.state store.old) }
     {
         if self.entries.contains_key(&key) {
             return Err(not_put(key, value, PutError::KeyInUse));
         }
-        if self.entries.reserve(1).is_err() {
-            let cause = PutError::Store(StoreError::OutOfMemory);
-            return Err(not_put(key, value, cause));
+        let lacking = PutError::Store(StoreError::OutOfMemory);
+        if store.slots() >= SLOTS || self.entries.reserve(1).is_err() {
+            return Err(not_put(key, value, lacking));
         }
-        let raw = match self.owner.insert(store, value, here) {
+        let Ok(site) = sites.find_or_add(here) else {
+            return Err(not_put(key, value, lacking));
+        };
+        let raw = match store.new(value, here, None) {
             Ok(raw) => raw,
             Err(Refusal { value, cause }) => {
                 return Err(not_put(key, value, PutError::Store(cause)));
             }
         };
-        let entry = Entry { raw };
+        let entry = handle_at(raw.id, site);
+        sites.tell(site);
         match self.entries.insert(key, entry) {
             Ok(_) => Ok(entry),
             Err(_) => unreachable!(),
@@ -123,7 +138,6 @@ impl<K: Eq + Hash, T> Session<K, T> {
         ensures entry { result ≡ lookup (K.eq key.now) self.old.entries.entries }
         ensures entries { self.new.entries.entries
             ≡ remove_entry (K.eq key.now) self.old.entries.entries }
-        ensures owner { self.new.owner ≡ self.old.owner }
         ensures used { self.new.used_at ≡ self.old.used_at }
         ensures same { IfNone result (self.new.entries.entries ≡ self.old.entries.entries) }
     {
@@ -134,19 +148,41 @@ impl<K: Eq + Hash, T> Session<K, T> {
     pub(crate) fn end<S: Storage<T>>(self, store: &mut S)
     where
         K: Drop,
-        requires quiet { HasNoBorrows (S.state store.old) }
-        requires known { is_some (ownership (S.state store.old) self.owner) ≡ true }
-        ensures { Meets (S.state store.old) (ReleaseOwner self.owner) Done (S.state store.new) }
+        requires simple { IsSimple (S.state store.old) }
+        requires live { AreLive (S.state store.old) self.entries.entries }
+        requires once { IsDistinct is_name (names_of self.entries.entries) }
+        ensures { HasLost (S.state store.old) (names_of self.entries.entries) (S.state store.new) }
     {
         let Session {
             used_at: _,
-            owner,
-            entries: _entries,
+            entries,
         } = self;
-        match owner.release(store) {
-            Ok(()) => {}
-            Err(_) => unreachable!(),
+        let mut next = 0;
+        'ends: while next < entries.len() {
+            end_at(store, &entries, next);
+            next += 1;
         }
+    }
+}
+
+// Ends the value of the entry at a place.
+fn end_at<K: Eq + Hash, T, S: Storage<T>>(
+    store: &mut S,
+    entries: &IndexMap<K, Entry<T>>,
+    place: usize,
+)
+    requires simple { IsSimple (S.state store.old) }
+    requires live { (k : K) (e : Entry T) → slice_get entries.now.entries place ≡ Some (k, e) →
+        is_some (value_in (S.state store.old) (pointer_in e)) ≡ true }
+    ensures { (k : K) (e : Entry T) → slice_get entries.now.entries place ≡ Some (k, e) →
+        HasLost (S.state store.old) (name_of (pointer_in e) ∷ []) (S.state store.new) }
+{
+    let Some((_, entry)) = entries.get_index(place) else {
+        return;
+    };
+    match store.recycle(pointer_to(*entry)) {
+        Ok(()) => {}
+        Err(_) => unreachable!(),
     }
 }
 
@@ -163,7 +199,7 @@ pub(crate) fn not_put<K, T>(key: K, value: T, cause: PutError) -> HandedBack<(K,
 pub enum LoginError {
     /// The id has a session already.
     IdInUse,
-    /// The store refused.
+    /// Memory ran out.
     Store(StoreError),
 }
 
@@ -190,7 +226,7 @@ pub enum RenameError {
     NoSession,
     /// The new id has a session already.
     IdInUse,
-    /// The store refused.
+    /// Memory ran out.
     Store(StoreError),
 }
 

@@ -10,42 +10,45 @@ ghost use Rattle.generational_core.specs.Conditions.{IsFresh};
 ghost use Rattle.generational_core.specs.Leaving.{HasNoBorrows};
 ghost use Rattle.generational_core.specs.Machine.{OwnerName, ownership};
 ghost use Rattle.generational_core.specs.Seeing.{value_in};
-ghost use Rattle.generational_errors.specs.declared.error.StoreError.{StoreError};
+ghost use Rattle.generational_errors.specs.declared.error.Location.{Location};
 ghost use Rattle.generational_errors.specs.declared.error.StoreError.TheVariants.{OutOfMemory};
-ghost use Rattle.generational_sessions.specs.Lacking.{Lacks};
-ghost use Rattle.session_table.specs.declared.entry.Entry.{Entry};
+ghost use Rattle.handles.specs.Handles.{pointer_in, IsOther};
+ghost use Rattle.handles.specs.Sites.{Tells};
 ghost use Rattle.session_table.specs.declared.entry.PutError.TheVariants as put;
 ghost use Rattle.session_table.specs.declared.session.LoginError.TheVariants as login;
 ghost use Rattle.session_table.specs.declared.session.RenameError.TheVariants as rename;
-ghost use Rattle.session_table.specs.Entries.{pointer_in, put_at, IsOther};
-ghost use Rattle.session_table.specs.Sessions.{LiveSession, begun, used, with_entry, without_entry, entry_in};
+ghost use Rattle.session_table.specs.Sessions.{Entry, LiveSession, begun, used, with_entry, without_entry, entry_in};
 ghost use Rattle.session_table.specs.Sessions.{is_young, if_young};
-ghost use Rattle.session_table.specs.Tables.{EndsAt, TableState, live, shown_in, keeps, swap_retain};
+ghost use Rattle.session_table.specs.Tables.{EndsAt, KeepsTelling, TableState, created_at, live, shown_in, keeps, swap_retain};
 ghost use Rattle.indexmap.specs.IndexMap.{swap_remove_entry};
 ghost use Rattle.session_table.specs.Tables.{has_session, session_in, WasPut, IsOrderly};
 
-use crate::entry::{Entry, PutError, Stale};
+use crate::entry::{Entry, PutError};
 use crate::session::{LoginError, RenameError, Session, not_put};
 use crate::walk::Sessions;
 use generational_core::{HandedBack, Location, Storage, StoreError};
+use handles::Stale;
+use handles::parts::{Sites, number_of, peek, pointer_to, site_of};
 use indexmap::IndexMap;
 use std::alloc::Global;
 use std::hash::Hash;
 use std::marker::{Model, PhantomData};
 
 /// Sessions under ids, with what they keep under keys. Contracts see the machine's state, which says
-/// what each entry shows, and the sessions with their entries.
+/// what each entry shows, the sessions with their entries, and the locations where values were put.
 ///
 /// It has no `Drop`: `finish` must spend it.
 pub struct SessionTable<I: Eq + Hash, K: Eq + Hash, T, S: Storage<T>> {
     store: S,
     rows: IndexMap<I, Session<K, T>>,
+    sites: Sites,
     marker: PhantomData<T>,
 }
 
 impl<I: Eq + Hash, K: Eq + Hash, T, S: Storage<T>> Model for SessionTable<I, K, T, S> {
     ghost use Rattle.std.specs.Coded.{codes};
     ghost use Rattle.std.specs.FinMap as map;
+    ghost use Rattle.handles.specs.Sites.{told_in};
     ghost use Rattle.session_table.specs.Tables.{TableState, table_of};
     ghost use Rattle.session_table.specs.Keeping.{IsKept, held_in};
 
@@ -53,7 +56,7 @@ impl<I: Eq + Hash, K: Eq + Hash, T, S: Storage<T>> Model for SessionTable<I, K, 
 
     ghost coded = { Prim.hlevel (codes, map.code) };
 
-    ghost view = { λ t. table_of (S.state t.store) t.rows.entries };
+    ghost view = { λ t. table_of (S.state t.store) t.rows.entries (told_in t.sites) };
 
     ghost invariant = { λ t. IsKept (S.state t.store) I.eq (held_in I.eq t.rows.entries) };
 }
@@ -67,24 +70,26 @@ impl<I: Eq + Hash, K: Eq + Hash, T, S: Storage<T>> SessionTable<I, K, T, S> {
     /// ```
     pub fn new(alloc: Global, store: S) -> Self
         requires { IsFresh (S.state store) }
-        ensures table { result ≡ record { state = S.state store; sessions = [] } }
+        ensures table { result ≡ record { state = S.state store; sessions = []; sites = [] } }
         ensures none { (e : Entry T) → shown_in result e ≡ None }
     {
         SessionTable {
             store,
             rows: IndexMap::new(alloc),
+            sites: Sites::new(alloc),
             marker: PhantomData,
         }
     }
 
     /// Begins a session of an id, which was last used now and keeps nothing yet. It comes last; the
-    /// others are unchanged and keep their places, and every entry shows what it showed.
+    /// others are unchanged and keep their places, and every entry shows what it showed. Amortised O(1).
     ///
-    /// Refused, in this order: `IdInUse`, where the id has a session; `Store` of `OutOfMemory`, where
-    /// the rows find no room; of `NumbersExhausted`, where the store gave all its tickets, of which a
-    /// login uses one; of `OutOfMemory`, where the session's owner finds no room. The id comes back
-    /// then, and the table stays as it was. Takes memory where the rows have no room, and for the
-    /// session's owner. Amortised O(1).
+    /// # Errors
+    ///
+    /// - `IdInUse` if the id has a session.
+    /// - `Store` of `OutOfMemory`. The table allocates if the rows have no room.
+    ///
+    /// The id comes back then, and the table is unchanged.
     ///
     /// ```rust
     /// table.login(7, 1000)?;
@@ -96,14 +101,12 @@ impl<I: Eq + Hash, K: Eq + Hash, T, S: Storage<T>> SessionTable<I, K, T, S> {
         ensures others { (other : I) → I.eq id other ≡ false →
             session_in I.eq self.new other ≡ session_in I.eq self.old other }
         ensures order { OnOk result (self.new.sessions ≡ self.old.sessions ++ (id, begun now) ∷ []) }
-        ensures shown { (e : Entry T) → shown_in self.new e ≡ shown_in self.old e }
-        ensures put { (e : Entry T) → WasPut self.old e → WasPut self.new e }
-        ensures ticket { OnOk result (self.new.state.next ≡ self.old.state.next + 1) }
+        ensures state { self.new.state ≡ self.old.state }
+        ensures sites { self.new.sites ≡ self.old.sites }
         ensures in_use { IsTrue (has_session I.eq self.old id) →
             IsErrAnd result (λ refusal. refusal.cause ≡ login.IdInUse) }
         ensures short { IfErr result (λ refusal. (has_session I.eq self.old id ≡ true)
-            ⊎ ((cause : StoreError) × (refusal.cause ≡ login.Store cause)
-            × Lacks self.old.state cause)) }
+            ⊎ (refusal.cause ≡ login.Store OutOfMemory)) }
         ensures back { IfErr result (λ refusal. refusal.value ≡ id) }
         ensures refused { OnErr result (self.new ≡ self.old) }
     {
@@ -115,16 +118,8 @@ impl<I: Eq + Hash, K: Eq + Hash, T, S: Storage<T>> SessionTable<I, K, T, S> {
             let cause = LoginError::Store(StoreError::OutOfMemory);
             return Err(HandedBack { value: id, cause });
         }
-        let owner = match self.store.owner() {
-            Ok(owner) => owner,
-            Err(cause) => {
-                let cause = LoginError::Store(cause);
-                return Err(HandedBack { value: id, cause });
-            }
-        };
         let session = Session {
             used_at: now,
-            owner,
             entries: IndexMap::new(*self.rows.allocator()),
         };
         match self.rows.insert(id, session) {
@@ -135,12 +130,17 @@ impl<I: Eq + Hash, K: Eq + Hash, T, S: Storage<T>> SessionTable<I, K, T, S> {
     }
 
     /// Keeps a value under a key until the end of an id's session. Its entry is none that was ever
-    /// given, every other entry shows what it showed, and every other session is unchanged.
+    /// given, every other entry shows what it showed, and every other session is unchanged. The table says
+    /// where the value was put as long as it lasts. Amortised O(1).
     ///
-    /// Refused, in this order: `NoSession`, where the id has none; `KeyInUse`, where the session has an
-    /// entry under the key; `Store` of `OutOfMemory`. The key and the value come back then, and the
-    /// table stays as it was. Takes memory where no slot is free, or the session has no room. O(1), but
-    /// for finding room.
+    /// # Errors
+    ///
+    /// - `NoSession` if the id has none.
+    /// - `KeyInUse` if the session has an entry under the key.
+    /// - `Store` of `OutOfMemory`. The table allocates if no slot is free, if the session has no room, or for
+    ///   a location from which nothing was put yet.
+    ///
+    /// The key and the value come back then, and the table is unchanged.
     ///
     /// ```rust
     /// let basket = table.put(&7, 1, 42, here)?;
@@ -170,7 +170,8 @@ impl<I: Eq + Hash, K: Eq + Hash, T, S: Storage<T>> SessionTable<I, K, T, S> {
         ensures left { (f : Entry T) → WasPut self.old f →
             shown_in self.new f ≡ shown_in self.old f }
         ensures new { IfOk result (λ e. WasPut self.old e → ⊥) }
-        ensures here { IfOk result (λ e. put_at e ≡ here) }
+        ensures here { IfOk result (λ e. Tells (created_at self.new e) here) }
+        ensures tells { KeepsTelling self.old self.new }
         ensures put { (f : Entry T) → WasPut self.old f → WasPut self.new f }
         ensures given { IfOk result (λ e. WasPut self.new e) }
         ensures ticket { self.new.state.next ≡ self.old.state.next }
@@ -187,7 +188,8 @@ impl<I: Eq + Hash, K: Eq + Hash, T, S: Storage<T>> SessionTable<I, K, T, S> {
         let Some(session) = self.rows.get_mut(id) else {
             return Err(not_put(key, value, PutError::NoSession));
         };
-        let entry = session.keep(&mut self.store, key, value, here)?;
+        let (store, sites) = (&mut self.store, &mut self.sites);
+        let entry = session.keep(store, sites, key, value, here)?;
         Ok(entry)
     }
 
@@ -213,12 +215,42 @@ impl<I: Eq + Hash, K: Eq + Hash, T, S: Storage<T>> SessionTable<I, K, T, S> {
     pub fn shows(&self, entry: Entry<T>) -> bool
         ensures { result ≡ is_some (shown_in self.now entry) }
     {
-        entry.raw.peek(&self.store).is_some()
+        peek(&self.store, entry).is_some()
     }
 
-    /// An entry's value. The table is lent meanwhile.
+    /// Where an entry's value was put, also once it is gone; None of another table's. Doesn't allocate, and
+    /// is O(1).
     ///
-    /// Fails if the entry is gone, or is of a store with another number. Doesn't allocate, and is O(1).
+    /// ```rust
+    /// if let Some(created_at) = table.created_at(basket) {
+    ///     println!(rt; "put at {created_at}")?;
+    /// }
+    /// ```
+    pub fn created_at(&self, entry: Entry<T>) -> Option<Location>
+        ensures { result ≡ created_at self.now entry }
+    {
+        if number_of(entry) != self.store.number() {
+            return None;
+        }
+        self.sites.get(site_of(entry))
+    }
+
+    // That an entry shows nothing, and where its value was put.
+    #[cold]
+    #[inline(never)]
+    fn stale(&self, entry: Entry<T>) -> Stale
+        ensures { result.created_at ≡ created_at self.now entry }
+    {
+        Stale {
+            created_at: self.created_at(entry),
+        }
+    }
+
+    /// An entry's value. The table is borrowed meanwhile. Doesn't allocate, and is O(1).
+    ///
+    /// # Errors
+    ///
+    /// `Stale` if the entry is gone, or is another table's.
     ///
     /// ```rust
     /// let count = *table.get(basket)?;
@@ -226,21 +258,23 @@ impl<I: Eq + Hash, K: Eq + Hash, T, S: Storage<T>> SessionTable<I, K, T, S> {
     pub fn get(&self, entry: Entry<T>) -> Result<&T, Stale>
         ensures seen { IfOk result (λ value. shown_in self.now entry ≡ Some value.now) }
         ensures stale { IsErr result ↔ shown_in self.now entry ≡ None }
-        ensures told { IfErr result (λ stale. stale.put_at ≡ put_at entry) }
+        ensures told { IfErr result (λ stale. stale.created_at ≡ created_at self.now entry) }
     {
-        match entry.raw.peek(&self.store) {
+        match peek(&self.store, entry) {
             Some(value) => Ok(value),
-            None => Err(Stale {
-                put_at: entry.put_at(),
-            }),
+            None => Err(self.stale(entry)),
         }
     }
 
-    /// Puts another value in the place of an entry's, which is let go. Every other entry shows what it
-    /// showed, and the sessions stay.
+    /// Replaces an entry's value, and drops the old one. Every other entry shows what it showed, and the
+    /// sessions stay.
     ///
-    /// Fails if the entry is gone, or is of a store with another number: the value comes back, and the
-    /// table is unchanged. Doesn't allocate, and is O(1), but for dropping the old value.
+    /// Doesn't allocate, and is O(1), but for dropping the old value.
+    ///
+    /// # Errors
+    ///
+    /// `Stale` if the entry is gone, or is another table's. The value comes back, and the table is
+    /// unchanged.
     ///
     /// ```rust
     /// if let Err(refusal) = table.set(basket, 43) {
@@ -255,27 +289,29 @@ impl<I: Eq + Hash, K: Eq + Hash, T, S: Storage<T>> SessionTable<I, K, T, S> {
             shown_in self.new f ≡ shown_in self.old f }
         ensures sessions { self.new.sessions ≡ self.old.sessions }
         ensures put { (f : Entry T) → WasPut self.old f → WasPut self.new f }
+        ensures tells { (f : Entry T) → created_at self.new f ≡ created_at self.old f }
         ensures ticket { self.new.state.next ≡ self.old.state.next }
         ensures stale { IsErr result ↔ shown_in self.old entry ≡ None }
-        ensures told { IfErr result (λ refusal. refusal.cause.put_at ≡ put_at entry) }
+        ensures told { IfErr result (λ refusal. refusal.cause.created_at ≡ created_at self.old entry) }
         ensures back { IfErr result (λ refusal. refusal.value ≡ value) }
         ensures refused { OnErr result (self.new ≡ self.old) }
     {
         if !self.shows(entry) {
-            let cause = Stale {
-                put_at: entry.put_at(),
-            };
+            let cause = self.stale(entry);
             return Err(HandedBack { value, cause });
         }
-        entry.raw.set(&mut self.store, value);
+        self.store.replace_value(pointer_to(entry), value);
         Ok(())
     }
 
-    /// Changes an entry's value in its place by a closure, which is called once on it, and answers what
-    /// that answers. Every other entry shows what it showed, and the sessions stay.
+    /// Changes an entry's value in place by a closure, which is called once on it, and returns what
+    /// that returns. Every other entry shows what it showed, and the sessions stay. Doesn't allocate
+    /// itself, and is O(1), but for the closure.
     ///
-    /// Fails if the entry is gone, or is of a store with another number: the closure isn't called, and
-    /// the table is unchanged. Doesn't allocate of its own, and is O(1), but for the closure.
+    /// # Errors
+    ///
+    /// `Stale` if the entry is gone, or is another table's. The closure isn't called then, and the table is
+    /// unchanged.
     ///
     /// ```rust
     /// let more = table.update(basket, |count: &mut u64| {
@@ -293,17 +329,16 @@ impl<I: Eq + Hash, K: Eq + Hash, T, S: Storage<T>> SessionTable<I, K, T, S> {
             shown_in self.new e ≡ shown_in self.old e }
         ensures sessions { self.new.sessions ≡ self.old.sessions }
         ensures put { (e : Entry T) → WasPut self.old e → WasPut self.new e }
+        ensures tells { (e : Entry T) → created_at self.new e ≡ created_at self.old e }
         ensures ticket { self.new.state.next ≡ self.old.state.next }
         ensures stale { IsErr result ↔ shown_in self.old entry ≡ None }
-        ensures told { IfErr result (λ stale. stale.put_at ≡ put_at entry) }
+        ensures told { IfErr result (λ stale. stale.created_at ≡ created_at self.old entry) }
         ensures refused { OnErr result (self.new ≡ self.old) }
     {
         if !self.shows(entry) {
-            return Err(Stale {
-                put_at: entry.put_at(),
-            });
+            return Err(self.stale(entry));
         }
-        Ok(self.store.change_value(entry.raw.pointer(), f))
+        Ok(self.store.change_value(pointer_to(entry), f))
     }
 
     /// Ends the value that an id's session has under a key, and hands it back. Its entry shows nothing
@@ -311,8 +346,7 @@ impl<I: Eq + Hash, K: Eq + Hash, T, S: Storage<T>> SessionTable<I, K, T, S> {
     /// order, every other session is unchanged, and every other entry shows what it showed.
     ///
     /// `None` where the id has no session, or the session no entry under the key: nothing changes then.
-    /// Doesn't allocate; the session's owner still lists what ended, until the session ends. O(k) for k
-    /// entries of the session, since those behind this one move up.
+    /// Doesn't allocate, and is O(k) for k entries of the session, since those behind this one move up.
     ///
     /// ```rust
     /// if let Some(count) = table.remove(&7, &1) {
@@ -339,6 +373,7 @@ impl<I: Eq + Hash, K: Eq + Hash, T, S: Storage<T>> SessionTable<I, K, T, S> {
             entry_in K.eq (session_in I.eq self.old id.now) key.now ≡ Some e →
             (f : Entry T) → IsOther e f → shown_in self.new f ≡ shown_in self.old f }
         ensures put { (f : Entry T) → WasPut self.old f → WasPut self.new f }
+        ensures tells { (f : Entry T) → created_at self.new f ≡ created_at self.old f }
         ensures ticket { self.new.state.next ≡ self.old.state.next }
         ensures unchanged { IfNone result (self.new ≡ self.old) }
     {
@@ -348,7 +383,7 @@ impl<I: Eq + Hash, K: Eq + Hash, T, S: Storage<T>> SessionTable<I, K, T, S> {
         let Some(entry) = session.forget(key) else {
             return None;
         };
-        match entry.raw.take(&mut self.store) {
+        match self.store.take_value(pointer_to(entry)) {
             Some(value) => Some(value),
             None => unreachable!(),
         }
@@ -368,6 +403,7 @@ impl<I: Eq + Hash, K: Eq + Hash, T, S: Storage<T>> SessionTable<I, K, T, S> {
             session_in I.eq self.new other ≡ session_in I.eq self.old other }
         ensures count { length self.new.sessions ≡ length self.old.sessions }
         ensures state { self.new.state ≡ self.old.state }
+        ensures sites { self.new.sites ≡ self.old.sites }
     {
         let Some(session) = self.rows.get_mut(id) else {
             return false;
@@ -383,7 +419,7 @@ impl<I: Eq + Hash, K: Eq + Hash, T, S: Storage<T>> SessionTable<I, K, T, S> {
     ///
     /// Refused, in this order: `NoSession`, where the id has none; `IdInUse`, where the new id has one,
     /// also where both are one; `Store` of `OutOfMemory`. The new id comes back then, and the table is
-    /// unchanged. Takes memory where the rows have no room. Amortised O(1).
+    /// unchanged. The table allocates if the rows have no room. Amortised O(1).
     ///
     /// ```rust
     /// table.rename(&visitor, user).ok()?;
@@ -402,6 +438,7 @@ impl<I: Eq + Hash, K: Eq + Hash, T, S: Storage<T>> SessionTable<I, K, T, S> {
             ++ (to, session) ∷ []) }
         ensures count { length self.new.sessions ≡ length self.old.sessions }
         ensures state { self.new.state ≡ self.old.state }
+        ensures sites { self.new.sites ≡ self.old.sites }
         ensures unknown { has_session I.eq self.old id.now ≡ false →
             IsErrAnd result (λ refusal. refusal.cause ≡ rename.NoSession) }
         ensures in_use { has_session I.eq self.old id.now ≡ true →
@@ -465,6 +502,7 @@ impl<I: Eq + Hash, K: Eq + Hash, T, S: Storage<T>> SessionTable<I, K, T, S> {
         ensures left { (e : Entry T) → keeps I.eq self.old id.now e ≡ false →
             shown_in self.new e ≡ shown_in self.old e }
         ensures put { (e : Entry T) → WasPut self.old e → WasPut self.new e }
+        ensures tells { (e : Entry T) → created_at self.new e ≡ created_at self.old e }
         ensures ticket { self.new.state.next ≡ self.old.state.next }
         ensures none { IsFalse result → self.new ≡ self.old }
     {
@@ -526,6 +564,7 @@ impl<I: Eq + Hash, K: Eq + Hash, T, S: Storage<T>> SessionTable<I, K, T, S> {
             has_session I.eq self.new id ≡ true → shown_in self.new e ≡ shown_in self.old e }
         ensures none { (e : Entry T) → shown_in self.old e ≡ None → shown_in self.new e ≡ None }
         ensures put { (e : Entry T) → WasPut self.old e → WasPut self.new e }
+        ensures tells { (e : Entry T) → created_at self.new e ≡ created_at self.old e }
         ensures ticket { self.new.state.next ≡ self.old.state.next }
     {
         let count = self.len();
@@ -540,8 +579,8 @@ impl<I: Eq + Hash, K: Eq + Hash, T, S: Storage<T>> SessionTable<I, K, T, S> {
         count - self.len()
     }
 
-    /// Ends all sessions and all that they keep, and hands back the store, which has nothing then: no
-    /// value, no borrow and no owner. Never refused. Doesn't allocate. O(n + k) for n sessions and k
+    /// Ends all sessions and all that they keep, and returns the store, which has nothing then: no
+    /// value, no borrow and no owner. Never fails. Doesn't allocate. O(n + k) for n sessions and k
     /// entries.
     ///
     /// ```rust
@@ -561,6 +600,7 @@ impl<I: Eq + Hash, K: Eq + Hash, T, S: Storage<T>> SessionTable<I, K, T, S> {
         let SessionTable {
             store,
             rows,
+            sites: _,
             marker: _,
         } = self;
         rows.destroy_empty();

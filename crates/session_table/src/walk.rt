@@ -70,7 +70,7 @@ pub struct Entries<'a, K, T> {
 
 impl<'a, K, T> Model for Entries<'a, K, T> {
     ghost use Rattle.std.specs.Prelude.{List};
-    ghost use Rattle.session_table.specs.declared.entry.Entry.{Entry};
+    ghost use Rattle.session_table.specs.Sessions.{Entry};
 
     ghost Value = { List (K × Entry T) };
 

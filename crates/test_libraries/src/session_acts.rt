@@ -69,6 +69,13 @@ pub(crate) fn put_at(number: usize) -> Location {
     Location::new("p.rs", u32::try_from(number).unwrap_or(0), 1)
 }
 
+/// How a call on an entry that is gone fails, by its number.
+pub(crate) fn stale_of(number: usize) -> Stale {
+    Stale {
+        created_at: Some(put_at(number)),
+    }
+}
+
 /// A table of sessions over a new store.
 pub(crate) fn sessions_over<T, S: Storage<T>>(
     rt: &impl Abort,
@@ -175,7 +182,7 @@ fn set<S: Storage<u64>>(
     let Err(cause) = answered(rt, table.set(entry, value), &value) else {
         return Reply::Done;
     };
-    assert_same(rt, &cause.put_at, &put_at(number));
+    assert_same(rt, &cause, &stale_of(number));
     Reply::Stale
 }
 
@@ -195,10 +202,7 @@ fn add<S: Storage<u64>>(
     if answer.is_ok() {
         return Reply::Done;
     }
-    let stale = Stale {
-        put_at: put_at(number),
-    };
-    assert_same(rt, &answer, &Err(stale));
+    assert_same(rt, &answer, &Err(stale_of(number)));
     Reply::Stale
 }
 
@@ -258,10 +262,9 @@ fn shows<S: Storage<u64>>(
     let mut number: usize = 0;
     for (entry, shown) in entries.iter().zip(shows) {
         assert_same(rt, &table.shows(*entry), &shown.is_some());
-        let stale = Stale {
-            put_at: put_at(number),
-        };
+        let stale = stale_of(number);
         assert_same(rt, &table.get(*entry).copied(), &shown.ok_or(stale));
+        assert_same(rt, &table.created_at(*entry), &stale.created_at);
         number = number.wrapping_add(1);
     }
 }

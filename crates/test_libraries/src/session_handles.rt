@@ -2,10 +2,10 @@
 
 use crate::expected::{assert_prints, assert_same, given};
 use crate::fresh::{Scene, SceneOfTwo, play, play_two};
-use crate::session_acts::{put_at, sessions_over};
+use crate::session_acts::{sessions_over, stale_of};
 use crate::session_limits::{log_in, put};
 use generational_box::{Storage, StoreError};
-use session_table::{Entry, HandedBack, LoginError, PutError, RenameError, Stale};
+use session_table::{Entry, HandedBack, LoginError, PutError, RenameError, SessionTable, Stale};
 use std::alloc::Global;
 use std::collections::HashMap;
 use std::process::Abort;
@@ -33,9 +33,26 @@ impl SceneOfTwo<u64, u64> for HandlesAreKeys {
         let foreign = put(rt, &mut other, (1, 1), 7);
         found_by_handles(rt, alloc, stale, later, foreign);
         assert!(rt; !table.shows(stale) && table.shows(later) && !table.shows(foreign));
+        is_refused(rt, &mut table, stale, stale_of(3));
+        is_refused(rt, &mut table, foreign, Stale { created_at: None });
         let _left = table.finish();
         let _other = other.finish();
     }
+}
+
+/// Sees that each call on an entry fails.
+fn is_refused<S: Storage<u64>>(
+    rt: &impl Abort,
+    table: &mut SessionTable<u64, u64, u64, S>,
+    entry: Entry<u64>,
+    stale: Stale,
+) {
+    assert_same(rt, &table.created_at(entry), &stale.created_at);
+    assert_same(rt, &table.get(entry).err(), &Some(stale));
+    let set = table.set(entry, 8).map_err(|refusal| refusal.cause);
+    assert_same(rt, &set, &Err(stale));
+    let updated = table.update(entry, |value: &mut u64| *value = 8);
+    assert_same(rt, &updated, &Err(stale));
 }
 
 /// Looks handles up. A copy finds what its original does, and no other.
@@ -82,9 +99,9 @@ impl Scene<u64> for RefusalsPrint {
         let short = StoreError::NumbersExhausted;
         assert_prints(rt, alloc, &LoginError::Store(short), "numbers exhausted");
         let stale = Stale {
-            put_at: entry.put_at(),
+            created_at: table.created_at(entry),
         };
-        let text = "the entry put at p.rs:3:1 is gone";
+        let text = "the value made at p.rs:3:1 is gone";
         assert_prints(rt, alloc, &stale, text);
         let _left = table.finish();
     }

@@ -1,15 +1,15 @@
-//! Tables of sessions whose store has given all its tickets, values that are let go, and callers.
+//! Tables of sessions whose store has given all its tickets, values that are dropped, and callers.
 
 use crate::counted::{Counted, another, assert_count, new_counted};
-use crate::expected::{answered, assert_same, given};
+use crate::expected::{assert_same, given};
 use crate::fresh::{Scene, play, play_at_ticket};
-use crate::session_acts::{put_at, sessions_over};
+use crate::session_acts::{put_at, sessions_over, stale_of};
 use example_libraries::sessions::{
     found_by_key, greatest_key, latest_use, one_visit, seen_after_put, seen_beside, signed_in,
     told_after_logout,
 };
-use generational_box::{Storage, StoreError};
-use session_table::{Entry, LoginError, SessionTable, Stale};
+use generational_box::Storage;
+use session_table::{Entry, SessionTable};
 use std::alloc::Global;
 use std::process::Abort;
 
@@ -32,19 +32,19 @@ pub(crate) fn put<T: Drop, S: Storage<T>>(
     given(rt, table.put(&at.0, at.1, value, put_at(3)))
 }
 
-/// A session whose value is looked at and set, and an id for which no login is left.
-struct TicketsAreUsedUp;
+/// Two sessions that begin, and a value that is looked at and set, without a ticket.
+struct NoTicketIsUsed;
 
-impl Scene<u64> for TicketsAreUsedUp {
+impl Scene<u64> for NoTicketIsUsed {
     fn play<R: Abort, S: Storage<u64> + Drop>(&self, rt: &R, alloc: Global, store: S) {
         let mut table = sessions_over(rt, alloc, store);
         log_in(rt, &mut table, 1);
         let entry = put(rt, &mut table, (1, 1), 5);
-        let short = LoginError::Store(StoreError::NumbersExhausted);
-        assert_same(rt, &answered(rt, table.login(2, 0), &2), &Err(short));
+        log_in(rt, &mut table, 2);
         given(rt, table.set(entry, 6));
         assert_same(rt, &table.get(entry).copied().ok(), &Some(6));
         assert!(rt; table.logout(&1));
+        assert!(rt; table.logout(&2));
         let _left = table.finish();
     }
 }
@@ -128,9 +128,8 @@ fn callers_are_told<S: Storage<u64>>(rt: &impl Abort, table: &mut SessionTable<u
         Ok(entry) => entry,
         Err(_lacking) => rt.abort(),
     };
-    let stale = Stale { put_at: put_at(3) };
     let told = told_after_logout(table, 1, first, 2, 6, put_at(5));
-    assert_same(rt, &told, &Err(stale));
+    assert_same(rt, &told, &Err(stale_of(3)));
     let second = match table.put(&2, 2, 8, put_at(4)) {
         Ok(entry) => entry,
         Err(_lacking) => rt.abort(),
@@ -143,8 +142,7 @@ fn callers_are_told<S: Storage<u64>>(rt: &impl Abort, table: &mut SessionTable<u
     let seen = seen_after_put(table, 1, 2, third, 7, put_at(7));
     assert_same(rt, &seen, &Ok(9));
     assert_same(rt, &table.remove(&2, &3), &Some(9));
-    let gone = Stale { put_at: put_at(6) };
-    assert_same(rt, &table.get(third).copied(), &Err(gone));
+    assert_same(rt, &table.get(third).copied(), &Err(stale_of(6)));
     assert_same(rt, &signed_in(table, 2, 4, 2), &Some(second));
     assert_same(rt, &signed_in(table, 2, 5, 2), &None);
 }
@@ -162,7 +160,7 @@ impl Scene<u64> for CallersAnswer {
 }
 
 #[test]
-fn logins_without_tickets_and_callers(rt: HostRuntime) {
-    play_at_ticket::<u64, TicketsAreUsedUp>(&rt, rt.alloc(), u64::MAX - 1, &TicketsAreUsedUp);
+fn sessions_take_no_ticket_and_callers(rt: HostRuntime) {
+    play_at_ticket::<u64, NoTicketIsUsed>(&rt, rt.alloc(), u64::MAX, &NoTicketIsUsed);
     play::<u64, CallersAnswer>(&rt, rt.alloc(), &CallersAnswer);
 }

@@ -1,43 +1,39 @@
 -- The names of std, of the machine and of the specs that most proofs here cite, passed on from one place.
-pub use Rattle.generational_core.proofs.machine.{given_other, quiet_free, quiet_fresh}
-pub use Rattle.generational_core.proofs.machine.{quiet_releases, quiet_sees, quiet_stays}
-pub use Rattle.generational_core.proofs.machine.{release_leaves, same_reach, same_value}
-pub use Rattle.generational_core.proofs.machine.Calls.{ends, ends_owned, keeps_known, keeps_record}
-pub use Rattle.generational_core.proofs.machine.Calls.{lists, made, owned, seen_reached, sets}
-pub use Rattle.generational_core.proofs.machine.Calls.{unknown_owner, unlisted, unseen}
-pub use Rattle.generational_core.proofs.machine.Calls.Steps.{free_sees, made_new, meets_given}
-pub use Rattle.generational_core.proofs.machine.Calls.Steps.{meets_number, reaches}
-pub use Rattle.generational_core.proofs.machine.Calls.Steps.Changes.{by_cond, held_record}
-pub use Rattle.generational_core.proofs.machine.Calls.Steps.Changes.{last_record, some_live}
+pub use Rattle.generational_core.proofs.machine.{given_other, quiet_ends, quiet_sees, same_value, slot_within}
+pub use Rattle.generational_core.proofs.machine.Calls.{ends, keeps_record, meets_tells, seen_reached, sets, unseen}
+pub use Rattle.generational_core.proofs.machine.Calls.Steps.{made_new, meets_given, meets_number, meets_sound}
 pub use Rattle.generational_core.proofs.maps.Maps.{by_option, name_apart, name_cases, name_here}
 pub use Rattle.generational_core.proofs.maps.Maps.{name_same, name_total}
-pub use Rattle.generational_core.specs.Leaving.{BeginsNoBorrow, GivesOther, IsUnchanged}
-pub use Rattle.generational_core.specs.Machine.{Action, Answer, OwnerName, ownership}
-pub use Rattle.generational_core.specs.Machine.Action.{End, Make, NewOwner, ReleaseOwner, SetValue}
-pub use Rattle.generational_core.specs.Machine.Answer.{Done, Made, Old, Owned}
-pub use Rattle.generational_core.specs.declared.boxes.GenerationalBox.{GenerationalBox}
+pub use Rattle.generational_core.specs.Machine.{OwnerName, ownership}
+pub use Rattle.generational_core.specs.Machine.Action.{End, Make, SetValue}
+pub use Rattle.generational_core.specs.Machine.Answer.{Done, Made, Old}
+pub use Rattle.generational_core.specs.declared.boxes.GenerationalBoxId.{GenerationalBoxId}
 pub use Rattle.generational_core.specs.declared.boxes.GenerationalPointer.{GenerationalPointer}
 pub use Rattle.generational_core.specs.{Names.among, Cells.Cell, Conditions.fresh, State.IsSound}
-pub use Rattle.generational_core.specs.{Seeing.LeavesBox, Leaving.LeavesOwner, Steps.Meets}
+pub use Rattle.generational_core.specs.{Slots.slots, State.IsGiven, Steps.Meets, Boxes.name_in}
 pub use Rattle.generational_core.specs.{Names.Name, Names.name_cmp, Boxes.name_of, State.Ownership}
-pub use Rattle.generational_core.specs.{Answers.pointer_of, State.State, Seeing.value_in}
-unfoldable pub use Rattle.generational_core.specs.{Names.is_name, Borrowing.reach}
+pub use Rattle.generational_core.specs.{State.State, Seeing.value_in}
+unfoldable pub use Rattle.generational_core.specs.{Names.is_name}
 pub use Rattle.generational_errors.specs.declared.error.Location.{Location}
 use Rattle.generational_sessions.proofs.callers as sessions
-pub use sessions.{fresh_listed, fresh_plain, get_take, others_left, put_next, reach_apart}
-pub use sessions.{release_next, seen_store, simple_taken, stays_listed, stays_plain, taken_seen}
-pub use Rattle.generational_sessions.specs.PlainStores.{IsPlain, MakesNoReference}
-pub use Rattle.session_table.specs.Keeping.{Held, held_in, held_of, IsKept, IsOf}
-pub use Rattle.session_table.specs.Sessions.{if_young, is_young, LiveSession, names_in, names_of}
+pub use sessions.{ended_next, fresh_sees, fresh_simple, get_take, made_next, made_simple, making, others_left, reach_apart}
+pub use sessions.{same_id_sees, seen_cell, seen_store, set_seen, simple_still, simple_taken, taken_seen}
+pub use Rattle.generational_sessions.specs.PlainStores.{IsPlain, IsSimple}
+pub use Rattle.handles.proofs.Told.{told_here, told_more}
+pub use Rattle.handles.specs.Handles.{id_in, IsOther, nowhere, pointer_in}
+pub use Rattle.handles.specs.Sites.{SiteState, Tells, told_at, told_in}
+pub use Rattle.location_list.specs.Locations.{IsAt}
+pub use Rattle.session_table.specs.Keeping.{AreLive, HasLost, HasPut, Held, held_in, held_of, IsKept, Shows}
+pub use Rattle.session_table.specs.Sessions.{Entry, if_young, is_young, LiveSession, names_in, names_of}
 pub use Rattle.session_table.specs.Sessions.{stores_of}
-pub use Rattle.session_table.specs.Tables.{EndsAt, has_session, IsOrderly, keeps, live, live_row}
+pub use Rattle.session_table.specs.Tables.{created_at, EndsAt, has_session, IsOrderly, keeps, KeepsTelling, live, live_row}
 pub use Rattle.session_table.specs.Tables.{session_in, shown_in, table_of, TableState, WasPut}
 pub use Rattle.session_table.specs.declared.session.Session.{Session}
-pub use Rattle.session_table.specs.{declared.entry.Entry.Entry, Entries.pointer_in}
 pub use Rattle.std.proofs.Common.{ap, arith, Bool, cond, Err, false, inl, inr, length, List, map}
 pub use Rattle.std.proofs.Common.{None, Ok, Option, refl, rules, Some, subst, sym, take, true, ℕ}
 pub use Rattle.std.proofs.Common.{[], ⊎_elim, ◌++◌, ◌+◌, ◌-◌, ◌<◌, ◌||◌, ◌∙◌, ◌∷◌, ◌≡◌, ◌≢◌, ◌≤◌}
-pub use Rattle.std.proofs.lemmas.Bool.{cases_Bool, cond_both, eqb-true, false_from_ne_true}
+pub use Rattle.std.specs.Cmp.{nat_eq_equiv}
+pub use Rattle.std.proofs.lemmas.Bool.{cases_Bool, cases_eq, cond_both, eqb-true, false_from_ne_true}
 pub use Rattle.std.proofs.lemmas.List.{length-map, map-append, take-map, take-set, take-take}
 pub use Rattle.std.proofs.lemmas.List.Elements.{All-from_recursion, All-push, recursion_from_All}
 pub use Rattle.std.proofs.lemmas.Map.Entries.{lookup_from_place, place_from_lookup}

@@ -1,5 +1,5 @@
 use Rattle.session_table.proofs.{ap, begun_last, changed, live_row, login_rows, map, no_row, none-some}
-use Rattle.session_table.proofs.{other_sessions, own_session, rules, same_value, Some, sym, [], ◌++◌, ◌∙◌, ◌∷◌}
+use Rattle.session_table.proofs.{other_sessions, own_session, refl, rules, Some, sym, [], ◌++◌, ◌∙◌, ◌∷◌}
 use Rattle.session_table.proofs.table.SessionTable.login.Goals as goal
 
 pub unreachable-requires : goal.unreachable-requires
@@ -12,8 +12,8 @@ pub invariant_of-self-2 : goal.invariant_of-self-2
 invariant_of-self-2 g c =
     let none = no_row (g.I.PartialEq.eq c.args.id) c.self.inside.rows.entries
     (rw (← c.self.view_is) at (sym c.has.ensures ∙ c.if-has.false)) in
-    login_rows (g.met.S.AnyStorage.sound _) c.self.invariant (changed g.met.I.Eq.laws c.args.id none
-    (rw c.reserve.ensures.entries at c.in-Ok-None.ensures.updates.0)) c.new.ensures.empty c.in-Ok.ensures
+    login_rows c.self.invariant (changed g.met.I.Eq.laws c.args.id none
+    (rw c.reserve.ensures.entries at c.in-Ok-None.ensures.updates.0)) c.new.ensures.empty
 
 pub returns : goal.returns
 returns g c =
@@ -26,9 +26,8 @@ returns g c =
       others = other_sessions change;
       order = last ∙ ap (λ es. map live_row rows ++ (c.args.id, record { used_at = c.args.now; entries = es }) ∷ [])
           c.new.ensures.empty;
-      shown = λ e. same_value _ _ _ _ (g.met.S.AnyStorage.sound _) c.in-Ok.ensures _ tt tt;
-      put = search rules;
-      ticket = search rules;
+      state = refl;
+      sites = refl;
       in_use = search rules;
       short = search rules;
       back = search rules;

@@ -1,25 +1,25 @@
-use Rattle.session_table.proofs.{ap, changed, given_other, inr, is_some, length-map, live_row, made, made_new}
-use Rattle.session_table.proofs.{map, meets_given, Ok, other_sessions, others_left, own_session, pointer_in}
-use Rattle.session_table.proofs.{put_keeps, put_next, put_rows, put_still, put_unkept, row_known, rules}
-use Rattle.session_table.proofs.{same_held, same_rows, same_sessions, same_value, session_of, Some, sym, ◌∙◌}
+use Rattle.session_table.proofs.{ap, changed, inr, is_some, length-map, live_row, made_next, map, meets_given}
+use Rattle.session_table.proofs.{meets_number, other_sessions, own_session, put_apart, put_beside, put_fresh, put_given}
+use Rattle.session_table.proofs.{put_keeps, put_leaves, put_rows, put_shown, put_still, put_unkept, rules}
+use Rattle.session_table.proofs.{same_held, same_rows, same_sessions, session_of, Some, sym, ◌∙◌}
 use Rattle.session_table.proofs.table.SessionTable.put.Goals as goal
 
 pub keep-requires : goal.keep-requires
-keep-requires g c = row_known g.I.PartialEq.eq _ _ c.self.invariant c.args.id.now _ (sym c.in-Some.ensures.value)
+keep-requires g c = c.self.invariant.simple
 
 pub invariant_of-self-2 : goal.invariant_of-self-2
 invariant_of-self-2 g c =
     let found = sym c.in-Some.ensures.value in
     put_rows (changed g.met.I.Eq.laws c.args.id.now found ((c.get_mut.follows.holds c.keep.new.self).3 (ap is_some found)).0)
     c.args.key c.in_ok-entry.entry c.in_ok-entry.ensures.entries (g.met.S.AnyStorage.sound c.self.inside.store) c.self.invariant
-    c.keep.ensures.owner _ _ c.in_ok-entry.ensures.step
+    _ _ c.in_ok-entry.ensures.put
 
 pub invariant_of-self-in_err-entry : goal.invariant_of-self-in_err-entry
 invariant_of-self-in_err-entry g c =
     let found = sym c.in-Some.ensures.value in
     rw c.in_err-entry.ensures.refused (same_rows (changed g.met.I.Eq.laws c.args.id.now found
     ((c.get_mut.follows.holds c.keep.new.self).3 (ap is_some found)).0) c.self.invariant
-    (same_held c.in-Some.session.now c.keep.new.self c.keep.ensures.owner c.in_err-entry.ensures.same))
+    (same_held c.in-Some.session.now c.keep.new.self c.in_err-entry.ensures.same))
 
 pub returns : goal.returns
 returns g c =
@@ -27,27 +27,28 @@ returns g c =
     let sound = g.met.S.AnyStorage.sound c.self.inside.store in
     let change = changed g.met.I.Eq.laws c.args.id.now found
     ((c.get_mut.follows.holds c.keep.new.self).3 (ap is_some found)).0 in
-    let step = c.in_ok-entry.ensures.step in
+    let put = c.in_ok-entry.ensures.put in
+    let number = meets_number _ _ _ _ put.1 in
     let entry = c.in_ok-entry.entry in
     let entries = c.in_ok-entry.ensures.entries in
     rw (← c.self.view_is, session_of (g.I.PartialEq.eq c.args.id.now) _ found) (record {
-      shown = made _ _ _ (Ok entry.raw) step;
+      shown = put_shown _ _ entry put;
       kept = own_session change
           ∙ (λ j. Some (record { used_at = c.keep.ensures.used j; entries = entries j }));
       keeps = put_keeps change c.args.key entry entries;
       still = put_still change c.args.key entry entries;
       unkept = λ other f given. put_unkept change c.args.key entry entries other f
-          (given_other _ _ _ _ (pointer_in f) step given);
+          (put_apart _ _ entry f put given);
       others = other_sessions change;
       count = simp length-map (c.get_mut.follows.holds c.keep.new.self).2;
-      beside = λ f. others_left _ _ step (pointer_in entry) (pointer_in f) (made_new _ _ _ _ step).0
-          (same_value _ _ _ _ sound step _ tt);
-      left = λ f given. same_value _ _ _ _ sound step _ tt (given_other _ _ _ _ (pointer_in f) step given);
-      new = search rules;
-      here = search rules;
-      put = λ f. meets_given _ _ _ _ step _;
-      given = (made_new _ _ _ _ step).2;
-      ticket = put_next _ _ _ _ _ _ step;
+      beside = λ f. put_beside sound _ _ entry f put;
+      left = λ f. put_leaves sound _ _ entry f put;
+      new = put_fresh _ _ entry put;
+      here = rw number c.in_ok-entry.ensures.here;
+      tells = λ f l told. rw number (c.in_ok-entry.ensures.tells f l told);
+      put = λ f. meets_given _ _ _ _ put.1 _;
+      given = put_given _ _ entry put;
+      ticket = made_next _ _ _ put.1;
       unknown = search rules;
       in_use = c.in_ok-entry.ensures.in_use;
       short = search rules;
@@ -63,7 +64,7 @@ returns-in_err-entry g c =
     ∙ same_sessions (g.I.PartialEq.eq c.args.id.now) _ _ c.keep.new.self found
     (λ j. record { used_at = c.keep.ensures.used j; entries = why.same j }) in
     let session = session_of (g.I.PartialEq.eq c.args.id.now) _ found in
-    rw (← c.self.view_is, why.refused, same, session) (search (rules, inr))
+    rw (← c.self.view_is, why.refused, same, session, why.sites) (search (rules, inr))
 
 pub returns-in_default : goal.returns-in_default
 returns-in_default g c =

@@ -1,7 +1,7 @@
-use Rattle.session_table.proofs.{ap, changed, ends, forgotten_rows, is_some, length-map, live_row, map, none-some}
-use Rattle.session_table.proofs.{Ok, other_sessions, others_left, own_session, pointer_in, row_own, row_shows}
-use Rattle.session_table.proofs.{rules, same_held, same_rows, same_sessions, same_Some, same_value, session_of}
-use Rattle.session_table.proofs.{simple_taken, Some, sym, taken_seen, unseen, ◌∙◌}
+use Rattle.session_table.proofs.{ap, changed, forgotten_rows, is_some, length-map, live_row, lost_beside, lost_one, map}
+use Rattle.session_table.proofs.{name_of, one_named, other_sessions, own_session, pointer_in, row_own, row_shows}
+use Rattle.session_table.proofs.{rules, same_held, same_id_sees, same_rows, same_sessions, same_Some, session_of}
+use Rattle.session_table.proofs.{simple_taken, Some, sym, told_at, told_in, true≢false, ◌∙◌}
 use Rattle.session_table.proofs.table.SessionTable.remove.Goals as goal
 
 pub returns-in_default : goal.returns-in_default
@@ -14,7 +14,7 @@ invariant_of-self-in_default-forget g c =
     let found = sym c.in-Some.ensures.value in
     same_rows (changed g.met.I.Eq.laws c.args.id.now found
     ((c.get_mut.follows.holds c.forget.new.self).3 (ap is_some found)).0) c.self.invariant
-    (same_held c.in-Some.session.now c.forget.new.self c.forget.ensures.owner c.in_default-forget.ensures.same)
+    (same_held c.in-Some.session.now c.forget.new.self c.in_default-forget.ensures.same)
 
 pub returns-in_default-forget : goal.returns-in_default-forget
 returns-in_default-forget g c =
@@ -31,18 +31,21 @@ unreachable-requires g c =
     let sound = g.met.S.AnyStorage.sound c.self.inside.store in
     let k = c.self.invariant in
     let entry = sym c.in-Some-forget.ensures.entry in
-    let seen = row_shows sound _ _ k (sym c.in-Some.ensures.value) _ entry in
-    none-some seen.0 (c.in-None.ensures.value
-    ∙ (simple_taken _ sound k.plain k.unborrowed (pointer_in c.in-Some-forget.entry) ∙ seen.1))
+    let seen = row_shows _ _ k (sym c.in-Some.ensures.value) _ entry in
+    let b = pointer_in c.in-Some-forget.entry in
+    true≢false (sym seen ∙ ap is_some (sym (same_id_sees _ c.pointer_to.result b c.pointer_to.ensures)
+    ∙ (sym (simple_taken _ sound k.simple.plain k.simple.unborrowed c.pointer_to.result)
+    ∙ (sym c.take_value.ensures.value ∙ c.in-None.is))))
 
 pub invariant_of-self-2 : goal.invariant_of-self-2
 invariant_of-self-2 g c =
     let found = sym c.in-Some.ensures.value in
     let change = changed g.met.I.Eq.laws _ found
     ((c.get_mut.follows.holds c.forget.new.self).3 (ap is_some found)).0 in
-    forgotten_rows (g.met.S.AnyStorage.sound _) _ _ c.self.invariant found _
-    (sym c.in-Some-forget.ensures.entry) change
-    c.forget.ensures.entries c.forget.ensures.owner c.in-Some-take.ensures.ended
+    let seen = row_shows _ _ c.self.invariant found _ (sym c.in-Some-forget.ensures.entry) in
+    forgotten_rows _ _ c.self.invariant found _ (sym c.in-Some-forget.ensures.entry) change c.forget.ensures.entries
+    (lost_one (g.met.S.AnyStorage.sound _) c.self.invariant.simple c.in-Some-forget.entry c.pointer_to.result
+    c.pointer_to.ensures seen c.in-Some-take_value.ensures.ended)
 
 pub returns : goal.returns
 returns g c =
@@ -51,21 +54,26 @@ returns g c =
     let sound = g.met.S.AnyStorage.sound c.self.inside.store in
     let change = changed g.met.I.Eq.laws c.args.id.now found
     ((c.get_mut.follows.holds c.forget.new.self).3 (ap is_some found)).0 in
-    let ended = c.in-Some-take.ensures.ended in
+    let k = c.self.invariant in
+    let seen = row_shows _ _ k found _ (sym c.in-Some-forget.ensures.entry) in
+    let lost = lost_one sound k.simple entry c.pointer_to.result c.pointer_to.ensures seen
+    c.in-Some-take_value.ensures.ended in
+    let own = row_own _ _ k found _ (sym c.in-Some-forget.ensures.entry) in
     let session = session_of _ c.self.inside.rows.entries found in
     rw (← c.self.view_is, session, ← c.in-Some-forget.ensures.entry) (record {
-      taken = λ e is. rw (← same_Some entry e is) (sym (taken_seen _ _ _ (sym c.in-Some-take.ensures.value)));
+      taken = λ e is. rw (← same_Some entry e is) (sym (sym (same_id_sees _ c.pointer_to.result (pointer_in entry)
+          c.pointer_to.ensures) ∙ (sym (simple_taken _ sound k.simple.plain k.simple.unborrowed c.pointer_to.result)
+          ∙ (sym c.take_value.ensures.value ∙ c.in-Some-take_value.is))));
       none = search rules;
       kept = λ some.
           let w = c.forget.ensures in
           own_session change ∙ (λ j. Some (record { used_at = w.used j; entries = w.entries j }));
       others = other_sessions change;
       count = simp length-map (c.get_mut.follows.holds c.forget.new.self).2;
-      gone = λ e is. rw (← same_Some entry e is) (unseen _ _ (ends _ {U = Unit {0}} (Ok tt) ended));
-      beside = λ e is f other. others_left _ _ ended (pointer_in entry) (pointer_in f)
-          (row_own sound _ _ c.self.invariant found _ (sym c.in-Some-forget.ensures.entry))
-          (λ ne. same_value _ _ _ _ sound ended _ ne tt) (rw (← same_Some entry e is) at other);
-      put = search rules;
-      ticket = search rules;
+      gone = λ e is. rw (← same_Some entry e is) (lost.ended (pointer_in entry) (one_named (name_of (pointer_in entry))));
+      beside = λ e is f other. lost_beside sound entry f own lost (rw (← same_Some entry e is) at other);
+      put = λ f. lost.given (name_of (pointer_in f));
+      tells = λ f. ap (λ n. told_at n (told_in c.self.inside.sites) f) lost.number;
+      ticket = lost.next;
       unchanged = search rules;
     })

@@ -20,6 +20,7 @@ returns g c =
       others = other_sessions change;
       count = simp length-map (c.get_mut.follows.holds w).2;
       state = refl;
+      sites = refl;
     })
 
 pub returns-in_default : goal.returns-in_default
