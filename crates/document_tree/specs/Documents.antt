@@ -1,19 +1,29 @@
 -- What a caller sees of a document: to which part each place leads, and what it shows.
-use Rattle.std.specs.Prelude.{◌≡◌, ◌≢◌, ◌++◌, ◌∷◌, [], List, Option, None, Some, filter, is_some}
+use Rattle.std.specs.Prelude.{◌≡◌, ◌≢◌, ◌++◌, ◌∷◌, ℕ, Bool, [], List, Option, None, Some, filter, is_some}
+use Rattle.std.specs.Prelude.{slice_get, slice_index_or}
 use Rattle.std.specs.Borrow.{MutBor}
-use Rattle.std.specs.FinMap as map
 use Rattle.std.specs.Fn.{FnOnceReturnsAtMut, Once}
-use Rattle.generational_core.specs.Borrowing.{reach}
 use Rattle.generational_core.specs.Boxes.{name_of}
-use Rattle.generational_core.specs.Cells.{location_of}
-use Rattle.generational_core.specs.Machine.{cell_at}
-use Rattle.generational_core.specs.Names.{Name}
 use Rattle.generational_core.specs.Seeing.{value_in}
 use Rattle.generational_core.specs.State.{State, IsGiven}
-use Rattle.document_tree.specs.declared.part.Part.{Part}
-use Rattle.document_tree.specs.declared.place.Place.{Place}
-use Rattle.document_tree.specs.Places.{made_at, IsOther}
 use Rattle.generational_errors.specs.declared.error.Location.{Location}
+use Rattle.handles.specs.Handles.{IsOther, pointer_in}
+use Rattle.handles.specs.Sites.{told_at}
+use Rattle.handles.specs.declared.handle.Handle.{Handle}
+use Rattle.location_list.specs.Locations.{is_among}
+use Rattle.document_tree.specs.declared.part.Part.{Part}
+use Rattle.document_tree.specs.declared.place.PlaceKind.{PlaceKind}
+
+abbrev pub Place : Type 0
+Place = Handle ℕ PlaceKind
+
+-- the state of the store, in which each place has the key of its part; the parts by their keys; the key of
+-- the next part; and the locations at which parts were added
+pub record DocumentState (T : Type 0) : Type 0 where
+  pub state : State ℕ
+  pub parts : List (Option (Part T))
+  pub next : ℕ
+  pub sites : List Location
 
 -- what a place shows: the content of its part, and that part's children
 pub record Shown (T : Type 0) : Type 0 where
@@ -28,17 +38,39 @@ module _ {T : Type 0} where
   shown_of None = None
   shown_of (Some part) = shown_by part
 
+  -- the part to which a place leads, by its key
+  abbrev pub part_in : DocumentState T → Place → Option ℕ
+  part_in D p = value_in D.state (pointer_in p)
+
+  -- the part under a key, if it is one
+  abbrev pub part_at : List (Option (Part T)) → Option ℕ → Option (Part T)
+  part_at parts None = None
+  part_at parts (Some key) = slice_index_or parts key None
+
   -- what a place shows in a document, or nothing once it is gone
-  abbrev pub shown_in : State (Part T) → Place → Option (Shown T)
-  shown_in D p = shown_of (value_in D p.raw)
+  abbrev pub shown_in : DocumentState T → Place → Option (Shown T)
+  shown_in D p = shown_of (part_at D.parts (part_in D p))
 
-  -- the part to which a place leads, by its name
-  abbrev pub part_in : State (Part T) → Place → Option Name
-  part_in D p = reach D p.raw
+  -- where a place's part was added at first, as the document tells it: nothing of another document's place
+  abbrev pub created_at : DocumentState T → Place → Option Location
+  created_at D p = told_at D.state.number D.sites p
 
-  -- where the part was added to which a place leads
-  abbrev pub added_in : State (Part T) → Place → Option Location
-  added_in D p = location_of (cell_at D (part_in D p))
+  -- whether a part was added at a location with the same letters, line and column
+  abbrev pub is_site : DocumentState T → Location → Bool
+  is_site D here = is_among D.sites here
+
+  -- what a document tells of where a place's part was added, it tells for good
+  abbrev pub KeepsTelling : DocumentState T → DocumentState T → Type 0
+  KeepsTelling old new =
+      (p : Place) (l : Location) → created_at old p ≡ Some l → created_at new p ≡ Some l
+
+  -- where the part was added to which a place leads now
+  abbrev pub site_told : List Location → Option (Part T) → Option Location
+  site_told sites None = None
+  site_told sites (Some part) = slice_get sites part.site
+
+  abbrev pub added_in : DocumentState T → Place → Option Location
+  added_in D p = site_told D.sites (part_at D.parts (part_in D p))
 
   -- the content that a place shows, and the children
   abbrev pub content_of : Option (Shown T) → Option T
@@ -70,20 +102,20 @@ module _ {T : Type 0} where
       × (shown_by new ≡ with_content changed (shown_by old))
 
   -- a list of places without those that lead to no part
-  abbrev pub live_among : State (Part T) → List Place → List Place
+  abbrev pub live_among : DocumentState T → List Place → List Place
   live_among D list = filter (λ p. is_some (part_in D p)) list
 
   -- a place that the document gave, once
-  abbrev pub WasMade : State (Part T) → Place → Type 0
-  WasMade D p = IsGiven D (name_of p.raw)
+  abbrev pub WasMade : DocumentState T → Place → Type 0
+  WasMade D p = IsGiven D.state (name_of (pointer_in p))
 
   -- from D to E a place is left: it leads to the part to which it led, and shows what it showed
-  pub record Leaves (D : State (Part T)) (p : Place) (E : State (Part T)) : Type 0 where
+  pub record Leaves (D : DocumentState T) (p : Place) (E : DocumentState T) : Type 0 where
     pub part : part_in E p ≡ part_in D p
     pub shown : shown_in E p ≡ shown_in D p
 
   -- from D to E the part of a place comes to show something else, and all else is left
-  pub record Changes (D : State (Part T)) (p : Place) (shown : Option (Shown T)) (E : State (Part T))
+  pub record Changes (D : DocumentState T) (p : Place) (shown : Option (Shown T)) (E : DocumentState T)
       : Type 0 where
     pub here : (q : Place) → part_in D q ≡ part_in D p → shown_in E q ≡ shown
     pub others : (q : Place) → part_in D q ≢ part_in D p → Leaves D q E
@@ -91,14 +123,14 @@ module _ {T : Type 0} where
     pub kept : (q : Place) → WasMade D q → WasMade E q
 
   -- no other place leads to a place's part
-  abbrev pub IsOnlyPlace : State (Part T) → Place → Type 0
+  abbrev pub IsOnlyPlace : DocumentState T → Place → Type 0
   IsOnlyPlace D p = (q : Place) → IsOther p q → part_in D q ≢ part_in D p
 
   -- from D to E a place's part has ended
-  abbrev pub EndsPart : State (Part T) → Place → State (Part T) → Type 0
-  EndsPart D p E = (n : Name) → part_in D p ≡ Some n → map.get E.cells n ≡ None
+  abbrev pub EndsPart : DocumentState T → Place → DocumentState T → Type 0
+  EndsPart D p E = (key : ℕ) → part_in D p ≡ Some key → part_at E.parts (Some key) ≡ None
 
-  -- where the first of two places was made that is gone, by what the first shows
-  abbrev pub first_gone : Option (Shown T) → Place → Place → Location
-  first_gone None p q = made_at p
-  first_gone (Some shown) p q = made_at q
+  -- the first of two places that is gone, by what the first shows
+  abbrev pub first_gone : Option (Shown T) → Place → Place → Place
+  first_gone None p q = p
+  first_gone (Some shown) p q = q

@@ -1,15 +1,44 @@
--- What holds of a document's store.
-use Rattle.std.specs.Prelude.{◌≡◌, Some}
-use Rattle.std.specs.FinMap as map
-use Rattle.generational_core.specs.Cells.{Content}
-use Rattle.generational_core.specs.Cells.Cell.{Value}
-use Rattle.generational_core.specs.Leaving.{HasNoBorrows}
-use Rattle.generational_core.specs.Names.{Name}
+-- What holds of a document's store and of its parts.
+use Rattle.std.specs.Prelude.{◌≡◌, ◌≢◌, ◌<◌, ℕ, zero, suc, List, Option, None, Some, length, slice_index_or}
+use Rattle.generational_core.specs.Seeing.{value_in}
 use Rattle.generational_core.specs.State.{State}
+use Rattle.generational_core.specs.declared.boxes.GenerationalBoxId.{GenerationalBoxId}
 use Rattle.generational_errors.specs.declared.error.Location.{Location}
+use Rattle.generational_sessions.specs.PlainStores.{IsSimple}
+use Rattle.handles.specs.Handles.{nowhere}
+use Rattle.document_tree.specs.Parts.{too_many}
+use Rattle.document_tree.specs.declared.part.Part.{Part}
 
-module _ {C : Type 0} where
-  -- no borrow stands, and each live cell is a part, or a place that leads to one
-  pub record IsKept (S : State C) : Type 0 where
-    pub unborrowed : HasNoBorrows S
-    pub linked : (n : Name) (c : Content C) (l : Location) → map.get S.cells n ≡ Some (Value c l) → ⊥
+-- so many things, and no more, have a property
+abbrev pub without : {X : Type 0} → (X → Type 0) → X → X → Type 0
+without P x y = P y × (y ≢ x)
+
+abbrev pub IsCounted : {X : Type 0} → ℕ → (X → Type 0) → Type 0
+IsCounted {X} zero P = (x : X) → P x → ⊥
+IsCounted {X} (suc n) P = (x : X) × P x × IsCounted n (without P x)
+
+-- the key in the cell of an id
+abbrev pub key_in : State ℕ → GenerationalBoxId → Option ℕ
+key_in S id = value_in S (record { id = id; created_at = nowhere })
+
+-- an id is of a place that leads to the part under a key
+abbrev pub Leads : State ℕ → ℕ → GenerationalBoxId → Type 0
+Leads S key id = key_in S id ≡ Some key
+
+module _ {T : Type 0} where
+  -- how many places lead to a part, as it says; none where there is no part
+  abbrev pub places_of : Option (Part T) → ℕ
+  places_of None = 0
+  places_of (Some part) = part.places
+
+  -- a part was added at a location that is told
+  abbrev pub IsTold : List Location → Option (Part T) → Type 0
+  IsTold sites None = Unit {0}
+  IsTold sites (Some part) = part.site < length sites
+
+  -- each place leads to a part, and each part says how many places lead to it
+  pub record IsKept (S : State ℕ) (parts : List (Option (Part T))) (sites : List Location) : Type 0 where
+    pub simple : IsSimple S
+    pub small : (id : GenerationalBoxId) (key : ℕ) → Leads S key id → id.slot < too_many
+    pub counted : (key : ℕ) → IsCounted (places_of (slice_index_or parts key None)) (Leads S key)
+    pub told : (key : ℕ) → IsTold sites (slice_index_or parts key None)

@@ -1,5 +1,5 @@
 pub mod Documents
 pub mod Keeping
 pub mod Outlines
-pub mod Places
+pub mod Parts
 pub mod Texts

@@ -1,34 +1,31 @@
 -- Outlines: the places in the order in which a document is read.
 use Rattle.std.specs.Prelude.{◌≡◌, ◌+◌, ℕ, zero, suc, List, [], ◌∷◌, ◌++◌, map, unwrap_or}
 use Rattle.std.specs.List.{Contains}
-use Rattle.generational_core.specs.State.{State}
-use Rattle.document_tree.specs.declared.part.Part.{Part}
-use Rattle.document_tree.specs.declared.place.Place.{Place}
-use Rattle.document_tree.specs.Documents.{children_of, shown_in}
+use Rattle.document_tree.specs.Documents.{children_of, DocumentState, Place, shown_in}
 
 module _ {T : Type 0} where
   -- the children of a place's part, or none where the place is gone
-  abbrev pub children_in : State (Part T) → Place → List Place
+  abbrev pub children_in : DocumentState T → Place → List Place
   children_in D p = unwrap_or (children_of (shown_in D p)) []
 
   -- what is read of the places that wait, up to a limit: the first of them, and then its children
   -- and the others that wait
-  unfoldable pub outline_of : State (Part T) → ℕ → List Place → List Place
+  unfoldable pub outline_of : DocumentState T → ℕ → List Place → List Place
   outline_of D zero waiting = []
   outline_of D (suc limit) [] = []
   outline_of D (suc limit) (p ∷ waiting) = p ∷ outline_of D limit (children_in D p ++ waiting)
 
   -- the same of places that wait each with a depth: its children wait one step deeper
-  unfoldable pub deep_outline_of : State (Part T) → ℕ → List (ℕ × Place) → List (ℕ × Place)
+  unfoldable pub deep_outline_of : DocumentState T → ℕ → List (ℕ × Place) → List (ℕ × Place)
   deep_outline_of D zero waiting = []
   deep_outline_of D (suc limit) [] = []
   deep_outline_of D (suc limit) (p ∷ waiting) =
       p ∷ deep_outline_of D limit (map (λ q. (p.0 + 1, q)) (children_in D p.1) ++ waiting)
 
   -- a place is one that stands so many steps below another; at any number of steps
-  abbrev pub IsBelowBy : State (Part T) → ℕ → Place → Place → Type 0
+  abbrev pub IsBelowBy : DocumentState T → ℕ → Place → Place → Type 0
   IsBelowBy D zero top q = top ≡ q
   IsBelowBy D (suc n) top q = (p : Place) × IsBelowBy D n top p × Contains (children_in D p) q
 
-  abbrev pub IsBelow : State (Part T) → Place → Place → Type 0
+  abbrev pub IsBelow : DocumentState T → Place → Place → Type 0
   IsBelow D top q = (n : ℕ) × IsBelowBy D n top q

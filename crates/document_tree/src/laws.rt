@@ -2,26 +2,24 @@
 
 ghost use Rattle.std.specs.Prelude.{◌≡◌, ◌∷◌, ◌≤◌, ℕ, [], List, length, map};
 ghost use Rattle.std.specs.List.{All};
-ghost use Rattle.generational_core.specs.State.{State};
-ghost use Rattle.document_tree.specs.declared.part.Part.{Part};
-ghost use Rattle.document_tree.specs.declared.place.Place.{Place};
+ghost use Rattle.document_tree.specs.Documents.{DocumentState, Place};
 ghost use Rattle.document_tree.specs.Outlines.{IsBelow, IsBelowBy, deep_outline_of, outline_of};
 
 /// An outline has no more places than its limit says, and none but its first place and those that
 /// stand below it.
 pub fn outlines_stay_below<T>()
-    ensures within { (D : State (Part T)) (limit : ℕ) (waiting : List Place) →
+    ensures within { (D : DocumentState T) (limit : ℕ) (waiting : List Place) →
         length (outline_of D limit waiting) ≤ limit }
-    ensures below { (D : State (Part T)) (limit : ℕ) (top : Place) →
+    ensures below { (D : DocumentState T) (limit : ℕ) (top : Place) →
         All (IsBelow D top) (outline_of D limit (top ∷ [])) }
 {}
 
 /// An outline with depths has the places of the outline, and each stands as many steps below the first
 /// place as its depth says.
 pub fn depths_are_steps<T>()
-    ensures places { (D : State (Part T)) (limit : ℕ) (waiting : List (ℕ × Place)) →
+    ensures places { (D : DocumentState T) (limit : ℕ) (waiting : List (ℕ × Place)) →
         map (λ p. p.1) (deep_outline_of D limit waiting)
         ≡ outline_of D limit (map (λ p. p.1) waiting) }
-    ensures depths { (D : State (Part T)) (limit : ℕ) (top : Place) →
+    ensures depths { (D : DocumentState T) (limit : ℕ) (top : Place) →
         All (λ p. IsBelowBy D p.0 top p.1) (deep_outline_of D limit ((0, top) ∷ [])) }
 {}

@@ -1,16 +1,18 @@
 //! Documents in which one part stands in several places.
 
-ghost use Rattle.std.specs.Prelude.{◌≡◌, ◌≢◌, ◌∷◌, None, Some, OnOk, is_some};
-ghost use Rattle.document_tree.specs.declared.place.Place.{Place};
-ghost use Rattle.document_tree.specs.Documents.{shown_in, part_in, content_of, with_children, Leaves, WasMade};
-ghost use Rattle.document_tree.specs.Places.{IsOther};
+ghost use Rattle.std.specs.Prelude.{◌≡◌, ◌≢◌, ◌<◌, ◌∷◌, None, Some, IfErr, IsErr, IsOk, OnOk, false, is_some, true};
+ghost use Rattle.document_tree.specs.Documents.{Place, content_of, created_at, is_site, part_in, shown_in, with_children, Leaves, WasMade};
+ghost use Rattle.document_tree.specs.Parts.{is_full, too_many};
+ghost use Rattle.generational_core.specs.Slots.{free, slots};
+ghost use Rattle.generational_errors.specs.declared.error.Location.{Location};
+ghost use Rattle.handles.specs.Handles.{IsOther};
 
-use document_tree::{Document, Gone, Part, Place, PlaceError};
-use generational_box::{Location, Storage};
+use document_tree::{Document, Place, PlaceError, Stale};
+use generational_box::{Location, Refusal, Storage};
 
 /// Gives a heading a new part, at each page that lists it, and ends the part that it showed where no
 /// other place leads there. Every other place shows what it showed, whatever the answer.
-pub fn change_heading<S: Storage<Part<u64>>>(
+pub fn change_heading<S: Storage<u32>>(
     document: &mut Document<u64, S>,
     heading: Place,
     content: u64,
@@ -32,7 +34,7 @@ pub fn change_heading<S: Storage<Part<u64>>>(
 
 /// Puts a heading before all that a page lists, at each place of the page. Every place that leads to
 /// another part is left.
-pub fn head_page<S: Storage<Part<u64>>>(
+pub fn head_page<S: Storage<u32>>(
     document: &mut Document<u64, S>,
     page: Place,
     heading: Place,
@@ -45,10 +47,7 @@ pub fn head_page<S: Storage<Part<u64>>>(
 }
 
 /// Adds to the number that a part has, which all its places show then.
-pub fn count_up<S: Storage<Part<u64>>>(
-    document: &mut Document<u64, S>,
-    place: Place,
-) -> Result<(), Gone>
+pub fn count_up<S: Storage<u32>>(document: &mut Document<u64, S>, place: Place) -> Result<(), Stale>
     ensures { (q : Place) → part_in document.old q ≢ part_in document.old place →
         Leaves document.old q document.new }
 {
@@ -56,7 +55,7 @@ pub fn count_up<S: Storage<Part<u64>>>(
 }
 
 /// Clears a page of what is gone, and then of its first child, if there is one.
-pub fn behead_page<S: Storage<Part<u64>>>(
+pub fn behead_page<S: Storage<u32>>(
     document: &mut Document<u64, S>,
     page: Place,
 ) -> Result<Place, PlaceError>
@@ -68,7 +67,7 @@ pub fn behead_page<S: Storage<Part<u64>>>(
 }
 
 /// Ends a heading where it still stands, and answers whether it did. It shows nothing then.
-pub fn closed<S: Storage<Part<u64>>>(document: &mut Document<u64, S>, heading: Place) -> bool
+pub fn closed<S: Storage<u32>>(document: &mut Document<u64, S>, heading: Place) -> bool
     ensures stood { result ≡ is_some (shown_in document.old heading) }
     ensures gone { shown_in document.new heading ≡ None }
 {
@@ -77,4 +76,39 @@ pub fn closed<S: Storage<Part<u64>>>(document: &mut Document<u64, S>, heading: P
     }
     let _ = document.remove(heading);
     true
+}
+
+/// Removes a place, adds a part, and looks at the place: that fails, and the error says where the place's
+/// part was added, whichever slot the new place took.
+pub fn told_after<S: Storage<u32>>(
+    document: &mut Document<u64, S>,
+    place: Place,
+    content: u64,
+    here: Location,
+) -> Result<u64, Stale>
+    requires { WasMade document.old place }
+    ensures gone { IsErr result }
+    ensures told { (l : Location) → created_at document.old place ≡ Some l →
+        IfErr result (λ stale. stale.created_at ≡ Some l) }
+{
+    let _ = document.remove(place);
+    let _ = document.add(content, here);
+    document.get(place).copied()
+}
+
+/// Adds a part to a document that has room for it: a slot is free, a dropped part's key is vacant, and a part
+/// was added at this location before. That never fails.
+pub fn refill<S: Storage<u32>>(
+    document: &mut Document<u64, S>,
+    content: u64,
+    here: Location,
+) -> Result<Place, Refusal<u64>>
+    requires slot { free document.old.state ≢ 0 }
+    requires few_slots { slots document.old.state < too_many }
+    requires key { is_full document.old.parts ≡ false }
+    requires few_keys { document.old.next < too_many }
+    requires told { is_site document.old here ≡ true }
+    ensures { IsOk result }
+{
+    document.add(content, here)
 }

@@ -6,7 +6,7 @@ ghost use Rattle.entity_table.specs.Tables.{created_at, element_in};
 ghost use Rattle.handles.specs.Texts.{gone_text};
 
 use anyhow::Result;
-use document_tree::{Document, Part, Place};
+use document_tree::{Document, Place};
 use entity_table::{Entity, EntityTable};
 use generational_box::{HandedBack, Location, Storage};
 use scene_tree::{Node, SceneTree};
@@ -40,7 +40,7 @@ pub fn first_visit<S: Storage<u64>>(
 }
 
 /// Moves a node below another, and lists a place below another, as far as neither is refused.
-pub fn moved_and_listed<N: Storage<u64>, P: Storage<Part<u64>>>(
+pub fn moved_and_listed<N: Storage<u64>, P: Storage<u32>>(
     tree: &mut SceneTree<u64, N>,
     nodes: (Node<u64>, Node<u64>),
     document: &mut Document<u64, P>,

@@ -5,7 +5,7 @@ use crate::document_acts::added_at;
 use crate::entity_acts::{give, spawn};
 use crate::expected::given;
 use crate::tree_acts::made_at;
-use document_tree::{Document, Part, Place};
+use document_tree::{Document, Place};
 use entity_table::{ComponentTable, EntityTable};
 use generational_box::Storage;
 use scene_tree::{SceneTree, Spot};
@@ -33,7 +33,7 @@ pub(crate) fn root_all<S: Storage<u64>>(rt: &impl Abort, tree: &mut SceneTree<u6
 }
 
 /// Adds a page, and a part that stands nowhere yet.
-pub(crate) fn page_and_part<S: Storage<Part<u64>>>(
+pub(crate) fn page_and_part<S: Storage<u32>>(
     rt: &impl Abort,
     document: &mut Document<u64, S>,
 ) -> (Place, Place) {
@@ -42,7 +42,7 @@ pub(crate) fn page_and_part<S: Storage<Part<u64>>>(
 }
 
 /// Appends one place to a page, again and again.
-pub(crate) fn append_all<S: Storage<Part<u64>>>(
+pub(crate) fn append_all<S: Storage<u32>>(
     rt: &impl Abort,
     document: &mut Document<u64, S>,
     (page, part): (Place, Place),
@@ -54,7 +54,7 @@ pub(crate) fn append_all<S: Storage<Part<u64>>>(
 }
 
 /// Inserts one place behind the children of a page, of which there are so many, again and again.
-pub(crate) fn insert_all<S: Storage<Part<u64>>>(
+pub(crate) fn insert_all<S: Storage<u32>>(
     rt: &impl Abort,
     document: &mut Document<u64, S>,
     (page, part): (Place, Place),

@@ -1,7 +1,7 @@
 //! What is done to a document, one act a line, with what must come of it.
 
 use crate::expected::{assert_same, given};
-use document_tree::{Document, Part, Place, PlaceError};
+use document_tree::{Document, Place, PlaceError};
 use generational_box::{Location, Storage};
 use std::alloc::Global;
 use std::process::Abort;
@@ -46,7 +46,7 @@ pub(crate) fn added_at(line: u32) -> Location {
 }
 
 /// A document over a new store.
-pub(crate) fn document_over<T, S: Storage<Part<T>>>(
+pub(crate) fn document_over<T, S: Storage<u32>>(
     rt: &impl Abort,
     alloc: Global,
     store: S,
@@ -56,7 +56,7 @@ pub(crate) fn document_over<T, S: Storage<Part<T>>>(
 }
 
 /// Adds a part.
-pub(crate) fn add<T: Drop, S: Storage<Part<T>>>(
+pub(crate) fn add<T: Drop, S: Storage<u32>>(
     rt: &impl Abort,
     document: &mut Document<T, S>,
     content: T,
@@ -65,7 +65,7 @@ pub(crate) fn add<T: Drop, S: Storage<Part<T>>>(
 }
 
 /// Sees the content of a place, or that it is gone.
-pub(crate) fn has_content<S: Storage<Part<u64>>>(
+pub(crate) fn has_content<S: Storage<u32>>(
     rt: &impl Abort,
     document: &Document<u64, S>,
     place: Place,
@@ -75,7 +75,7 @@ pub(crate) fn has_content<S: Storage<Part<u64>>>(
 }
 
 /// Does each line's act to a document, and sees what comes of it.
-pub(crate) fn play<S: Storage<Part<u64>>>(
+pub(crate) fn play<S: Storage<u32>>(
     rt: &impl Abort,
     alloc: Global,
     document: &mut Document<u64, S>,
@@ -93,7 +93,7 @@ pub(crate) fn play<S: Storage<Part<u64>>>(
 }
 
 /// Does an act, and says whether it was carried out.
-fn carries_out<S: Storage<Part<u64>>>(
+fn carries_out<S: Storage<u32>>(
     rt: &impl Abort,
     document: &mut Document<u64, S>,
     places: &mut Vec<Place>,
@@ -136,7 +136,7 @@ fn carries_out<S: Storage<Part<u64>>>(
 }
 
 /// Adds to a content, and says whether there was one.
-fn update<S: Storage<Part<u64>>>(document: &mut Document<u64, S>, place: Place, more: u64) -> bool {
+fn update<S: Storage<u32>>(document: &mut Document<u64, S>, place: Place, more: u64) -> bool {
     document
         .update(
             place,
@@ -162,7 +162,7 @@ pub(crate) fn place_at(rt: &impl Abort, places: &[Place], number: usize) -> Plac
 }
 
 /// Sees what each place shows.
-fn shows<S: Storage<Part<u64>>>(
+fn shows<S: Storage<u32>>(
     rt: &impl Abort,
     document: &Document<u64, S>,
     places: &[Place],
@@ -179,7 +179,7 @@ fn shows<S: Storage<Part<u64>>>(
 }
 
 /// Sees which children a place has.
-fn has_children<S: Storage<Part<u64>>>(
+fn has_children<S: Storage<u32>>(
     rt: &impl Abort,
     document: &Document<u64, S>,
     places: &[Place],

@@ -2,7 +2,6 @@
 
 use crate::document_acts::{Act, Line, Shown, document_over, play};
 use crate::fresh::{Scene, play_both};
-use document_tree::Part;
 use generational_box::Storage;
 use std::alloc::Global;
 use std::process::Abort;
@@ -11,8 +10,8 @@ use std::process::Abort;
 #[derive(Drop)]
 struct Lines<'a>(&'a [Line<'a>]);
 
-impl Scene<Part<u64>> for Lines<'_> {
-    fn play<R: Abort, S: Storage<Part<u64>> + Drop>(&self, rt: &R, alloc: Global, store: S) {
+impl Scene<u32> for Lines<'_> {
+    fn play<R: Abort, S: Storage<u32> + Drop>(&self, rt: &R, alloc: Global, store: S) {
         let mut document = document_over(rt, alloc, store);
         play(rt, alloc, &mut document, self.0);
     }
@@ -20,7 +19,7 @@ impl Scene<Part<u64>> for Lines<'_> {
 
 /// Plays lines, once with each order of free slots.
 fn play_lines(rt: &impl Abort, alloc: Global, lines: &[Line]) {
-    play_both::<Part<u64>, Lines>(rt, alloc, &Lines(lines));
+    play_both::<u32, Lines>(rt, alloc, &Lines(lines));
 }
 
 /// A line whose act is carried out.

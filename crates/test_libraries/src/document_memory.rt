@@ -4,7 +4,7 @@
 use crate::document_acts::{add, added_at, document_over, has_content};
 use crate::expected::{assert_same, given};
 use crate::fresh::{Scene, play};
-use document_tree::{Document, Part, Place, PlaceError};
+use document_tree::{Document, Place, PlaceError};
 use generational_box::Storage;
 use std::alloc::Global;
 use std::process::Abort;
@@ -13,7 +13,7 @@ use std::process::Abort;
 const MANY: u64 = 9;
 
 /// Adds a part, which shows its content.
-pub(crate) fn add_or_again<S: Storage<Part<u64>>>(
+pub(crate) fn add_or_again<S: Storage<u32>>(
     rt: &impl Abort,
     document: &mut Document<u64, S>,
     content: u64,
@@ -30,7 +30,7 @@ pub(crate) fn add_or_again<S: Storage<Part<u64>>>(
 }
 
 /// Makes another place of a part.
-pub(crate) fn repeat_or_again<S: Storage<Part<u64>>>(
+pub(crate) fn repeat_or_again<S: Storage<u32>>(
     rt: &impl Abort,
     document: &mut Document<u64, S>,
     place: Place,
@@ -45,7 +45,7 @@ pub(crate) fn repeat_or_again<S: Storage<Part<u64>>>(
 }
 
 /// Appends a child. Where memory lacks the children are what they were.
-pub(crate) fn append_or_again<S: Storage<Part<u64>>>(
+pub(crate) fn append_or_again<S: Storage<u32>>(
     rt: &impl Abort,
     document: &mut Document<u64, S>,
     parent: Place,
@@ -61,7 +61,7 @@ pub(crate) fn append_or_again<S: Storage<Part<u64>>>(
 }
 
 /// Inserts a child before the others. Where memory lacks the children are what they were.
-fn insert_or_again<S: Storage<Part<u64>>>(
+fn insert_or_again<S: Storage<u32>>(
     rt: &impl Abort,
     document: &mut Document<u64, S>,
     parent: Place,
@@ -77,11 +77,7 @@ fn insert_or_again<S: Storage<Part<u64>>>(
 }
 
 /// How many children a place has.
-fn count<S: Storage<Part<u64>>>(
-    rt: &impl Abort,
-    document: &Document<u64, S>,
-    place: Place,
-) -> usize {
+fn count<S: Storage<u32>>(rt: &impl Abort, document: &Document<u64, S>, place: Place) -> usize {
     match document.children(place) {
         Ok(children) => children.len(),
         Err(_) => panic!(rt; "a place is gone"),
@@ -91,8 +87,8 @@ fn count<S: Storage<Part<u64>>>(
 /// A page with many places of one part.
 struct AppendMany;
 
-impl Scene<Part<u64>> for AppendMany {
-    fn play<R: Abort, S: Storage<Part<u64>> + Drop>(&self, rt: &R, alloc: Global, store: S) {
+impl Scene<u32> for AppendMany {
+    fn play<R: Abort, S: Storage<u32> + Drop>(&self, rt: &R, alloc: Global, store: S) {
         let mut document = document_over(rt, alloc, store);
         let page = add_or_again(rt, &mut document, 0);
         let symbol = add_or_again(rt, &mut document, 1);
@@ -106,5 +102,5 @@ impl Scene<Part<u64>> for AppendMany {
 
 #[test]
 fn what_lacks_memory_changes_no_place(rt: HostRuntime) {
-    play::<Part<u64>, AppendMany>(&rt, rt.alloc(), &AppendMany);
+    play::<u32, AppendMany>(&rt, rt.alloc(), &AppendMany);
 }

@@ -11,7 +11,6 @@ use crate::session_limits::{log_in, put};
 use crate::signal_calls::{end, first_made, scope, signal};
 use crate::tree_acts::tree_over;
 use crate::tree_memory::{child_or_again, remove_or_again, root_or_again};
-use document_tree::Part;
 use entity_table::ComponentTable;
 use generational_box::Storage;
 use std::alloc::Global;
@@ -114,8 +113,8 @@ fn children(rt: HostRuntime) {
 /// A page with many parts below it, and its outline.
 struct AppendAll;
 
-impl Scene<Part<u64>> for AppendAll {
-    fn play<R: Abort, S: Storage<Part<u64>> + Drop>(&self, rt: &R, alloc: Global, store: S) {
+impl Scene<u32> for AppendAll {
+    fn play<R: Abort, S: Storage<u32> + Drop>(&self, rt: &R, alloc: Global, store: S) {
         let mut document = document_over(rt, alloc, store);
         let page = add_or_again(rt, &mut document, 0);
         for content in 0..MANY {
@@ -128,7 +127,7 @@ impl Scene<Part<u64>> for AppendAll {
 
 #[test]
 fn parts(rt: HostRuntime) {
-    play::<Part<u64>, AppendAll>(&rt, rt.alloc(), &AppendAll);
+    play::<u32, AppendAll>(&rt, rt.alloc(), &AppendAll);
 }
 
 /// Makes signals of a scope, and ends it.

@@ -6,7 +6,6 @@ use crate::document_acts::document_over;
 use crate::entity_acts::entities_over;
 use crate::gauge::Gauge;
 use crate::tree_acts::tree_over;
-use document_tree::Part;
 use entity_table::ComponentTable;
 use generational_box::{LastFirst, Storage, Store};
 use std::alloc::Global;
@@ -53,8 +52,8 @@ fn tables(rt: HostRuntime) {
 /// they are inserted.
 struct GrowTrees;
 
-impl Growing<u64, Part<u64>> for GrowTrees {
-    fn grow<R: Files + AllocGlobal + Abort, S: Storage<u64> + Drop, P: Storage<Part<u64>> + Drop>(
+impl Growing<u64, u32> for GrowTrees {
+    fn grow<R: Files + AllocGlobal + Abort, S: Storage<u64> + Drop, P: Storage<u32> + Drop>(
         rt: &R,
         alloc: Global,
         store: S,
@@ -80,5 +79,5 @@ impl Growing<u64, Part<u64>> for GrowTrees {
 
 #[test]
 fn trees(rt: HostRuntime) {
-    grow::<u64, Part<u64>, GrowTrees, _>(&rt);
+    grow::<u64, u32, GrowTrees, _>(&rt);
 }

@@ -6,14 +6,14 @@ use crate::document_acts::{add, document_over};
 use crate::entity_acts::{entities_over, give, made_at, spawn};
 use crate::expected::{assert_same, given};
 use crate::fresh::{Scene, play};
-use document_tree::{Document, Part, Place};
+use document_tree::{Document, Place};
 use entity_table::{ComponentTable, Entity, EntityTable};
 use generational_box::Storage;
 use std::alloc::Global;
 use std::process::Abort;
 
 /// Makes another place of a part.
-fn repeat<S: Storage<Part<Counted>>>(
+fn repeat<S: Storage<u32>>(
     rt: &impl Abort,
     document: &mut Document<Counted, S>,
     place: Place,
@@ -22,7 +22,7 @@ fn repeat<S: Storage<Part<Counted>>>(
 }
 
 /// Sets a part's content.
-fn set<S: Storage<Part<Counted>>>(
+fn set<S: Storage<u32>>(
     rt: &impl Abort,
     document: &mut Document<Counted, S>,
     place: Place,
@@ -32,7 +32,7 @@ fn set<S: Storage<Part<Counted>>>(
 }
 
 /// Lets a place lead where another does.
-fn exchange<S: Storage<Part<Counted>>>(
+fn exchange<S: Storage<u32>>(
     rt: &impl Abort,
     document: &mut Document<Counted, S>,
     place: Place,
@@ -42,19 +42,15 @@ fn exchange<S: Storage<Part<Counted>>>(
 }
 
 /// Ends a place.
-fn remove<S: Storage<Part<Counted>>>(
-    rt: &impl Abort,
-    document: &mut Document<Counted, S>,
-    place: Place,
-) {
+fn remove<S: Storage<u32>>(rt: &impl Abort, document: &mut Document<Counted, S>, place: Place) {
     given(rt, document.remove(place));
 }
 
 /// A part's content that is set twice.
 struct ContentsGo;
 
-impl Scene<Part<Counted>> for ContentsGo {
-    fn play<R: Abort, S: Storage<Part<Counted>> + Drop>(&self, rt: &R, alloc: Global, store: S) {
+impl Scene<u32> for ContentsGo {
+    fn play<R: Abort, S: Storage<u32> + Drop>(&self, rt: &R, alloc: Global, store: S) {
         let mut document = document_over(rt, alloc, store);
         let first = new_counted(rt, alloc);
         let second = new_counted(rt, alloc);
@@ -69,8 +65,8 @@ impl Scene<Part<Counted>> for ContentsGo {
 /// A part whose places go, the last by an exchange, and another whose places are removed.
 struct PartsGo;
 
-impl Scene<Part<Counted>> for PartsGo {
-    fn play<R: Abort, S: Storage<Part<Counted>> + Drop>(&self, rt: &R, alloc: Global, store: S) {
+impl Scene<u32> for PartsGo {
+    fn play<R: Abort, S: Storage<u32> + Drop>(&self, rt: &R, alloc: Global, store: S) {
         let mut document = document_over(rt, alloc, store);
         let old = new_counted(rt, alloc);
         let new = new_counted(rt, alloc);
@@ -91,8 +87,8 @@ impl Scene<Part<Counted>> for PartsGo {
 
 #[test]
 fn contents_and_parts_of_a_document(rt: HostRuntime) {
-    play::<Part<Counted>, ContentsGo>(&rt, rt.alloc(), &ContentsGo);
-    play::<Part<Counted>, PartsGo>(&rt, rt.alloc(), &PartsGo);
+    play::<u32, ContentsGo>(&rt, rt.alloc(), &ContentsGo);
+    play::<u32, PartsGo>(&rt, rt.alloc(), &PartsGo);
 }
 
 /// A component that another takes the place of, and one that is removed.

@@ -1,13 +1,14 @@
 //! Lists that grow where a step is refused: a smaller one follows, so that each call is carried out,
 //! whichever one allocation is refused.
 
-use crate::adding::{append_all, insert_all, page_and_part, root_all, spawn_all};
+use crate::adding::{append_all, insert_all, root_all, spawn_all};
 use crate::document_acts::document_over;
+use crate::document_memory::add_or_again;
 use crate::entity_acts::entities_over;
 use crate::entity_memory::spawn_or_again;
 use crate::fresh::{Scene, SceneOfTwo, play, play_two};
 use crate::tree_acts::tree_over;
-use document_tree::Part;
+use crate::tree_memory::root_or_again;
 use entity_table::ComponentTable;
 use generational_box::Storage;
 use std::alloc::Global;
@@ -34,8 +35,8 @@ fn rows_and_components(rt: HostRuntime) {
 /// Adds some nodes to a tree, and some children to a document's page.
 struct AddSome;
 
-impl SceneOfTwo<u64, Part<u64>> for AddSome {
-    fn play<R: Abort, S: Storage<u64> + Drop, P: Storage<Part<u64>> + Drop>(
+impl SceneOfTwo<u64, u32> for AddSome {
+    fn play<R: Abort, S: Storage<u64> + Drop, P: Storage<u32> + Drop>(
         &self,
         rt: &R,
         alloc: Global,
@@ -43,9 +44,12 @@ impl SceneOfTwo<u64, Part<u64>> for AddSome {
         parts: P,
     ) {
         let mut tree = tree_over(rt, alloc, store);
+        // Locations are kept in an index map, whose first step is its smallest.
+        root_or_again(rt, &mut tree);
         root_all(rt, &mut tree, 20);
         let mut document = document_over(rt, alloc, parts);
-        let (page, part) = page_and_part(rt, &mut document);
+        let page = add_or_again(rt, &mut document, 0);
+        let part = add_or_again(rt, &mut document, 1);
         append_all(rt, &mut document, (page, part), 20);
         insert_all(rt, &mut document, (part, page), 0, 20);
     }
@@ -53,5 +57,5 @@ impl SceneOfTwo<u64, Part<u64>> for AddSome {
 
 #[test]
 fn links_and_children(rt: HostRuntime) {
-    play_two::<u64, Part<u64>, AddSome>(&rt, rt.alloc(), &AddSome);
+    play_two::<u64, u32, AddSome>(&rt, rt.alloc(), &AddSome);
 }

@@ -1,55 +1,50 @@
 -- The names of std, of the machine and of the specs that the proofs here cite, passed on from one place.
-pub use Rattle.document_tree.specs.Documents.{Changes, ChangesContent, children_of, content_of}
-pub use Rattle.document_tree.specs.Documents.{EndsPart, IsOnlyPlace, Leaves, live_among, part_in}
-pub use Rattle.document_tree.specs.Documents.{Shown, shown_by, shown_in, shown_of, WasMade}
-pub use Rattle.document_tree.specs.Documents.{with_children, with_content}
+pub use Rattle.document_tree.specs.Documents.{added_in, Changes, ChangesContent, children_of, content_of, created_at}
+pub use Rattle.document_tree.specs.Documents.{DocumentState, EndsPart, IsOnlyPlace, KeepsTelling, Leaves, live_among}
+pub use Rattle.document_tree.specs.Documents.{part_at, part_in, Place, Shown, shown_by, shown_in, shown_of, site_told}
+pub use Rattle.document_tree.specs.Documents.{WasMade, with_children, with_content}
+pub use Rattle.document_tree.specs.Keeping.{IsCounted, IsKept, IsTold, key_in, Leads, places_of, without}
 pub use Rattle.document_tree.specs.Outlines.{children_in, IsBelow, IsBelowBy}
-pub use Rattle.document_tree.specs.{Keeping.IsKept, Places.IsOther, Places.IsSame}
-pub use Rattle.document_tree.specs.{declared.part.Part.Part, declared.place.Place.Place}
+pub use Rattle.document_tree.specs.Parts.{is_full, left, met}
+pub use Rattle.document_tree.specs.declared.part.Part.{Part}
 unfoldable pub use Rattle.document_tree.specs.Outlines.{deep_outline_of, outline_of}
-pub use Rattle.generational_core.proofs.machine.{given_other, leaves, quiet_ends, quiet_free}
-pub use Rattle.generational_core.proofs.machine.{quiet_fresh, quiet_gone, quiet_stays, test_sees}
-pub use Rattle.generational_core.proofs.machine.Calls.{ends, meets_tells, points, points_seen}
-pub use Rattle.generational_core.proofs.machine.Calls.{reached_boxed, seen_reached, sets, unseen}
-use Rattle.generational_core.proofs.machine.Calls.Steps
-pub use Steps.{act_start, keep_each, made_new, meets_cases, meets_each, meets_follows, meets_given}
-pub use Steps.{meets_number, meets_sound, reaches, ref_reaches, rests}
-use Rattle.generational_core.proofs.machine.Calls.Steps.Changes
-pub use Changes.{is_making, live_by, new_content, refilled_shared, some_live}
-pub use Rattle.generational_core.proofs.maps.Maps.{by_name, get-insert_apart, get-insert_here}
-pub use Rattle.generational_core.proofs.maps.Maps.{name_cases, named_gives}
-pub use Rattle.generational_core.specs.Answers.{end_refused, read_refused}
-pub use Rattle.generational_core.specs.Cells.{Cell, Content, is_shared, location_of, refill}
-pub use Rattle.generational_core.specs.Leaving.{BeginsNoBorrow, GivesOther, HasNoBorrows}
-pub use Rattle.generational_core.specs.Leaving.{IsUnchanged, LeavesContent}
-pub use Rattle.generational_core.specs.Machine.{act, Action, Answer, cell_at, NewNames}
-pub use Rattle.generational_core.specs.Machine.Action.{End, MakeShared, Point, Refer, SetValue}
+pub use Rattle.generational_core.proofs.machine.{given_other, quiet_ends, quiet_sees, same_value, slot_within}
+pub use Rattle.generational_core.proofs.machine.Calls.{ends, meets_tells, refused_make, seen_reached, sets, unseen}
+pub use Rattle.generational_core.proofs.machine.Calls.Steps.{made_new, meets_given, meets_number}
+pub use Rattle.generational_core.proofs.maps.Maps.{by_number, by_option, key_cases}
+pub use Rattle.generational_core.specs.Boxes.{name_in, name_of}
+pub use Rattle.generational_core.specs.Machine.Action.{End, Make, SetValue}
+pub use Rattle.generational_core.specs.Machine.Answer.{Done, Made, Old}
+pub use Rattle.generational_core.specs.declared.boxes.GenerationalBoxId.{GenerationalBoxId}
 pub use Rattle.generational_core.specs.declared.boxes.GenerationalPointer.{GenerationalPointer}
-pub use Rattle.generational_core.specs.{Boxes.box_of, Borrowing.can_write, Machine.Answer.Done}
-pub use Rattle.generational_core.specs.{Slots.free, Conditions.fresh, State.IsSound}
-pub use Rattle.generational_core.specs.{Borrowing.leads_to, Machine.Answer.Made, Steps.Meets}
-pub use Rattle.generational_core.specs.{Names.Name, Boxes.name_in, Boxes.name_of, Names.NameMap}
-pub use Rattle.generational_core.specs.{Steps.no_names, Machine.Answer.Old, State.State}
-pub use Rattle.generational_core.specs.{StepCalls.target_in, StepCalls.target_of, Cells.Cell.Value}
-unfoldable pub use Rattle.generational_core.specs.{Steps.may_lack, Borrowing.reach, Seeing.value_in}
-pub use Rattle.generational_errors.specs.declared.error.BorrowMutError.{BorrowMutError}
-pub use Rattle.generational_errors.specs.declared.error.StoreError.TheVariants.{OutOfMemory}
-pub use Rattle.generational_errors.specs.declared.error.{BorrowError.BorrowError, Location.Location}
-pub use Rattle.generational_sessions.proofs.callers.{fresh_sees, refer_short, same_id_reach}
-pub use Rattle.generational_sessions.proofs.callers.{same_value_there, share_short, shared_apart}
-pub use Rattle.generational_sessions.proofs.callers.{unreached}
-pub use Rattle.generational_sessions.specs.Lacking.{IsReference}
-pub use Rattle.std.proofs.Common.{add-one, ap, append_assoc, arith, Err, false, inl, inr, length}
-pub use Rattle.std.proofs.Common.{List, map, None, Ok, Option, refl, reverse, rules, Some, suc, sym}
-pub use Rattle.std.proofs.Common.{true, ℕ, [], ⊎_elim, ◌++◌, ◌+◌, ◌-◌, ◌<◌, ◌∙◌, ◌∷◌, ◌≡◌, ◌≢◌, ◌≤◌}
-pub use Rattle.std.proofs.lemmas.Bool.{eq-eqb, eqb-true, true≢false}
+pub use Rattle.generational_core.specs.{Conditions.fresh, Seeing.value_in, Slots.free, Slots.last_name, Slots.slots}
+pub use Rattle.generational_core.specs.{State.IsGiven, State.IsSound, State.State, Steps.Meets}
+pub use Rattle.generational_errors.specs.declared.error.Location.{Location}
+use Rattle.generational_sessions.proofs.callers as sessions
+pub use sessions.{fresh_sees, fresh_simple, IsSeen, made_simple, make_short, making, one_id, others_left, reach_apart}
+pub use sessions.{same_id_sees, seen_cell, seen_store, set_seen, simple_still}
+pub use Rattle.generational_sessions.specs.PlainStores.{IsPlain, IsSimple}
+pub use Rattle.handles.proofs.Told.{told_here, told_more, untold}
+pub use Rattle.handles.specs.Handles.{at_slot, id_in, IsOther, IsSame, nowhere, pointer_in, slot_in}
+pub use Rattle.handles.specs.Sites.{SiteState, Tells, told_at, told_in}
+pub use Rattle.location_list.specs.Locations.{IsAt}
+pub use Rattle.slab.specs.Slab.{Slab, Updates}
+pub use Rattle.std.proofs.Common.{add-one, ap, append_assoc, arith, Bool, cond, count_by, Err, false, inl, inr, length}
+pub use Rattle.std.proofs.Common.{List, map, None, Ok, Option, refl, reverse, rules, Some, subst, suc, sym, zero}
+pub use Rattle.std.proofs.Common.{true, ℕ, [], ⊎_elim, ◌++◌, ◌&&◌, ◌+◌, ◌-◌, ◌<◌, ◌∙◌, ◌∷◌, ◌≡◌, ◌≢◌, ◌≤◌}
+pub use Rattle.std.proofs.lemmas.Bool.{cases_lt, true≢false}
+pub use Rattle.std.proofs.lemmas.Option.{same_Some, slice_get_within}
+pub use Rattle.std.specs.Cmp.{nat_eq_equiv}
+pub use Rattle.std.specs.Prelude.{min}
 pub use Rattle.std.proofs.lemmas.Iterator.Adapters.{items_from_extend, YieldsList-from_rev_slice}
 pub use Rattle.std.proofs.lemmas.Iterator.Consumers.{YieldsList-at, YieldsList-from_copied}
-pub use Rattle.std.proofs.lemmas.List.{append-nil, length_push, map-append, map-id, nil_from_length}
+pub use Rattle.std.proofs.lemmas.List.{append-nil, get_or-set_other, get_or-set_same, length-take, length_push, map-append, map-id, nil_from_length}
 pub use Rattle.std.proofs.lemmas.List.{reverse-append, reverse-reverse}
+pub use Rattle.std.proofs.lemmas.List.Sums.{count_by-le-length, sum_by-cons}
 pub use Rattle.std.proofs.lemmas.List.Elements.{All-append, All-cons, All-contains_itself, All-head}
 pub use Rattle.std.proofs.lemmas.List.Elements.{All-map, All-nil, All-pop, All-tail, All-weaker}
 pub use Rattle.std.proofs.{lemmas.Fn.filter_same, lemmas.Simd.map-map, lemmas.Option.none-some}
 pub use Rattle.std.proofs.{lemmas.Result.on_ok_weaker, lemmas.Iterator.YieldsList-from_map}
-pub use Rattle.std.specs.Prelude.{filter, is_some, slice_get, unwrap_or, ◌⊎◌}
-pub use Rattle.std.specs.{List.All, Fn.FnOnceReturnsAtMut, Borrow.MutBor, Fn.Once, List.remove}
+pub use Rattle.std.specs.Prelude.{filter, if◌then◌else◌, is_some, nat_eq, option_copied, slice_get, slice_index_or}
+pub use Rattle.std.specs.Prelude.{unwrap_or, ◌⊎◌}
+pub use Rattle.std.specs.{Borrow.MutBor, Fn.FnOnceReturnsAtMut, Fn.Once, List.All, List.list_all, List.remove}

@@ -6,7 +6,7 @@ abbrev pub invariant-loop-waiting : goal.invariant-loop-waiting
 invariant-loop-waiting g l = record {
   within : length l.places.items ≤ l.limit;
   read : l.places.items ++ outline_of l.self (l.limit - length l.places.items) (reverse l.waiting.items)
-      ≡ outline_of l.self l.limit (l.place ∷ []);
+      ≡ outline_of l.self l.limit (l.fn.place ∷ []);
 }
 
 abbrev pub decreases-loop-waiting : goal.decreases-loop-waiting

@@ -9,7 +9,7 @@ invariant-loop-waiting g l = record {
   shallow : All (λ p. p.0 ≤ length l.places.items) l.waiting.items;
   read : l.places.items
       ++ deep_outline_of l.self (l.limit - length l.places.items) (reverse l.waiting.items)
-      ≡ deep_outline_of l.self l.limit ((0, l.place) ∷ []);
+      ≡ deep_outline_of l.self l.limit ((0, l.fn.place) ∷ []);
 }
 
 abbrev pub decreases-loop-waiting : goal.decreases-loop-waiting

@@ -1,37 +1,40 @@
-use Rattle.document_tree.proofs.{ends, Err, IsSame, left_other, meets_given, None, none-some, Ok, part_ends}
-use Rattle.document_tree.proofs.{Place, quiet_ends, refl, same_part_shown, same_place_part, shown_in}
-use Rattle.document_tree.proofs.{shown_store, stays_kept, sym, true≢false, unreached_shown, ◌∙◌, ◌≡◌}
+use Rattle.document_tree.proofs.{ap, arith, ended_left, ended_moves, Err}
+use Rattle.document_tree.proofs.{gone_ends, id_in, kept_ended}
+use Rattle.document_tree.proofs.{led_part}
+use Rattle.document_tree.proofs.{part_at}
+use Rattle.document_tree.proofs.{pointer_in, quiet_ends, rewritten, same_id_sees}
+use Rattle.document_tree.proofs.{shown_of, simple_still}
+use Rattle.document_tree.proofs.{sym, true≢false}
+use Rattle.document_tree.proofs.{◌∙◌}
 use Rattle.document_tree.proofs.document.Document.remove.Goals as goal
-
-pub returns-in_err-find-clause-ended : goal.returns-in_err-find-clause-ended
-returns-in_err-find-clause-ended g c q same =
-    same_part_shown _ _ q (same_place_part _ _ q same) ∙ c.in_err-find.ensures.gone.0 refl
 
 pub unreachable-requires : goal.unreachable-requires
 unreachable-requires g c = true≢false (sym (quiet_ends _ {U = Unit {0}} (Err c.in-Err.field-0)
-    c.self.invariant.unborrowed c.in-Err.ensures))
+    c.self.invariant.simple.unborrowed c.in-Err.ensures))
 
 pub invariant_of-self : goal.invariant_of-self
-invariant_of-self g c = stays_kept _ _ c.in-Ok.ensures tt c.self.invariant
+invariant_of-self g c =
+    let was = rw (← c.self.view_is) at c.in_ok-key.ensures.key in
+    let to = led_part c.self.invariant (id_in c.args.place) c.in_ok-key.key was in
+    let moves = ended_moves (g.met.S.AnyStorage.sound _) c.pointer_to.result c.args.place c.pointer_to.ensures _ was c.in-Ok.ensures in
+    kept_ended c.self.invariant (omega arith) (simple_still (g.met.S.AnyStorage.sound _) c.self.invariant.simple _ _ c.in-Ok.ensures tt tt)
+    _ _ moves (c.self.invariant.small _ _ was) to.0 to.1 (rewritten (c.leave.ensures to.0 to.1))
 
-pub returns : goal.returns
-returns g c =
-    let sound = g.met.S.AnyStorage.sound in
-    let step = c.in-Ok.ensures in
-    let place = c.args.place in
-    let there : shown_in c.args.self.now place ≡ None → ⊥ =
-    λ none. true≢false (sym (c.in_ok-find.ensures.gone.1 none)) in
-    let part = λ (q : Place) (same : IsSame place q).
-    same_place_part _ place q same ∙ ends _ {U = Unit {0}} (Ok tt) step in
-    let others = left_other _ _ (sound _) step place.raw (shown_store (sound _) place (rw c.self.view_is there))
-    (λ p ne. (ne, tt)) in
-    rw (← c.self.view_is) (record {
-      ended = λ q same. unreached_shown _ q (part q same);
-      others = others;
-      ends = part_ends _ _ (sound _) step place c.self.invariant
-          (λ q n same to leads. none-some n (sym (part q same) ∙ leads)) others;
-      kept = λ q. meets_given _ _ _ _ step _;
-      gone = rw c.self.view_is c.in_ok-find.ensures.gone;
-      told = tt;
-      refused = tt;
-    })
+pub returns-clause-ended : goal.returns-clause-ended
+returns-clause-ended g c q same =
+    let was = rw (← c.self.view_is) at c.in_ok-key.ensures.key in
+    let moves = ended_moves (g.met.S.AnyStorage.sound _) c.pointer_to.result c.args.place c.pointer_to.ensures _ was c.in-Ok.ensures in
+    ap (λ o. shown_of (part_at c.leave.new.parts.slots o)) (sym (same_id_sees _ (pointer_in c.args.place) (pointer_in q) same) ∙ moves.is)
+
+pub returns-clause-others : goal.returns-clause-others
+returns-clause-others g c =
+    let was = rw (← c.self.view_is) at c.in_ok-key.ensures.key in
+    let to = led_part c.self.invariant (id_in c.args.place) c.in_ok-key.key was in
+    let moves = ended_moves (g.met.S.AnyStorage.sound _) c.pointer_to.result c.args.place c.pointer_to.ensures _ was c.in-Ok.ensures in
+    rw (← c.self.view_is) (ended_left c.self.invariant c.args.place _ to.0 to.1 was moves (rewritten (c.leave.ensures to.0 to.1)))
+
+pub returns-clause-ends : goal.returns-clause-ends
+returns-clause-ends g c =
+    let was = rw (← c.self.view_is) at c.in_ok-key.ensures.key in
+    let to = led_part c.self.invariant (id_in c.args.place) c.in_ok-key.key was in
+    rw (← c.self.view_is) (λ only. gone_ends c.self.invariant c.args.place _ to.0 to.1 was _ (c.leave.ensures to.0 to.1).changed only)
