@@ -122,6 +122,10 @@ absent : {X : Type 0} (o : Option X) → ((v : X) → o ≡ Some v → ⊥) → 
 absent None h = refl
 absent (Some v) h = absurd (h v refl)
 
+pub no_value : {X : Type 0} (o : Option X) → ((v : X) → o ≡ Some v → ⊥) → o ≡ None
+no_value None h = refl
+no_value (Some v) h = absurd (h v refl)
+
 none_of : {X : Type 0} (o : Option X) → is_some o ≡ false → o ≡ None
 none_of None is = refl
 none_of (Some v) is = absurd (true≢false is)
@@ -439,7 +443,7 @@ same_shown : {T : Type 0} (table : TableState T) (a e : Entity T) → IsSame a e
 same_shown table a e = same_id_sees table.state (pointer_in a) (pointer_in e)
 
 -- handles of one entity show one component
-same_component : {T C : Type 0} (t : MapState C) (a e : Entity T) → IsSame a e → component_in t a ≡ component_in t e
+pub same_component : {T C : Type 0} (t : MapState C) (a e : Entity T) → IsSame a e → component_in t a ≡ component_in t e
 same_component t a e same = grind arith
 
 module _ {T C : Type 0} {table : TableState T} where

@@ -1,2 +1,4 @@
 pub mod Keeping
 unfoldable pub use Keeping.*
+pub mod Visiting
+unfoldable pub use Visiting.*

@@ -8,6 +8,7 @@ use Rattle.generational_errors.specs.declared.error.Location.{Location}
 use Rattle.handles.specs.Handles.{IsSame, pointer_in, slot_in}
 use Rattle.handles.specs.Sites.{told_at}
 use Rattle.handles.specs.declared.handle.Handle.{Handle}
+use Rattle.entity_table.specs.Walking.{shown_rows}
 use Rattle.entity_table.specs.declared.entity.EntityKind.{EntityKind}
 
 abbrev pub Entity : Type 0 → Type 0
@@ -24,6 +25,10 @@ module _ {T : Type 0} where
   -- what an entity shows: its element, or nothing once it was despawned
   abbrev pub element_in : TableState T → Entity T → Option T
   element_in t e = value_in t.state (pointer_in e)
+
+  -- the live entities with their elements, in the order of their slots
+  abbrev pub elements_in : TableState T → List (Entity T × T)
+  elements_in t = shown_rows (λ e. e) pointer_in t.state t.rows
 
   -- a handle that the table gave, once
   abbrev pub WasSpawned : TableState T → Entity T → Type 0

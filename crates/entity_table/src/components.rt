@@ -1,7 +1,7 @@
 //! Tables of components, beside a table of entities.
 
-ghost use Rattle.std.specs.Prelude.{◌≡◌, ◌≢◌, ◌<◌, ◌+◌, ℕ, None, Some, is_some, option_copied, true};
-ghost use Rattle.std.specs.Prelude.{OnOk, IfErr, OnErr, IsErrAnd, IfSome, IfNone, slice_get, length};
+ghost use Rattle.std.specs.Prelude.{◌≡◌, ◌≢◌, ◌↔◌, ◌<◌, ◌+◌, ℕ, None, Some, is_some, option_copied, true};
+ghost use Rattle.std.specs.Prelude.{OnOk, IfErr, OnErr, IsErrAnd, IfSome, IfNone, IsTrue, slice_get, length};
 ghost use Rattle.std.specs.Prelude.{map as list_map};
 ghost use Rattle.std.specs.Borrow.{MutBor};
 ghost use Rattle.std.specs.Fn.{FnOnceReturnsAtMut};
@@ -9,7 +9,9 @@ ghost use Rattle.std.specs.List.Sorted.{IsStrictlyIncreasing};
 ghost use Rattle.generational_errors.specs.declared.error.StoreError.TheVariants.{OutOfMemory};
 ghost use Rattle.handles.specs.declared.map.Row.TheVariants.{Vacant};
 ghost use Rattle.handles.specs.Handles.{slot_in, IsOther, IsSame};
-ghost use Rattle.handles.specs.Maps.{MapState, count, row_at};
+ghost use Rattle.handles.specs.Maps.{MapState, both, count, listed, row_at};
+ghost use Rattle.handles.specs.Visits.{AreChanged, CalledOn, CalledOnBoth};
+ghost use Rattle.entity_table.specs.declared.entity.EntityKind.{EntityKind};
 ghost use Rattle.entity_table.specs.declared.components.AttachError.TheVariants as attach;
 ghost use Rattle.entity_table.specs.Components.{component_in};
 ghost use Rattle.entity_table.specs.Sweeping.{Sweeps};
@@ -234,6 +236,52 @@ impl<T, C> ComponentTable<T, C> {
         self.map.change(entity, f)
     }
 
+    /// Calls a closure once on each component with its entity, in the order of the entities' slots: the
+    /// components that [`ComponentTable::iter`] gives. The closure changes a component in place, and may
+    /// change what it captures. Never fails. Doesn't allocate itself, and is O(n) for n slots, not counting
+    /// the closure.
+    ///
+    /// ```rust
+    /// names.for_each_mut(|_, name: &mut u64| *name = name.wrapping_add(1));
+    /// ```
+    pub fn for_each_mut<F: FnMut(Entity<T>, &mut C)>(&mut self, f: F)
+        requires { F.IsAlwaysCallable f }
+        ensures visited { (last : F) × AreChanged (CalledOn F.FnMut) f (listed {T = T} {K = EntityKind} self.old)
+            (listed {T = T} {K = EntityKind} self.new) last }
+        ensures number { self.new.number ≡ self.old.number }
+    {
+        self.map.for_each_mut(f);
+    }
+
+    /// Calls a closure once on each entity that has a component in this table and in another, with both
+    /// components, in the order of the entities' slots. The closure changes components in place, and may
+    /// change what it captures. Every component that has no partner in the other table is unchanged. Never
+    /// fails; it calls nothing if the tables are of the entities of two tables. Doesn't allocate itself, and
+    /// is O(n) for the fewer slots n of the two, not counting the closure.
+    ///
+    /// ```rust
+    /// places.for_each2_mut(&mut speeds, |_, place: &mut u64, speed: &mut u64| {
+    ///     *place = place.wrapping_add(*speed);
+    /// });
+    /// ```
+    pub fn for_each2_mut<D, F: FnMut(Entity<T>, &mut C, &mut D)>(
+        &mut self,
+        other: &mut ComponentTable<T, D>,
+        f: F,
+    )
+        requires { F.IsAlwaysCallable f }
+        ensures visited { (last : F) × AreChanged (CalledOnBoth F.FnMut) f
+            (both {T = T} {K = EntityKind} self.old other.old)
+            (both {T = T} {K = EntityKind} self.new other.new) last }
+        ensures first { (e : Entity T) → component_in other.old e ≡ None →
+            component_in self.new e ≡ component_in self.old e }
+        ensures second { (e : Entity T) → component_in self.old e ≡ None →
+            component_in other.new e ≡ component_in other.old e }
+        ensures numbers { (self.new.number ≡ self.old.number) × (other.new.number ≡ other.old.number) }
+    {
+        self.map.for_each2_mut(&mut other.map, f);
+    }
+
     /// The components with their entities, in the order of the entities' slots, each once. The table is
     /// borrowed meanwhile. Doesn't allocate, and is O(1); all steps together are O(n) for n slots.
     ///
@@ -285,6 +333,33 @@ impl<T, C> ComponentTable<T, C> {
         ensures { result ≡ count self.now.rows }
     {
         self.map.len()
+    }
+
+    /// Whether there is no component, also none of an entity that is gone. Doesn't allocate, and is O(1).
+    ///
+    /// ```rust
+    /// let is_unnamed = names.is_empty();
+    /// ```
+    pub fn is_empty(&self) -> bool
+        ensures { IsTrue result ↔ count self.now.rows ≡ 0 }
+    {
+        self.map.len() == 0
+    }
+
+    /// Drops all components, in the order of their entities' slots. Never fails. Doesn't allocate, and is
+    /// O(n) for n slots.
+    ///
+    /// ```rust
+    /// names.clear();
+    /// ```
+    pub fn clear(&mut self)
+    where
+        C: Drop,
+        ensures none { (e : Entity T) → component_in self.new e ≡ None }
+        ensures count { count self.new.rows ≡ 0 }
+        ensures number { self.new.number ≡ self.old.number }
+    {
+        self.map.clear();
     }
 
     /// Drops an entity's component, and returns whether it had one. Every other entity keeps its own. Never

@@ -15,7 +15,9 @@ mod walk;
 
 pub use crate::components::{AttachError, ComponentTable};
 pub use crate::entity::{Entity, EntityKind};
-pub use crate::laws::equal_entities_show_the_same;
+pub use crate::laws::{
+    changed_components, changed_elements, changed_pairs, equal_entities_show_the_same,
+};
 pub use crate::table::EntityTable;
 pub use crate::walk::{ComponentIter, Iter, Join};
 pub use generational_core::HandedBack;

@@ -9,7 +9,8 @@ ghost use Rattle.generational_core.specs.Conditions.{IsFresh};
 ghost use Rattle.generational_errors.specs.declared.error.StoreError.TheVariants.{OutOfMemory};
 ghost use Rattle.handles.specs.Handles.{slot_in, IsOther, IsSame};
 ghost use Rattle.handles.specs.Sites.{Tells};
-ghost use Rattle.entity_table.specs.Tables.{Entity, TableState, created_at, element_in};
+ghost use Rattle.handles.specs.Visits.{AreChanged, CalledOn};
+ghost use Rattle.entity_table.specs.Tables.{Entity, TableState, created_at, element_in, elements_in};
 ghost use Rattle.entity_table.specs.Tables.{IsDense, IsSifted, KeepsTelling, Sifts, WasSpawned};
 
 use crate::entity::{Entity, EntityKind};
@@ -263,6 +264,34 @@ impl<T, S: Storage<T>> EntityTable<T, S> {
         Ok(self.store.change_value(pointer_to(entity), f))
     }
 
+    /// Calls a closure once on each live entity and its element, in the order of their slots: those that
+    /// [`EntityTable::iter`] gives. The closure changes an element in place, and may change what it captures.
+    /// Never fails. Doesn't allocate itself, and is O(n) for n slots, not counting the closure.
+    ///
+    /// ```rust
+    /// table.for_each_mut(|_, element: &mut u64| *element = element.wrapping_add(1));
+    /// ```
+    pub fn for_each_mut<F: FnMut(Entity<T>, &mut T)>(&mut self, mut f: F)
+        requires { F.IsAlwaysCallable f }
+        ensures visited { (last : F) × AreChanged (CalledOn F.FnMut) f (elements_in self.old)
+            (elements_in self.new) last }
+        ensures rows { self.new.rows ≡ self.old.rows }
+        ensures kept { (e : Entity T) → WasSpawned self.old e → WasSpawned self.new e }
+        ensures tells { (e : Entity T) → created_at self.new e ≡ created_at self.old e }
+    {
+        let mut rows = self.rows.iter();
+        while let Some((entity, _)) = rows.next() {
+            f = self.store.change_value(
+                pointer_to(entity),
+                move |element: &mut T|
+                    requires { F.IsAlwaysCallable f }
+                    ensures callable { F.IsAlwaysCallable result }
+                    ensures called { CalledOn F.FnMut f entity element.old element.new result }
+                { called(f, entity, element) },
+            );
+        }
+    }
+
     /// The live entities with their elements, each once, in the order of their slots. The table is
     /// borrowed meanwhile. Doesn't allocate, and is O(1); all steps together are O(n) for n slots.
     ///
@@ -491,6 +520,17 @@ impl<T, S: Storage<T>> EntityTable<T, S> {
             let _ = self.despawn(entity);
         }
     }
+}
+
+// A closure after a call on an entity and its element.
+#[inline(always)]
+fn called<T, F: FnMut(Entity<T>, &mut T)>(mut f: F, entity: Entity<T>, element: &mut T) -> F
+    requires { F.IsAlwaysCallable f }
+    ensures callable { F.IsAlwaysCallable result }
+    ensures called { CalledOn F.FnMut f entity element.old element.new result }
+{
+    f(entity, element);
+    f
 }
 
 // That memory runs out before an element is kept.

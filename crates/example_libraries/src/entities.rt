@@ -1,6 +1,6 @@
 //! Entities, and their handles.
 
-ghost use Rattle.std.specs.Prelude.{◌≡◌, ◌≤◌, ◌<◌, ◌+◌, ◌^◌, ℕ, None, Some, IsErr, IfErr, OnOk, true};
+ghost use Rattle.std.specs.Prelude.{◌≡◌, ◌≤◌, ◌<◌, ◌+◌, ◌%◌, ◌^◌, ℕ, None, Some, IsErr, IfErr, OnOk, true};
 ghost use Rattle.std.specs.Prelude.{IfOk, IfSome, IsFalse, IsTrue, OnErr, is_some};
 ghost use Rattle.entity_table.specs.Components.{component_in};
 ghost use Rattle.entity_table.specs.Tables.{Entity, created_at, element_in, WasSpawned};
@@ -8,7 +8,8 @@ ghost use Rattle.generational_errors.specs.declared.error.Location.{Location};
 ghost use Rattle.handles.specs.Handles.{IsOther};
 
 use entity_table::{
-    AttachError, ComponentTable, Entity, EntityTable, Stale, equal_entities_show_the_same,
+    AttachError, ComponentTable, Entity, EntityTable, Stale, changed_components, changed_elements,
+    changed_pairs, equal_entities_show_the_same,
 };
 use generational_box::{Location, Storage};
 
@@ -165,4 +166,42 @@ pub fn swept_out<S: Storage<u64>>(table: &mut EntityTable<u64, S>) -> bool
     }
     table.clear();
     true
+}
+
+/// Adds one to every score, in one call: no entity gets or loses a score.
+pub fn raise_all(scores: &mut ComponentTable<u64, u64>)
+    ensures raised { (e : Entity ℕ) (c : ℕ) → component_in scores.old e ≡ Some c →
+        component_in scores.new e ≡ Some ((c + 1) % 2 ^ 64) }
+    ensures none { (e : Entity ℕ) → component_in scores.old e ≡ None →
+        component_in scores.new e ≡ None }
+{
+    let raise = |_: Entity<u64>, score: &mut u64| *score = score.wrapping_add(1);
+    changed_components(scores, &raise);
+    scores.for_each_mut(raise);
+}
+
+/// Moves everything that has a place and a speed, in one call: what has no speed stays where it is.
+pub fn move_all(places: &mut ComponentTable<u64, u64>, speeds: &mut ComponentTable<u64, u64>)
+    ensures moved { (e : Entity ℕ) (at by : ℕ) → component_in places.old e ≡ Some at →
+        component_in speeds.old e ≡ Some by → component_in places.new e ≡ Some ((at + by) % 2 ^ 64) }
+    ensures still { (e : Entity ℕ) → component_in speeds.old e ≡ None →
+        component_in places.new e ≡ component_in places.old e }
+{
+    let step = |_: Entity<u64>, place: &mut u64, speed: &mut u64| {
+        *place = place.wrapping_add(*speed);
+    };
+    changed_pairs(places, speeds, &step);
+    places.for_each2_mut(speeds, step);
+}
+
+/// Makes every entity older by one, in one call.
+pub fn age_all<S: Storage<u64>>(table: &mut EntityTable<u64, S>)
+    ensures aged { (e : Entity ℕ) (v : ℕ) → element_in table.old e ≡ Some v →
+        element_in table.new e ≡ Some ((v + 1) % 2 ^ 64) }
+{
+    let age = |_: Entity<u64>, years: &mut u64| *years = years.wrapping_add(1);
+    changed_elements(table, &age);
+    // A walk says that the table has a row for each live entity.
+    let _ = table.iter();
+    table.for_each_mut(age);
 }

@@ -5,7 +5,8 @@ use crate::expected::{assert_same, given};
 use crate::fresh::{Scene, play, play_at_ticket};
 use entity_table::{AttachError, ComponentTable, Entity, EntityTable, Stale};
 use example_libraries::entities::{
-    despawned_bare, greatest, handed_over, raised, renamed, taken_out, told_after, within_limits,
+    age_all, despawned_bare, greatest, handed_over, move_all, raise_all, raised, renamed,
+    taken_out, told_after, within_limits,
 };
 use generational_box::{LastFirst, Storage, Store};
 use std::alloc::Global;
@@ -212,6 +213,39 @@ fn joins<E: Storage<u64>>(
 fn components_follow_their_entities(rt: HostRuntime) {
     play::<u64, ComponentsFollow>(&rt, rt.alloc(), &ComponentsFollow);
     play::<u64, ComponentsAreSwept>(&rt, rt.alloc(), &ComponentsAreSwept);
+}
+
+/// Elements and components that calls change in passing, after an entity went.
+struct EachIsChanged;
+
+impl Scene<u64> for EachIsChanged {
+    fn play<R: Abort, S: Storage<u64> + Drop>(&self, rt: &R, alloc: Global, store: S) {
+        let mut entities = entities_over(rt, alloc, store);
+        let mut places = ComponentTable::new(alloc, &entities);
+        let mut speeds = ComponentTable::new(alloc, &entities);
+        let first = spawn(rt, &mut entities, 0);
+        let second = spawn(rt, &mut entities, 1);
+        let third = spawn(rt, &mut entities, 2);
+        give(rt, &mut places, first, 10);
+        give(rt, &mut places, third, 30);
+        give(rt, &mut speeds, second, 2);
+        give(rt, &mut speeds, third, 3);
+        given(rt, entities.despawn(first));
+        age_all(&mut entities);
+        assert_same(rt, &entities.get(third).copied().ok(), &Some(1));
+        raise_all(&mut places);
+        move_all(&mut places, &mut speeds);
+        goes_over(rt, &places, &[(first, 11), (third, 34)]);
+        goes_over(rt, &speeds, &[(second, 2), (third, 3)]);
+        places.clear();
+        assert!(rt; places.is_empty());
+        goes_over(rt, &places, &[]);
+    }
+}
+
+#[test]
+fn each_element_and_component_is_changed(rt: HostRuntime) {
+    play::<u64, EachIsChanged>(&rt, rt.alloc(), &EachIsChanged);
 }
 
 /// An entity that gets a component, or changes it, by a handle of another table.

@@ -46,6 +46,7 @@ pub use Rattle.std.specs.List.Sorted.{IsStrictlyIncreasing}
 pub use Rattle.std.specs.Prelude.{is_some, option_copied, slice_get, slice_set, ◌⊎◌}
 pub use Rattle.std.specs.{List.All, List.AllPairs, Borrow.Bor, Fn.FnReturnsAt}
 pub use Rattle.handles.proofs.Told.{told_here, told_more}
+pub use Rattle.handles.proofs.Visits.{both_every, both_shown, changed_at, changed_back}
 pub use Rattle.location_list.specs.Locations.{IsAt}
 pub use Rattle.std.specs.Prelude.{IfSome}
 pub use Rattle.std.specs.Cmp.{nat_eq_equiv}
