@@ -7,7 +7,7 @@ ghost use Rattle.reactive.specs.Hearing.{Says};
 ghost use Rattle.reactive.specs.Graphs.{kind_in, plans_in};
 ghost use Rattle.reactive.specs.Ending.{IsAmong};
 ghost use Rattle.reactive.specs.Graphs.Kind.{NoNode, Source};
-ghost use Rattle.reactive.specs.Meaning.{Means};
+ghost use Rattle.reactive.specs.Meaning.{Means, Reaches};
 ghost use Rattle.reactive.specs.Plans.{Ask, Give};
 
 use generational_box::{Location, Storage, StoreError};
@@ -108,6 +108,24 @@ pub fn known_still<S: Storage<Node<u64, Formula>>>(
     graph.refresh(one)?;
     graph.refresh(other)?;
     match graph.peek(one) {
+        Some(value) => Ok(*value),
+        None => unreachable!(),
+    }
+}
+
+/// Brings a memo up to date, and sets a source that it doesn't come to: it is known still.
+pub fn unaffected_still<S: Storage<Node<u64, Formula>>>(
+    graph: &mut Reactive<u64, Formula, S>,
+    memo: Key,
+    source: Key,
+    x: u64,
+) -> Result<u64, Fault>
+    requires apart { Reaches (plans_in plan_of graph.old) memo source → ⊥ }
+    ensures { IfOk result (λ v. Means (plans_in plan_of graph.old) memo v) }
+{
+    graph.refresh(memo)?;
+    graph.set(source, x)?;
+    match graph.peek(memo) {
         Some(value) => Ok(*value),
         None => unreachable!(),
     }

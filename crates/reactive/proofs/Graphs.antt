@@ -5,11 +5,20 @@ unfoldable pub use Known.*
 -- ==== what holds of a table when nodes are made, set or ended
 
 -- a node keeps no questions, and no value but a source's, and has changed in this revision
-pub record IsReset {T R : Type 0} (plan : R → Plan T) (now : ℕ) (n : Node T R) : Type 0 where
+pub record IsReset {T R : Type 0} (now : ℕ) (n : Node T R) : Type 0 where
   pub asked : vec_items n.reads ≡ []
-  pub gives : (v : T) → n.value ≡ Some v → plan_by plan n.rule n.value ≡ Give v
+  pub plain : (v : T) → n.value ≡ Some v → n.rule ≡ None
   pub changed : n.changed ≡ now
   pub checked : n.checked ≤ now
+
+-- so what it keeps is what its plan gives
+reset_gives : {T R : Type 0} (plan : R → Plan T) (now : ℕ) (n : Node T R) → IsReset now n → (v : T) → n.value ≡ Some v
+    → plan_by plan n.rule n.value ≡ Give v
+reset_gives plan now n reset v is = rw (reset.plain v is, is) refl
+
+some_in : {X : Type 0} (o : Option X) → o ≢ None → (x : X) × (o ≡ Some x)
+some_in (Some x) live = (x, refl)
+some_in None live = absurd (live refl)
 
 -- ---- whoever is known still after some nodes were forgotten reads what is as it was
 
@@ -108,7 +117,7 @@ module _ {T R : Type 0} {plan : R → Plan T} {G : Graph T} {now : ℕ} {old : B
 module _ {T R : Type 0} {plan : R → Plan T} {G : Graph T} {now : ℕ} (next : ℕ) {old : Book T R} (new : Book T R)
     (s : IsSound plan G now old) (f : AreForgotten old new) (later : now ≤ next) (New : Key → Type 0)
     (each : (j : Key) (m : Node T R) → new.nodes j ≡ Some m
-    → (old.nodes j ≡ Some m) ⊎ (IsReset plan next m × New j))
+    → (old.nodes j ≡ Some m) ⊎ (IsReset next m × New j))
     (never : (since : ℕ) (a : Asked T) → since ≤ now → (since ≡ now → Means G a.key a.value)
     → New a.key → next ≤ since → ⊥)
     (known : (since : ℕ) (answers : List (Asked T)) → since ≤ now → since ≡ next
@@ -118,7 +127,7 @@ module _ {T R : Type 0} {plan : R → Plan T} {G : Graph T} {now : ℕ} (next : 
   stands since le a mean h m there low = grind arith
 
   walk : (k : Key) (n : Node T R) → new.nodes k ≡ Some n → (v : T) → n.value ≡ Some v
-      → (old.nodes k ≡ Some n) ⊎ (IsReset plan next n × New k)
+      → (old.nodes k ≡ Some n) ⊎ (IsReset next n × New k)
       → IsWalk (graph_of plan new.nodes) next new.nodes k n v
   walk k n at v value (inl was) =
       let w = s.walks k n was v value in
@@ -133,20 +142,36 @@ module _ {T R : Type 0} {plan : R → Plan T} {G : Graph T} {now : ℕ} (next : 
   walk k n at v value (inr (reset, is_new)) = record {
     answers = [];
     asked = sym reset.asked;
-    leads = rw at (reset.gives v value);
+    leads = rw at (reset_gives plan next n reset v value);
     stand = tt;
     fresh = λ e. tt;
   }
 
   reads_linked : (k : Key) (n : Node T R) → Owns new.web k → (a : Key) → Contains (vec_items n.reads) a
-      → (old.nodes k ≡ Some n) ⊎ (IsReset plan next n × New k) → IsLinked new.web k.id.slot a.id.slot
+      → (old.nodes k ≡ Some n) ⊎ (IsReset next n × New k) → IsLinked new.web k.id.slot a.id.slot
   reads_linked k n owns a in_it (inl was) =
       subst (λ w. IsLinked w k.id.slot a.id.slot) (sym f.web)
       (s.links.linked k n was (subst (λ w. Owns w k) f.web owns) a in_it)
   reads_linked k n owns a in_it (inr (reset, is_new)) =
       let nothing : Contains [] a = rw reset.asked at in_it in absurd (omega (arith, nothing.1))
 
-  bounds : (k : Key) (n : Node T R) → (old.nodes k ≡ Some n) ⊎ (IsReset plan next n × New k)
+  reads_exact : (k : Key) (n : Node T R) → n.rule ≢ None → n.value ≢ None → Owns new.web k
+      → (old.nodes k ≡ Some n) ⊎ (IsReset next n × New k)
+      → (r : ℕ) → IsLinked new.web k.id.slot r → (a : Key) × Contains (vec_items n.reads) a × (a.id.slot ≡ r)
+  reads_exact k n rule value owns (inl was) r link =
+      s.links.exact k n was rule value (subst (λ w. Owns w k) f.web owns) r
+      (subst (λ w. IsLinked w k.id.slot r) f.web link)
+  reads_exact k n rule value owns (inr (reset, is_new)) r link =
+      let v = some_in n.value value in absurd (rule (reset.plain v.0 v.1))
+
+  known_whole : (k : Key) (n : Node T R) (g : ℕ) → new.nodes k ≡ Some n → new.known k.id.slot ≡ Some g
+      → (k.id.generation ≡ g) × (n.rule ≢ None) × (n.value ≢ None)
+  known_whole k n g at is = ⊎_elim
+      (λ same. s.links.whole k n g (sym same ∙ at) (f.fewer k.id.slot g is))
+      (λ none. absurd (none-some g (sym none ∙ is)))
+      (f.here k)
+
+  bounds : (k : Key) (n : Node T R) → (old.nodes k ≡ Some n) ⊎ (IsReset next n × New k)
       → (n.checked ≤ next) × (n.changed ≤ next)
   bounds k n (inl was) = (omega (arith, s.checked k n was, later), omega (arith, s.changed k n was, later))
   bounds k n (inr (reset, is_new)) = (reset.checked, omega (arith, reset.changed))
@@ -160,6 +185,9 @@ module _ {T R : Type 0} {plan : R → Plan T} {G : Graph T} {now : ℕ} (next : 
     changed = λ k n at. (bounds k n (each k n at)).1;
     links = record {
       linked = λ k n at owns a in_it. reads_linked k n owns a in_it (each k n at);
+      exact = λ k n at rule value owns r link. reads_exact k n rule value owns (each k n at) r link;
+      whole = known_whole;
+      numbered = subst AreNumbered (sym f.web) s.links.numbered;
       owned = λ r g is. subst (λ w. (owner_at (vec_items w.owners) r).generation ≡ Some g) (sym f.web)
           (s.links.owned r g (f.fewer r g is));
     };
@@ -168,19 +196,19 @@ module _ {T R : Type 0} {plan : R → Plan T} {G : Graph T} {now : ℕ} (next : 
 module _ {T R : Type 0} {plan : R → Plan T} {G : Graph T} {now : ℕ} {old : Book T R} (new : Book T R)
     (s : IsSound plan G now old) (f : AreForgotten old new) where
   module _ (k : Key) (n : Node T R) (put : IsPut old.nodes k n new.nodes) where
-    each_put : (next : ℕ) (New : Key → Type 0) → IsReset plan next n → New k → (j : Key) (m : Node T R)
-        → new.nodes j ≡ Some m → (old.nodes j ≡ Some m) ⊎ (IsReset plan next m × New j)
+    each_put : (next : ℕ) (New : Key → Type 0) → IsReset next n → New k → (j : Key) (m : Node T R)
+        → new.nodes j ≡ Some m → (old.nodes j ≡ Some m) ⊎ (IsReset next m × New j)
     each_put next New reset is_new j m there = grind (arith, key_cases)
 
     -- a node was set, in a later revision
-    pub set_sound : (next : ℕ) → now < next → IsReset plan next n → IsSound plan (graph_of plan new.nodes) next new
+    pub set_sound : (next : ℕ) → now < next → IsReset next n → IsSound plan (graph_of plan new.nodes) next new
     set_sound next later reset = changed_sound next new s f (omega (arith, later)) (λ j. Unit {0})
         (each_put next (λ j. Unit {0}) reset tt)
         (λ since a le mean is_new low. omega (arith, le, low, later))
         (λ since answers le e mean. absurd (let wrong : ⊥ = omega (arith, le, e, later) in wrong))
 
     -- a node was made, where none was
-    pub made_sound : old.nodes k ≡ None → IsReset plan now n → IsSound plan (graph_of plan new.nodes) now new
+    pub made_sound : old.nodes k ≡ None → IsReset now n → IsSound plan (graph_of plan new.nodes) now new
     made_sound none reset = changed_sound now new s f (omega arith) (λ j. G j ≡ Stop)
         (each_put now (λ j. G j ≡ Stop) reset (none_stops s k none))
         (λ since a le mean stops low. let e : since ≡ now = omega (arith, le, low) in
@@ -199,7 +227,7 @@ module _ {T R : Type 0} {plan : R → Plan T} {G : Graph T} {now : ℕ} {old : B
 -- ---- what marking leaves of a book whose node was changed
 
 module _ {T R : Type 0} (old new : Book T R) (k : Key) (web : new.web ≡ old.web)
-    (first now : List (Option ℕ)) (before : old.known ≡ known_at first) (after : new.known ≡ known_at now)
+    (first now : List Mark) (before : old.known ≡ known_at first) (after : new.known ≡ known_at now)
     (f : HasForgotten old.web first k.id.slot now) (others : (j : Key) → j ≢ k → new.nodes j ≡ old.nodes j) where
   at_before : (r : ℕ) → old.known r ≡ known_at first r
   at_before r = ap (λ h. h r) before
@@ -311,37 +339,54 @@ module _ {T R : Type 0} {plan : R → Plan T} {G : Graph T} {now : ℕ} {old new
     links = record {
       linked = λ k n at owns a in_it. left.web.links k.id.slot a.id.slot (s.links.linked k n (was_there k n at)
           (sym (ap (λ o. o.generation) (left.web.owners k.id.slot)) ∙ owns) a in_it);
+      exact = λ k n at rule value owns r link. s.links.exact k n (was_there k n at) rule value
+          (sym (ap (λ o. o.generation) (left.web.owners k.id.slot)) ∙ owns) r
+          (left.web.only s.links.numbered k.id.slot r link);
       owned = λ r g is. ap (λ o. o.generation) (left.web.owners r) ∙ s.links.owned r g (sym (left.known r) ∙ is);
+      whole = λ k n g at is. s.links.whole k n g (was_there k n at) (sym (left.known k.id.slot) ∙ is);
+      numbered = left.web.numbered s.links.numbered;
     };
   }
 
 -- ---- a node is settled with what a look has found
 
--- two nodes of one name are one
+-- two nodes of one slot are one
 abbrev pub IsApart : {T R : Type 0} → Table T R → Key → Type 0
-IsApart nodes k = (j : Key) → nodes j ≢ None → j.id.slot ≡ k.id.slot → j.id.generation ≡ k.id.generation → j ≡ k
+IsApart nodes k = (j : Key) → nodes j ≢ None → j.id.slot ≡ k.id.slot → j ≡ k
 
 is_there : {X : Type 0} (o : Option X) → o ≢ None → is_some o ≡ true
 is_there (Some x) live = refl
 is_there None live = absurd (live refl)
 
-pub names_apart : {T R : Type 0} (S : State (Node T R)) → IsSoundStore S → (k : Key) (n : Node T R)
+pub slots_apart : {T R : Type 0} (S : State (Node T R)) → IsSoundStore S → IsSimple S → (k : Key)
+    → nodes_in S k ≢ None → IsApart (nodes_in S) k
+slots_apart S s simple k live j lives slot =
+    let here = is_there _ live in
+    let there = is_there _ lives in
+    let name : name_of (pointer_in j) ≡ name_of (pointer_in k) =
+    simple.bounded.last (name_of (pointer_in j)) (seen_cell S (pointer_in j) there)
+    ∙ (ap (last_name S) slot ∙ sym (simple.bounded.last (name_of (pointer_in k)) (seen_cell S (pointer_in k) here))) in
+    same_key j k (one_id S (pointer_in j) (pointer_in k) s there here name)
+
+pub names_apart : {T R : Type 0} (S : State (Node T R)) → IsSoundStore S → IsSimple S → (k : Key) (n : Node T R)
     → nodes_in S k ≡ Some n → IsApart (nodes_in S) k
-names_apart S s k n at j live slot generation = same_key j k (one_id S (pointer_in j) (pointer_in k) s
-    (is_there _ live) (ap is_some at) (λ i. record { slot = slot i; generation = generation i }))
+names_apart S s simple k n at = slots_apart S s simple k (λ none. none-some n (sym none ∙ at))
 
 pub live_there : {X : Type 0} {o : Option X} {x : X} → o ≡ Some x → o ≢ None
 live_there at none = none-some _ (sym none ∙ at)
 
 -- a node whose links are its own is linked to what it reads
 pub relinked_still : {T R : Type 0} {plan : R → Plan T} {G : Graph T} {now : ℕ} {b : Book T R}
-    → IsSound plan G now b → (k : Key) (n : Node T R) → b.nodes k ≡ Some n → Owns b.web k
-    → IsRelinked b.web k (vec_items n.reads) b.web
-relinked_still s k n at owned = record {
+    → IsSound plan G now b → (k : Key) (n : Node T R) → b.nodes k ≡ Some n → n.rule ≢ None → n.value ≢ None
+    → Owns b.web k → IsRelinked b.web k (vec_items n.reads) b.web
+relinked_still s k n at rule value owned = record {
   owned = owned;
   linked = λ a in_it. s.links.linked k n at owned a in_it;
+  exact = λ below r link. s.links.exact k n at rule value owned r link;
   owners = λ r ne. refl;
   links = λ r t ne link. link;
+  only = λ below r t ne link. link;
+  numbered = λ below. below;
 }
 
 module _ {T R : Type 0} {plan : R → Plan T} {G : Graph T} {now : ℕ} where
@@ -381,12 +426,7 @@ module _ {T R : Type 0} {plan : R → Plan T} {G : Graph T} {now : ℕ} {old new
   -- of another node the same is known as before
   other_known : (j : Key) (n : Node T R) → j ≢ k → old.nodes j ≡ Some n → knows new.known j ≡ knows old.known j
   other_known j n other there = ⊎_elim
-      (λ slot. ⊎_elim
-      (λ generation. absurd (other (apart j (λ none. none-some n (sym none ∙ there)) slot generation)))
-      (λ apart_too. let here : new.known j.id.slot ≡ Some k.id.generation = ap new.known slot ∙ learned.here in
-      let free : old.known j.id.slot ≡ None = ap old.known slot ∙ learned.free in
-      rw (here, free) (unlike k.id.generation j.id.generation (λ e. apart_too (sym e))))
-      (cases_eq j.id.generation k.id.generation))
+      (λ slot. absurd (other (apart j (λ none. none-some n (sym none ∙ there)) slot)))
       (λ slot. ap (λ o. holds o j.id.generation) (learned.others j.id.slot slot))
       (cases_eq j.id.slot k.id.slot)
 
@@ -444,11 +484,40 @@ module _ {T R : Type 0} {plan : R → Plan T} {G : Graph T} {now : ℕ} {old new
       (λ here. subst (λ x. IsLinked new.web x a.id.slot) (sym (ap (λ x. x.id.slot) here.0))
       (links.linked a (subst (λ xs. Contains xs a) (ap (λ m. vec_items m.reads) here.1 ∙ ap vec_items settled.asked_by) in_it)))
       (λ other. ⊎_elim
-      (λ slot. let owner = ap (λ x. (owner_at (vec_items new.web.owners) x).generation) slot in
-      let generation = same_Some j.id.generation k.id.generation (sym owns ∙ (owner ∙ links.owned)) in
-      absurd (other.0 (apart j (λ none. none-some n (sym none ∙ other.1)) slot generation)))
+      (λ slot. absurd (other.0 (apart j (λ none. none-some n (sym none ∙ other.1)) slot)))
       (λ slot. links.links j.id.slot a.id.slot slot (s.links.linked j n other.1
       (sym (ap (λ o. o.generation) (links.owners j.id.slot slot)) ∙ owns) a in_it))
+      (cases_eq j.id.slot k.id.slot))
+      (each j n there)
+
+  exact : (j : Key) (n : Node T R) → new.nodes j ≡ Some n → n.rule ≢ None → n.value ≢ None → Owns new.web j
+      → (r : ℕ) → IsLinked new.web j.id.slot r → (a : Key) × Contains (vec_items n.reads) a × (a.id.slot ≡ r)
+  exact j n there rule value owns r link = ⊎_elim
+      (λ here. let it = links.exact s.links.numbered r (subst (λ x. IsLinked new.web x.id.slot r) here.0 link) in (
+        it.0,
+        subst (λ xs. Contains xs it.0) (sym (ap (λ m. vec_items m.reads) here.1 ∙ ap vec_items settled.asked_by)) it.1,
+        it.2,
+      ))
+      (λ other. ⊎_elim
+      (λ slot. absurd (other.0 (apart j (λ none. none-some n (sym none ∙ other.1)) slot)))
+      (λ slot. s.links.exact j n other.1 rule value
+      (sym (ap (λ o. o.generation) (links.owners j.id.slot slot)) ∙ owns) r
+      (links.only s.links.numbered j.id.slot r slot link))
+      (cases_eq j.id.slot k.id.slot))
+      (each j n there)
+
+  whole : (j : Key) (n : Node T R) (g : ℕ) → new.nodes j ≡ Some n → new.known j.id.slot ≡ Some g
+      → (j.id.generation ≡ g) × (n.rule ≢ None) × (n.value ≢ None)
+  whole j n g there is = ⊎_elim
+      (λ here. (
+        same_Some j.id.generation g (ap (λ x. Some x.id.generation) here.0
+            ∙ (sym learned.here ∙ (ap (λ x. new.known x.id.slot) (sym here.0) ∙ is))),
+        (λ none. none-some l.rule (sym (sym (ap (λ m. m.rule) here.1) ∙ none) ∙ (settled.rule ∙ l.has))),
+        (λ none. none-some v (sym (sym (ap (λ m. m.value) here.1) ∙ none) ∙ settled.value)),
+      ))
+      (λ other. ⊎_elim
+      (λ slot. absurd (other.0 (apart j (λ none. none-some n (sym none ∙ other.1)) slot)))
+      (λ slot. s.links.whole j n g other.1 (sym (learned.others j.id.slot slot) ∙ is))
       (cases_eq j.id.slot k.id.slot))
       (each j n there)
 
@@ -482,7 +551,13 @@ module _ {T R : Type 0} {plan : R → Plan T} {G : Graph T} {now : ℕ} {old new
     held = held;
     checked = λ j n there. (bounded j n there).0;
     changed = λ j n there. (bounded j n there).1;
-    links = record { linked = linked; owned = owned };
+    links = record {
+      linked = linked;
+      exact = exact;
+      owned = owned;
+      whole = whole;
+      numbered = links.numbered s.links.numbered;
+    };
   }
 
   pub found : (step : Step) → (((v : T) × Shows new k v) → Stepped G now new k step)
@@ -644,9 +719,10 @@ module _ {T R : Type 0} where
   pub fresh_stops : (S : State (Node T R)) → IsFresh S → (k : Key) → nodes_in S k ≡ None
   fresh_stops S fresh k = rw fresh (fresh_sees S.number S.start S.next (pointer_in k))
 
-  pub fresh_kept : (plan : R → Plan T) (S : State (Node T R)) (known : List (Option ℕ)) (web : Web) → IsFresh S
-      → known ≡ [] → IsKept plan (record { state = S; revision = 1; known = known }) web
-  fresh_kept plan S known web fresh empty = record {
+  pub fresh_kept : (plan : R → Plan T) (S : State (Node T R)) (known : List Mark) (web : Web) → IsFresh S
+      → known ≡ [] → vec_items web.owners ≡ [] → vec_items web.readers ≡ [] → web.number ≡ 1
+      → IsKept plan (record { state = S; revision = 1; known = known }) web
+  fresh_kept plan S known web fresh empty owners readers number = record {
     simple = rw fresh (fresh_simple S.number S.start S.next);
     sound = record {
       same = λ k. refl;
@@ -656,7 +732,14 @@ module _ {T R : Type 0} where
       changed = λ k n at. absurd (none-some n (sym (fresh_stops S fresh k) ∙ at));
       links = record {
         linked = λ k n at. absurd (none-some n (sym (fresh_stops S fresh k) ∙ at));
+        exact = λ k n at. absurd (none-some n (sym (fresh_stops S fresh k) ∙ at));
         owned = λ r g is. absurd (none-some g (ap (λ xs. known_at xs r) (sym empty) ∙ is));
+        whole = λ k n g at. absurd (none-some n (sym (fresh_stops S fresh k) ∙ at));
+        numbered = record {
+          owners = λ r. let owner = ap (λ os. (owner_at os r).number) owners in omega (arith, owner, number);
+          edges = λ r e h. let nothing : Contains [] e = subst (λ rs. Contains (edges_by (slice_get rs r)) e) readers h in
+              absurd (omega (arith, nothing.1));
+        };
       };
     };
   }
@@ -678,7 +761,7 @@ module _ {T R : Type 0} {plan : R → Plan T} where
       → IfOk r (λ k. (nodes_in old.state k ≡ None) × IsPut (nodes_in old.state) k n (nodes_in new.state))
       → OnOk r (AreForgotten (book_by old.state old.known web) (book_by new.state new.known after))
       → OnErr r (new.state ≡ old.state) → OnErr r ((new.known ≡ old.known) × (after ≡ web))
-      → IsReset plan old.revision n → IsKept plan new after
+      → IsReset old.revision n → IsKept plan new after
   kept_insert (Ok k) old new web after n kept simple same (none, put) f refused links reset = record {
     simple = simple;
     sound = rw same (made_sound (book_by new.state new.known after) kept.sound f k n put none reset);
@@ -722,9 +805,14 @@ module _ {T R : Type 0} {plan : R → Plan T} where
       (value : Option T) → OnOk r (IsRenewed old k rule value new) → IsKept plan old web → IsSimple new.state
       → OnOk r (AreForgotten (book_by old.state old.known web) (book_by new.state new.known after))
       → OnErr r (IsSameAs old web new after)
-      → ((v : T) → value ≡ Some v → plan_by plan rule value ≡ Give v) → IsKept plan new after
+      → ((v : T) → value ≡ Some v → rule ≡ None) → IsKept plan new after
   kept_reset (Ok u) old new web after k rule value (n, reset, later, put) kept simple f refused shows =
-      let its : IsReset plan new.revision n = grind (arith, shows) in record {
+      let its : IsReset new.revision n = record {
+        asked = reset.asked;
+        plain = λ v is. reset.rule ∙ shows v (sym reset.value ∙ is);
+        changed = reset.changed;
+        checked = reset.checked;
+      } in record {
         simple = simple;
         sound = set_sound (book_by new.state new.known after) kept.sound f k n put new.revision later its;
       }
@@ -744,3 +832,127 @@ module _ {T R : Type 0} {plan : R → Plan T} where
   }
   kept_lost (Err e) old new web after gone lost refused f kept simple later =
       kept_same old new web after kept refused
+
+-- ==== what isn't reached by what was changed is shown as it was
+
+-- what marking a slot leaves is spared
+pub spared_by : {T R : Type 0} (old new : Book T R) (k : Key) → old.nodes k ≢ None
+    → ((s : ℕ) → (new.known s ≡ old.known s) ⊎ Leans old.web old.known s k.id.slot) → AreSpared old (k ∷ []) new
+spared_by old new k live marks s = ⊎_elim (λ same. inl same) (λ leans. inr (k, inl refl, live, leans)) (marks s)
+
+-- and still if more is marked after that
+module _ {T R : Type 0} (old mid new : Book T R) (keys : List Key) (i : ℕ) (d : Key) (lt : i < length keys)
+    (a : AreSpared old (take i keys) mid) (f : AreForgotten old mid) (lost : HasLost old.nodes (take i keys) mid.nodes)
+    (b : AreSpared mid (get_or keys i d ∷ []) new) where
+  leans_before : (r t : ℕ) → Leans mid.web mid.known r t → Leans old.web old.known r t
+  leans_before _ _ (leans_itself r) = leans_itself r
+  leans_before _ _ (leans_by r q t g is link rest) =
+      leans_by r q t g (f.fewer r g is) (subst (λ w. IsLinked w r q) f.web link) (leans_before q t rest)
+
+  live_before : (k : Key) → mid.nodes k ≢ None → old.nodes k ≢ None
+  live_before k live = ⊎_elim (λ none. absurd (live none)) (λ same none. live (same ∙ none)) (lost.left k)
+
+  among_more : (k : Key) → IsAmong k (take i keys) ⊎ (get_or keys i d ≡ k) → IsAmong k (take (i + 1) keys)
+  among_more k h = rw (take_more keys i d lt) (among_first (take i keys) (get_or keys i d) k h)
+
+  pub spared_more : AreSpared old (take (i + 1) keys) new
+  spared_more s = ⊎_elim
+      (λ same. ⊎_elim
+      (λ was. inl (same ∙ was))
+      (λ leans. inr (leans.0, among_more leans.0 (inl leans.1), leans.2, leans.3))
+      (a s))
+      (λ leans. inr (
+        leans.0,
+        among_more leans.0 (⊎_elim (λ is. inr is) (λ nothing. absurd nothing) leans.1),
+        live_before leans.0 leans.2,
+        leans_before s leans.0.id.slot leans.3,
+      ))
+      (b s)
+
+module _ {T R : Type 0} {plan : R → Plan T} {G : Graph T} {now : ℕ} {b : Book T R}
+    (s : IsSound plan G now b) (one : (k : Key) → b.nodes k ≢ None → IsApart b.nodes k) where
+  -- the answer to a question of a list
+  answer_of : (answers : List (Asked T)) (a : Key) → Contains (list_map (λ x. x.key) answers) a → AreKnown b answers
+      → (place : ℕ) × (x : Asked T) × (slice_get answers place ≡ Some x) × (x.key ≡ a) × Shows b x.key x.value
+  answer_of [] a (k, lt, is) known = absurd (omega (arith, lt))
+  answer_of (x ∷ rest) a (zero, lt, is) known = (0, x, refl, is, known.0)
+  answer_of (x ∷ rest) a (suc k, lt, is) known =
+      let found_there = answer_of rest a (k, omega (arith, lt), is) known.1 in
+      (suc found_there.0, found_there.1, found_there.2, found_there.3, found_there.4)
+
+  all_mean_take : (answers : List (Asked T)) (place : ℕ) → AllMean G answers → AllMean G (take place answers)
+  all_mean_take [] zero all = tt
+  all_mean_take [] (suc place) all = tt
+  all_mean_take (a ∷ rest) zero all = tt
+  all_mean_take (a ∷ rest) (suc place) (d, all) = (d, all_mean_take rest place all)
+
+  -- a node whose slot leans on that of another comes to it
+  pub leans_reaches : (r t : ℕ) → Leans b.web b.known r t → (k j : Key) → b.nodes k ≢ None → b.nodes j ≢ None
+      → k.id.slot ≡ r → j.id.slot ≡ t → Reaches G k j
+  leans_reaches _ _ (leans_itself r) k j live lives at to = rw (one j lives k live (at ∙ sym to)) (arrives j)
+  leans_reaches _ _ (leans_by r q t g is link rest) k j live lives at to =
+      let n = some_in (b.nodes k) live in
+      let known : b.known k.id.slot ≡ Some g = ap b.known at ∙ is in
+      let whole = s.links.whole k n.0 g n.1 known in
+      let v = some_in n.0.value whole.2 in
+      let here : b.known k.id.slot ≡ Some k.id.generation = known ∙ ap Some (sym whole.0) in
+      let h = s.held k n.0 n.1 (is_knows b.known k here) v.0 v.1 in
+      let owns = s.links.owned k.id.slot k.id.generation here in
+      let read = s.links.exact k n.0 n.1 whole.1 whole.2 owns q (subst (λ x. IsLinked b.web x q) (sym at) link) in
+      let answer = answer_of h.answers read.0 (subst (λ xs. Contains xs read.0) (sym h.asked) read.1) h.known in
+      let asks = asked_to (G k) h.answers answer.0 answer.1 (Give v.0) h.leads answer.2 in
+      let needs : Needs G k answer.1.key = (take answer.0 h.answers, asks.0, all_mean_take h.answers answer.0 h.mean, asks.1) in
+      let there = answer.4 in
+      comes_by k answer.1.key j needs (leans_reaches q t rest answer.1.key j
+      (λ none. none-some there.0 (sym none ∙ there.1)) lives (ap (λ x. x.id.slot) answer.3 ∙ read.2) to)
+
+module _ {T R : Type 0} {plan : R → Plan T} (old new : GraphState T R) (web after : Web) (keys : List Key)
+    (kept : IsKept plan old web) (store : IsSoundStore old.state)
+    (spared : AreSpared (book_by old.state old.known web) keys (book_by new.state new.known after))
+    (others : (k : Key) → (IsAmong k keys → ⊥) → nodes_in new.state k ≡ nodes_in old.state k) where
+  one_slot : (k : Key) → nodes_in old.state k ≢ None → IsApart (nodes_in old.state) k
+  one_slot k live = slots_apart old.state store kept.simple k live
+
+  -- of a node that comes to none of these the same is known
+  known_same : (k : Key) → ((j : Key) → IsAmong j keys → Reaches (plans_in plan old) k j → ⊥)
+      → nodes_in old.state k ≢ None → known_at new.known k.id.slot ≡ known_at old.known k.id.slot
+  known_same k apart live = ⊎_elim
+      (λ same. same)
+      (λ leans. absurd (apart leans.0 leans.1 (leans_reaches kept.sound one_slot k.id.slot leans.0.id.slot leans.3 k leans.0
+      live leans.2 refl refl)))
+      (spared k.id.slot)
+
+  pub shown_same : (k : Key) → ((j : Key) → IsAmong j keys → Reaches (plans_in plan old) k j → ⊥)
+      → shown_in new k ≡ shown_in old k
+  shown_same k apart = by_node (nodes_in old.state k) refl where
+    by_node : (o : Option (Node T R)) → nodes_in old.state k ≡ o → shown_in new k ≡ shown_in old k
+    by_node None is = let same = others k (λ among. apart k among (arrives k)) in
+        rw (same, is) refl
+    by_node (Some n) is =
+        let same = others k (λ among. apart k among (arrives k)) in
+        let known = known_same k apart (λ none. none-some n (sym none ∙ is)) in
+        rw (same, known) refl
+
+module _ {T R : Type 0} {plan : R → Plan T} where
+  pub reset_unaffected : {E : Type 0} (r : Result (Unit {0}) E) (old new : GraphState T R) (web after : Web) (key : Key)
+      (rule : Option R) (value : Option T) → IsKept plan old web → IsSoundStore old.state
+      → OnOk r (IsRenewed old key rule value new)
+      → OnOk r (AreSpared (book_by old.state old.known web) (key ∷ []) (book_by new.state new.known after))
+      → OnErr r (IsSameAs old web new after)
+      → (k : Key) → (Reaches (plans_in plan old) k key → ⊥) → shown_in new k ≡ shown_in old k
+  reset_unaffected (Ok u) old new web after key rule value kept store (n, reset, later, put) spared same k apart =
+      shown_same old new web after (key ∷ []) kept store spared
+      (λ j other. put.others j (λ is. other (inl (sym is)))) k
+      (λ j among reaches. ⊎_elim (λ is. apart (rw is reaches)) (λ nothing. nothing) among)
+  reset_unaffected (Err e) old new web after key rule value kept store put spared same k apart =
+      rw (same.0, same.2) refl
+
+  pub lost_unaffected : {E : Type 0} (r : Result (Unit {0}) E) (old new : GraphState T R) (web after : Web) (keys : List Key)
+      → IsKept plan old web → IsSoundStore old.state
+      → OnOk r (HasLost (nodes_in old.state) keys (nodes_in new.state))
+      → OnOk r (AreSpared (book_by old.state old.known web) keys (book_by new.state new.known after))
+      → OnErr r (IsSameAs old web new after)
+      → (k : Key) → ((j : Key) → IsAmong j keys → Reaches (plans_in plan old) k j → ⊥) → shown_in new k ≡ shown_in old k
+  lost_unaffected (Ok u) old new web after keys kept store lost spared same k apart =
+      shown_same old new web after keys kept store spared lost.others k apart
+  lost_unaffected (Err e) old new web after keys kept store lost spared same k apart = rw (same.0, same.2) refl

@@ -1,7 +1,7 @@
 -- Nodes that have ended.
-use Rattle.std.specs.Prelude.{◌≡◌, ◌⊎◌, ℕ, List, [], ◌∷◌, None, Some}
+use Rattle.std.specs.Prelude.{◌≡◌, ◌≢◌, ◌⊎◌, ℕ, List, [], ◌∷◌, None, Some}
 use Rattle.reactive.specs.declared.key.Key.{Key}
-use Rattle.reactive.specs.Links.{IsLinked}
+use Rattle.reactive.specs.Links.{IsLinked, Leans}
 use Rattle.reactive.specs.Tables.{Book, Table}
 
 -- a key stands in a list
@@ -24,3 +24,9 @@ pub record AreForgotten {T R : Type 0} (old new : Book T R) : Type 0 where
   pub here : (k : Key) → (new.nodes k ≡ old.nodes k) ⊎ (new.known k.id.slot ≡ None)
   pub others : (r s g : ℕ) → new.known r ≡ Some g → IsLinked old.web r s
       → (new.known s ≡ old.known s) × ((k : Key) → k.id.slot ≡ s → new.nodes k ≡ old.nodes k)
+
+-- From one book to another what was known of slots is known still, unless they lean on that of one of these
+-- nodes, which had not ended.
+abbrev pub AreSpared : {T R : Type 0} → Book T R → List Key → Book T R → Type 0
+AreSpared old keys new = (s : ℕ) → (new.known s ≡ old.known s)
+    ⊎ ((k : Key) × IsAmong k keys × (old.nodes k ≢ None) × Leans old.web old.known s k.id.slot)

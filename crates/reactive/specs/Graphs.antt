@@ -6,18 +6,18 @@ use Rattle.generational_sessions.specs.PlainStores.{IsSimple}
 use Rattle.reactive.specs.declared.fault.Fault.{Fault}
 use Rattle.reactive.specs.declared.fault.Fault.TheVariants as fault
 use Rattle.reactive.specs.declared.key.Key.{Key}
+use Rattle.reactive.specs.declared.links.Mark.{Mark}
 use Rattle.reactive.specs.declared.links.Web.{Web}
 use Rattle.reactive.specs.declared.node.Node.{Node}
 use Rattle.reactive.specs.Meaning.{Graph}
 use Rattle.reactive.specs.Plans.{Plan}
 use Rattle.reactive.specs.Tables.{IsSound, Table, book_by, graph_of, nodes_in, shown_by}
 
--- the state of the store, the revision, and of each slot the generation of its memo, if it is known what
--- that means
+-- the state of the store, the revision, and of each slot what is known of it
 pub record GraphState (T R : Type 0) : Type 0 where
   pub state : State (Node T R)
   pub revision : ℕ
-  pub known : List (Option ℕ)
+  pub known : List Mark
 
 -- what a key is of: no node that lives, a source or a memo
 pub data Kind : Type 0 where

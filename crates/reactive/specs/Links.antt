@@ -1,10 +1,11 @@
 -- Which nodes read which, and of which memos it is known what they mean, by slots.
-use Rattle.std.specs.Prelude.{◌≡◌, ◌≢◌, ◌⊎◌, ℕ, Bool, false, ◌&&◌, nat_eq, List, [], Option, None, Some, get_or, slice_get}
+use Rattle.std.specs.Prelude.{◌≡◌, ◌≢◌, ◌<◌, ℕ, Bool, false, ◌&&◌, nat_eq, List, [], Option, None, Some, get_or, slice_get}
 use Rattle.std.specs.List.{Contains}
 use Rattle.std.specs.Global.{Vec}
 use Rattle.std.specs.Vec.{vec_items}
 use Rattle.reactive.specs.declared.key.Key.{Key}
 use Rattle.reactive.specs.declared.links.Edge.{Edge}
+use Rattle.reactive.specs.declared.links.Mark.{Mark}
 use Rattle.reactive.specs.declared.links.Owner.{Owner}
 use Rattle.reactive.specs.declared.links.Web.{Web}
 
@@ -41,23 +42,38 @@ IsLinked w r s = Contains (edges_at w s) (record { slot = r; number = (owner_at 
 abbrev pub Owns : Web → Key → Type 0
 Owns w k = (owner_at (vec_items w.owners) k.id.slot).generation ≡ Some k.id.generation
 
--- from one web to another no link was lost
+-- the links of each slot, and each edge, have a number below the next
+pub record AreNumbered (w : Web) : Type 0 where
+  pub owners : (s : ℕ) → (owner_at (vec_items w.owners) s).number < w.number
+  pub edges : (s : ℕ) (e : Edge) → Contains (edges_at w s) e → e.number < w.number
+
+-- from one web to another no link was lost or made
 pub record Keeps (old new : Web) : Type 0 where
   pub owners : (s : ℕ) → owner_at (vec_items new.owners) s ≡ owner_at (vec_items old.owners) s
   pub links : (r s : ℕ) → IsLinked old r s → IsLinked new r s
+  pub only : AreNumbered old → (r s : ℕ) → IsLinked new r s → IsLinked old r s
+  pub numbered : AreNumbered old → AreNumbered new
 
--- from one web to another a node was linked to those that it reads, and no link of another slot was lost
+-- from one web to another a node was linked to those that it reads and no others, and no link of another
+-- slot was lost or made
 pub record IsRelinked (old : Web) (k : Key) (reads : List Key) (new : Web) : Type 0 where
   pub owned : Owns new k
   pub linked : (a : Key) → Contains reads a → IsLinked new k.id.slot a.id.slot
+  pub exact : AreNumbered old → (s : ℕ) → IsLinked new k.id.slot s → (a : Key) × Contains reads a × (a.id.slot ≡ s)
   pub owners : (s : ℕ) → s ≢ k.id.slot → owner_at (vec_items new.owners) s ≡ owner_at (vec_items old.owners) s
   pub links : (r s : ℕ) → r ≢ k.id.slot → IsLinked old r s → IsLinked new r s
+  pub only : AreNumbered old → (r s : ℕ) → r ≢ k.id.slot → IsLinked new r s → IsLinked old r s
+  pub numbered : AreNumbered old → AreNumbered new
 
 -- ---- marks
 
+-- of a slot nothing is known
+abbrev pub unknown : Mark
+unknown = record { generation = None; next = 0 }
+
 -- the generation of a slot's memo, if it is known what that means
-abbrev pub known_at : List (Option ℕ) → ℕ → Option ℕ
-known_at known s = get_or known s None
+abbrev pub known_at : List Mark → ℕ → Option ℕ
+known_at known s = (get_or known s unknown).generation
 
 abbrev pub holds : Option ℕ → ℕ → Bool
 holds None g = false
@@ -67,20 +83,14 @@ holds (Some h) g = nat_eq h g
 abbrev pub knows : (ℕ → Option ℕ) → Key → Bool
 knows known k = holds (known k.id.slot) k.id.generation
 
--- whatever is known was known
-abbrev pub IsFewer : List (Option ℕ) → List (Option ℕ) → Type 0
-IsFewer old new = (s g : ℕ) → known_at new s ≡ Some g → known_at old s ≡ Some g
-
--- From one state to another the readers of a slot were forgotten. What was forgotten is on a list.
-pub record Drops (w : Web) (old : List (Option ℕ)) (before : List ℕ) (slot : ℕ) (new : List (Option ℕ)) (list : List ℕ) : Type 0 where
-  pub fewer : IsFewer old new
-  pub readers : (r g : ℕ) → known_at new r ≡ Some g → IsLinked w r slot → ⊥
-  pub rest : (s : ℕ) → (known_at new s ≡ known_at old s) ⊎ Contains list s
-  pub todo : (s : ℕ) → Contains before s → Contains list s
+-- a slot comes to another by links of slots of which something is known
+pub data Leans (w : Web) (known : ℕ → Option ℕ) : ℕ → ℕ → Type 0 where
+  leans_itself : (s : ℕ) → Leans w known s s
+  leans_by : (r s t g : ℕ) → known r ≡ Some g → IsLinked w r s → Leans w known s t → Leans w known r t
 
 -- From one state to another a slot was forgotten: whoever is known still reads nothing but what is as it was.
-pub record HasForgotten (w : Web) (old : List (Option ℕ)) (slot : ℕ) (new : List (Option ℕ)) : Type 0 where
-  pub fewer : IsFewer old new
+pub record HasForgotten (w : Web) (old : List Mark) (slot : ℕ) (new : List Mark) : Type 0 where
+  pub fewer : (s g : ℕ) → known_at new s ≡ Some g → known_at old s ≡ Some g
   pub here : known_at new slot ≡ None
   pub others : (r s g : ℕ) → known_at new r ≡ Some g → IsLinked w r s
       → (s ≢ slot) × (known_at new s ≡ known_at old s)

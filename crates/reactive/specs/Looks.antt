@@ -1,7 +1,9 @@
 -- What a look at a node finds out.
-use Rattle.std.specs.Prelude.{◌≡◌, ℕ, List, Some, None, take, slice_get, map as list_map}
+use Rattle.std.specs.Prelude.{◌≡◌, ◌≢◌, ℕ, Bool, true, List, None, Some, take, slice_get, map as list_map}
 use Rattle.std.specs.Vec.{vec_items}
 use Rattle.reactive.specs.declared.key.Key.{Key}
+use Rattle.reactive.specs.declared.look.Found.{Found}
+use Rattle.reactive.specs.declared.look.Found.TheVariants as found
 use Rattle.reactive.specs.declared.look.Look.{Look}
 use Rattle.reactive.specs.declared.look.Look.TheVariants as look
 use Rattle.reactive.specs.declared.look.Step.{Step}
@@ -38,15 +40,23 @@ module _ {T R : Type 0} (G : Graph T) (now : ℕ) (b : Book T R) (k : Key) where
     pub leads : Follows (G k) answers (Give v)
     pub known : AreKnown b answers
 
-  abbrev pub Looked : Look T → Type 0
+  abbrev pub Looked : Look → Type 0
   Looked look.Known = (v : T) × Shows b k v
   Looked look.Right = (n : Node T R) × (b.nodes k ≡ Some n) × ((v : T) × (n.value ≡ Some v)
       × LeadsTo n v (vec_items n.reads))
-  Looked (look.New v reads) = (n : Node T R) × (b.nodes k ≡ Some n) × LeadsTo n v (vec_items reads)
-  Looked (look.Needs j place) = Needs G k j × GoesOn G now b k place
+  Looked look.Stale = (n : Node T R) × (b.nodes k ≡ Some n) × ((rule : R) × (n.rule ≡ Some rule))
+  Looked (look.Needs j place) = Needs G k j × GoesOn G now b k (Some place)
   Looked (look.Gone j) = IsMute G k × Reaches G k j × (b.nodes j ≡ None)
   Looked look.NoValue = GivesNone G k
-  Looked look.Full = Unit {0}
+
+  -- what a run of its rule finds
+  abbrev pub Finds : Found T → Type 0
+  Finds (found.Again v) = (n : Node T R) × (b.nodes k ≡ Some n) × (n.value ≢ None) × LeadsTo n v (vec_items n.reads)
+  Finds (found.New v reads) = (n : Node T R) × (b.nodes k ≡ Some n) × LeadsTo n v (vec_items reads)
+  Finds (found.Needs j) = Needs G k j
+  Finds (found.Gone j) = IsMute G k × Reaches G k j × (b.nodes j ≡ None)
+  Finds found.NoValue = GivesNone G k
+  Finds found.Full = Unit {0}
 
   -- what a step at a node comes to
   abbrev pub Stepped : Step → Type 0
@@ -55,3 +65,12 @@ module _ {T R : Type 0} (G : Graph T) (now : ℕ) (b : Book T R) (k : Key) where
   Stepped (step.Gone j) = IsMute G k × Reaches G k j × (b.nodes j ≡ None)
   Stepped step.NoValue = GivesNone G k
   Stepped step.Full = Unit {0}
+
+-- a run came to a value: by the kept questions, if these were asked, or by those that were
+abbrev pub IsFoundBy : {T : Type 0} → T → (asked kept : List Key) → Bool → Found T → Type 0
+IsFoundBy value asked kept is_kept (found.Again v) = (v ≡ value) × (asked ≡ kept) × (is_kept ≡ true)
+IsFoundBy value asked kept is_kept (found.New v reads) = (v ≡ value) × (vec_items reads ≡ asked)
+IsFoundBy value asked kept is_kept (found.Needs j) = ⊥
+IsFoundBy value asked kept is_kept (found.Gone j) = ⊥
+IsFoundBy value asked kept is_kept found.NoValue = ⊥
+IsFoundBy value asked kept is_kept found.Full = Unit {0}

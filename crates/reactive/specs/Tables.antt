@@ -9,8 +9,9 @@ use Rattle.generational_core.specs.declared.boxes.GenerationalPointer.{Generatio
 use Rattle.generational_errors.specs.declared.error.Location.{Location}
 use Rattle.reactive.specs.declared.key.Key.{Key}
 use Rattle.reactive.specs.declared.links.Links.{Links}
+use Rattle.reactive.specs.declared.links.Mark.{Mark}
 use Rattle.reactive.specs.declared.links.Web.{Web}
-use Rattle.reactive.specs.Links.{IsLinked, known_at, knows, owner_at, Owns}
+use Rattle.reactive.specs.Links.{AreNumbered, IsLinked, known_at, knows, owner_at, Owns}
 use Rattle.reactive.specs.declared.node.Node.{Node}
 use Rattle.reactive.specs.Plans.{Plan, Give, Stop, Asked, Follows}
 use Rattle.reactive.specs.Meaning.{Graph, AllMean}
@@ -45,7 +46,7 @@ module _ {T R : Type 0} where
   abbrev pub nodes_in : State (Node T R) → Table T R
   nodes_in S k = value_in S (pointer_in k)
 
-  abbrev pub book_by : State (Node T R) → List (Option ℕ) → Web → Book T R
+  abbrev pub book_by : State (Node T R) → List Mark → Web → Book T R
   book_by S known web = record { nodes = nodes_in S; known = known_at known; web = web }
 
   -- the book of a store with these links
@@ -78,7 +79,7 @@ module _ {T R : Type 0} where
   known_by sure (Some n) = if is_none n.rule || sure then n.value else None
 
   -- that of a key's node
-  abbrev pub shown_by : Table T R → List (Option ℕ) → Key → Option T
+  abbrev pub shown_by : Table T R → List Mark → Key → Option T
   shown_by nodes known k = known_by (knows (known_at known) k) (nodes k)
 
   abbrev pub known_of : Book T R → Key → Option T
@@ -113,11 +114,18 @@ module _ {T R : Type 0} where
     pub mean : AllMean G answers
     pub known : AreKnown b answers
 
-  -- Each node whose links are its own is linked to what it reads, and those of known memos are.
+  -- Each node whose links are its own is linked to what it reads, and a memo that keeps a value to nothing
+  -- else. The links of known memos are their own.
   pub record AreLinked (b : Book T R) : Type 0 where
     pub linked : (k : Key) (n : Node T R) → b.nodes k ≡ Some n → Owns b.web k
         → (a : Key) → Contains (vec_items n.reads) a → IsLinked b.web k.id.slot a.id.slot
+    pub exact : (k : Key) (n : Node T R) → b.nodes k ≡ Some n → n.rule ≢ None → n.value ≢ None → Owns b.web k
+        → (s : ℕ) → IsLinked b.web k.id.slot s → (a : Key) × Contains (vec_items n.reads) a × (a.id.slot ≡ s)
     pub owned : (s g : ℕ) → b.known s ≡ Some g → (owner_at (vec_items b.web.owners) s).generation ≡ Some g
+    -- what is known of a slot is known of the node that has it, which is a memo and keeps a value
+    pub whole : (k : Key) (n : Node T R) (g : ℕ) → b.nodes k ≡ Some n → b.known k.id.slot ≡ Some g
+        → (k.id.generation ≡ g) × (n.rule ≢ None) × (n.value ≢ None)
+    pub numbered : AreNumbered b.web
 
 module _ {T R : Type 0} (plan : R → Plan T) where
   -- a memo's plan is its rule's, and a source's gives its value

@@ -1,10 +1,11 @@
 //! Which nodes read which, and of which memos it is known what they mean.
 
-ghost use Rattle.std.specs.Prelude.{◌≡◌, ◌≢◌, ◌<◌, ◌⊎◌, ◌++◌, ◌∷◌, [], ℕ, Option, None, Some, Bool, true, false, length, IsTrue, ◌||◌};
+ghost use Rattle.std.specs.Prelude.{◌≡◌, ◌≢◌, ◌<◌, ◌≤◌, ◌+◌, ◌⊎◌, ◌++◌, ◌∷◌, [], ℕ, List, Option, None, Some, Bool, true, false, length, IsTrue, ◌||◌};
 ghost use Rattle.std.specs.List.{Contains, filter};
 ghost use Rattle.reactive.specs.declared.key.Key.{Key};
 ghost use Rattle.reactive.specs.declared.links.Edge.{Edge};
-ghost use Rattle.reactive.specs.Links.{Drops, HasForgotten, IsFewer, IsRelinked, Keeps, Owns, edges_at, is_current, is_same, known_at, knows, owner_at};
+ghost use Rattle.reactive.specs.Links.{HasForgotten, IsRelinked, Keeps, Leans, edges_at, is_current, is_same, known_at, knows, owner_at};
+ghost use Rattle.reactive.specs.Visiting.{AreListed, Drops, HasRoom, IsDropped, count_known};
 
 use crate::key::Key;
 use std::alloc::Global;
@@ -29,14 +30,25 @@ pub(crate) struct Web {
     pub(crate) alloc: Global,
     pub(crate) owners: Vec<Owner>,
     pub(crate) readers: Vec<Vec<Edge>>,
+    // the number of the next links: no links have had it, or one above it
+    pub(crate) number: u64,
 }
 
-/// Of each slot the generation of its memo, if it is known what that means.
+/// The generation of a slot's memo, if it is known what that means.
+#[derive(Clone, Copy)]
+pub(crate) struct Mark {
+    pub(crate) generation: Option<u64>,
+    // the slot that is visited after this one, if both are to be
+    pub(crate) next: usize,
+}
+
+/// Of each slot its mark. The slots that are to be visited are a list through the marks.
 #[derive(Drop)]
 pub(crate) struct Marks {
-    pub(crate) known: Vec<Option<u64>>,
-    // slots whose readers are to be forgotten
-    pub(crate) work: Vec<usize>,
+    pub(crate) known: Vec<Mark>,
+    // the first of them, and how many they are
+    pub(crate) first: usize,
+    pub(crate) left: usize,
 }
 
 /// The links of nodes.
@@ -50,16 +62,9 @@ pub(crate) struct Links {
 fn is_current(owners: &Vec<Owner>, edge: Edge) -> bool
     ensures { result ≡ is_current owners.now.items edge }
 {
-    number_at(owners, edge.slot) == edge.number
-}
-
-// The number of a slot's links.
-fn number_at(owners: &Vec<Owner>, slot: usize) -> u64
-    ensures { result ≡ (owner_at owners.now.items slot).number }
-{
-    match owners.get(slot) {
-        Some(owner) => owner.number,
-        None => 0,
+    match owners.get(edge.slot) {
+        Some(owner) => owner.number == edge.number,
+        None => 0 == edge.number,
     }
 }
 
@@ -67,6 +72,7 @@ fn number_at(owners: &Vec<Owner>, slot: usize) -> u64
 fn add(owners: &Vec<Owner>, edges: &mut Vec<Edge>, edge: Edge) -> bool
     ensures kept { (e : Edge) → Contains edges.old.items e →
         (is_current owners.now.items e ≡ true) ⊎ (e ≡ edge) → Contains edges.new.items e }
+    ensures only { (e : Edge) → Contains edges.new.items e → Contains edges.old.items e ⊎ (e ≡ edge) }
     ensures added { IsTrue result → Contains edges.new.items edge }
 {
     make_room(owners, edges, edge) && edges.push(edge).is_ok()
@@ -74,8 +80,9 @@ fn add(owners: &Vec<Owner>, edges: &mut Vec<Edge>, edge: Edge) -> bool
 
 // Makes room for a reader. Old ones are removed before the list grows. False if memory runs out.
 fn make_room(owners: &Vec<Owner>, edges: &mut Vec<Edge>, edge: Edge) -> bool
-    ensures { (e : Edge) → Contains edges.old.items e →
+    ensures kept { (e : Edge) → Contains edges.old.items e →
         (is_current owners.now.items e ≡ true) ⊎ (e ≡ edge) → Contains edges.new.items e }
+    ensures only { (e : Edge) → Contains edges.new.items e → Contains edges.old.items e }
 {
     if edges.len() < edges.capacity() {
         return true;
@@ -101,32 +108,11 @@ fn is_same(edge: Edge, other: Edge) -> bool
 }
 
 impl Web {
-    // No links.
-    pub(crate) fn new(alloc: Global) -> Web
-        ensures owners { result.owners.items ≡ [] }
-        ensures readers { result.readers.items ≡ [] }
-    {
-        Web {
-            alloc,
-            owners: Vec::new(alloc),
-            readers: Vec::new(alloc),
-        }
-    }
-
-    // Whether the links of its slot are a node's.
-    pub(crate) fn owns(&self, key: Key) -> bool
-        ensures { IsTrue result → Owns self.now key }
-    {
-        match self.owners.get(key.id.slot) {
-            Some(owner) => owner.generation == Some(key.id.generation),
-            None => false,
-        }
-    }
-
     // Makes room for a slot's owner. False if memory runs out.
     fn reserve(&mut self, slot: usize) -> bool
         ensures owners { (s : ℕ) → owner_at self.new.owners.items s ≡ owner_at self.old.owners.items s }
         ensures readers { self.new.readers ≡ self.old.readers }
+        ensures number { self.new.number ≡ self.old.number }
         ensures room { IsTrue result → slot < length self.new.owners.items }
     {
         if slot < self.owners.len() {
@@ -145,6 +131,7 @@ impl Web {
     // Makes room for a slot's readers. False if memory runs out.
     fn reserve_readers(&mut self, slot: usize) -> bool
         ensures owners { self.new.owners ≡ self.old.owners }
+        ensures number { self.new.number ≡ self.old.number }
         ensures readers { (s : ℕ) → edges_at self.new s ≡ edges_at self.old s }
         ensures room { IsTrue result → slot < length self.new.readers.items }
     {
@@ -159,8 +146,11 @@ impl Web {
     // Adds a reader of a slot. False if memory runs out.
     fn link(&mut self, to: usize, edge: Edge) -> bool
         ensures owners { self.new.owners ≡ self.old.owners }
+        ensures number { self.new.number ≡ self.old.number }
         ensures kept { (s : ℕ) (e : Edge) → Contains (edges_at self.old s) e →
             (is_current self.old.owners.items e ≡ true) ⊎ (e ≡ edge) → Contains (edges_at self.new s) e }
+        ensures only { (s : ℕ) (e : Edge) → Contains (edges_at self.new s) e →
+            Contains (edges_at self.old s) e ⊎ ((e ≡ edge) × (s ≡ to)) }
         ensures added { IsTrue result → Contains (edges_at self.new to) edge }
     {
         if !self.reserve_readers(to) {
@@ -169,17 +159,21 @@ impl Web {
         add(&self.owners, &mut self.readers[to], edge)
     }
 
-    // Makes the links of its slot a node's, which reads these. False if memory runs out: then no link is
-    // lost.
+    // Makes the links of its slot a node's, which reads these. False if memory runs out, or numbers do: then
+    // no link is lost.
     pub(crate) fn relink(&mut self, key: Key, reads: &[Key]) -> bool
         ensures relinked { IsTrue result → IsRelinked self.old key reads.now self.new }
         ensures failed { result ≡ false → Keeps self.old self.new }
     {
         let slot = key.id.slot;
+        let number = self.number;
+        let Some(next) = number.checked_add(1) else {
+            return false;
+        };
         if !self.reserve(slot) {
             return false;
         }
-        let number = number_at(&self.owners, slot).wrapping_add(1);
+        self.number = next;
         for read in reads {
             if !self.link(read.id.slot, Edge { slot, number }) {
                 return false;
@@ -194,102 +188,88 @@ impl Web {
 }
 
 impl Marks {
-    // Nothing is known.
-    pub(crate) fn new(alloc: Global) -> Marks
-        ensures { result.known.items ≡ [] }
-    {
-        Marks {
-            known: Vec::new(alloc),
-            work: Vec::new(alloc),
-        }
-    }
-
     // Whether it is known what a memo means.
     pub(crate) fn knows(&self, key: Key) -> bool
         ensures { result ≡ knows (known_at self.now.known.items) key }
     {
         match self.known.get(key.id.slot) {
-            Some(Some(generation)) => *generation == key.id.generation,
+            Some(
+                Mark {
+                    generation: Some(generation),
+                    next: _,
+                },
+            ) => *generation == key.id.generation,
             _ => false,
         }
     }
 
-    // The reader of an edge is forgotten, and its own readers are to be. False if memory runs out.
-    fn drop_reader(&mut self, web: &Web, edge: Edge) -> bool
-        ensures fewer { IsFewer self.old.known.items self.new.known.items }
-        ensures dropped { IsTrue result → is_current web.now.owners.items edge ≡ true → known_at self.new.known.items edge.slot ≡ None }
-        ensures rest { IsTrue result → (s : ℕ) → (known_at self.new.known.items s ≡ known_at self.old.known.items s)
-            ⊎ Contains self.new.work.items s }
-        ensures todo { (s : ℕ) → Contains self.old.work.items s → Contains self.new.work.items s }
+    // The reader of an edge is forgotten, if the edge isn't old, and is to be visited.
+    fn drop_reader(&mut self, web: &Web, edge: Edge)
+        requires room { HasRoom self.old }
+        ensures room { HasRoom self.new }
+        ensures dropped { IsDropped web.now edge self.old self.new }
     {
         if !is_current(&web.owners, edge) {
-            return true;
+            return;
         }
         if edge.slot >= self.known.len() {
-            return true;
+            return;
         }
-        if self.known[edge.slot].is_none() {
-            return true;
+        if self.known[edge.slot].generation.is_none() {
+            return;
         }
-        self.known[edge.slot] = None;
-        self.work.push(edge.slot).is_ok()
+        self.known[edge.slot] = Mark {
+            generation: None,
+            next: self.first,
+        };
+        self.first = edge.slot;
+        self.left += 1;
     }
 
-    // The readers of a slot are forgotten, and theirs are to be. False if memory runs out.
-    fn drop_readers(&mut self, web: &Web, slot: usize) -> bool
-        ensures { IsTrue result → Drops web.now self.old.known.items self.old.work.items slot
-            self.new.known.items self.new.work.items }
+    // The readers of a slot are forgotten, and are to be visited.
+    fn drop_readers(&mut self, web: &Web, slot: usize)
+        requires room { HasRoom self.old }
+        ensures room { HasRoom self.new }
+        ensures fewer { count_known self.new.known.items + count_known self.new.known.items + self.new.left
+            ≤ count_known self.old.known.items + count_known self.old.known.items + self.old.left }
+        ensures dropped { (before : List ℕ) → AreListed self.old before → (list : List ℕ) × AreListed self.new list
+            × Drops web.now self.old.known.items before slot self.new.known.items list }
     {
         let Some(edges) = web.readers.get(slot) else {
-            return true;
+            return;
         };
         for edge in edges.iter() {
-            if !self.drop_reader(web, *edge) {
-                return false;
-            }
+            self.drop_reader(web, *edge);
         }
-        true
     }
 
-    // Forgets a slot. Nothing is to be forgotten beside it yet.
+    // Forgets a slot. Nothing is to be visited yet.
     fn begin(&mut self, slot: usize)
         ensures here { known_at self.new.known.items slot ≡ None }
         ensures others { (s : ℕ) → s ≢ slot →
             known_at self.new.known.items s ≡ known_at self.old.known.items s }
-        ensures work { self.new.work.items ≡ [] }
+        ensures left { self.new.left ≡ 0 }
+        ensures room { HasRoom self.new }
     {
-        self.work.clear();
+        self.left = 0;
         if slot < self.known.len() {
-            self.known[slot] = None;
+            self.known[slot].generation = None;
         }
     }
 
-    // Forgets a slot and what reads it. False if memory runs out.
-    fn spread(&mut self, web: &Web, slot: usize) -> bool
-        ensures { IsTrue result → HasForgotten web.now self.old.known.items slot self.new.known.items }
+    // Forgets what the memo of a slot means, and what those mean that read it.
+    pub(crate) fn forget(&mut self, web: &Web, slot: usize)
+        ensures forgotten { HasForgotten web.now self.old.known.items slot self.new.known.items }
+        ensures spared { (s : ℕ) → (known_at self.new.known.items s ≡ known_at self.old.known.items s)
+            ⊎ Leans web.now (known_at self.old.known.items) s slot }
     {
         self.begin(slot);
-        if !self.drop_readers(web, slot) {
-            return false;
-        }
-        for _step in 0..u64::MAX {
-            let Some(next) = self.work.pop() else {
-                return true;
-            };
-            if !self.drop_readers(web, next) {
-                return false;
-            }
-        }
-        false
-    }
-
-    // Forgets what the memo of a slot means, and what those mean that read it; or everything, if memory
-    // runs out.
-    pub(crate) fn forget(&mut self, web: &Web, slot: usize)
-        ensures { HasForgotten web.now self.old.known.items slot self.new.known.items }
-    {
-        if !self.spread(web, slot) {
-            self.known.clear();
+        self.drop_readers(web, slot);
+        while self.left > 0 {
+            let next = self.first;
+            self.first = self.known[next].next;
+            self.left -= 1;
+            self.drop_readers(web, next);
         }
     }
 
@@ -300,12 +280,16 @@ impl Marks {
         ensures free { IsTrue result → known_at self.new.known.items slot ≡ None }
     {
         if slot < self.known.len() {
-            return self.known[slot].is_none();
+            return self.known[slot].generation.is_none();
         }
         let Some(room) = slot.checked_add(1) else {
             return false;
         };
-        self.known.resize(room, None).is_ok()
+        let unknown = Mark {
+            generation: None,
+            next: 0,
+        };
+        self.known.resize(room, unknown).is_ok()
     }
 
     // Notes that it is known what a memo means. There is room for that.
@@ -315,6 +299,6 @@ impl Marks {
         ensures others { (s : ℕ) → s ≢ key.id.slot →
             known_at self.new.known.items s ≡ known_at self.old.known.items s }
     {
-        self.known[key.id.slot] = Some(key.id.generation);
+        self.known[key.id.slot].generation = Some(key.id.generation);
     }
 }

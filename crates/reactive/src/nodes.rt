@@ -1,7 +1,7 @@
 //! The nodes of a store.
 
 ghost use Rattle.std.specs.Prelude.{◌≡◌, ◌≢◌, ◌<◌, ◌+◌, ◌^◌, ℕ, List, Option, Some, None, IfSome, IfNone, option_copied, take, IsTrue, slice_get};
-ghost use Rattle.std.specs.Prelude.{[], true, false, is_some, Ok, IsOk, IfOk, IfErr, OnOk, OnErr};
+ghost use Rattle.std.specs.Prelude.{[], ◌∷◌, true, false, is_some, Ok, IsOk, IfOk, IfErr, OnOk, OnErr};
 ghost use Rattle.std.specs.Prelude.{map as list_map};
 ghost use Rattle.std.specs.Vec.{vec_items};
 ghost use Rattle.generational_core.specs.Slots.{free};
@@ -12,25 +12,27 @@ ghost use Rattle.reactive.specs.declared.key.Key.{Key};
 ghost use Rattle.reactive.specs.declared.node.Node.{Node};
 ghost use Rattle.reactive.specs.Changing.{IsChanged, IsResetTo};
 ghost use Rattle.reactive.specs.Chains.{GoesOn};
-ghost use Rattle.reactive.specs.Ending.{AreForgotten, HasLost};
+ghost use Rattle.reactive.specs.Ending.{AreForgotten, AreSpared, HasLost};
 ghost use Rattle.reactive.specs.Links.{IsRelinked, Keeps, Owns, known_at, knows};
 ghost use Rattle.reactive.specs.Graphs.{IsUnruled, kinds_of};
-ghost use Rattle.reactive.specs.Looks.{Looked, Verified};
+ghost use Rattle.reactive.specs.Asking.{asked_by};
+ghost use Rattle.reactive.specs.Looks.{Finds, IsFoundBy, Looked, Verified};
 ghost use Rattle.reactive.specs.Meaning.{Graph};
 ghost use Rattle.reactive.specs.Plans.{Asked, Ran};
 ghost use Rattle.reactive.specs.Refreshing.{IsAdvanced, IsOnTheWay, Refreshed, Went};
 ghost use Rattle.reactive.specs.declared.look.Frame.{Frame};
+ghost use Rattle.reactive.specs.declared.look.Found.TheVariants as found;
 ghost use Rattle.reactive.specs.declared.look.Look.TheVariants as look;
 ghost use Rattle.reactive.specs.declared.look.Step.TheVariants as step;
 ghost use Rattle.reactive.specs.Settling.{IsLearned, IsLeft, IsSettled, Lasts};
-ghost use Rattle.reactive.specs.Tables.{AllStand, AreKnown, AreLinked, IsPut, IsSound, book, known_by, known_of, nodes_in, shown_by};
+ghost use Rattle.reactive.specs.Tables.{AllStand, AreKnown, IsPut, IsSound, book, known_by, known_of, nodes_in, shown_by};
 
 use crate::fault::Fault;
 use crate::key::Key;
 use crate::links::{Links, Marks};
-use crate::look::{Frame, Look, Run, Step, Verdict};
+use crate::look::{Found, Frame, Look, Run, Step, Verdict};
 use crate::node::Node;
-use crate::reader::Reader;
+use crate::reader::{Questions, Reader};
 use crate::rule::Rule;
 use crate::values::Value;
 use generational_core::{GenerationalBox, Location, Refusal, Storage, StoreError};
@@ -73,6 +75,20 @@ pub(crate) fn known_value<'a, T: 'a, R: 'a, S: Storage<Node<T, R>>>(
     match node_of(store, key) {
         Some(node) => node.known(marks.knows(key)),
         None => None,
+    }
+}
+
+// What a run finds that came to a value.
+fn value_found<'a, T: Drop>(value: T, questions: Questions<'a>, is_kept: bool) -> Found<T>
+    ensures { IsFoundBy value (asked_by questions.entry) questions.entry.kept.now is_kept result }
+{
+    if is_kept && questions.listed.is_empty() && questions.same == questions.kept.len() {
+        return Found::Again(value);
+    }
+    let mut questions = questions;
+    match questions.list() {
+        Ok(()) => Found::New(value, questions.listed),
+        Err(_) => Found::Full,
     }
 }
 
@@ -122,36 +138,6 @@ impl<T: Value + Drop, R: Rule<T>, S: Storage<Node<T, R>>> Nodes<T, R, S> {
         true
     }
 
-    // Whether the links of its slot are a key's node's, which asked for this.
-    fn is_linked(&self, key: Key, reads: &Vec<Key>) -> bool
-        ensures owned { IsTrue result → Owns self.now.links.web key }
-        ensures asked { IsTrue result → (n : Node T R) → nodes_in (S.state self.now.store) key ≡ Some n →
-            vec_items n.reads ≡ reads.now.items }
-    {
-        if !self.links.web.owns(key) {
-            return false;
-        }
-        match node_of(&self.store, key) {
-            Some(node) => node.reads == *reads,
-            None => false,
-        }
-    }
-
-    // Links a key's node to what it asked for. False if memory runs out.
-    fn link(&mut self, key: Key, reads: &Vec<Key>) -> bool
-        ensures relinked { IsTrue result → AreLinked (book (S.state self.old.store) self.old.links) → nodes_in (S.state self.old.store) key ≢ None →
-            IsRelinked self.old.links.web key reads.now.items self.new.links.web }
-        ensures failed { result ≡ false → Keeps self.old.links.web self.new.links.web }
-        ensures marks { self.new.links.marks ≡ self.old.links.marks }
-        ensures store { self.new.store ≡ self.old.store }
-        ensures revision { self.new.revision ≡ self.old.revision }
-    {
-        if self.is_linked(key, reads) {
-            return true;
-        }
-        self.links.web.relink(key, reads)
-    }
-
     // Keeps what a key's node was found to mean, and the questions by which. False if memory runs out.
     fn keep(&mut self, key: Key, value: T, reads: Vec<Key>) -> bool
         requires simple { IsSimple (S.state self.old.store) }
@@ -160,8 +146,7 @@ impl<T: Value + Drop, R: Rule<T>, S: Storage<Node<T, R>>> Nodes<T, R, S> {
             (new : Node T R) × IsSettled old value reads self.old.revision new
             × IsPut (nodes_in (S.state self.old.store)) key new (nodes_in (S.state self.new.store)) }
         ensures learned { IsTrue result → IsLearned (book (S.state self.old.store) self.old.links) key (book (S.state self.new.store) self.new.links) }
-        ensures relinked { IsTrue result → AreLinked (book (S.state self.old.store) self.old.links) → nodes_in (S.state self.old.store) key ≢ None →
-            IsRelinked self.old.links.web key reads.items self.new.links.web }
+        ensures relinked { IsTrue result → IsRelinked self.old.links.web key reads.items self.new.links.web }
         ensures failed { result ≡ false → nodes_in (S.state self.old.store) key ≢ None → IsLeft (book (S.state self.old.store) self.old.links) (book (S.state self.new.store) self.new.links) }
         ensures kinds { kinds_of (nodes_in (S.state self.new.store)) ≡ kinds_of (nodes_in (S.state self.old.store)) }
         ensures revision { self.new.revision ≡ self.old.revision }
@@ -169,12 +154,39 @@ impl<T: Value + Drop, R: Rule<T>, S: Storage<Node<T, R>>> Nodes<T, R, S> {
         if !self.links.marks.reserve(key.id.slot) {
             return false;
         }
-        if !self.link(key, &reads) {
+        if !self.links.web.relink(key, &reads) {
             return false;
         }
         let revision = self.revision;
         let Some(()) = self.change(key, |node: &mut Node<T, R>| {
             node.settle(value, reads, revision)
+        }) else {
+            return false;
+        };
+        self.links.marks.learn(key);
+        self.runs = self.runs.wrapping_add(1);
+        true
+    }
+
+    // Keeps what a key's node was found to mean by the questions that it keeps. False if memory runs out.
+    fn keep_again(&mut self, key: Key, value: T) -> bool
+        requires simple { IsSimple (S.state self.old.store) }
+        ensures simple { IsSimple (S.state self.new.store) }
+        ensures kept { IsTrue result → (old : Node T R) → nodes_in (S.state self.old.store) key ≡ Some old →
+            (new : Node T R) × IsSettled old value old.reads self.old.revision new
+            × IsPut (nodes_in (S.state self.old.store)) key new (nodes_in (S.state self.new.store)) }
+        ensures learned { IsTrue result → IsLearned (book (S.state self.old.store) self.old.links) key (book (S.state self.new.store) self.new.links) }
+        ensures failed { result ≡ false → IsLeft (book (S.state self.old.store) self.old.links) (book (S.state self.new.store) self.new.links) }
+        ensures web { self.new.links.web ≡ self.old.links.web }
+        ensures kinds { kinds_of (nodes_in (S.state self.new.store)) ≡ kinds_of (nodes_in (S.state self.old.store)) }
+        ensures revision { self.new.revision ≡ self.old.revision }
+    {
+        if !self.links.marks.reserve(key.id.slot) {
+            return false;
+        }
+        let revision = self.revision;
+        let Some(()) = self.change(key, |node: &mut Node<T, R>| {
+            node.settle_again(value, revision)
         }) else {
             return false;
         };
@@ -205,16 +217,21 @@ impl<T: Value + Drop, R: Rule<T>, S: Storage<Node<T, R>>> Nodes<T, R, S> {
         Verdict::Same
     }
 
-    // Runs a rule over what is known.
-    fn run(&self, rule: &R) -> Run<T>
-        ensures { (answers : List (Asked T)) × (list_map (λ a. a.key) answers ≡ result.reads.items)
+    // Runs a rule over what is known, and counts along the questions that were kept.
+    fn run<'a>(&'a self, rule: &R, kept: &'a [Key]) -> Run<'a, T>
+        ensures { (answers : List (Asked T)) × (list_map (λ a. a.key) answers ≡ asked_by result.questions)
+            × (result.questions.kept.now ≡ kept.now)
             × (result.is_full ≡ false → Ran (R.plan rule.now) answers result.lacks result.result)
             × AreKnown (book (S.state self.now.store) self.now.links) answers }
     {
         let mut reader = Reader {
             store: &self.store,
             marks: &self.links.marks,
-            reads: Vec::new(self.alloc),
+            questions: Questions {
+                kept,
+                same: 0,
+                listed: Vec::new(self.alloc),
+            },
             lacks: None,
             is_full: false,
             marker: PhantomData,
@@ -223,58 +240,67 @@ impl<T: Value + Drop, R: Rule<T>, S: Storage<Node<T, R>>> Nodes<T, R, S> {
         let Reader {
             store: _,
             marks: _,
-            reads,
+            questions,
             lacks,
             is_full,
             marker: _,
         } = reader;
         Run {
             result,
-            reads,
+            questions,
             lacks,
             is_full,
         }
     }
 
-    // What a rule's run comes to.
-    fn rerun(&self, rule: &R) -> Look<T>
-        ensures looked { (G : Graph T) (k : Key) (n : Node T R) →
+    // What a run of a key's rule finds.
+    fn rerun(&self, key: Key) -> Found<T>
+        ensures finds { (G : Graph T) (n : Node T R) (r : R) →
             IsSound R.plan G self.now.revision (book (S.state self.now.store) self.now.links) →
-            nodes_in (S.state self.now.store) k ≡ Some n → n.rule ≡ Some rule.now →
-            Looked G self.now.revision (book (S.state self.now.store) self.now.links) k result }
-        ensures right { result ≡ look.Right → ⊥ }
+            nodes_in (S.state self.now.store) key ≡ Some n → n.rule ≡ Some r →
+            Finds G self.now.revision (book (S.state self.now.store) self.now.links) key result }
+        ensures owned { (v : T) → result ≡ found.Again v → Owns self.now.links.web key }
     {
+        let Some(node) = node_of(&self.store, key) else {
+            return Found::Gone(key);
+        };
+        let Some(rule) = &node.rule else {
+            return Found::NoValue;
+        };
         let Run {
             result,
-            reads,
+            questions,
             lacks,
             is_full,
-        } = self.run(rule);
+        } = self.run(rule, &node.reads);
         if is_full {
-            return Look::Full;
+            return Found::Full;
         }
         match lacks {
             Some(other) => match node_of(&self.store, other) {
-                Some(_) => Look::Needs(other, None),
-                None => Look::Gone(other),
+                Some(_) => Found::Needs(other),
+                None => Found::Gone(other),
             },
             None => match result {
-                Some(value) => Look::New(value, reads),
-                None => Look::NoValue,
+                Some(value) => value_found(value, questions, self.is_kept(key, node)),
+                None => Found::NoValue,
             },
         }
     }
 
-    // Whether a node keeps a value, and the links of its slot are its own.
+    // Whether a node keeps a value, and its links are its own.
     fn is_kept(&self, key: Key, node: &Node<T, R>) -> bool
         ensures value { IsTrue result → is_some node.now.value ≡ true }
         ensures owned { IsTrue result → Owns self.now.links.web key }
     {
-        node.value.is_some() && self.links.web.owns(key)
+        match self.links.web.owners.get(key.id.slot) {
+            Some(owner) => node.value.is_some() && owner.generation == Some(key.id.generation),
+            None => false,
+        }
     }
 
     // A look at a node.
-    fn judge(&self, key: Key, node: &Node<T, R>, place: Option<usize>) -> Look<T>
+    fn judge(&self, key: Key, node: &Node<T, R>, place: Option<usize>) -> Look
         ensures looked { (G : Graph T) →
             IsSound R.plan G self.now.revision (book (S.state self.now.store) self.now.links) →
             nodes_in (S.state self.now.store) key ≡ Some node.now →
@@ -287,25 +313,25 @@ impl<T: Value + Drop, R: Rule<T>, S: Storage<Node<T, R>>> Nodes<T, R, S> {
         if node.is_known(self.links.marks.knows(key)) {
             return Look::Known;
         }
-        let Some(rule) = &node.rule else {
+        if node.rule.is_none() {
             return Look::NoValue;
-        };
-        let Some(from) = place else {
-            return self.rerun(rule);
-        };
-        if self.is_kept(key, node) {
-            match self.verify(&node.reads, node.checked, from) {
-                Verdict::Same => return Look::Right,
-                Verdict::Unknown(other, at) => return Look::Needs(other, Some(at)),
-                Verdict::Gone(other) => return Look::Gone(other),
-                Verdict::Changed => {}
-            }
         }
-        self.rerun(rule)
+        let Some(from) = place else {
+            return Look::Stale;
+        };
+        if !self.is_kept(key, node) {
+            return Look::Stale;
+        }
+        match self.verify(&node.reads, node.checked, from) {
+            Verdict::Same => Look::Right,
+            Verdict::Unknown(other, at) => Look::Needs(other, at),
+            Verdict::Gone(other) => Look::Gone(other),
+            Verdict::Changed => Look::Stale,
+        }
     }
 
-    // A look at a key's node, which goes on at a place of its kept questions, or runs its rule.
-    fn look(&self, key: Key, place: Option<usize>) -> Look<T>
+    // A look at a key's node, which goes on at a place of its kept questions.
+    fn look(&self, key: Key, place: Option<usize>) -> Look
         ensures looked { (G : Graph T) →
             IsSound R.plan G self.now.revision (book (S.state self.now.store) self.now.links) →
             GoesOn G self.now.revision (book (S.state self.now.store) self.now.links) key place →
@@ -317,6 +343,40 @@ impl<T: Value + Drop, R: Rule<T>, S: Storage<Node<T, R>>> Nodes<T, R, S> {
         match node_of(&self.store, key) {
             Some(node) => self.judge(key, node, place),
             None => Look::Gone(key),
+        }
+    }
+
+    // Runs a key's rule, and keeps what is found.
+    fn renew(&mut self, key: Key) -> Step
+        requires simple { IsSimple (S.state self.old.store) }
+        ensures simple { IsSimple (S.state self.new.store) }
+        ensures revision { self.new.revision ≡ self.old.revision }
+        ensures advanced { (G : Graph T) (n : Node T R) (r : R) →
+            IsSound R.plan G self.old.revision (book (S.state self.old.store) self.old.links) →
+            nodes_in (S.state self.old.store) key ≡ Some n → n.rule ≡ Some r →
+            IsAdvanced R.plan G self.old.revision (book (S.state self.old.store) self.old.links) key result
+            (book (S.state self.new.store) self.new.links) }
+        ensures kinds { kinds_of (nodes_in (S.state self.new.store)) ≡ kinds_of (nodes_in (S.state self.old.store)) }
+    {
+        match self.rerun(key) {
+            Found::Again(value) => {
+                if self.keep_again(key, value) {
+                    Step::Settled
+                } else {
+                    Step::Full
+                }
+            }
+            Found::New(value, reads) => {
+                if self.keep(key, value, reads) {
+                    Step::Settled
+                } else {
+                    Step::Full
+                }
+            }
+            Found::Needs(other) => Step::Needs(other, None),
+            Found::Gone(other) => Step::Gone(other),
+            Found::NoValue => Step::NoValue,
+            Found::Full => Step::Full,
         }
     }
 
@@ -343,17 +403,10 @@ impl<T: Value + Drop, R: Rule<T>, S: Storage<Node<T, R>>> Nodes<T, R, S> {
                     Step::Full
                 }
             }
-            Look::New(value, reads) => {
-                if self.keep(key, value, reads) {
-                    Step::Settled
-                } else {
-                    Step::Full
-                }
-            }
-            Look::Needs(other, at) => Step::Needs(other, at),
+            Look::Stale => self.renew(key),
+            Look::Needs(other, at) => Step::Needs(other, Some(at)),
             Look::Gone(other) => Step::Gone(other),
             Look::NoValue => Step::NoValue,
-            Look::Full => Step::Full,
         }
     }
 
@@ -504,6 +557,7 @@ impl<T: Value + Drop, R: Rule<T>, S: Storage<Node<T, R>>> Nodes<T, R, S> {
         ensures others { (j : Key) → j ≢ key →
             nodes_in (S.state self.new.store) j ≡ nodes_in (S.state self.old.store) j }
         ensures forgotten { AreForgotten (book (S.state self.old.store) self.old.links) (book (S.state self.new.store) self.new.links) }
+        ensures spared { AreSpared (book (S.state self.old.store) self.old.links) (key ∷ []) (book (S.state self.new.store) self.new.links) }
         ensures revision { self.new.revision ≡ self.old.revision }
     {
         let Some(pointer) = self.store.find(key.id) else {
@@ -528,6 +582,7 @@ impl<T: Value + Drop, R: Rule<T>, S: Storage<Node<T, R>>> Nodes<T, R, S> {
             × IsPut (nodes_in (S.state self.old.store)) key n (nodes_in (S.state self.new.store))) }
         ensures live { OnOk result (nodes_in (S.state self.old.store) key ≢ None) }
         ensures forgotten { OnOk result (AreForgotten (book (S.state self.old.store) self.old.links) (book (S.state self.new.store) self.new.links)) }
+        ensures spared { OnOk result (AreSpared (book (S.state self.old.store) self.old.links) (key ∷ []) (book (S.state self.new.store) self.new.links)) }
         ensures refused { OnErr result ((S.state self.new.store ≡ S.state self.old.store)
             × (self.new.revision ≡ self.old.revision)
             × (self.new.links.marks.known.items ≡ self.old.links.marks.known.items)
@@ -560,6 +615,7 @@ impl<T: Value + Drop, R: Rule<T>, S: Storage<Node<T, R>>> Nodes<T, R, S> {
             (nodes_in (S.state self.new.store))) }
         ensures later { OnOk result (self.old.revision < self.new.revision) }
         ensures forgotten { OnOk result (AreForgotten (book (S.state self.old.store) self.old.links) (book (S.state self.new.store) self.new.links)) }
+        ensures spared { OnOk result (AreSpared (book (S.state self.old.store) self.old.links) keys.now (book (S.state self.new.store) self.new.links)) }
         ensures refused { OnErr result ((S.state self.new.store ≡ S.state self.old.store)
             × (self.new.revision ≡ self.old.revision)
             × (self.new.links.marks.known.items ≡ self.old.links.marks.known.items)

@@ -10,7 +10,7 @@ ghost use Rattle.reactive.specs.Ending.{IsAmong};
 ghost use Rattle.reactive.specs.Graphs.{HasKind, HasPlan, IsLast, IsUnruled, IsUnset, kind_in, plans_in, shown_in};
 ghost use Rattle.reactive.specs.Graphs.Kind.{NoNode, Source, Memo};
 ghost use Rattle.generational_errors.specs.declared.error.StoreError.TheVariants.{NumbersExhausted, OutOfMemory};
-ghost use Rattle.reactive.specs.Meaning.{Means};
+ghost use Rattle.reactive.specs.Meaning.{Means, Reaches};
 ghost use Rattle.reactive.specs.Plans.{Give, Stop};
 ghost use Rattle.reactive.specs.Refreshing.{Answers, Blames};
 
@@ -69,8 +69,17 @@ impl<T: Value + Drop, R: Rule<T>, S: Storage<Node<T, R>>> Reactive<T, R, S> {
         requires { IsFresh (S.state store) }
         ensures { (k : Key) → plans_in R.plan result k ≡ Stop }
     {
-        let marks = Marks::new(alloc);
-        let web = Web::new(alloc);
+        let marks = Marks {
+            known: Vec::new(alloc),
+            first: 0,
+            left: 0,
+        };
+        let web = Web {
+            alloc,
+            owners: Vec::new(alloc),
+            readers: Vec::new(alloc),
+            number: 1,
+        };
         Reactive {
             nodes: Nodes {
                 alloc,
@@ -232,8 +241,8 @@ impl<T: Value + Drop, R: Rule<T>, S: Storage<Node<T, R>>> Reactive<T, R, S> {
     }
 
     /// Sets a source, unless it has the value already. No rule is run: several sets are a batch. The memos
-    /// that need the source are known no longer, in time linear in the links between those that were; the
-    /// others stay known. If there is no memory for a list of what is left to visit, no memo stays known.
+    /// that need the source are known no longer, in time linear in the links between those that were; every
+    /// other node shows what it did. Doesn't allocate.
     ///
     /// Refused, in this order: `Gone`, where the node has ended, or is another graph's; `NoSource`, where
     /// it has a rule; `NumbersExhausted`, after 2^64 sets. The graph is unchanged then.
@@ -246,6 +255,7 @@ impl<T: Value + Drop, R: Rule<T>, S: Storage<Node<T, R>>> Reactive<T, R, S> {
         ensures set { OnOk result (HasPlan R.plan self.old key (Give value) self.new) }
         ensures kind { OnOk result (HasKind self.old key Source self.new) }
         ensures source { OnOk result (kind_in self.old key ≡ Source) }
+        ensures unaffected { (k : Key) → (Reaches (plans_in R.plan self.old) k key → ⊥) → shown_in self.new k ≡ shown_in self.old k }
         ensures refused { OnErr result (self.new ≡ self.old) }
         ensures cause { IfErr result (IsUnset self.old key) }
     {
@@ -275,7 +285,7 @@ impl<T: Value + Drop, R: Rule<T>, S: Storage<Node<T, R>>> Reactive<T, R, S> {
     }
 
     /// Gives a memo another rule, or makes a source a memo. No rule is run; what needs the node is known
-    /// no longer, as with `set`.
+    /// no longer, as with `set`, and every other node shows what it did. Doesn't allocate.
     ///
     /// Refused, in this order: `NumbersExhausted`, after 2^64 sets; `Gone`, where the node has ended, or
     /// is another graph's. The graph is unchanged then.
@@ -287,6 +297,7 @@ impl<T: Value + Drop, R: Rule<T>, S: Storage<Node<T, R>>> Reactive<T, R, S> {
         ensures set { OnOk result (HasPlan R.plan self.old key (R.plan rule) self.new) }
         ensures kind { OnOk result (HasKind self.old key Memo self.new) }
         ensures live { OnOk result (kind_in self.old key ≢ NoNode) }
+        ensures unaffected { (k : Key) → (Reaches (plans_in R.plan self.old) k key → ⊥) → shown_in self.new k ≡ shown_in self.old k }
         ensures refused { OnErr result (self.new ≡ self.old) }
         ensures cause { IfErr result (IsUnruled self.old key) }
     {
@@ -295,10 +306,10 @@ impl<T: Value + Drop, R: Rule<T>, S: Storage<Node<T, R>>> Reactive<T, R, S> {
 
     /// Ends the nodes of these keys, where they haven't ended, and no other. What needs one of them means
     /// nothing from then on, and its refusals name the one that is gone. It is known no longer, as with
-    /// `set`.
+    /// `set`, and every other node shows what it did.
     ///
     /// Refused by `NumbersExhausted` alone, after 2^64 sets: the graph is unchanged. O(n), and linear in
-    /// the links of what is known no longer.
+    /// the links of what is known no longer. Doesn't allocate.
     ///
     /// ```rust
     /// graph.end_all(&[price])?;
@@ -312,6 +323,8 @@ impl<T: Value + Drop, R: Rule<T>, S: Storage<Node<T, R>>> Reactive<T, R, S> {
         ensures others { (k : Key) → (IsAmong k keys.now → ⊥) →
             plans_in R.plan self.new k ≡ plans_in R.plan self.old k }
         ensures kept { (k : Key) → (IsAmong k keys.now → ⊥) → kind_in self.new k ≡ kind_in self.old k }
+        ensures unaffected { (k : Key) → ((j : Key) → IsAmong j keys.now → Reaches (plans_in R.plan self.old) k j → ⊥) →
+            shown_in self.new k ≡ shown_in self.old k }
         ensures refused { OnErr result (self.new ≡ self.old) }
         ensures cause { IfErr result (λ f. (f ≡ fault.Store NumbersExhausted) × IsLast self.old) }
     {

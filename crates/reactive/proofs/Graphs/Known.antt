@@ -1,8 +1,13 @@
 -- What is known of nodes is what they mean, and what looks at them find.
 pub mod Meanings
 unfoldable pub use Meanings.*
+use Rattle.reactive.specs.declared.look.Found.TheVariants as found
 
 -- ==== what is known of a table's nodes is what they mean
+
+pub none_if : {X : Type 0} (o : Option X) → is_some o ≡ false → o ≡ None
+none_if None none = refl
+none_if (Some x) none = absurd (true≢false none)
 
 pub live_node : {X : Type 0} (o : Option X) → o ≢ None → (x : X) × (o ≡ Some x)
 live_node (Some x) live = (x, refl)
@@ -229,6 +234,11 @@ module _ {T R : Type 0} where
             (λ e. ne (same_key j k (sym e ∙ is)));
       }
 
+      -- there is a node
+      pub written_lives : nodes_in S k ≢ None
+      written_lives none = true≢false (sym (free_seen b s simple writes free)
+          ∙ ap is_some (sym (same_id_sees S (pointer_in k) b (sym is)) ∙ none))
+
       -- an end leaves no node
       pub end_none : {Q : State (Node T R)} → Meets S (End b) Done Q → nodes_in Q k ≡ None
       end_none {Q} m = same_id_sees Q (pointer_in k) b (sym is) ∙ unseen Q b (ends b {U = Unit {0}} (Ok tt) m)
@@ -244,7 +254,7 @@ among_last : (xs : List Key) (x k : Key) → IsAmong k (xs ++ x ∷ []) → IsAm
 among_last [] x k e = grind arith
 among_last (y ∷ xs) x k e = grind (arith, among_last xs x k)
 
-among_first : (xs : List Key) (x k : Key) → IsAmong k xs ⊎ (x ≡ k) → IsAmong k (xs ++ x ∷ [])
+pub among_first : (xs : List Key) (x k : Key) → IsAmong k xs ⊎ (x ≡ k) → IsAmong k (xs ++ x ∷ [])
 among_first [] x k e = grind arith
 among_first (y ∷ xs) x k e = grind (arith, among_first xs x k)
 
@@ -349,6 +359,24 @@ module _ {T R : Type 0} {plan : R → Plan T} {G : Graph T} {now : ℕ} {b : Boo
       pub rerun_leads : (v : T) (reads : List Key) → list_map (λ a. a.key) answers ≡ reads
           → Ran (plan rule) answers None (Some v) → LeadsTo G now b k n v reads
       rerun_leads v reads asked ran = grind (arith, ran_to, plan_is)
+
+      -- a value that a run came to was found
+      pub found_by : (v : T) (asked kept : List Key) → list_map (λ a. a.key) answers ≡ asked → kept ≡ vec_items n.reads
+          → Ran (plan rule) answers None (Some v) → (is_kept : Bool) → (is_kept ≡ true → is_some n.value ≡ true)
+          → (f : Found T) → IsFoundBy v asked kept is_kept f → Finds G now b k f
+      found_by v asked kept is its ran is_kept has_value (found.Again w) (same, again, kept_is) =
+          rw same (
+            n,
+            at,
+            (λ none. true≢false (sym (has_value kept_is) ∙ ap is_some none)),
+            rerun_leads v (vec_items n.reads) (is ∙ (again ∙ its)) ran,
+          )
+      found_by v asked kept is its ran is_kept has_value (found.New w reads) (same, these) =
+          rw same (n, at, rerun_leads v (vec_items reads) (is ∙ sym these) ran)
+      found_by v asked kept is its ran is_kept has_value (found.Needs j) h = absurd h
+      found_by v asked kept is its ran is_kept has_value (found.Gone j) h = absurd h
+      found_by v asked kept is its ran is_kept has_value found.NoValue h = absurd h
+      found_by v asked kept is its ran is_kept has_value found.Full h = tt
 
     -- ---- what the kept answers come to
 

@@ -10,12 +10,12 @@ pub use Rattle.generational_core.specs.State.{IsSound as IsSoundStore, State}
 pub use Rattle.generational_core.specs.declared.boxes.GenerationalBox.{GenerationalBox}
 pub use Rattle.generational_core.specs.declared.boxes.GenerationalBoxId.{GenerationalBoxId}
 pub use Rattle.generational_core.specs.declared.boxes.GenerationalPointer.{GenerationalPointer}
-pub use Rattle.generational_core.specs.{Keeping.box_with, Conditions.IsFresh, Steps.Meets}
+pub use Rattle.generational_core.specs.{Keeping.box_with, Conditions.IsFresh, Slots.last_name, Steps.Meets}
 pub use Rattle.generational_core.specs.{Boxes.name_of, Answers.pointer_of, Seeing.value_in}
 pub use Rattle.generational_errors.specs.declared.error.Location.{Location}
 use Rattle.generational_sessions.proofs.callers as sessions
 pub use sessions.{found_sees, free_seen, fresh_sees, fresh_simple, made_simple, make_short}
-pub use sessions.{one_id, others_left, reach_apart, same_id_reach, same_id_sees, seen_store, simple_still}
+pub use sessions.{one_id, seen_cell, others_left, reach_apart, same_id_reach, same_id_sees, seen_store, simple_still}
 pub use sessions.{stuck_unseen}
 pub use Rattle.generational_sessions.specs.PlainStores.{IsSimple}
 pub use Rattle.reactive.specs.Graphs.{GraphState, IsKept, kind_by, kind_by_rule}
@@ -26,6 +26,8 @@ pub use Rattle.reactive.specs.Plans.{AreGiven, Ask, Asked, Follows, Give, Plan, 
 pub use Rattle.reactive.specs.Graphs.{Kind}
 pub use Rattle.reactive.specs.Refreshing.{Answers, Blames, IsAdvanced, IsOnTheWay, Refreshed}
 pub use Rattle.reactive.specs.Tables.{AllStand, AreKnown, AreLinked, asked_of, book, book_by, Book, graph_of, IsHeld, IsKnown, IsPut, shown_by}
+pub use Rattle.reactive.specs.Links.{AreNumbered, edges_by, Leans, leans_by, leans_itself}
+pub use Rattle.reactive.specs.declared.links.Mark.{Mark}
 pub use Rattle.reactive.specs.Links.{HasForgotten, holds, IsLinked, IsRelinked, Keeps, known_at, knows, owner_at, Owns}
 pub use Rattle.reactive.specs.declared.links.Web.{Web}
 pub use Rattle.std.specs.List.{Contains}
@@ -34,7 +36,9 @@ pub use Rattle.reactive.specs.Tables.{plan_by, pointer_in, Shows, Stands, Table}
 pub use Rattle.reactive.specs.{Chains.AllGoOn, Hearing.AllHear, Chains.Chain}
 pub use Rattle.reactive.specs.{declared.effects.Effect.Effect, declared.fault.Fault.Fault}
 pub use Rattle.reactive.specs.{declared.look.Frame.Frame, Chains.GoesOn, Ending.HasLost}
-pub use Rattle.reactive.specs.Ending.{AreForgotten}
+pub use Rattle.reactive.specs.Ending.{AreForgotten, AreSpared}
+pub use Rattle.reactive.specs.Looks.{Finds, IsFoundBy}
+pub use Rattle.reactive.specs.declared.look.Found.{Found}
 pub use Rattle.reactive.specs.{Hearing.Hears, Ending.IsAmong, Looks.IsAsked}
 pub use Rattle.reactive.specs.{Changing.IsResetTo, Settling.IsSettled, declared.key.Key.Key}
 pub use Rattle.reactive.specs.Settling.{IsLearned, IsLeft, Lasts}

@@ -23,4 +23,4 @@ returns-in-Ok-clause-forgotten g c =
     forgotten (book (g.S.AnyStorage.state c.args.self.now.store) c.args.self.now.links)
     (book (g.S.AnyStorage.state c.leak.new.store)
     (record { marks = c.forget.new.self; web = c.args.self.now.links.web })) (record { id = c.id.result }) refl _ _ refl
-    refl c.forget.ensures put.others
+    refl c.forget.ensures.forgotten put.others

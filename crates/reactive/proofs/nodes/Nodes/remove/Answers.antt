@@ -1,4 +1,4 @@
-use Rattle.reactive.proofs.{book, forgotten, refl}
+use Rattle.reactive.proofs.{book, forgotten, refl, spared_by, written_lives}
 use Rattle.reactive.proofs.{end_none, end_others, Err, not_found, pointer_in, quiet_ends, simple_still}
 use Rattle.reactive.proofs.{stuck_none, sym, true≢false}
 use Rattle.reactive.proofs.nodes.Nodes.remove.Goals as goal
@@ -31,6 +31,15 @@ returns-clause-forgotten g c =
     forgotten (book (g.S.AnyStorage.state c.args.self.now.store) c.args.self.now.links)
     (book (g.S.AnyStorage.state c.recycle.new.self)
     (record { marks = c.forget.new.self; web = c.args.self.now.links.web })) c.args.key refl _ _ refl refl
-    c.forget.ensures
+    c.forget.ensures.forgotten
     (end_others (g.met.S.AnyStorage.sound _) c.requires.simple c.args.key c.in-Some.pointer c.in-Some.ensures
     c.can_write.ensures c.if-not-can_write.false c.in-Ok.ensures)
+
+pub returns-clause-spared : goal.returns-clause-spared
+returns-clause-spared g c =
+    spared_by (book (g.S.AnyStorage.state c.args.self.now.store) c.args.self.now.links)
+    (book (g.S.AnyStorage.state c.recycle.new.self)
+    (record { marks = c.forget.new.self; web = c.args.self.now.links.web })) c.args.key
+    (written_lives (g.met.S.AnyStorage.sound _) c.requires.simple c.args.key c.in-Some.pointer
+    c.in-Some.ensures c.can_write.ensures c.if-not-can_write.false)
+    c.forget.ensures.spared

@@ -1,4 +1,4 @@
-use Rattle.reactive.proofs.{AreForgotten, book, HasLost, IsSimple, nodes_in, take}
+use Rattle.reactive.proofs.{AreForgotten, AreSpared, book, HasLost, IsSimple, nodes_in, take}
 use Rattle.reactive.proofs.nodes.Nodes.remove_all.Given as goal
 
 -- The nodes of the keys before this one have ended, and no other has.
@@ -7,4 +7,6 @@ invariant-loop-key g l = IsSimple (g.S.AnyStorage.state l.self.store)
     × HasLost (nodes_in (g.S.AnyStorage.state l.fn.self.store)) (take l.key-index l.keys)
     (nodes_in (g.S.AnyStorage.state l.self.store))
     × AreForgotten (book (g.S.AnyStorage.state l.fn.self.store) l.fn.self.links)
+    (book (g.S.AnyStorage.state l.self.store) l.self.links)
+    × AreSpared (book (g.S.AnyStorage.state l.fn.self.store) l.fn.self.links) (take l.key-index l.keys)
     (book (g.S.AnyStorage.state l.self.store) l.self.links)

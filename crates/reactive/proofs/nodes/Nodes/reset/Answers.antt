@@ -1,5 +1,5 @@
-use Rattle.reactive.proofs.{ap, arith, book, forgotten, HasForgotten, none-some, refl, rules, subst, sym, vec_items}
-use Rattle.reactive.proofs.{◌∙◌, ◌≡◌}
+use Rattle.reactive.proofs.{ap, arith, book, forgotten, HasForgotten, known_at, Leans, none-some, refl, rules, spared_by, subst, sym}
+use Rattle.reactive.proofs.{vec_items, ℕ, ◌∙◌, ◌≡◌, ◌⊎◌}
 use Rattle.reactive.proofs.nodes.Nodes.reset.Goals as goal
 
 pub returns-clause-put : goal.returns-clause-put
@@ -29,5 +29,15 @@ returns-clause-forgotten g c =
     (book (g.S.AnyStorage.state c.change.new.self.store)
     (record { marks = c.forget.new.self; web = c.change.new.self.links.web })) c.args.key
     (ap (λ l. l.web) c.change.ensures.links) _ now refl refl
-    (subst (λ l. HasForgotten l.web (vec_items l.marks.known) c.args.key.id.slot now) c.change.ensures.links c.forget.ensures)
+    (subst (λ l. HasForgotten l.web (vec_items l.marks.known) c.args.key.id.slot now) c.change.ensures.links c.forget.ensures.forgotten)
     c.in-Some-change.ensures.changed.put.others
+
+pub returns-clause-spared : goal.returns-clause-spared
+returns-clause-spared g c =
+    let now = c.forget.new.self.known.items in
+    spared_by (book (g.S.AnyStorage.state c.args.self.now.store) c.args.self.now.links)
+    (book (g.S.AnyStorage.state c.change.new.self.store)
+    (record { marks = c.forget.new.self; web = c.change.new.self.links.web })) c.args.key
+    (λ none. none-some _ (sym none ∙ c.in-Some-change.ensures.changed.had))
+    (subst (λ l. (s : ℕ) → (known_at now s ≡ known_at (vec_items l.marks.known) s)
+    ⊎ Leans l.web (known_at (vec_items l.marks.known)) s c.args.key.id.slot) c.change.ensures.links c.forget.ensures.spared)

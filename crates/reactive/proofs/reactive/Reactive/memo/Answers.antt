@@ -5,4 +5,4 @@ pub invariant_of-self : goal.invariant_of-self
 invariant_of-self g c = kept_insert c.insert.result _ _ _ _ _ c.self.invariant c.insert.ensures.simple
     c.insert.ensures.revision c.insert.ensures.put c.insert.ensures.forgotten c.insert.ensures.refused
     c.insert.ensures.links
-    (record { asked = c.new.ensures.items; gives = λ v is. absurd (none-some v is); changed = refl; checked = omega arith })
+    (record { asked = c.new.ensures.items; plain = λ v is. absurd (none-some v is); changed = refl; checked = omega arith })

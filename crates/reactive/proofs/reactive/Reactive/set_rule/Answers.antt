@@ -1,6 +1,11 @@
-use Rattle.reactive.proofs.{kept_reset, None, none-some, Some}
+use Rattle.reactive.proofs.{kept_reset, None, none-some, reset_unaffected, Some}
 use Rattle.reactive.proofs.reactive.Reactive.set_rule.Goals as goal
 
 pub invariant_of-self : goal.invariant_of-self
 invariant_of-self g c = kept_reset c.reset.result _ _ _ _ c.args.key (Some c.args.rule) None c.reset.ensures.put
     c.self.invariant c.reset.ensures.simple c.reset.ensures.forgotten c.reset.ensures.refused (λ v is. absurd (none-some v is))
+
+pub returns-clause-unaffected : goal.returns-clause-unaffected
+returns-clause-unaffected g c = rw (← c.self.view_is)
+    (reset_unaffected c.reset.result _ _ _ _ c.args.key (Some c.args.rule) None c.self.invariant
+    (g.met.S.AnyStorage.sound _) c.reset.ensures.put c.reset.ensures.spared c.reset.ensures.refused)

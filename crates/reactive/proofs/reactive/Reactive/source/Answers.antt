@@ -1,4 +1,4 @@
-use Rattle.reactive.proofs.{ap, arith, Give, kept_insert, refl, same_Some}
+use Rattle.reactive.proofs.{arith, kept_insert, refl}
 use Rattle.reactive.proofs.reactive.Reactive.source.Goals as goal
 
 pub invariant_of-self : goal.invariant_of-self
@@ -7,7 +7,7 @@ invariant_of-self g c = kept_insert c.insert.result _ _ _ _ _ c.self.invariant c
     c.insert.ensures.links
     (record {
       asked = c.new.ensures.items;
-      gives = λ v is. ap Give (same_Some c.args.value v is);
+      plain = λ v is. refl;
       changed = refl;
       checked = omega arith;
     })
