@@ -1,9 +1,15 @@
-//! Runs the program with which the page on threads begins.
+//! Runs the programs of the page on threads.
 #![tactic(auto)]
 
 mod counted;
+mod sessions;
+mod steady;
+mod table;
 mod workers;
 
 fn main(rt: HostRuntime) -> anyhow::Result<()> {
-    workers::main(&rt)
+    workers::main(&rt)?;
+    table::main(&rt)?;
+    sessions::main(&rt)?;
+    steady::main(&rt)
 }

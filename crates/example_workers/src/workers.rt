@@ -29,12 +29,7 @@ impl Job<u64> for Server {
     // Serves clients one by one. Each has a session, whose values are dropped with it.
     fn serve<W: Worker<u64>>(&self, worker: &mut W, total: GenerationalBox<u64>) -> Result<()> {
         for client in 0..CLIENTS {
-            let session = worker.owner()?;
-            let served = serve_client(worker, &session, client, total);
-            if let Err((session, _)) = worker.release_owner(session) {
-                session.leak();
-            }
-            served?;
+            worker.with_owner(|worker, session| serve_client(worker, session, client, total))??;
         }
         Ok(())
     }
@@ -47,15 +42,13 @@ impl Service<u64> for Server {
 
     // Makes the total that the workers share.
     fn begin<W: Worker<u64>>(&self, worker: &mut W) -> Result<GenerationalBox<u64>> {
-        Ok(worker.leak(0, Location::new("workers.rt", 47, 19))?)
+        Ok(worker.leak(0, Location::new("workers.rt", 45, 19))?)
     }
 
     // Reads the total.
     fn end<W: Worker<u64>>(&self, worker: &mut W, total: GenerationalBox<u64>) -> Result<u64> {
-        let reader = worker.try_read(total, Location::new("workers.rt", 52, 49))?;
-        let sum = worker.open(&reader, |value| *value);
-        worker.release_read(reader);
-        Ok(sum.unwrap_or(0))
+        let here = Location::new("workers.rt", 50, 20);
+        Ok(worker.with(total, here, |sum| *sum)?)
     }
 }
 
@@ -67,13 +60,11 @@ fn serve_client<W: Worker<u64>>(
     value: u64,
     total: GenerationalBox<u64>,
 ) -> Result<()> {
-    let here = Location::new("workers.rt", 67, 16);
+    let here = Location::new("workers.rt", 63, 16);
     let kept = worker.insert(session, value, here)?;
-    let reader = worker.try_read(kept, here)?;
-    let seen = worker.open(&reader, |value| *value);
-    worker.release_read(reader);
+    let seen = worker.with(kept, here, |value| *value)?;
     let mut writer = worker.try_write(total, here)?;
-    let sum = (*writer.deref()).wrapping_add(seen.unwrap_or(0));
+    let sum = (*writer.deref()).wrapping_add(seen);
     *writer.deref_mut() = sum;
     let _ = worker.release_write(writer);
     Ok(())

@@ -1,5 +1,5 @@
 -- A step leaves a tally as many parts as it had.
-use Rattle.std.proofs.Common.{◌≡◌, ℕ, ◌∙◌, refl, ap, Option, Some, None}
+use Rattle.std.proofs.Common.{◌≡◌, ℕ, ◌∙◌, refl, ap, subst, Option, Some, None}
 use Rattle.generational_core.specs.Machine.{Action, Answer}
 use Rattle.generational_sync.specs.Shared.{IsUnseenStep}
 use Rattle.shared_history.specs.Counts.{Counts}
@@ -18,3 +18,9 @@ pub unseen_parts : {T : Type 0} (number : ℕ) (c : Counts) (action : Action T) 
     (d : Counts) → IsUnseenStep number c action answer d → d.parts ≡ c.parts
 unseen_parts number c action answer d it =
     ap (λ x. x.parts) it.step.tally ∙ raised_parts (kind_in answer) c
+
+-- a step with a tally that was left as it was
+pub after_pause : {T : Type 0} (number : ℕ) (c d : Counts) (action : Action T) (answer : Answer T)
+    (e : Counts) → d ≡ c → IsUnseenStep number d action answer e → IsUnseenStep number c action answer e
+after_pause number c d action answer e same it =
+    subst (λ x. IsUnseenStep number x action answer e) same it

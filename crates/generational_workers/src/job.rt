@@ -12,6 +12,11 @@ use generational_box::StoreError;
 /// defines `serves`: how a worker's counts before and after, what it was given and what it returned
 /// hang together.
 pub trait Job<T>: Sync {
+    /// After how many of its calls each worker makes a checkpoint, which drops the steps so far: so the
+    /// history of a run that goes on for long stays short. None are made if it is 0. A worker counts all
+    /// calls that are steps, but for the releases of guards.
+    const CHECKPOINT_EVERY: u64 = 0;
+
     /// What each worker is given, like boxes that were made before the threads started.
     type Shared: Copy + Send + Sync;
     /// What each worker returns.

@@ -9,6 +9,7 @@
 mod hand;
 mod job;
 mod own;
+mod pace;
 mod run;
 mod worker;
 

@@ -9,6 +9,7 @@ ghost use Rattle.shared_history.specs.Counts.{new_tallies, new_tally};
 use crate::hand::Hand;
 use crate::job::{Job, Service};
 use crate::own::{OwnTally, gather};
+use crate::pace::Pace;
 use generational_box::StoreError;
 use generational_sync::{Base, Count, Step, SyncStorage, Tally};
 use std::alloc::Global;
@@ -132,7 +133,13 @@ fn run_task<
         alloc, workers, made, lent, changed, refused,
     )?;
     let Desk { store, own } = chief;
-    let mut chief = Hand { rt, store, own };
+    let pace = Pace::new(S::CHECKPOINT_EVERY);
+    let mut chief = Hand {
+        rt,
+        store,
+        own,
+        pace,
+    };
     let shared = service.begin(&mut chief)?;
     let served = serve_all(rt, service, shared, desks)?;
     let end = service.end(&mut chief, shared)?;
@@ -266,7 +273,13 @@ fn serve_one<
     ensures { S.serves service.now shared desk.own.tally result.1 result.0.tally }
 {
     let Desk { store, own } = desk;
-    let mut hand = Hand { rt, store, own };
+    let pace = Pace::new(S::CHECKPOINT_EVERY);
+    let mut hand = Hand {
+        rt,
+        store,
+        own,
+        pace,
+    };
     let answer = service.serve(&mut hand, shared);
     let Hand { own, .. } = hand;
     (own, answer)

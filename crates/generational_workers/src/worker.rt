@@ -1,21 +1,23 @@
 //! What a worker can do with the store that it shares.
 
-ghost use Rattle.std.specs.Prelude.{◌≡◌, ◌<◌, ℕ, None, Some, IfErr, IfSome, OnSome};
+ghost use Rattle.std.specs.Prelude.{◌≡◌, ◌<◌, ◌⊎◌, ℕ, None, Some, Err, IfErr, IfOk, IfSome, OnSome};
+ghost use Rattle.generational_errors.specs.declared.error.StoreError.TheVariants.{OutOfMemory};
 ghost use Rattle.generational_core.specs.Answers.{back_answer, box_answer, end_answer, owner_answer};
-ghost use Rattle.generational_core.specs.Answers.{pointer_of, read_answer, reference_box_answer};
-ghost use Rattle.generational_core.specs.Answers.{release_answer, write_answer};
+ghost use Rattle.generational_core.specs.Answers.{pointer_of, read_answer, read_refused};
+ghost use Rattle.generational_core.specs.Answers.{reference_box_answer, release_answer, write_answer};
 ghost use Rattle.generational_core.specs.Machine.Action.{CloneOwner, End, Make, MakeShared};
 ghost use Rattle.generational_core.specs.Machine.Action.{NewOwner, Point, Read, Refer, ReleaseOwner};
 ghost use Rattle.generational_core.specs.Machine.Action.{ReleaseReader, ReleaseWriter, SetValue};
 ghost use Rattle.generational_core.specs.Machine.Action.{Write};
-ghost use Rattle.generational_core.specs.Machine.Answer.{Flag};
+ghost use Rattle.generational_core.specs.Machine.Answer.{Done, Flag, Owned};
 ghost use Rattle.generational_sync.specs.Shared.{IsUnseenStep, MayRefuseTrimming};
+ghost use Rattle.generational_workers.specs.Borrows.{IsOwnDropped, IsReadThrough};
 ghost use Rattle.shared_history.specs.Counts.{Counts};
 ghost use Rattle.shared_history.specs.Replies.{set_answer};
 
 use generational_box::{
-    BorrowMutError, BorrowMutResult, BorrowResult, GenerationalBox, GenerationalRef,
-    GenerationalRefMut, Location, Owner, Refusal, Refused, StoreError,
+    BorrowError, BorrowMutError, BorrowMutResult, BorrowResult, GenerationalBox, GenerationalRef,
+    GenerationalRefMut, Location, Owner, Refusal, Refused, StoreError, ValueDroppedError,
 };
 
 /// A worker of a store: each call of the store as a method.
@@ -251,4 +253,77 @@ pub trait Worker<T> {
     fn checkpoint(&mut self) -> Result<u64, StoreError>
         ensures counts { counts self.new ≡ counts self.old }
         ensures refusal { IfErr result MayRefuseTrimming };
+
+    /// Reads a box's value by a closure: begins a read, runs `f` on the value, ends the read, and
+    /// returns what `f` returns. Waits while the value has a writer. `f` runs under the store's lock and
+    /// must not call the store: it would wait for ever. Two steps.
+    ///
+    /// # Errors
+    /// In this order: `Dropped` with the location at which the box was created, if its cell has ended or
+    /// is of another store; `NumbersExhausted`, if no ticket is left. Allocates room for two steps, and
+    /// for a reader next to another. `Dropped` with that location also comes after the two steps, if the
+    /// store didn't know the read's own guard.
+    final fn with<A: Drop, F: FnOnce(&T) -> A>(
+        &mut self,
+        asked: GenerationalBox<T>,
+        location: Location,
+        f: F,
+    ) -> BorrowResult<A>
+        requires { F.IsAlwaysCallable f }
+        ensures answer { IfOk result (λ answer. (value : _) × F.post f value answer) }
+        ensures steps { IfOk result (λ _. IsReadThrough T number (counts self.old) (pointer_of asked)
+            location (counts self.new)) }
+        ensures refusal { IfErr result (λ e.
+            IsUnseenStep {T = T} number (counts self.old) (Read (pointer_of asked) location)
+            (read_refused e) (counts self.new)
+            ⊎ (IsReadThrough T number (counts self.old) (pointer_of asked) location
+            (counts self.new) × IsOwnDropped T (pointer_of asked) (read_refused e))) }
+    {
+        let reader = self.try_read(asked, location)?;
+        let answer = self.open(&reader, f);
+        self.release_read(reader);
+        match answer {
+            Some(answer) => Ok(answer),
+            None => Err(Refused::Borrow(BorrowError::Dropped(dropped(asked)))),
+        }
+    }
+
+    /// Runs `f` with a new owner, releases the owner, and returns what `f` returns. Waits at the end
+    /// while a value that would be dropped is borrowed. Two steps, beside those of `f`.
+    ///
+    /// # Errors
+    /// `NumbersExhausted`, if no ticket is left. Allocates what [`owner`](Worker::owner) and
+    /// [`release_owner`](Worker::release_owner) allocate. `OutOfMemory` also comes if the owner's release
+    /// fails, after the steps of `f`: the owner is leaked then.
+    final fn with_owner<A: Drop, F: FnOnce(&mut Self, &Owner) -> A>(
+        &mut self,
+        f: F,
+    ) -> Result<A, StoreError>
+        requires { F.IsAlwaysCallable f }
+        ensures ran { IfOk result (λ answer. (begun ended : _) × (owner : _)
+            × IsUnseenStep {T = T} number (counts self.old) NewOwner (Owned owner.now)
+            (counts begun.now)
+            × F.post f begun owner answer ended
+            × IsUnseenStep {T = T} number (counts ended.now) (ReleaseOwner owner.now) Done
+            (counts self.new)) }
+        ensures refusal { IfErr result (λ e. IsUnseenStep {T = T} number (counts self.old) NewOwner
+            (owner_answer (Err e)) (counts self.new) ⊎ e ≡ OutOfMemory) }
+    {
+        let owner = self.owner()?;
+        let answer = f(self, &owner);
+        match self.release_owner(owner) {
+            Ok(()) => Ok(answer),
+            Err((owner, _)) => {
+                owner.leak();
+                Err(StoreError::OutOfMemory)
+            }
+        }
+    }
+}
+
+// That the value of a box is gone.
+fn dropped<T>(asked: GenerationalBox<T>) -> ValueDroppedError
+    ensures { result.created_at ≡ (pointer_of asked).created_at }
+{
+    ValueDroppedError::new(asked.pointer().created_at)
 }

@@ -1,0 +1,24 @@
+-- Borrows that begin and end within one call of a worker.
+use Rattle.std.specs.Prelude.{◌≡◌, ℕ, Bool}
+use Rattle.generational_errors.specs.declared.error.Location.{Location}
+use Rattle.generational_core.specs.declared.boxes.GenerationalPointer.{GenerationalPointer}
+use Rattle.generational_core.specs.Borrowing.{Guard}
+use Rattle.generational_core.specs.Borrowing.BorrowRefusal.{Dropped}
+use Rattle.generational_core.specs.Machine.{Answer}
+use Rattle.generational_core.specs.Machine.Action.{Read, ReleaseReader}
+use Rattle.generational_core.specs.Machine.Answer.{BorrowRefused, Flag, Reads}
+use Rattle.generational_sync.specs.Shared.{IsUnseenStep}
+use Rattle.shared_history.specs.Counts.{Counts}
+
+-- a read of this box began, and ended by its own guard
+pub record IsReadThrough (T : Type 0) (number : ℕ) (old : Counts) (asked : GenerationalPointer)
+    (at : Location) (new : Counts) : Type 0 where
+  pub guard : Guard
+  pub known : Bool
+  pub between : Counts
+  pub begun : IsUnseenStep {T = T} number old (Read asked at) (Reads guard) between
+  pub ended : IsUnseenStep {T = T} number between (ReleaseReader guard) (Flag known) new
+
+-- the answer that this box's value is gone
+abbrev pub IsOwnDropped : (T : Type 0) → GenerationalPointer → Answer T → Type 0
+IsOwnDropped T asked answer = answer ≡ BorrowRefused (Dropped asked.created_at)
