@@ -14,7 +14,7 @@ import sys
 
 ROOT = pathlib.Path(__file__).resolve().parent.parent
 FOLDER = ROOT / "docs" / "api"
-CRATES = ["generational_box", "generational_sync", "generational_workers", "signals", "reactive",
+CRATES = ["generational_box", "generational_sync", "generational_workers", "saved_bytes", "signals", "reactive",
           "entity_table", "session_table", "scene_tree", "document_tree"]
 # Crates that users take through generational_box.
 HANDED_ON = {"generational_errors", "generational_core", "generational_sessions"}

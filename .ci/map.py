@@ -23,7 +23,7 @@ PAGE = os.path.join(ROOT, "docs", "maintaining", "map.md")
 PLANTED = os.path.join(ROOT, ".ci", "planted.md")
 # The kinds of crates, each by the heading of its list and what its names are.
 KINDS = {
-    "### What users take": r"generational_\w+|signals|reactive|\w+_table|\w+_tree",
+    "### What users take": r"generational_\w+|saved_bytes|signals|reactive|\w+_table|\w+_tree",
     "### What stores are made of": r"(store|shared)_\w+|location_list|handles",
     "### Programs": r"boxes(_\w+)?|sheet",
     "### Proved callers": r"example_\w+",

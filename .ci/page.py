@@ -29,7 +29,7 @@ PAGES += [it for it in sorted((ROOT / "docs").rglob("*.md")) if it.parent.name !
 # Each page of the guide, but for the questions, and each of a library begins with a program.
 WITH_MAIN = [it for it in (ROOT / "docs/guide").glob("*.md") if it.name != "faq.md"]
 WITH_MAIN += [ROOT / f"docs/{it}.md" for it in ("signals", "reactive", "entities", "sessions", "scenes", "documents")]
-USES = ["example_callers", "example_libraries", "example_guide", "example_workers"]
+USES = ["example_callers", "example_files", "example_libraries", "example_guide", "example_workers"]
 # What the gate runs, the last one with those programs among the callers whose `main` it calls.
 RUN = ["test_boxes", "test_libraries", "test_shared", "test_shared_workers", "bench_shared",
        "example_workers", "example_guide"]
@@ -174,7 +174,7 @@ def crate_faults(text):
 def print_faults(text):
     """What a page says that its program prints, and the guide's programs don't: `It prints` comes
     before the lines, or before one in the same sentence."""
-    printed = lines_of(ROOT / "crates/example_guide/stdout")
+    printed = [line for it in ("guide", "workers") for line in lines_of(ROOT / f"crates/example_{it}/stdout")]
     faults = script_page.run_faults(text)
     for one, block in re.findall(r"^It prints(?: `([^`]+)`|\n\n((?:    .*\n)+))", script_page.RUN.sub("", text), re.M):
         said = [line.strip() for line in (one or block).splitlines()]

@@ -1,0 +1,8 @@
+//! Types that are saved, and an image that is saved and read again.
+#![tactic(auto)]
+
+mod again;
+mod own;
+
+pub use crate::again::{NotAgain, hero_again, number_again, saved_again, value_again};
+pub use crate::own::{Hero, Item};

@@ -1,0 +1,6 @@
+use Rattle.std.proofs.Common.{◌≡◌}
+use Rattle.saved_bytes.specs.Files.{sum_upto}
+use Rattle.saved_bytes.proofs.checksum.checksum.Given as goal
+
+abbrev pub invariant-loop-k : goal.invariant-loop-k
+invariant-loop-k l = l.sum ≡ sum_upto l.bytes l.k

@@ -1,0 +1,231 @@
+//! Images of stores as bytes.
+
+ghost use Rattle.std.specs.Prelude.{◌≡◌, ℕ, List, OnOk, IfOk};
+ghost use Rattle.std.specs.Borrow.{Bor};
+ghost use Rattle.std.specs.List.{AllByRecursion};
+ghost use Rattle.saved_bytes.specs.Forms.{Appends, items_form, unread, written};
+ghost use Rattle.saved_bytes.specs.Images.{cell_form, image_form, location_in, saved_cell_form, slot_form, IsCellPlaced};
+ghost use Rattle.saved_bytes.specs.Images.{IsCellNamed, IsImageAgain, IsNamed, IsSlotAgain, IsSlotNamed};
+ghost use Rattle.saved_bytes.specs.Places.{IsFound, IsKnown, texts};
+ghost use Rattle.saved_bytes.specs.Reading.{ArePairwise, ItemsReadAs, ReadsAgain, ReadsAs};
+
+use crate::decode::{DecodeError, Decoder, Fault};
+use crate::encode::Encoder;
+use crate::places::{
+    SavedLocation, add_name, decode_places, encode_location, encode_places, placed,
+};
+use crate::saved::Saved;
+use generational_core::Location;
+use std::alloc::{AllocError, Global};
+use store_images::{CellImage, Image, SlotImage};
+
+// The location at which the cell was made.
+fn location_in<T>(cell: &CellImage<T>) -> Option<Location>
+    ensures { result ≡ location_in cell.now }
+{
+    match cell {
+        CellImage::Empty => None,
+        CellImage::Value(_, location) => Some(*location),
+        CellImage::Shared(_, location) => Some(*location),
+        CellImage::Reference(_, _, location) => Some(*location),
+    }
+}
+
+// Adds the name of the cell's file.
+fn add_name_of<T>(names: &mut Vec<&'static str>, cell: &CellImage<T>) -> Result<(), AllocError>
+    ensures there { OnOk result (IsCellNamed (texts names.new.items) cell.now) }
+    ensures kept { (text : List ℕ) → IsKnown (texts names.old.items) text → IsKnown (texts names.new.items) text }
+{
+    match location_in(cell) {
+        None => Ok(()),
+        Some(location) => add_name(names, location.file()),
+    }
+}
+
+/// The names of the files in which these slots' cells were made, each once.
+pub fn names_in<T>(alloc: Global, slots: &[SlotImage<T>]) -> Result<Vec<&'static str>, AllocError>
+    ensures { IfOk result (λ names. AllByRecursion (IsSlotNamed (texts names.items)) slots.now) }
+{
+    let mut names = Vec::new(alloc);
+    for slot in slots {
+        add_name_of(&mut names, &slot.cell)?;
+    }
+    Ok(names)
+}
+
+// Appends a slot's cell.
+fn encode_cell<T: Saved>(
+    cell: &CellImage<T>,
+    names: &[&'static str],
+    out: &mut Encoder,
+) -> Result<(), AllocError>
+    ensures { OnOk result (Appends (cell_form (texts names.now) T.form cell.now) (written out.old) (written out.new)) }
+{
+    match cell {
+        CellImage::Empty => out.put_u8(0),
+        CellImage::Value(value, location) => {
+            out.put_u8(1)?;
+            encode_location(*location, names, out)?;
+            value.encode(out)
+        }
+        CellImage::Shared(value, location) => {
+            out.put_u8(2)?;
+            encode_location(*location, names, out)?;
+            value.encode(out)
+        }
+        CellImage::Reference(slot, generation, location) => {
+            out.put_u8(3)?;
+            out.put_u64(*slot as u64)?;
+            out.put_u64(*generation)?;
+            encode_location(*location, names, out)
+        }
+    }
+}
+
+// Appends each slot, without their number.
+fn encode_slots<T: Saved>(
+    slots: &[SlotImage<T>],
+    names: &[&'static str],
+    out: &mut Encoder,
+) -> Result<(), AllocError>
+    ensures { OnOk result (Appends (items_form (slot_form (texts names.now) T.form) slots.now) (written out.old) (written out.new)) }
+{
+    for slot in slots {
+        out.put_u64(slot.generation)?;
+        encode_cell(&slot.cell, names, out)?;
+    }
+    Ok(())
+}
+
+/// Appends an image, with these names of files.
+pub fn encode_image<T: Saved>(
+    image: &Image<T>,
+    names: &[&'static str],
+    out: &mut Encoder,
+) -> Result<(), AllocError>
+    ensures { OnOk result (Appends (image_form (texts names.now) T.form image.now) (written out.old) (written out.new)) }
+{
+    encode_places(names, out)?;
+    let numbers = (image.number, (image.start, (image.next, image.peak)));
+    numbers.encode(out)?;
+    out.put_u64(image.slots.len() as u64)?;
+    encode_slots(image.slots.as_slice(), names, out)
+}
+
+// A cell as it stands in a file: each location with the index of its file's name.
+#[derive(Drop)]
+enum SavedCell<T> {
+    Empty,
+    Value((SavedLocation, T)),
+    Shared((SavedLocation, T)),
+    Reference((usize, (u64, SavedLocation))),
+}
+
+// Reads a cell.
+fn decode_cell<T: Saved>(input: &mut Decoder) -> Result<SavedCell<T>, DecodeError>
+    ensures { ReadsAgain (saved_cell_form T.form) (unread input.old) result (unread input.new) }
+{
+    let fault = input.fault(Fault::Variant);
+    match input.take_u8()? {
+        0 => Ok(SavedCell::Empty),
+        1 => {
+            let value = <(SavedLocation, T)>::decode(input)?;
+            Ok(SavedCell::Value(value))
+        }
+        2 => {
+            let value = <(SavedLocation, T)>::decode(input)?;
+            Ok(SavedCell::Shared(value))
+        }
+        3 => {
+            let reference = <(usize, (u64, SavedLocation))>::decode(input)?;
+            Ok(SavedCell::Reference(reference))
+        }
+        _ => Err(fault),
+    }
+}
+
+// The cell with its location. None if the table of files is too short.
+fn placed_cell<T: Drop>(
+    cell: SavedCell<T>,
+    places: &[Option<&'static str>],
+    here: Location,
+) -> Option<CellImage<T>>
+    ensures { IsCellPlaced places.now here cell result }
+{
+    match cell {
+        SavedCell::Empty => Some(CellImage::Empty),
+        SavedCell::Value((saved, value)) => {
+            let location = placed(saved, places, here)?;
+            Some(CellImage::Value(value, location))
+        }
+        SavedCell::Shared((saved, value)) => {
+            let location = placed(saved, places, here)?;
+            Some(CellImage::Shared(value, location))
+        }
+        SavedCell::Reference((slot, (generation, saved))) => {
+            let location = placed(saved, places, here)?;
+            Some(CellImage::Reference(slot, generation, location))
+        }
+    }
+}
+
+// Reads a slot.
+fn decode_slot<T: Saved>(
+    input: &mut Decoder,
+    places: &[Option<&'static str>],
+    here: Location,
+) -> Result<SlotImage<T>, DecodeError>
+    ensures { (files : List (Bor (List ℕ))) (names : List (List ℕ)) → ArePairwise (IsFound files) names places.now
+        → ReadsAs (IsSlotNamed names) (slot_form names T.form) (IsSlotAgain files here T.form)
+        (unread input.old) result (unread input.new) }
+{
+    let fault = input.fault(Fault::Place);
+    let generation = input.take_u64()?;
+    let saved = decode_cell(input)?;
+    match placed_cell(saved, places, here) {
+        Some(cell) => Ok(SlotImage { generation, cell }),
+        None => Err(fault),
+    }
+}
+
+// Reads this number of slots.
+fn decode_slots<T: Saved>(
+    input: &mut Decoder,
+    count: u64,
+    places: &[Option<&'static str>],
+    here: Location,
+) -> Result<Vec<SlotImage<T>>, DecodeError>
+    ensures { (files : List (Bor (List ℕ))) (names : List (List ℕ)) → ArePairwise (IsFound files) names places.now
+        → ItemsReadAs (IsSlotNamed names) (slot_form names T.form) (IsSlotAgain files here T.form) (λ v. v.items) count
+        (unread input.old) result (unread input.new) }
+{
+    let mut slots = Vec::new(input.alloc());
+    for _ in 0..count {
+        let slot = decode_slot(input, places, here)?;
+        slots.push(slot)?;
+    }
+    Ok(slots)
+}
+
+/// Reads an image. A location whose file isn't among these is `here`.
+pub fn decode_image<T: Saved>(
+    input: &mut Decoder,
+    files: &[&'static str],
+    here: Location,
+) -> Result<Image<T>, DecodeError>
+    ensures { (names : List (List ℕ)) → ReadsAs (IsNamed names) (image_form names T.form) (IsImageAgain files.now here T.form)
+        (unread input.old) result (unread input.new) }
+{
+    let places = decode_places(input, files)?;
+    let numbers = <(u64, (u64, (u64, usize)))>::decode(input)?;
+    let count = input.take_u64()?;
+    let slots = decode_slots(input, count, places.as_slice(), here)?;
+    let (number, (start, (next, peak))) = numbers;
+    Ok(Image {
+        number,
+        start,
+        next,
+        peak,
+        slots,
+    })
+}

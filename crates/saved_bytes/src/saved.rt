@@ -1,0 +1,54 @@
+//! Types whose values are written as bytes, and read again.
+
+ghost use Rattle.std.specs.Prelude.{OnOk};
+ghost use Rattle.saved_bytes.specs.Forms.{Appends, written, unread, Form};
+ghost use Rattle.saved_bytes.specs.Reading.{ReadsAgain, ReadsOnly};
+
+use crate::decode::{DecodeError, Decoder};
+use crate::encode::Encoder;
+use std::alloc::AllocError;
+
+/// A type whose values are written as bytes, and read again.
+///
+/// A struct writes its fields one after the other, and reads them in the same order. `form` names the
+/// forms of its fields, and needs no proof:
+///
+/// ```rust
+/// impl Saved for Hero {
+///     ghost form = { λ it. Both (⟦<String as Saved>⟧.form it.name) (⟦<u64 as Saved>⟧.form it.strength) };
+///
+///     fn encode(&self, out: &mut Encoder) -> Result<(), AllocError> {
+///         self.name.encode(out)?;
+///         self.strength.encode(out)
+///     }
+///
+///     fn decode(input: &mut Decoder) -> Result<Hero, DecodeError> {
+///         let name = String::decode(input)?;
+///         let strength = u64::decode(input)?;
+///         Ok(Hero { name, strength })
+///     }
+/// }
+/// ```
+pub trait Saved: Drop {
+    /// What a value comes down to: the numbers and texts that are written of it.
+    ghost form: { Self → Form };
+
+    /// Appends the value's bytes.
+    ///
+    /// # Errors
+    ///
+    /// `AllocError` if memory runs out; then a part of the bytes may have been appended.
+    fn encode(&self, out: &mut Encoder) -> Result<(), AllocError>
+        ensures { OnOk result (Appends (form self.now) (written out.old) (written out.new)) };
+
+    /// Reads a value. If the bytes begin with those that `encode` appends for a value, then one with the
+    /// same form is read, and the bytes behind it are left.
+    ///
+    /// # Errors
+    ///
+    /// `Damaged` if the bytes don't begin with those of a value, with the byte at which this is seen;
+    /// `OutOfMemory`. Some bytes may have been read.
+    fn decode(input: &mut Decoder) -> Result<Self, DecodeError>
+        ensures again { ReadsAgain form (unread input.old) result (unread input.new) }
+        ensures only { ReadsOnly form (unread input.old) result (unread input.new) };
+}
