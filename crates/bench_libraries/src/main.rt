@@ -1,50 +1,33 @@
-//! `bench_libraries LIST N` makes a list of calls over N things, and prints what it saw of them. How
-//! long it takes, in processor time, is for who runs it to measure (`.ci/bench_libraries.py`).
+//! `bench_libraries LIST N` makes a list of operations over N things, and prints what it saw of them;
+//! `bench_libraries LIST N REPS` makes it REPS times, and prints the nanoseconds of each operation too,
+//! of all repetitions together.
 //!
-//! | LIST       | the things                               |
-//! |------------|------------------------------------------|
-//! | `entities` | entities of an `EntityTable`             |
-//! | `options`  | places of a plain vector, taken and free |
-//! | `scene`    | nodes of a `SceneTree`                   |
-//! | `forest`   | nodes at places of a plain vector        |
-//! | `sessions` | what sessions of a `SessionTable` keep   |
-//! | `shelves`  | the same in plain vectors                |
-//! | `parts`    | places of the parts of a `Document`      |
-//! | `copies`   | the same in plain vectors                |
+//! | LIST        | the things                                                       |
+//! |-------------|------------------------------------------------------------------|
+//! | `entities`  | entities of an `EntityTable`, components of a `ComponentTable`   |
+//! | `trees`     | nodes of a `SceneTree`, each below the one at a quarter of its place |
+//! | `sessions`  | entries of a `SessionTable`, ten of a session                    |
+//! | `documents` | places of a `Document`, ten of a part                            |
 //!
-//! Of the first two N are added. 10 N times a drawn one is looked at. N times a drawn one ends, and
-//! another is added in its place. Then all end: 14 N calls. Of the others N make one tree, which is
-//! walked ten times; N / 10 drawn nodes are moved below others, and the tree is removed. Of the next
-//! two N are kept in sessions of a hundred, of which ten last at once, each is looked at, and the
-//! sessions end. Of the last two N are made, ten of a part. 10 N times a drawn one is looked at. N times
-//! a drawn one's part is set and the place led to another part; then all are removed.
+//! `bench/peers` makes the same operations over what a user would pick instead, and sees the same.
+//! `bench/compare.py` runs both. Each operation is a function of its own, so that a profiler counts it
+//! apart. Things are looked at in a drawn order.
 //!
 //! The status is 1 where a call wasn't carried out, as for lack of memory, and 2 for other words.
 #![tactic(auto)]
 
-mod copies;
+mod documents;
 mod entities;
-mod families;
-mod logins;
-mod options;
-mod parts;
-mod plain_forest;
-mod plain_parts;
-mod rounds;
-mod scene;
-mod shelves;
-mod visits;
+mod laps;
+mod sessions;
+mod trees;
 
-use crate::options::Options;
-use crate::plain_forest::PlainForest;
-use crate::plain_parts::PlainParts;
-use crate::shelves::Shelves;
-use document_tree::{Document, Part};
+use crate::laps::{Laps, drawn};
+use document_tree::Document;
 use entity_table::EntityTable;
-use generational_box::{Storage, Store, UnsyncStorage};
+use generational_box::{Store, UnsyncStorage};
 use scene_tree::SceneTree;
 use session_table::SessionTable;
-use std::alloc::Global;
 use std::env;
 use std::process::ExitCode;
 use std::rt::Env;
@@ -53,115 +36,80 @@ fn main(rt: HostRuntime) -> ExitCode {
     let Some(words) = Words::read(&rt) else {
         return ExitCode::from(2);
     };
-    let Some(seen) = seen_in(rt.alloc(), words) else {
+    let mut laps = Laps::new(rt.alloc());
+    let Some(seen) = seen_in(&rt, &mut laps, words) else {
         return ExitCode::from(1);
     };
-    match println!(rt; "seen {}", seen) {
-        Ok(_) => ExitCode::from(0),
-        Err(_) => ExitCode::from(1),
+    if println!(rt; "seen {}", seen).is_err() {
+        return ExitCode::from(1);
     }
-}
-
-/// Makes the list's calls. None where one wasn't carried out. Each list is in a function of its own, so
-/// that what LLVM makes of one doesn't hang on the others.
-fn seen_in(alloc: Global, words: Words) -> Option<u64> {
-    let n = words.things;
-    match words.list {
-        List::Entities => in_entities(alloc, number_store(alloc), n),
-        List::Options => in_options(alloc, n),
-        List::Scene => in_scene(alloc, number_store(alloc), n),
-        List::Forest => in_forest(alloc, n),
-        List::Sessions => in_sessions(alloc, number_store(alloc), n),
-        List::Shelves => in_shelves(alloc, n),
-        List::Parts => in_parts(alloc, part_store(alloc), n),
-        List::Copies => in_copies(alloc, n),
+    if words.is_timed {
+        for (name, nanos) in laps.list() {
+            if println!(rt; "{} {}", name, nanos).is_err() {
+                return ExitCode::from(1);
+            }
+        }
     }
+    ExitCode::from(0)
 }
 
-/// A new store of numbers.
-fn number_store(alloc: Global) -> UnsyncStorage<u64> {
-    Store::new(alloc, 1)
-}
-
-/// A new store of parts.
-fn part_store(alloc: Global) -> UnsyncStorage<Part<u64>> {
-    Store::new(alloc, 2)
-}
-
-/// Makes the calls over the entities of an empty store.
-#[inline(never)]
-fn in_entities<S: Storage<u64> + Drop>(alloc: Global, store: S, n: usize) -> Option<u64> {
-    if !store.is_fresh() {
-        return None;
+/// Makes the list's operations as often as the words say, and returns what was seen the last time. None
+/// where a call wasn't carried out.
+fn seen_in(rt: &HostRuntime, laps: &mut Laps, words: Words) -> Option<u64> {
+    let order = drawn(rt.alloc(), words.things)?;
+    let mut seen = 0;
+    for _ in 0..words.repetitions {
+        seen = match words.list {
+            List::Entities => in_entities(rt, laps, &order)?,
+            List::Trees => in_trees(rt, laps, &order)?,
+            List::Sessions => in_sessions(rt, laps, &order)?,
+            List::Documents => in_documents(rt, laps, &order)?,
+        };
     }
-    rounds::run(alloc, &mut EntityTable::new(alloc, store), n)
+    Some(seen)
 }
 
-/// Makes them over the places of a plain vector.
-#[inline(never)]
-fn in_options(alloc: Global, n: usize) -> Option<u64> {
-    rounds::run(alloc, &mut Options::new(alloc), n)
+/// Makes the operations over the entities of an empty table.
+fn in_entities(rt: &HostRuntime, laps: &mut Laps, order: &Vec<usize>) -> Option<u64> {
+    let alloc = rt.alloc();
+    let store: UnsyncStorage<u64> = Store::new(alloc, 1);
+    let mut table = EntityTable::new(alloc, store);
+    entities::run(rt, alloc, laps, &mut table, order)
 }
 
-/// Makes the calls over the nodes of an empty store.
-#[inline(never)]
-fn in_scene<S: Storage<u64> + Drop>(alloc: Global, store: S, n: usize) -> Option<u64> {
-    if !store.is_fresh() {
-        return None;
-    }
-    families::run(alloc, &mut SceneTree::new(alloc, store), n)
+/// Makes them over the nodes of an empty tree.
+fn in_trees(rt: &HostRuntime, laps: &mut Laps, order: &Vec<usize>) -> Option<u64> {
+    let alloc = rt.alloc();
+    let store: UnsyncStorage<u64> = Store::new(alloc, 1);
+    let mut tree = SceneTree::new(alloc, store);
+    trees::run(rt, alloc, laps, &mut tree, order)
 }
 
-/// Makes them over nodes at places of a plain vector.
-#[inline(never)]
-fn in_forest(alloc: Global, n: usize) -> Option<u64> {
-    families::run(alloc, &mut PlainForest::new(alloc), n)
-}
-
-/// Makes the calls over what sessions keep in an empty store.
-#[inline(never)]
-fn in_sessions<S: Storage<u64> + Drop>(alloc: Global, store: S, n: usize) -> Option<u64> {
-    if !store.is_fresh() {
-        return None;
-    }
+/// Makes them over the entries of an empty table.
+fn in_sessions(rt: &HostRuntime, laps: &mut Laps, order: &Vec<usize>) -> Option<u64> {
+    let alloc = rt.alloc();
+    let store: UnsyncStorage<u64> = Store::new(alloc, 1);
     let mut table = SessionTable::new(alloc, store);
-    let seen = visits::run(alloc, &mut table, n);
+    let seen = sessions::run(rt, alloc, laps, &mut table, order);
     let _store = table.finish();
     seen
 }
 
-/// Makes them over what plain vectors keep.
-#[inline(never)]
-fn in_shelves(alloc: Global, n: usize) -> Option<u64> {
-    visits::run(alloc, &mut Shelves::new(alloc), n)
-}
-
-/// Makes the calls over the parts of an empty store.
-#[inline(never)]
-fn in_parts<S: Storage<Part<u64>> + Drop>(alloc: Global, store: S, n: usize) -> Option<u64> {
-    if !store.is_fresh() {
-        return None;
-    }
-    copies::run(alloc, &mut Document::new(alloc, store), n)
-}
-
-/// Makes them over parts and places in plain vectors.
-#[inline(never)]
-fn in_copies(alloc: Global, n: usize) -> Option<u64> {
-    copies::run(alloc, &mut PlainParts::new(alloc), n)
+/// Makes them over the places of an empty document.
+fn in_documents(rt: &HostRuntime, laps: &mut Laps, order: &Vec<usize>) -> Option<u64> {
+    let alloc = rt.alloc();
+    let store: UnsyncStorage<u32> = Store::new(alloc, 2);
+    let mut document = Document::new(alloc, store);
+    documents::run(rt, alloc, laps, &mut document, order)
 }
 
 /// What keeps the things.
 #[derive(Clone, Copy, PartialEq, Eq)]
 enum List {
     Entities,
-    Options,
-    Scene,
-    Forest,
+    Trees,
     Sessions,
-    Shelves,
-    Parts,
-    Copies,
+    Documents,
 }
 
 /// The program's words.
@@ -169,6 +117,8 @@ enum List {
 struct Words {
     list: List,
     things: usize,
+    repetitions: usize,
+    is_timed: bool,
 }
 
 impl Words {
@@ -177,19 +127,24 @@ impl Words {
         let mut words = env::args(rt).ok()?.skip(1);
         let list = match words.next()?.as_str() {
             "entities" => List::Entities,
-            "options" => List::Options,
-            "scene" => List::Scene,
-            "forest" => List::Forest,
+            "trees" => List::Trees,
             "sessions" => List::Sessions,
-            "shelves" => List::Shelves,
-            "parts" => List::Parts,
-            "copies" => List::Copies,
+            "documents" => List::Documents,
             _ => return None,
         };
         let things = words.next()?.parse::<usize>().ok()?;
+        let repetitions = match words.next() {
+            Some(word) => Some(word.parse::<usize>().ok()?),
+            None => None,
+        };
         if words.next().is_some() {
             return None;
         }
-        Some(Words { list, things })
+        Some(Words {
+            list,
+            things,
+            repetitions: repetitions.unwrap_or(1),
+            is_timed: repetitions.is_some(),
+        })
     }
 }
