@@ -1,4 +1,4 @@
--- What locations and errors print, and what one error is as another.
+-- What locations and errors print, and how one error converts to another.
 use Rattle.std.specs.Prelude.{ℕ, List, ◌∷◌, ◌++◌, Option, Some, codes, Bool, nat_eq}
 use Rattle.std.specs.Cmp.Lexicographic.{pointwise}
 use Rattle.std.specs.Ordering.{eq_of_both, on}
@@ -59,17 +59,17 @@ store_error_text OutOfMemory = codes "out of memory"
 store_error_text NumbersExhausted = codes "numbers exhausted"
 store_error_text UnknownOwner = codes "unknown owner"
 
--- a read's error as a write's: the variant of that name, with what it holds
+-- a read's error as a write's: the variant with the same name and the same contents
 abbrev pub as_borrow_mut : BorrowError → BorrowMutError
 as_borrow_mut (reads.Dropped e) = writes.Dropped e
 as_borrow_mut (reads.AlreadyBorrowedMut e) = writes.AlreadyBorrowedMut e
 
--- a read's refusal as one of a write or an end
+-- an error of a read as one of a write or a removal
 abbrev pub as_refused_mut : Refused BorrowError → Refused BorrowMutError
 as_refused_mut (refused.Borrow e) = refused.Borrow (as_borrow_mut e)
 as_refused_mut (refused.Store e) = refused.Store e
 
--- the text of what a refusal holds
+-- the text of the error that `Refused` holds
 abbrev pub refused_output : {E : Type 0} → (E → Option (List ℕ)) → Refused E → Option (List ℕ)
 refused_output shown (refused.Borrow e) = shown e
 refused_output shown (refused.Store e) = Some (store_error_text e)

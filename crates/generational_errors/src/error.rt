@@ -1,4 +1,4 @@
-//! Locations, the errors of borrows, the store's own refusals, and their texts.
+//! Locations, the errors of borrows, the store's own errors, and their texts.
 
 ghost use Rattle.std.specs.Prelude.{◌≡◌, Some};
 ghost use Rattle.generational_errors.specs.Texts.{location_text, dropped_text, borrowed_mut_text};
@@ -13,10 +13,10 @@ use std::error::Error;
 use std::fmt;
 use std::marker::Model;
 
-/// A place in a source text, handed in by the caller of each call that makes or borrows.
+/// A place in a source text. The caller passes it to each call that makes a box or begins a borrow.
 ///
-/// It stands for std's `panic::Location`, which Rattle hasn't got. Two locations are equal if
-/// their files have the same text and their lines and columns are the same.
+/// It replaces std's `panic::Location`, which Rattle doesn't have. Two locations are equal if their files
+/// have the same text and their lines and columns are the same.
 #[derive(Clone, Copy, Debug, PartialEq, Eq)]
 pub struct Location {
     file: &'static str,
@@ -25,7 +25,7 @@ pub struct Location {
 }
 
 impl Location {
-    /// The place in `file` at `line` and `column`. Takes no memory.
+    /// The place in `file` at `line` and `column`. Doesn't allocate.
     pub fn new(file: &'static str, line: u32, column: u32) -> Location
         ensures file { result.file ≡ file.entry }
         ensures line { result.line ≡ line }
@@ -34,21 +34,21 @@ impl Location {
         Location { file, line, column }
     }
 
-    /// The file's name, as it was handed in.
+    /// The file's name that was passed to `new`.
     pub fn file(&self) -> &'static str
         ensures { result ≡ self.now.file }
     {
         self.file
     }
 
-    /// The line's number, as it was handed in.
+    /// The line's number that was passed to `new`.
     pub fn line(&self) -> u32
         ensures { result ≡ self.now.line }
     {
         self.line
     }
 
-    /// The column's number, as it was handed in.
+    /// The column's number that was passed to `new`.
     pub fn column(&self) -> u32
         ensures { result ≡ self.now.column }
     {
@@ -65,7 +65,7 @@ impl fmt::Display for Location {
     }
 }
 
-/// The value of a box is gone, or was never in the store that was asked.
+/// The box's value was removed, or was never in the store that the call was made on.
 #[derive(Clone, Copy, Debug, PartialEq, Eq)]
 pub struct ValueDroppedError {
     created_at: Location,
@@ -79,7 +79,7 @@ impl ValueDroppedError {
         ValueDroppedError { created_at }
     }
 
-    /// Where the box was made. Takes no memory.
+    /// Where the box was made. Doesn't allocate.
     ///
     /// ```rust
     /// BorrowMutError::Dropped(gone) => Some(gone.created_at()),
@@ -119,7 +119,7 @@ impl AlreadyBorrowedMutError {
         AlreadyBorrowedMutError { borrowed_mut_at }
     }
 
-    /// Where the writer began. Takes no memory.
+    /// Where the writer began. Doesn't allocate.
     ///
     /// ```rust
     /// BorrowMutError::AlreadyBorrowedMut(written) => Some(written.borrowed_mut_at()),
@@ -145,7 +145,7 @@ impl fmt::Display for AlreadyBorrowedMutError {
 
 impl Error for AlreadyBorrowedMutError {}
 
-/// The value is being read. Contracts see the error as the list of its readers' locations.
+/// The value is being read. Contracts model the error as the list of its readers' locations.
 #[derive(Clone, Debug, Drop)]
 pub struct AlreadyBorrowedError {
     borrowed_at: Vec<Location>,
@@ -162,14 +162,14 @@ impl Model for AlreadyBorrowedError {
 }
 
 impl AlreadyBorrowedError {
-    /// An error for readers that began at these locations, in this order. Takes no memory.
+    /// An error for readers that began at these locations, in this order. Doesn't allocate.
     pub fn new(borrowed_at: Vec<Location>) -> AlreadyBorrowedError
         ensures { result ≡ borrowed_at.items }
     {
         AlreadyBorrowedError { borrowed_at }
     }
 
-    /// Where the readers began, in this order. Takes no memory.
+    /// Where the readers began, in this order. Doesn't allocate.
     ///
     /// ```rust
     /// BorrowMutError::AlreadyBorrowed(read) => read.borrowed_at().first().copied(),
@@ -213,12 +213,12 @@ impl fmt::Display for AlreadyBorrowedError {
 
 impl Error for AlreadyBorrowedError {}
 
-/// Why a read or an insertion of a reference was refused.
+/// Why a read or an insertion of a reference failed.
 #[derive(Clone, Debug, PartialEq, Drop)]
 pub enum BorrowError {
-    /// The value is gone.
+    /// The value was removed.
     Dropped(ValueDroppedError),
-    /// A writer stands at the value.
+    /// The value is being written.
     AlreadyBorrowedMut(AlreadyBorrowedMutError),
 }
 
@@ -235,14 +235,14 @@ impl fmt::Display for BorrowError {
 
 impl Error for BorrowError {}
 
-/// Why a write, an end or a new target was refused.
+/// Why a write, a removal or a change of a reference's target failed.
 #[derive(Clone, Debug, PartialEq, Drop)]
 pub enum BorrowMutError {
-    /// The value is gone.
+    /// The value was removed.
     Dropped(ValueDroppedError),
-    /// Readers stand at the value.
+    /// The value is being read.
     AlreadyBorrowed(AlreadyBorrowedError),
-    /// A writer stands at the value.
+    /// The value is being written.
     AlreadyBorrowedMut(AlreadyBorrowedMutError),
 }
 
@@ -260,7 +260,7 @@ impl fmt::Display for BorrowMutError {
 
 impl Error for BorrowMutError {}
 
-/// Keeps the variant and what it holds. Takes no memory.
+/// Keeps the variant and what it holds. Doesn't allocate.
 impl From<BorrowError> for BorrowMutError {
     ghost from_gives = { λ error r. r ≡ as_borrow_mut error };
 
@@ -272,12 +272,12 @@ impl From<BorrowError> for BorrowMutError {
     }
 }
 
-/// What a store itself refuses. A refused call changes nothing.
+/// An error of the store itself. A call that fails with it changes nothing.
 #[derive(Clone, Copy, Debug, PartialEq, Eq)]
 pub enum StoreError {
-    /// A growth was refused by the allocator.
+    /// An allocation failed.
     OutOfMemory,
-    /// All tickets were given.
+    /// All tickets were issued.
     NumbersExhausted,
     /// The owner is of another store.
     UnknownOwner,
@@ -297,7 +297,7 @@ impl fmt::Display for StoreError {
 
 impl Error for StoreError {}
 
-/// An allocation that was refused is `OutOfMemory`. Takes no memory.
+/// An allocation that failed is `OutOfMemory`. Doesn't allocate.
 impl From<AllocError> for StoreError {
     ghost from_gives = { λ _ error. error ≡ OutOfMemory };
 
@@ -306,12 +306,12 @@ impl From<AllocError> for StoreError {
     }
 }
 
-/// A refused call: a borrow stands in the way or the value is gone, or the store itself refuses.
+/// The error of a call: a borrow is in the way or the value was removed, or the store itself fails.
 #[derive(Clone, Debug, PartialEq, Drop)]
 pub enum Refused<E> {
     /// A borrow error.
     Borrow(E),
-    /// A refusal of the store.
+    /// An error of the store.
     Store(StoreError),
 }
 
@@ -331,7 +331,7 @@ impl<E: fmt::Display> fmt::Display for Refused<E> {
 
 impl<E: Error> Error for Refused<E> {}
 
-/// Keeps the store's refusal. Takes no memory.
+/// Keeps the store's error. Doesn't allocate.
 impl<E> From<StoreError> for Refused<E> {
     ghost from_gives = { λ cause r. r ≡ refused.Store cause };
 
@@ -340,7 +340,7 @@ impl<E> From<StoreError> for Refused<E> {
     }
 }
 
-/// A refused read told as a refused write: keeps the variant and what it holds. Takes no memory.
+/// Converts a read's error to a write's: keeps the variant and what it holds. Doesn't allocate.
 impl From<Refused<BorrowError>> for Refused<BorrowMutError> {
     ghost from_gives = { λ read r. r ≡ as_refused_mut read };
 
@@ -352,14 +352,14 @@ impl From<Refused<BorrowError>> for Refused<BorrowMutError> {
     }
 }
 
-/// A value that a store didn't keep, handed back, and why.
+/// A value that a store didn't store, and why.
 ///
-/// It is an error whatever the value is, so `?` takes it where the value can be dropped.
+/// It is an error for every type of value, so `?` works if the value can be dropped.
 #[derive(Drop)]
 pub struct Refusal<T> {
-    /// The value that was handed in.
+    /// The value that was passed in.
     pub value: T,
-    /// Why it wasn't kept.
+    /// Why it wasn't stored.
     pub cause: StoreError,
 }
 
@@ -383,14 +383,14 @@ impl<T> fmt::Debug for Refusal<T> {
 
 impl<T: Drop> Error for Refusal<T> {}
 
-/// A value that a call of a library above the boxes didn't keep, handed back, and why.
+/// A value that a call of a library built on boxes didn't store, and why.
 ///
-/// It is an error whatever the value is, so `?` takes it where the value can be dropped.
+/// It is an error for every type of value, so `?` works if the value can be dropped.
 #[derive(Drop)]
 pub struct HandedBack<T, E> {
-    /// The value that was handed in.
+    /// The value that was passed in.
     pub value: T,
-    /// Why it wasn't kept.
+    /// Why it wasn't stored.
     pub cause: E,
 }
 
@@ -414,7 +414,7 @@ impl<T, E: fmt::Debug> fmt::Debug for HandedBack<T, E> {
 
 impl<T: Drop, E: Error> Error for HandedBack<T, E> {}
 
-/// Keeps both parts, as of the pair that a signal's `set` fails with. Doesn't allocate.
+/// Keeps both parts, for example of the pair that a signal's `set` fails with. Doesn't allocate.
 impl<T, E> From<(T, E)> for HandedBack<T, E> {
     ghost from_gives = { λ pair r. r ≡ record { value = pair.0; cause = pair.1 } };
 
@@ -434,8 +434,8 @@ impl<T> From<Refusal<T>> for HandedBack<T, StoreError> {
     }
 }
 
-/// What a read or an insertion of a reference answers.
+/// The result of a read, or of an insertion of a reference.
 pub type BorrowResult<T> = Result<T, Refused<BorrowError>>;
 
-/// What a write, an end or a new target of a reference answers.
+/// The result of a write, a removal, or a change of a reference's target.
 pub type BorrowMutResult<T> = Result<T, Refused<BorrowMutError>>;

@@ -1,6 +1,6 @@
-//! Locations, and the errors and refusals of boxes and stores.
+//! Locations, and the errors of boxes and stores.
 //!
-//! They stand on nothing else of this repository. Who uses boxes takes the crate `generational_box`,
+//! They depend on no other crate of this repository. Users of boxes import the crate `generational_box`,
 //! which exports all of them.
 #![tactic(auto)]
 
