@@ -22,7 +22,7 @@ unfoldable pub use Calls.*
 module _ {T : Type 0} where
   -- ---- a making, which gives another box
 
-  -- a call that makes another box lets a box reach what it reached
+  -- after a call that makes another box, a box reaches what it reached
   making_beside : (S : State T) → IsSound S → (call : Action T) (f : NewNames) → AreNew S call f
       → is_making call ≡ true → (b : GenerationalPointer)
       → GivesOther call (act S call f).0 b → reach (act S call f).1 b ≡ reach S b
@@ -65,31 +65,31 @@ module _ {T : Type 0} where
         let view = (meets_follows S R call answer m).view in
         grind (arith, reach, seen, view, reached_live S b, reached_live R b, sound)
 
-  -- which is so of each box that isn't in the list, where an owner is released
+  -- the same holds of each box that isn't in the list, when an owner is released
   pub release_leaves : (S R : State T) (o : OwnerName) (answer : Answer T) → IsSound S
       → Meets S (ReleaseOwner o) answer R → (h : Ownership) → ownership S o ≡ Some h
       → (b : GenerationalPointer) → among h.names (name_of b) ≡ false → IsUnchanged S b R
   release_leaves S R o answer s m h held b out = leaves S R (ReleaseOwner o) answer s m b
       (ap (λ r. among (names_in r) (name_of b)) (held_record S o h held) ∙ out) tt
 
-  -- what a borrow of a box that is left would be answered is the same
+  -- a borrow of a box that the call leaves would have the same answer
   pub left_refusals : (S R : State T) (b : GenerationalPointer) → IsUnchanged S b R
       → (refusal_to_read R b ≡ refusal_to_read S b) × (refusal_to_write R b ≡ refusal_to_write S b)
   unfolding refusal_to_read refusal_to_write
   left_refusals S R b left = grind arith
 
-  -- a box whose name was given isn't the one that a call gives
+  -- a box whose name was issued isn't the one that a call gives
   pub given_other : (S R : State T) (call : Action T) (answer : Answer T) (b : GenerationalPointer)
       → Meets S call answer R → IsGiven S (name_of b) → GivesOther call answer b
   given_other S R call answer b m given = grind (arith, made_new S R call)
 
--- ==== stores in which no borrow stands: which calls leave them so, and what is never refused
--- there; and what the tests of boxes say
+-- ==== stores without borrows: which calls leave them so, and what never fails there; and what the tests
+-- of boxes say
 
 module _ {T : Type 0} where
   -- ---- what a test says
 
-  -- in a sound state a box may be read exactly where it sees a value
+  -- in a sound state a box may be read exactly if it sees a value
   pub test_sees : (S : State T) (b : GenerationalPointer) → IsSound S
       → can_read S b ≡ is_some (value_in S b)
   unfolding refusal_to_read value_in
@@ -106,7 +106,7 @@ module _ {T : Type 0} where
     pub quiet_gone : IsSound S → value_in S b ≡ None → reach S b ≡ None
     quiet_gone s none = grind (arith, free_sees, quiet_free)
 
-    -- and a box may be written exactly where it sees a value
+    -- and a box may be written exactly if it sees a value
     pub quiet_sees : IsSound S → can_write S b ≡ is_some (value_in S b)
     unfolding refusal_to_write value_in
     quiet_sees s = grind (arith, free_sees)
@@ -117,7 +117,7 @@ module _ {T : Type 0} where
   quiet_fresh number start next = grind (arith, map.get-empty {X = Cell T} name_cmp)
 
   module _ {S R : State T} where
-    -- each that asks for no borrow
+    -- each call that begins no borrow
     pub quiet_stays : (call : Action T) (answer : Answer T) → Meets S call answer R
         → BeginsNoBorrow call → HasNoBorrows S → HasNoBorrows R
     quiet_stays call answer m begins quiet =
@@ -155,14 +155,14 @@ module _ {T : Type 0} where
       each (n ∷ some) within = grind (arith, one n, within, name_here, each some)
 
   module _ {S R : State T} where
-    -- so a release of their owner is never refused
+    -- so a release of their owner never fails
     pub frees_owned : (o : OwnerName) (h : Ownership) {U V : Type 0}
         (r : Result U (V × error.Refused BorrowMutError)) → ownership S o ≡ Some h
         → AreFree S h.names → Meets S (ReleaseOwner o) (release_answer r) R → IsOk r
     unfolding may_lack
     frees_owned o h r held free m = grind (arith, unhindered S h.names free)
 
-    -- nor is an end in a store without borrows, or an owner's release
+    -- nor does a removal in a store without borrows, or an owner's release
     pub quiet_ends : (b : GenerationalPointer) {U : Type 0} (r : Result U (error.Refused BorrowMutError))
         → HasNoBorrows S → Meets S (End b) (end_answer r) R → IsOk r
     unfolding may_lack
@@ -212,13 +212,13 @@ pub lasts_same : (xs ys : List Name) → ((n : Name) → IsIn xs n → IsIn ys n
 lasts_same xs ys f b = map.same_map nat_cmp_total map.nat_cmp-IsAntisymmetric
     (lasts xs) (lasts ys) (λ s. one_last xs ys s f b _ _ (get_lasts xs s) (get_lasts ys s))
 
--- where no name was given there is no slot
+-- if no name was issued, there is no slot
 pub no_slots : lasts (set.items (set.empty {R = name_cmp})) ≡ map.empty
 unfolding lasts
 no_slots = lasts_same (set.items set.empty) [] (λ n h. let none = set.contains-empty name_cmp n in
     cc (set.contains-items (set.empty {R = name_cmp}) n)) (λ n h. cc)
 
--- one more name given
+-- another name issued
 pub lasts_insert : (given : Names) (n : Name)
     → lasts (set.items (set.insert given n)) ≡ map.insert (lasts (set.items given)) n.slot
     (greater n.generation (map.get (lasts (set.items given)) n.slot))
@@ -231,7 +231,7 @@ lasts_insert given n =
     (grind (arith, same, items, old))
 
 module _ {T : Type 0} where
-  -- no retired slot is lost where such slots keep their last generations, and get no live cell
+  -- no retired slot is lost if such slots keep their last generations and get no live cell
   retired_still : (S R : State T) → ((s : ℕ) → map.contains_key (slots_of S) s ≡ true
       → is_retired S s ≡ true → (map.get (slots_of R) s ≡ map.get (slots_of S) s)
       × (is_some (map.get R.cells (last_name S s)) ≡ true → is_last_live S s ≡ true))
@@ -240,13 +240,13 @@ module _ {T : Type 0} where
       let view = keep_view by_number (slots_of S) (is_retired S) in
       len_within by_number _ _ (λ s h. grind (arith, view s, still s, kept_key, by_number))
 
-  -- where nothing new is live and no name is given, the bound is kept
+  -- if nothing new is live and no name is issued, the bound holds still
   kept_bounded : (S R : State T) → R.given ≡ S.given → R.peak ≡ S.peak
       → ((n : Name) → is_some (map.get R.cells n) ≡ true → is_some (map.get S.cells n) ≡ true)
       → IsBounded S → IsBounded R
   kept_bounded S R given peak live b = grind (arith, retired_still, len_within, by_name)
 
-  -- a given name's slot was made
+  -- an issued name's slot was made
   pub slot_made : (S : State T) (n : Name) → IsGiven S n → map.contains_key (slots_of S) n.slot ≡ true
   slot_made S n given = grind (arith, get_lasts (set.items S.given) n.slot, set.contains-items S.given n)
 
@@ -254,7 +254,7 @@ module _ {T : Type 0} where
   pub slot_within : (S : State T) (n : Name) → IsBounded S → Fits S n → n.slot ≤ slots S
   slot_within S n b h = grind arith
 
-  -- live names were given
+  -- live names were issued
   abbrev AreGiven : State T → Type 0
   AreGiven S = (q : Name) → IsLive S q → IsGiven S q
 
@@ -281,7 +281,7 @@ module _ {T : Type 0} where
       → (q : Name) → IsLive S q → q.slot ≢ n.slot
   slot_apart S n given b h q live = grind (arith, slot_made)
 
-  -- what is live beside a new cell, and where names were given they are with the new one
+  -- what is live next to a new cell; if the live names were issued, they are so with the new one
   live_beside : (S : State T) (n : Name) (c : Cell T) (q : Name) → q ≢ n
       → IsLive (add_cell S n c) q → IsLive S q
   live_beside S n c q ne live = rw (get-insert_apart by_name S.cells n c q ne) at live
@@ -298,7 +298,7 @@ module _ {T : Type 0} where
     other_slots : (s : ℕ) → s ≢ n.slot → map.get (slots_of (add_cell S n c)) s ≡ map.get (slots_of S) s
     other_slots s ne = grind (arith, lasts_insert, get-insert_apart, by_number)
 
-    -- where its slot isn't retired, and no slot is made without need
+    -- if its slot isn't retired, and no slot is made without need
     bounded_with : (is_retired S n.slot ≡ true → map.contains_key (slots_of S) n.slot ≡ true → ⊥)
         → slots (add_cell S n c) ≤ max S.peak (map.len S.cells + 1) + retired S → slots S ≤
         slots (add_cell S n c) → n.slot < slots (add_cell S n c)
@@ -382,8 +382,8 @@ pub slots_are : {T : Type 0} (S : State T) (s : IsSound S) (b : IsBounded S)
     → slots S ≡ map.len S.cells + free S + retired S
 slots_are S s b = slots_live S s.given b
 
--- ==== rows that are read back, one list after the other: the cell of a name, and owners' records;
--- and what stands under a name without its value
+-- ==== rows that are read back, one list after the other: the cell of a name, and owners' records; and
+-- what is under a name without its value
 
 -- one list is read after the other
 pub read_append : (xs ys : List BaseRow) (P : Plain)
@@ -398,7 +398,7 @@ module _ {K X : Type 0} {R : K → K → Ordering} where
   put m [] = m
   put m (e ∷ es) = put (map.insert m e.0 e.1) es
 
--- no key stands twice
+-- no key is there twice
 abbrev pub AreApart : {K X : Type 0} → (K → K → Ordering) → List (K × X) → Type 0
 AreApart R [] = Unit {0}
 AreApart R (e ∷ es) = (map.find R e.0 es ≡ None) × AreApart R es
@@ -421,7 +421,7 @@ module _ {K X : Type 0} {R : K → K → Ordering} (o : IsKeyOrder R) where
   get_put m (e ∷ es) apart q =
       grind (arith, get_put (map.insert m e.0 e.1) es apart.1 q, map.get-insert {X = X} o.total, key_same o)
 
-  -- what is put where nothing stood
+  -- what is put under a key that had nothing
   pub put_new : (es : List (K × X)) → AreApart R es → put (map.empty {R = R}) es ≡ map.from_entries es
   put_new es apart = map.same_map o.total o.exact _ _ (λ q.
       rw (get_put map.empty es apart q, map.get-empty R q, map.get-from_entries o.total es q)
@@ -514,7 +514,7 @@ pub all_owners_read : (P : Plain) (number : ℕ) (owners : Owners) → P.owners 
     → read_rows P (owner_rows number (map.entries owners)) ≡ record P { owners = owners }
 all_owners_read P number owners none = grind (arith, owners_read, put_all, by_number)
 
--- ---- what stands under a name without its value
+-- ---- what is under a name without its value
 
 pub find_bare : {T : Type 0} (q : Name) (es : List (Name × Cell T))
     → map.find name_cmp q (list_map bare_entry es) ≡ option_map bare_cell (map.find name_cmp q es)

@@ -29,7 +29,7 @@ pub record WriteGuard (T : Type 0) : Type 0 where
   pub guard : Guard
   pub value : T
 
--- why a read, and why a write or an end, was refused
+-- why a read, and why a write or a removal, failed
 abbrev pub refusal_of_read_error : BorrowError → BorrowRefusal
 refusal_of_read_error (reads.Dropped e) = Dropped e.created_at
 refusal_of_read_error (reads.AlreadyBorrowedMut e) = BeingWritten e.borrowed_mut_at
@@ -48,7 +48,7 @@ module _ {T : Type 0} where
   end_refused (refused.Borrow e) = BorrowRefused (refusal_of_error e)
   end_refused (refused.Store e) = refuses e
 
-  -- what a making of a value answers
+  -- the answer to a making of a value
   abbrev pub make_answer : Result GenerationalPointer (Refusal T) → Answer T
   make_answer (Ok b) = Made b
   make_answer (Err r) = refuses r.cause
@@ -57,7 +57,7 @@ module _ {T : Type 0} where
   box_answer (Ok b) = Made (pointer_of b)
   box_answer (Err r) = refuses r.cause
 
-  -- what a making of a reference answers
+  -- the answer to a making of a reference
   abbrev pub reference_answer : Result GenerationalPointer (Refused BorrowError) → Answer T
   reference_answer (Ok b) = Made b
   reference_answer (Err e) = read_refused e
@@ -66,7 +66,7 @@ module _ {T : Type 0} where
   reference_box_answer (Ok b) = Made (pointer_of b)
   reference_box_answer (Err e) = read_refused e
 
-  -- what a read, and what a write answers
+  -- the answer to a read, and to a write
   abbrev pub read_answer : Result Guard (Refused BorrowError) → Answer T
   read_answer (Ok g) = Reads g
   read_answer (Err e) = read_refused e
@@ -75,7 +75,7 @@ module _ {T : Type 0} where
   write_answer (Ok g) = Writes g.guard g.value
   write_answer (Err e) = end_refused e
 
-  -- what a read, and a write, under its condition answers
+  -- the answer to a read, and to a write, under its condition
   abbrev pub free_read_answer : Result Guard StoreError → Answer T
   free_read_answer (Ok g) = Reads g
   free_read_answer (Err e) = refuses e
@@ -84,17 +84,17 @@ module _ {T : Type 0} where
   free_write_answer (Ok g) = Writes g.guard g.value
   free_write_answer (Err e) = refuses e
 
-  -- what the release of a writer answers
+  -- the answer to a release of a writer
   abbrev pub back_answer : {U : Type 0} → Result U T → Answer T
   back_answer (Ok u) = Done
   back_answer (Err v) = Back v
 
-  -- what an end, and what a change of a reference answers
+  -- the answer to an end, and to a change of a reference
   abbrev pub end_answer : {U : Type 0} → Result U (Refused BorrowMutError) → Answer T
   end_answer (Ok u) = Done
   end_answer (Err e) = end_refused e
 
-  -- what a making of an owner, and its release, answer
+  -- the answer to a making of an owner, and to its release
   abbrev pub owner_answer : Result OwnerName StoreError → Answer T
   owner_answer (Ok o) = Owned o
   owner_answer (Err e) = refuses e

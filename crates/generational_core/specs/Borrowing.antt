@@ -1,4 +1,4 @@
--- What a box reaches, and how a borrow of it is answered.
+-- What a box reaches, and how a borrow of it fails.
 use Rattle.generational_core.specs.State.{content_at, State}
 use Rattle.std.specs.Prelude.{ℕ, ◌+◌, Bool, if◌then◌else◌, nat_eq, List, ◌∷◌, Option, None, Some}
 use Rattle.std.specs.Prelude.{is_none}
@@ -12,8 +12,8 @@ use Rattle.generational_core.specs.Cells.Content.{Here, Lent}
 use Rattle.generational_core.specs.Cells.Cell.{Value, Ref}
 use Rattle.generational_core.specs.Boxes.{name_of}
 
--- Why a borrow is refused: the value is gone (with the location at which the box was made), it is
--- being written (with the writer's location), or read (with the readers' locations in order).
+-- Why a borrow fails: the value was removed (with the location at which the box was made), it is being
+-- written (with the writer's location), or read (with the readers' locations in order).
 pub data BorrowRefusal : Type 0 where
   Dropped : (created : Location) → BorrowRefusal
   BeingWritten : (writer : Location) → BorrowRefusal
@@ -24,7 +24,7 @@ pub record Guard : Type 0 where  -- a guard: its store's number, its cell and it
   pub cell : Name
   pub ticket : ℕ
 
--- how a box is refused that was made at l: where it reaches nothing, its value is gone
+-- how a borrow of a box that was made at l fails: if it reaches nothing, its value was removed
 abbrev pub refusal_at : Option Name → Location → (Name → Option BorrowRefusal) → Option BorrowRefusal
 refusal_at None l at = Some (Dropped l)
 refusal_at (Some n) l at = at n
@@ -48,7 +48,7 @@ module _ {T : Type 0} where
   reach S b = if nat_eq b.id.store S.number
       then leads_to (map.get S.cells (name_of b)) (name_of b) else None
 
-  -- how a read of a box is refused, and how a write of it is
+  -- how a read of a box fails, and how a write of it does
   unfoldable pub refusal_to_read : State T → GenerationalPointer → Option BorrowRefusal
   refusal_to_read S b = refusal_at (reach S b) b.created_at (λ n. read_refusal (content_at S n))
 

@@ -4,8 +4,8 @@ use Rattle.generational_errors.specs.declared.error.Location.{Location}
 use Rattle.generational_core.specs.declared.borrow.Borrow.{Borrow}
 use Rattle.generational_core.specs.Names.{Name, is_name}
 
--- A value with its readers in the order in which they began, or a value that is lent to a writer.
--- A borrow is a ticket and the location handed in.
+-- A value with its readers in the order in which they began, or a value that is lent to a writer. A
+-- borrow is a ticket and the location passed in.
 pub data Content (T : Type 0) : Type 0 where
   Here : (value : T) (readers : List Borrow) → Content T
   Lent : (writer : Borrow) → Content T

@@ -14,7 +14,7 @@ use Rattle.generational_core.specs.Machine.Answer.{Done}
 use Rattle.generational_core.specs.Steps.{Meets}
 use Rattle.generational_core.specs.Slots.{slots, slots_of, last_name, retired}
 
--- the state without given names and without owners' records
+-- the state without issued names and without owners' records
 abbrev pub fresh : {T : Type 0} → ℕ → ℕ → ℕ → State T
 fresh number start next =
     record {
@@ -27,7 +27,7 @@ fresh number start next =
       start = start;
     }
 
--- a record's boxes, and how many owner values are held: none where there is no record
+-- a record's boxes, and how many owner values it has: none if there is no record
 abbrev pub names_in : Option Ownership → List Name
 names_in None = []
 names_in (Some h) = h.names
@@ -43,11 +43,11 @@ abbrev pub count_under : Owners → ℕ → ℕ
 count_under owners key = count_in (map.get owners key)
 
 module _ {T : Type 0} where
-  -- no name was given, and no owner's record stands
+  -- no name was issued, and there is no owner's record
   abbrev pub IsFresh : State T → Type 0
   IsFresh S = S ≡ fresh S.number S.start S.next
 
-  -- a name is live; a name was given, and isn't live any more
+  -- a name is live; a name was issued, and isn't live any more
   abbrev pub IsLive : State T → Name → Type 0
   IsLive S n = is_some (map.get S.cells n) ≡ true
 
@@ -62,7 +62,7 @@ module _ {T : Type 0} where
     pub targets : HasTargets cells
     pub named : (m : Name) → is_shared (map.get cells m) ≡ true → IsNamed cells m
 
-  -- a slot is made only where none is free
+  -- a slot is made only if none is free
   pub record IsBounded (S : State T) : Type 0 where
     pub few : slots S ≤ S.peak + retired S
     -- the peak is no less than what is live now
@@ -77,8 +77,8 @@ module _ {T : Type 0} where
     pub held : ownership S o ≡ Some h
     pub done : Meets S (ReleaseOwner o) Done R
 
-  -- The boxes of a list have ended, and then the Shared cells that no live Ref names any more.
-  -- Every other cell is as it was.
+  -- The boxes of a list have ended, and then the Shared cells that no live Ref names any more. Every
+  -- other cell is unchanged.
   pub record AreEnded (S : State T) (names : List Name) (R : State T) : Type 0 where
     pub boxes : (n : Name) → among names n ≡ true → map.get R.cells n ≡ None
     pub others : (n : Name) → among names n ≡ false → is_shared (map.get S.cells n) ≡ false

@@ -12,7 +12,7 @@ module _ {T : Type 0} where
   unfoldable pub sweep : NameMap (Cell T) → NameMap (Cell T)  -- without unnamed Shared cells
   sweep cells = map.retain_keys cells (λ n. not (is_shared (map.get cells n)) || is_named cells n)
 
-  -- the cells but for the Value and Ref cells of these names
+  -- the cells except for the Value and Ref cells of these names
   unfoldable pub take_away : NameMap (Cell T) → List Name → NameMap (Cell T)
   take_away cells names =
       map.retain_keys cells (λ n. is_shared (map.get cells n) || not (among names n))

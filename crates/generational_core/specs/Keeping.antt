@@ -1,4 +1,4 @@
--- When a value stays as it is: no writer has it, and no call sets it.
+-- When a value is unchanged: no writer has it, and no call sets it.
 use Rattle.generational_core.specs.Cells.{Cell, is_shared, location_of}
 use Rattle.std.specs.Prelude.{◌≡◌, true, Option, None, Some, is_some, option_map, if◌then◌else◌}
 use Rattle.std.specs.FinMap as map
@@ -21,7 +21,7 @@ module _ {T : Type 0} where
   abbrev pub boxed_at : Option (Cell T) → Option Location
   boxed_at cell = if is_shared cell then None else location_of cell
 
-  -- the box with an id, exactly where a live box of the store has it
+  -- the box with an id, exactly if a live box of the store has it
   abbrev pub box_with : State T → GenerationalBoxId → Option GenerationalPointer
   box_with S id = option_map (λ l. record { id = id; created_at = l }) (boxed_at (own_cell S id))
 

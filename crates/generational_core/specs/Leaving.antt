@@ -1,4 +1,4 @@
--- What a call leaves as it was: a box, a guard, an owner's record, and that no borrow stands.
+-- What a call leaves unchanged: a box, a guard, an owner's record, and that there is no borrow.
 use Rattle.std.specs.Prelude.{◌≡◌, ◌≢◌, Bool, true, false, List, [], None, Some}
 use Rattle.std.specs.FinMap as map
 use Rattle.generational_core.specs.declared.boxes.GenerationalPointer.{GenerationalPointer}
@@ -15,7 +15,7 @@ use Rattle.generational_core.specs.Machine.Answer.{Made, Owned, Back, BorrowRefu
 use Rattle.generational_core.specs.Seeing.{value_in, LeavesValue}
 
 module _ {T : Type 0} where
-  -- an answer refuses its call: by a borrow or an end, by the store, or by handing the value back
+  -- an answer is an error: of a borrow or a removal, of the store, or the value that comes back
   abbrev pub refuses : Answer T → Bool
   refuses (BorrowRefused t) = true
   refuses (Refused e) = true
@@ -24,8 +24,8 @@ module _ {T : Type 0} where
 
   -- ---- boxes
 
-  -- an answer gives no box of this box's name; and so it is of the answer to a call, where that is
-  -- a making
+  -- an answer gives no box of this box's name; and the same holds of the answer to a call that is a
+  -- making
   abbrev pub IsBeside : Answer T → GenerationalPointer → Type 0
   IsBeside (Made a) b = name_of a ≢ name_of b
   IsBeside _ b = Unit {0}
@@ -36,21 +36,21 @@ module _ {T : Type 0} where
   GivesOther (Refer o a) answer b = IsBeside answer b
   GivesOther _ answer b = Unit {0}
 
-  -- a call lets the content be that a box reaches, the value and the borrows, and the box as well
+  -- a call leaves the content that a box reaches, its value and its borrows, and the box as well
   abbrev pub LeavesContent : State T → Action T → GenerationalPointer → Type 0
   LeavesContent S (Read a l) b = reach S a ≢ reach S b
   LeavesContent S (ReleaseReader g) b = reach S b ≢ Some g.cell
   LeavesContent S call b = LeavesValue S call b
 
-  -- from S to R a box is left: it reaches what it reached, where the content is what it was, and it
-  -- sees what it saw
+  -- from S to R a box is unchanged: it reaches the same name, the content there is the same, and it sees
+  -- the same value
   pub record IsUnchanged (S : State T) (b : GenerationalPointer) (R : State T) : Type 0 where
     pub reached : reach R b ≡ reach S b
     pub content : (m : Name) → reach S b ≡ Some m → content_at R m ≡ content_at S m
     pub seen : value_in R b ≡ value_in S b
 
-  -- from S to R the value that a box reaches becomes another, and a ticket is used up: no borrow
-  -- stood there, and nothing else changes
+  -- from S to R the value that a box reaches becomes another, and a ticket is used up: it wasn't
+  -- borrowed, and nothing else changes
   pub record IsSet (S : State T) (b : GenerationalPointer) (v : T) (R : State T) : Type 0 where
     pub name : Name
     pub old : T
@@ -60,7 +60,7 @@ module _ {T : Type 0} where
 
   -- ---- owners
 
-  -- an answer doesn't give this owner; and so it is of the answer to a call that makes one
+  -- an answer doesn't give this owner; and the same holds of the answer to a call that makes one
   abbrev pub IsOtherOwner : Answer T → OwnerName → Type 0
   IsOtherOwner (Owned a) o = a ≢ o
   IsOtherOwner _ o = Unit {0}
@@ -86,17 +86,17 @@ module _ {T : Type 0} where
   LeavesGuard (ReleaseWriter h v) g = h ≢ g
   LeavesGuard _ g = Unit {0}
 
-  -- a call asks for no borrow
+  -- a call begins no borrow
   abbrev pub BeginsNoBorrow : Action T → Type 0
   BeginsNoBorrow (Read b l) = ⊥
   BeginsNoBorrow (Write b l) = ⊥
   BeginsNoBorrow _ = Unit {0}
 
-  -- no borrow stands in the store
+  -- the store has no borrows
   pub record HasNoBorrows (S : State T) : Type 0 where
     pub none : (n : Name) → tickets_at S.cells n ≡ []
 
-  -- no borrow stands at what would end with these names
+  -- nothing borrows what would end with these names
   abbrev pub AreFree : State T → List Name → Type 0
   AreFree S names = (b : GenerationalPointer) (m : Name) → among names (name_of b) ≡ true
       → reach S b ≡ Some m → map.get (cells_after S.cells names) m ≡ None → can_write S b ≡ true

@@ -1,4 +1,4 @@
--- What a writer's guard, and its view, end as where their value is lent.
+-- What a writer's guard, and its view, end as when their value is lent.
 use denote.Ref.{at_last}
 use Rattle.std.specs.Borrow.{Lends, Fml, RattleType, MutBor}
 use Rattle.generational_core.specs.declared.references.GenerationalRefMut.{GenerationalRefMut}

@@ -76,7 +76,7 @@ module _ {T : Type 0} where
   is_known S None = true
   is_known S (Some o) = is_some (ownership S o)
 
-  -- the state with a cell more, under a name that is given from now on
+  -- the state with another cell, under a name that is issued from now on
   abbrev pub add_cell : State T → Name → Cell T → State T
   add_cell S n cell =
       let cells = map.insert S.cells n cell in
@@ -157,7 +157,7 @@ module _ {T : Type 0} where
       fill S n (Here v (filter (λ r. not (nat_eq r.ticket t)) readers))
   remove_reader S n t _ = S
 
-  -- another value where there is no borrow; the value comes back from what is read or lent
+  -- another value if there is no borrow; the value comes back from what is read or lent
   abbrev pub set_at : State T → GenerationalPointer → T
       → Option Name → Option (Content T) → Outcome T
   set_at S b v None c = (BorrowRefused (Dropped b.created_at), S)
@@ -178,7 +178,7 @@ module _ {T : Type 0} where
       then (Done, S)
       else unless (hindrance_at S.cells left old) S (Done, record S { cells = left })
 
-  -- a's own cell is asked after b was found free
+  -- a's own cell is looked at after b was found free
   abbrev pub point : State T → GenerationalPointer → GenerationalPointer
       → Option (Cell T) → Option Name → Option (Cell T) → Outcome T
   point S a b None to target = (BorrowRefused (Dropped a.created_at), S)
@@ -186,7 +186,7 @@ module _ {T : Type 0} where
   point S a b (Some _) to target =
       (BorrowRefused (Dropped (unwrap_or (location_of target) b.created_at)), S)
 
-  -- what a call answers and leaves, but where tickets or memory run out
+  -- what a call answers and leaves, unless tickets or memory run out
   abbrev pub act : State T → Action T → NewNames → Outcome T
   act S (Make o v l) f =
       if is_known S o then make S o f.first (Value (Here v []) l) l else (Refused UnknownOwner, S)

@@ -26,7 +26,7 @@ Names = set.FinSet name_cmp
 abbrev pub NameMap : Type 0 → Type 0
 NameMap X = map.FinMap name_cmp X
 
--- the map in which what stands at a key, if anything does, is changed by f
+-- the map in which what a key has, if anything, is changed by f
 abbrev pub change_if : {K X : Type 0} {R : K → K → Ordering}
     → map.FinMap R X → K → (X → X) → Option X → map.FinMap R X
 change_if m k f None = m

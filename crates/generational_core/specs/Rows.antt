@@ -66,13 +66,13 @@ module _ {T : Type 0} where
 
 -- ---- rows that are read back
 
--- the names of a slot from the first one to this generation are given
+-- the names of a slot from the first one to this generation are issued
 abbrev pub give_up_to : ℕ → ℕ → Names → Names
 give_up_to slot zero given = given
 give_up_to slot (suc g) given =
     set.insert (give_up_to slot g given) (record { slot = slot; generation = suc g })
 
--- one borrow more at a cell
+-- another borrow at a cell
 abbrev pub read_more : Borrow → Content (Unit {0}) → Content (Unit {0})
 read_more b (Here v readers) = Here v (readers ++ b ∷ [])
 read_more b (Lent w) = Lent w
@@ -107,11 +107,11 @@ abbrev pub read_rows : Plain → List BaseRow → Plain
 read_rows P [] = P
 read_rows P (r ∷ rows) = read_rows (read_row P r) rows
 
--- the state that rows tell, of a store with this number, next ticket and peak, in which
--- generations begin at 1
+-- the state that rows determine, of a store with this number, next ticket and peak, in which generations
+-- begin at 1
 abbrev pub told_by : ℕ → ℕ → ℕ → List BaseRow → Plain
 told_by number next peak rows = read_rows (record (fresh number 1 next) { peak = peak }) rows
 
--- rows are read back as this state without its values, if its generations begin at 1
+-- rows determine this state without its values, if its generations begin at 1
 abbrev pub ReadBack : {T : Type 0} → State T → List BaseRow → Type 0
 ReadBack S rows = S.start ≡ 1 → told_by S.number S.next S.peak rows ≡ plain S

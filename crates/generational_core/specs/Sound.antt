@@ -66,7 +66,7 @@ pub record SoundState (T : Type 0) : Type 0 where
   pub sound : IsSound state
   pub bounded : IsBounded state
 
--- it is told by its state
+-- its state determines it
 pub same_sound : {T : Type 0} (s r : SoundState T) → s.state ≡ r.state → s ≡ r
 same_sound s r p = λ i. record {
   state = p i;

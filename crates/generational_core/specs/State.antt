@@ -22,14 +22,14 @@ one_more h = record h { count = h.count + 1 }
 abbrev pub one_less : Ownership → Ownership  -- and one less
 one_less h = record h { count = h.count - 1 }
 
--- a box more at the end of the list
+-- another box at the end of the list
 abbrev pub one_listed : Name → Ownership → Ownership
 one_listed n h = record h { names = h.names ++ n ∷ [] }
 
 abbrev pub Owners : Type 0  -- owners' records by their keys
 Owners = map.FinMap nat_cmp Ownership
 
--- What a store stands for. A name is live if a cell stands under it.
+-- What a store represents. A name is live if it has a cell.
 pub record State (T : Type 0) : Type 0 where
   pub number : ℕ  -- by which stores tell their boxes apart
   pub cells : NameMap (Cell T)
@@ -70,14 +70,14 @@ module _ {T : Type 0} where
 
   -- (Borrows are a part of a content, which is lent under a writer alone, in any state.)
   pub record IsSound (S : State T) : Type 0 where
-    -- live names and owners' names were given, and owners' names are names of boxes
+    -- live names and owners' names were issued, and owners' names are names of boxes
     pub given : (n : Name) → is_some (map.get S.cells n) ≡ true → IsGiven S n
     pub owned : (k : ℕ) (h : Ownership) → map.get S.owners k ≡ Some h
         → AllByRecursion (IsBoxed S) h.names
     -- each live Ref names a live Shared cell, and each live Shared cell is named by a live Ref
     pub targets : HasTargets S.cells
     pub shared : (m : Name) → is_shared (map.get S.cells m) ≡ true → is_named S.cells m ≡ true
-    -- tickets and owners' keys are below the next ticket, and no ticket stands twice
+    -- tickets and owners' keys are below the next ticket, and no two borrows have the same ticket
     pub below : (n : Name) (t : ℕ) → Stands S.cells n t → t < S.next
     pub apart : (n : Name) → IsDistinct nat_eq (tickets_at S.cells n)
     pub one_cell : (n m : Name) (t : ℕ) → Stands S.cells n t → Stands S.cells m t → n ≡ m

@@ -23,14 +23,14 @@ use Rattle.generational_core.specs.Machine.Action.{ReleaseWriter, SetValue, End,
 use Rattle.generational_core.specs.Machine.Answer.{BorrowRefused, Back}
 use Rattle.generational_core.specs.Steps.{no_names}
 
--- an owner's id, and the owner that it names
+-- an owner's id, and the owner that it refers to
 abbrev pub id_of_owner : OwnerName → OwnerId
 id_of_owner o = record { store = o.store; key = o.key }
 
 abbrev pub owner_of : OwnerId → OwnerName
 owner_of id = record { store = id.store; key = id.key }
 
--- whether a refusal, if there is one, tells of a borrow
+-- whether an error, if there is one, is a borrow's
 abbrev pub tells_of_borrow : Option BorrowRefusal → Bool
 tells_of_borrow None = false
 tells_of_borrow (Some (Dropped l)) = false
@@ -66,8 +66,7 @@ module _ {T : Type 0} where
   recorded_as (Point a b) = Some (call.PointTo a b)
   recorded_as _ = None
 
-  -- whether an answer tells of a borrow that stands in the call's way; a value that was to be set
-  -- comes back for nothing else
+  -- whether an answer is an error of a borrow; a value that was to be set comes back for no other reason
   abbrev pub is_setting : Action T → Bool
   is_setting (SetValue b v) = true
   is_setting _ = false
@@ -77,17 +76,17 @@ module _ {T : Type 0} where
   is_hindered action (Back v) = is_setting action
   is_hindered action _ = false
 
-  -- whether another value may be set where this is reached: nothing, or a value without borrows
+  -- whether another value may be set at what was reached: nothing, or a value without borrows
   abbrev pub may_set : Option Name → Option (Content T) → Bool
   may_set None c = true
   may_set (Some m) (Some (Here v [])) = true
   may_set (Some m) _ = false
 
-  -- whether the machine's answer to a call that hands in no value tells of none
+  -- whether the machine's answer to a call that passes no value isn't an error of a borrow
   abbrev pub meets_no_borrow : State T → Action T → Bool
   meets_no_borrow S action = not (is_hindered action (act S action no_names).0)
 
-  -- whether a call's answer tells of no borrow that stands in its way
+  -- whether a call's answer isn't an error of a borrow
   abbrev pub is_ready : State T → StepCall → Bool
   is_ready S (call.LeakReference b) = not (tells_of_borrow (refusal_to_read S b))
   is_ready S (call.InsertReference o b) =

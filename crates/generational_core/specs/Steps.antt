@@ -1,4 +1,4 @@
--- A step of the machine: the names that it may take, the end of tickets, and lack of memory.
+-- A step of the machine: the names that it may take, the end of tickets, and failed allocations.
 use Rattle.generational_core.specs.Borrowing.{write_refusal, reach}
 use Rattle.std.specs.Prelude.{is_some, ◌≡◌, ℕ, ◌-◌, ◌^◌, Bool, true, false, if◌then◌else◌, ◌&&◌}
 use Rattle.std.specs.Prelude.{◌⊎◌, nat_eq, nat_lt, [], Option, None, Some}
@@ -20,7 +20,7 @@ use Rattle.generational_core.specs.Slots.{Fits, free}
 abbrev pub last_ticket : ℕ  -- the last number of all, which is never given as a ticket
 last_ticket = 2 ^ 64 - 1
 
--- the refusal of a store that can't go on, which the machine doesn't know of itself
+-- the error of a store that can't go on, which the machine alone doesn't have
 abbrev pub want : StoreError → Option StoreError
 want UnknownOwner = None
 want e = Some e
@@ -30,12 +30,12 @@ no_names =
     let none : Name = record { slot = 0; generation = 0 } in record { first = none; second = none }
 
 module _ {T : Type 0} where
-  -- a name that was never given, and that fits
+  -- a name that was never issued, and that fits
   pub record IsNew (S : State T) (n : Name) : Type 0 where
     pub ungiven : set.contains S.given n ≡ false
     pub fits : Fits S n
 
-  -- the names that a making takes; a shared value's second name is new beside its first
+  -- the names that a making takes; a shared value's second name is new next to its first
   abbrev pub AreNew : State T → Action T → NewNames → Type 0
   AreNew S (Make o v l) f = IsNew S f.first
   AreNew S (MakeShared o v l) f =
@@ -43,7 +43,7 @@ module _ {T : Type 0} where
   AreNew S (Refer o b) f = IsNew S f.first
   AreNew S _ f = Unit {0}
 
-  -- names are asked for only where the answer gives a box
+  -- names are needed only if the answer has a box
   abbrev pub Takes : State T → Action T → Answer T → NewNames → Type 0
   Takes S call (Made b) f = AreNew S call f
   Takes S call _ f = Unit {0}
@@ -54,7 +54,7 @@ module _ {T : Type 0} where
   takes_ticket (Writes g v) = true
   takes_ticket _ = false
 
-  -- where the tickets are used up a call that takes one is refused, and changes nothing
+  -- if the tickets are used up, a call that takes one fails, and changes nothing
   abbrev pub limit_tickets : State T → Outcome T → Outcome T
   limit_tickets S out =
       if takes_ticket out.0 && nat_eq S.next last_ticket then (Refused NumbersExhausted, S) else out
@@ -62,8 +62,8 @@ module _ {T : Type 0} where
   abbrev pub answer_to : State T → Action T → Answer T  -- a call's answer, but for its names
   answer_to S call = (limit_tickets S (act S call no_names)).0
 
-  -- whether a call that would be answered so may lack memory: for a slot where too few are free,
-  -- for an owner's record or list, for a reader beside another, for a refusal's list of locations
+  -- whether a call with this answer may fail to allocate: a slot if too few are free, an owner's record
+  -- or list, a reader next to another, an error's list of locations
   abbrev pub needs_memory : State T → Answer T → Action T → Bool
   needs_memory S (Made b) (Make None v l) = nat_eq (free S) 0
   needs_memory S (Made b) (MakeShared None v l) = nat_lt (free S) 2
@@ -75,12 +75,12 @@ module _ {T : Type 0} where
   needs_memory S (BorrowRefused (BeingRead readers)) call = true
   needs_memory S _ call = false
 
-  -- whether a call may lack memory; of what kind its answer is doesn't depend on the names that it takes
+  -- whether a call may fail to allocate; the kind of its answer doesn't depend on the names that it takes
   unfoldable pub may_lack : State T → Action T → Bool
   may_lack S call = needs_memory S (answer_to S call) call
 
-  -- A call meets the machine if, for some new names, it answers and leaves what the machine does;
-  -- or if memory lacked where it may, and then nothing changes.
+  -- A call meets the machine if, for some new names, it answers and leaves what the machine does; or if
+  -- an allocation fails that may, and then nothing changes.
   abbrev pub Meets : State T → Action T → Answer T → State T → Type 0
   Meets S call answer R =
       ((new : NewNames) × Takes S call answer new × ((answer, R) ≡ limit_tickets S (act S call new)))

@@ -1,12 +1,12 @@
-//! A borrow that stands.
+//! An active borrow.
 
 use generational_errors::Location;
 
-/// A borrow that stands: its ticket, and the location where it was asked for.
+/// An active borrow: its ticket, and the location that the caller passed when it began.
 #[derive(Clone, Copy, Debug, PartialEq, Eq)]
 pub struct Borrow {
     /// The ticket.
     pub ticket: u64,
-    /// Where the borrow was asked for.
+    /// The location that the caller passed when the borrow began.
     pub location: Location,
 }

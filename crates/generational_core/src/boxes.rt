@@ -16,8 +16,8 @@ use std::marker::PhantomData;
 
 /// The name of a cell: its store's number, its slot, and the slot's generation when it was made.
 ///
-/// Two ids are equal if all three are, and ordered by the store, then the slot, then the generation.
-/// A name is never given twice, so an id names one cell for good, also when the cell has ended.
+/// Two ids are equal if all three are, and ordered by the store, then the slot, then the generation. A
+/// name is never issued twice, so an id refers to the same cell forever, even after the cell was removed.
 #[derive(Clone, Copy, PartialEq, Eq, PartialOrd, Ord, Hash)]
 #[non_exhaustive]
 pub struct GenerationalBoxId {
@@ -78,7 +78,7 @@ pub fn pointer_at(
     }
 }
 
-/// Equal if the ids are, wherever the two were made.
+/// Equal if the ids are, whatever the locations.
 impl PartialEq for GenerationalPointer {
     ghost use Rattle.std.proofs.Common.{rules};
     ghost use Rattle.std.specs.Cmp.Rules.{comparing};
@@ -124,16 +124,16 @@ impl fmt::Debug for GenerationalPointer {
     }
 }
 
-/// A box: a name that is copied freely, for any element type.
+/// A box: a name that is `Copy` for every element type.
 ///
 /// A box owns nothing and keeps nothing alive: a shared value is kept alive by the cells of its
-/// references, and not by the boxes that name them. It is Send where `T` is.
+/// references, and not by the boxes that refer to them. It is Send if `T` is.
 pub struct GenerationalBox<T> {
     pub(crate) raw: GenerationalPointer,
     marker: PhantomData<T>,
 }
 
-/// Never refused, and takes no memory.
+/// Never fails, and doesn't allocate.
 impl<T> Clone for GenerationalBox<T> {
     ghost is_clone = { λ a b. b ≡ a };
 
@@ -146,7 +146,7 @@ impl<T> Clone for GenerationalBox<T> {
 
 impl<T> Copy for GenerationalBox<T> {}
 
-/// Equal if the ids are, as `ptr_eq`.
+/// Equal if the ids are, like `ptr_eq`.
 impl<T> PartialEq for GenerationalBox<T> {
     ghost use Rattle.std.proofs.Common.{rules};
     ghost use Rattle.std.specs.Cmp.Rules.{comparing};
@@ -198,7 +198,7 @@ impl<T> GenerationalBox<T> {
     ghost use Rattle.generational_core.specs.Answers.{pointer_of};
     ghost use Rattle.generational_core.specs.Boxes.{has_same_id};
 
-    /// The box without its element type, as a recorded call names it.
+    /// The box without its element type, as recorded calls store it.
     ///
     /// ```rust
     /// store.target(one.pointer()).is_some()
@@ -209,7 +209,7 @@ impl<T> GenerationalBox<T> {
         self.raw
     }
 
-    /// The box's id, which outlives its cell. Looks at no store, and takes no memory.
+    /// The box's id, which outlives its cell. Accesses no store, and doesn't allocate.
     ///
     /// ```rust
     /// let have_one_id = one.id() == other.id();
@@ -220,9 +220,10 @@ impl<T> GenerationalBox<T> {
         self.raw.id
     }
 
-    /// The number of the box's slot in its store. Looks at no store, and takes no memory.
+    /// The number of the box's slot in its store. Accesses no store, and doesn't allocate.
     ///
-    /// Other boxes have had this slot, and others will: only the whole id tells boxes apart.
+    /// Slots are reused: earlier and later boxes may have this slot, so only the whole id identifies a
+    /// box.
     ///
     /// ```rust
     /// is_same == have_one_id && one.raw_ptr() != other.raw_ptr()
@@ -233,8 +234,8 @@ impl<T> GenerationalBox<T> {
         self.raw.id.slot
     }
 
-    /// Whether both boxes have one id, wherever the two were made. Looks at no store, so ended
-    /// boxes are told apart as well. Takes no memory.
+    /// Whether both boxes have the same id, whatever the locations. Accesses no store, so it also
+    /// compares boxes whose cells were removed. Doesn't allocate.
     ///
     /// ```rust
     /// let is_same = one.ptr_eq(&other);
@@ -245,8 +246,8 @@ impl<T> GenerationalBox<T> {
         self.raw == other.raw
     }
 
-    /// The location at which the box's cell was made; a reference takes that of the shared value
-    /// from which it was made. Looks at no store, and takes no memory.
+    /// The location at which the box's cell was made; a reference has that of its shared value. Accesses
+    /// no store, and doesn't allocate.
     ///
     /// ```rust
     /// Some(tell(value, second) && value.created_at() == first.created_at())
@@ -275,11 +276,12 @@ impl<T> GenerationalBox<T> {
     ghost use Rattle.generational_core.specs.Answers.{reference_box_answer, end_answer};
     ghost use Rattle.generational_core.specs.Answers.{free_read_answer, free_write_answer};
 
-    /// Makes a box of a value, which lives until it is ended by hand. Its id was never given
-    /// before.
+    /// Stores a value, and returns its box. The value lives until it is removed manually. The box's id
+    /// was never issued before. If a slot is free, the call doesn't allocate.
     ///
-    /// Refused by `OutOfMemory`, only where no slot is free: the value comes back, and the store
-    /// stays as it was. With a slot free the call takes no memory.
+    /// # Errors
+    ///
+    /// `OutOfMemory`, only if no slot is free: the value comes back, and the store is unchanged.
     ///
     /// ```rust
     /// let value = GenerationalBox::leak(store, 7, made()).ok()?;
@@ -298,15 +300,17 @@ impl<T> GenerationalBox<T> {
         Ok(box_at(raw))
     }
 
-    /// Makes a shared value, and a first reference to it. The reference's box is given, and its id
-    /// was never given before.
+    /// Stores a shared value with a first reference to it, and returns the reference's box. Its id was
+    /// never issued before.
     ///
-    /// The value lives exactly as long as there is a live reference to it, of which the given box
-    /// is the first. Each reference lives until it is ended by hand or by an owner.
+    /// The value lives exactly as long as there is a live reference to it; the returned box is the first
+    /// one. Each reference lives until it is removed manually or by an owner. If two slots are free, the
+    /// call doesn't allocate. Amortised O(1).
     ///
-    /// Refused by `OutOfMemory`, only where fewer than two slots are free: the value comes back,
-    /// and the store stays as it was. With two slots free the call takes no memory. It is O(1), but
-    /// for finding room.
+    /// # Errors
+    ///
+    /// `OutOfMemory`, only if fewer than two slots are free: the value comes back, and the store is
+    /// unchanged.
     ///
     /// Upstream's `leak_rc`.
     ///
@@ -328,17 +332,22 @@ impl<T> GenerationalBox<T> {
         Ok(box_at(raw))
     }
 
-    /// Makes one reference more to the shared value that the box reaches. It lives until it is
-    /// ended by hand, and keeps the value alive. Its id was never given before.
+    /// Adds a reference to the shared value that the box refers to, and returns its box. It lives until
+    /// it is removed manually, and keeps the value alive. Its id was never issued before. If a slot is
+    /// free, the call doesn't allocate. Amortised O(1).
     ///
-    /// The reference names the shared value itself and takes that value's location. So chains of
-    /// references are flat, and the new one lives on when the one that it came from ends.
+    /// The reference refers to the shared value itself, and has that value's location. So chains of
+    /// references are flat, and the new one stays live when the one that it came from is removed.
     ///
-    /// Refused, in this order: `Dropped` with the box's own creation location, where its cell has
-    /// ended or is of another store; `AlreadyBorrowedMut` with the writer's location; `Dropped`
-    /// with the box's own creation location, where its value isn't shared; `OutOfMemory`, only
-    /// where no slot is free. A refused call leaves the store as it was. With a slot free the call
-    /// takes no memory. It is O(1), but for finding room.
+    /// # Errors
+    ///
+    /// - `Dropped` with the box's own creation location if its cell was removed or belongs to another
+    ///   store.
+    /// - `AlreadyBorrowedMut` with the writer's location if the value is being written.
+    /// - `Dropped` with the box's own creation location if its value isn't shared.
+    /// - `OutOfMemory` only if no slot is free.
+    ///
+    /// A call that fails leaves the store unchanged.
     ///
     /// Upstream's `leak_reference`.
     ///
@@ -356,10 +365,10 @@ impl<T> GenerationalBox<T> {
         Ok(box_at(raw))
     }
 
-    /// The box of an id that was kept, with the location where it was made: exactly where a live box of
-    /// this store has the id. None where that has ended, or is of another store; no other box ever gets
-    /// its id. A shared value has no box of its own, but its references have. Takes no memory, and is
-    /// O(1).
+    /// The box of an id that was stored, with the location where the box was made, exactly if a live box
+    /// of this store has the id. None if its cell was removed, or belongs to another store; no other box
+    /// ever gets the id. A shared value has no box itself, but its references have. Doesn't allocate, and
+    /// is O(1).
     ///
     /// Upstream has no such call.
     ///
@@ -373,28 +382,27 @@ impl<T> GenerationalBox<T> {
         Some(box_at(raw))
     }
 
-    /// Lets the box, which is a reference, lead to the shared value that another box reaches. The
-    /// value that it led to before ends if no live reference to it is left. The box keeps its id
-    /// and its location.
+    /// Points the box, which is a reference, to the shared value that another box refers to. The value
+    /// that it referred to before is dropped if this was the last live reference to it. The box keeps its
+    /// id and its location.
     ///
-    /// Answered in this order:
-    /// 1. Ok, where both boxes have one id, even of a cell that has ended: nothing changes.
-    /// 2. `Dropped` with the other box's own creation location, where its cell has ended or is of
-    ///    another store; `AlreadyBorrowedMut` with the writer's location, where its value is
-    ///    written.
-    /// 3. `Dropped` with this box's own creation location, where its cell has ended or is of
-    ///    another store.
-    /// 4. `Dropped` with the location at which the other box's value was made, where this box is no
+    /// The result, in the order in which it is found:
+    /// 1. Ok if both boxes have the same id, even if its cell was removed: nothing changes.
+    /// 2. `Dropped` with the other box's own creation location if its cell was removed or belongs to
+    ///    another store; `AlreadyBorrowedMut` with the writer's location if its value is being written.
+    /// 3. `Dropped` with this box's own creation location if its cell was removed or belongs to another
+    ///    store.
+    /// 4. `Dropped` with the location at which the other box's value was made, if this box is no
     ///    reference or that value isn't shared.
-    /// 5. Ok, where this box leads to that value already: nothing changes.
+    /// 5. Ok if this box refers to that value already: nothing changes.
     /// 6. `AlreadyBorrowedMut` with the writer's location, or `AlreadyBorrowed` with the readers'
-    ///    locations in the order in which they began, where the value that this box led to would
-    ///    end and is borrowed; `OutOfMemory` in place of `AlreadyBorrowed` if that list finds no
-    ///    memory.
-    /// 7. Ok: this box leads to the other value from then on.
+    ///    locations in the order in which they began, if the value that this box referred to would be
+    ///    dropped and is borrowed; `OutOfMemory` instead of `AlreadyBorrowed` if that list can't be
+    ///    allocated.
+    /// 7. Ok: this box refers to the other value from then on.
     ///
-    /// A refused call leaves the store as it was. Nothing else takes memory. The call is O(1), but
-    /// for the list of locations.
+    /// A call that fails leaves the store unchanged. Nothing else allocates. The call is O(1) except for
+    /// the list of locations.
     ///
     /// Upstream's `point_to`.
     ///
@@ -414,13 +422,18 @@ impl<T> GenerationalBox<T> {
         store.change_reference(self.raw, other.raw)
     }
 
-    /// Begins a read of the value, asked for at a location. The guard must be released; the value
-    /// is seen through its `deref`.
+    /// Begins a read of the value, for a caller at a location. The guard must be released; its `deref`
+    /// gives access to the value.
     ///
-    /// Refused, in this order: `Dropped` with the box's own creation location, where its cell has
-    /// ended or is of another store; `AlreadyBorrowedMut` with the writer's location;
-    /// `NumbersExhausted`, where no ticket is left; `OutOfMemory`, only for a reader beside
-    /// another. A refused call leaves the store as it was.
+    /// # Errors
+    ///
+    /// - `Dropped` with the box's own creation location if its cell was removed or belongs to another
+    ///   store.
+    /// - `AlreadyBorrowedMut` with the writer's location if the value is being written.
+    /// - `NumbersExhausted` if the tickets are used up.
+    /// - `OutOfMemory` only if the value has another reader.
+    ///
+    /// A call that fails leaves the store unchanged.
     ///
     /// ```rust
     /// let guard = made.try_read(&mut store, here).ok()?;
@@ -439,14 +452,19 @@ impl<T> GenerationalBox<T> {
         store.try_read(self.raw, location)
     }
 
-    /// Begins a write of the value, asked for at a location. The guard owns the value until it is
+    /// Begins a write of the value, for a caller at a location. The guard owns the value until it is
     /// released.
     ///
-    /// Refused, in this order: `Dropped` with the box's own creation location, where its cell has
-    /// ended or is of another store; `AlreadyBorrowedMut` with the writer's location;
-    /// `AlreadyBorrowed` with the readers' locations in the order in which they began, in whose
-    /// place `OutOfMemory` is answered if that list finds no memory; `NumbersExhausted`, where no
-    /// ticket is left. A refused call leaves the store as it was. Nothing else takes memory.
+    /// # Errors
+    ///
+    /// - `Dropped` with the box's own creation location if its cell was removed or belongs to another
+    ///   store.
+    /// - `AlreadyBorrowedMut` with the writer's location if the value is being written.
+    /// - `AlreadyBorrowed` with the readers' locations, in the order in which they began, if the value is
+    ///   being read; or `OutOfMemory` instead if that list can't be allocated.
+    /// - `NumbersExhausted` if the tickets are used up.
+    ///
+    /// A call that fails leaves the store unchanged. Nothing else allocates.
     ///
     /// ```rust
     /// let mut writer = kept.try_write(store, line(34))?;
@@ -465,9 +483,9 @@ impl<T> GenerationalBox<T> {
         store.try_write(self.raw, location)
     }
 
-    /// The value, looked at in passing: without a guard, a ticket or a location. The store is lent
-    /// meanwhile. None where the box's cell has ended or is of another store, or a writer has the
-    /// value. Takes no memory, and is O(1).
+    /// Borrows the value without a guard, a ticket or a location. The store is borrowed meanwhile. None
+    /// if the box's cell was removed or belongs to another store, or the value is being written. Doesn't
+    /// allocate, and is O(1).
     ///
     /// ```rust
     /// let shown = kept.peek(&store).copied();
@@ -479,8 +497,8 @@ impl<T> GenerationalBox<T> {
         store.peek(self.raw)
     }
 
-    /// Whether the value is there, also while a writer has it: false where the box's cell has ended
-    /// or is of another store. Takes no memory, and is O(1).
+    /// Whether the value is live, even while it is being written: false if the box's cell was removed or
+    /// belongs to another store. Doesn't allocate, and is O(1).
     ///
     /// ```rust
     /// if kept.is_live(store) && kept.can_write(store) {
@@ -494,9 +512,8 @@ impl<T> GenerationalBox<T> {
         store.is_live(self.raw)
     }
 
-    /// Whether a read of the value is free: false where the box's cell has ended or is of another
-    /// store, or a writer stands at the value. Other readers don't matter. Takes no memory, and is
-    /// O(1).
+    /// Whether the value may be read: false if the box's cell was removed or belongs to another store, or
+    /// the value is being written. Other readers don't matter. Doesn't allocate, and is O(1).
     ///
     /// ```rust
     /// if !kept.can_read(store) {
@@ -511,8 +528,8 @@ impl<T> GenerationalBox<T> {
         store.can_read(self.raw)
     }
 
-    /// Whether a write of the value is free: false where the box's cell has ended or is of another
-    /// store, or any borrow stands at the value. Takes no memory, and is O(1).
+    /// Whether the value may be written: false if the box's cell was removed or belongs to another store,
+    /// or the value is borrowed. Doesn't allocate, and is O(1).
     ///
     /// ```rust
     /// if !target.can_write(store) {
@@ -527,14 +544,17 @@ impl<T> GenerationalBox<T> {
         store.can_write(self.raw)
     }
 
-    /// Begins a read of a value that may be read (`can_read` is the test), asked for at a location.
-    /// The guard must be released; the value is seen through its `deref`.
+    /// Begins a read of a value that may be read (see `can_read`), for a caller at a location. The guard
+    /// must be released; its `deref` gives access to the value. Amortised O(1).
     ///
-    /// Refused, in this order: `NumbersExhausted`, where no ticket is left; `OutOfMemory`, only for
-    /// a reader beside another. A refused call leaves the store as it was. It is O(1), but for
-    /// finding room.
+    /// # Errors
     ///
-    /// Upstream's `read`, which panics where the value may not be read.
+    /// - `NumbersExhausted` if the tickets are used up.
+    /// - `OutOfMemory` only if the value has another reader.
+    ///
+    /// A call that fails leaves the store unchanged.
+    ///
+    /// Upstream's `read`, which panics if the value may not be read.
     ///
     /// ```rust
     /// let guard = kept.read(store, read())?;
@@ -558,13 +578,14 @@ impl<T> GenerationalBox<T> {
         }
     }
 
-    /// Begins a write of a value that may be written (`can_write` is the test), asked for at a
-    /// location. The guard owns the value until it is released.
+    /// Begins a write of a value that may be written (see `can_write`), for a caller at a location. The
+    /// guard owns the value until it is released. Doesn't allocate, and is O(1).
     ///
-    /// Refused by `NumbersExhausted` alone, where no ticket is left; the store stays as it was
-    /// then. Takes no memory, and is O(1).
+    /// # Errors
     ///
-    /// Upstream's `write`, which panics where the value may not be written.
+    /// `NumbersExhausted`, only if the tickets are used up: the store is unchanged.
+    ///
+    /// Upstream's `write`, which panics if the value may not be written.
     ///
     /// ```rust
     /// let mut guard = kept.write(store, written())?;
@@ -589,11 +610,11 @@ impl<T> GenerationalBox<T> {
         }
     }
 
-    /// Sets a value that may be written (`can_write` is the test), and lets the old one go. Every
-    /// box that reaches the value reaches the new one from then on. No ticket is used up. Never
-    /// refused; takes no memory, and is O(1), but for letting the old value go.
+    /// Sets a value that may be written (see `can_write`), and drops the old one. Every box that refers
+    /// to the value refers to the new one from then on. No ticket is used. Never fails; doesn't allocate,
+    /// and is O(1) except for dropping the old value.
     ///
-    /// Upstream's `set`, which panics where the value may not be written.
+    /// Upstream's `set`, which panics if the value may not be written.
     ///
     /// ```rust
     /// if !target.can_write(store) {
@@ -612,15 +633,15 @@ impl<T> GenerationalBox<T> {
         store.replace_value(self.raw, value);
     }
 
-    /// Changes the value in its place, by a closure that is called once on it, and answers what that
-    /// answers. Every box that reaches the value sees from then on what the closure left, and nothing
-    /// else changes. No ticket is used up, no location is kept, and the value isn't moved.
+    /// Calls a closure once on the value, mutably, and returns the closure's result. Every box that
+    /// refers to the value refers to the changed value from then on, and nothing else changes. No ticket
+    /// is used, no location is stored, and the value isn't moved.
     ///
-    /// None where the box's cell has ended or is of another store, or any borrow stands at the value:
-    /// the closure isn't called, and the store stays as it was. Takes no memory of its own, and is
-    /// O(1), but for the closure.
+    /// None if the box's cell was removed or belongs to another store, or the value is borrowed: the
+    /// closure isn't called, and the store is unchanged. Doesn't allocate itself, and is O(1) except for
+    /// the closure.
     ///
-    /// Upstream has no such call: there a write's guard is the way to it.
+    /// Upstream has no such call: there you take a write's guard.
     ///
     /// ```rust
     /// counter.with_mut(store, |count: &mut u64| {
@@ -648,14 +669,16 @@ impl<T> GenerationalBox<T> {
         Some(store.change_value(self.raw, f))
     }
 
-    /// Ends the box's cell, and the value with it: every box of this id is `Dropped` from then on,
-    /// and no box ever has the id again. A shared value ends only with its last reference. A box
-    /// whose cell has ended or is of another store is Ok and changes nothing.
+    /// Removes the box's cell, and drops the value. Reads, writes and new references of a box of this id
+    /// fail with `Dropped` from then on, and no box ever has the id again. A shared value is dropped only
+    /// with its last reference. For a box whose cell was removed or belongs to another store, the call
+    /// returns Ok and changes nothing.
     ///
-    /// Refused, and nothing ends, where the value would end and is borrowed: `AlreadyBorrowedMut`
-    /// with the writer's location, or `AlreadyBorrowed` with the readers' locations in the order in
-    /// which they began, in whose place `OutOfMemory` is answered if that list finds no memory.
-    /// Nothing else takes memory.
+    /// # Errors
+    ///
+    /// If the value would be dropped and is borrowed: `AlreadyBorrowedMut` with the writer's location; or
+    /// `AlreadyBorrowed` with the readers' locations, in the order in which they began, or `OutOfMemory`
+    /// instead if that list can't be allocated. The store is unchanged then. Nothing else allocates.
     ///
     /// ```rust
     /// made.manually_drop(&mut store).ok()?;
@@ -668,14 +691,14 @@ impl<T> GenerationalBox<T> {
         store.recycle(self.raw)
     }
 
-    /// Ends the box and hands its value back, exactly where the value isn't shared and nobody borrows
-    /// it.
+    /// Removes the box's cell and returns its value, exactly if the value isn't shared and isn't
+    /// borrowed.
     ///
-    /// `None` elsewhere, and the store stays as it was: where the box's cell has ended or is of another
-    /// store, where any borrow stands at the value, and for a reference, also the last one to its shared
-    /// value: `manually_drop` ends that. Takes no memory, and is O(1).
+    /// `None` otherwise, and the store is unchanged: if the box's cell was removed or belongs to another
+    /// store, if the value is borrowed, and for a reference, even the last one to its shared value:
+    /// `manually_drop` removes that. Doesn't allocate, and is O(1).
     ///
-    /// Upstream has no such call: there a value that ends is dropped.
+    /// Upstream has no such call: there a value that is removed is always dropped.
     ///
     /// ```rust
     /// let name: String = made.take(&mut store)?;
@@ -691,7 +714,7 @@ impl<T> GenerationalBox<T> {
     }
 }
 
-/// The box of a pointer. It makes no cell: as every box, it reaches the cell that its name has.
+/// The box of a pointer. It makes no cell: like every box, it refers to the cell of its name.
 #[inline(always)]
 pub fn box_at<T>(raw: GenerationalPointer) -> GenerationalBox<T>
     ensures { pointer_of result ≡ raw }

@@ -1,11 +1,10 @@
 //! What every storage of generational boxes has in common: boxes, guards and owners, and the traits
 //! of storages.
 //!
-//! Its definitions, in `specs/`, are those of the abstract machine that `docs/machine.md` tells of
-//! at the repository's root. The clauses of [`AnyStorage`] and [`Storage`] say that each call is a
-//! step of that machine; what holds of all steps is said in the crate `generational_sessions`. Who
-//! uses boxes takes the crate `generational_box`, which exports all of this but [`parts`], and has
-//! a store.
+//! Its definitions, in `specs/`, are those of the abstract machine that `docs/machine.md` describes. The
+//! clauses of [`AnyStorage`] and [`Storage`] say that each call is a step of that machine; the crate
+//! `generational_sessions` states what holds of all steps. Users of boxes import the crate
+//! `generational_box`, which exports all of this except [`parts`], and provides the stores.
 #![tactic(auto)]
 
 mod borrow;

@@ -9,8 +9,7 @@ use generational_errors::{BorrowMutError, BorrowResult, Location, Refusal, Refus
 use std::fmt;
 use std::marker::Model;
 
-/// The name of an owner's record: its store's number, and its key, which is never given twice in a
-/// store.
+/// The name of an owner's record: its store's number, and its key, which a store never issues twice.
 #[derive(Clone, Copy, Debug, PartialEq, Eq, PartialOrd, Ord, Hash)]
 #[non_exhaustive]
 pub struct OwnerId {
@@ -20,14 +19,14 @@ pub struct OwnerId {
     pub key: u64,
 }
 
-/// An owner of boxes. Contracts see it as its store's number and its key.
+/// An owner of boxes. Contracts model it as its store's number and its key.
 ///
-/// It names a record in its store and holds no reference. It has no `Drop`: `release` or `leak`
-/// must spend it.
+/// It refers to a record in its store and holds no reference. It has no `Drop`: `release` or `leak` must
+/// consume it.
 pub struct Owner {
     store: u64,
     key: u64,
-    // where the store looks for the record first: a hint, which contracts leave out
+    // the index at which the store looks for the record first: a hint that contracts leave out
     place: usize,
 }
 
@@ -56,7 +55,7 @@ impl Owner {
     ghost use Rattle.generational_core.specs.Answers.{pointer_of, reference_box_answer};
     ghost use Rattle.generational_core.specs.StepCalls.{id_of_owner};
 
-    /// The id of the owner's record. Takes no memory.
+    /// The id of the owner's record. Doesn't allocate.
     ///
     /// ```rust
     /// let have_one_record = owner.id() == other.id();
@@ -70,12 +69,15 @@ impl Owner {
         }
     }
 
-    /// Makes a box of a value, which ends when the last owner value of this record is released.
-    /// Its id was never given before, and it stands at the end of the record's list.
+    /// Stores a value, and returns its box. The value is removed when the last owner value of this record
+    /// is released. The box's id was never issued before, and is added at the end of the record's list.
     ///
-    /// Refused, in this order: `UnknownOwner`, where the store has no record of the owner;
-    /// `OutOfMemory`, where room for a slot or in the list was refused. The value comes back then,
-    /// and the store stays as it was.
+    /// # Errors
+    ///
+    /// - `UnknownOwner` if the store has no record of the owner.
+    /// - `OutOfMemory` if room for a slot or in the list can't be allocated.
+    ///
+    /// The value comes back then, and the store is unchanged.
     ///
     /// Upstream's `insert_with_caller`: its `insert` takes the caller's location.
     ///
@@ -100,16 +102,19 @@ impl Owner {
         Ok(box_at(raw))
     }
 
-    /// Makes a shared value, and a first reference to it, whose box is given. The reference ends
-    /// when the last owner value of this record is released. Its id was never given before, and it
-    /// stands at the end of the record's list.
+    /// Stores a shared value with a first reference to it, and returns the reference's box. The reference
+    /// is removed when the last owner value of this record is released. Its id was never issued before,
+    /// and is added at the end of the record's list. Amortised O(1).
     ///
-    /// The value lives exactly as long as there is a live reference to it, of which the given box
-    /// is the first. So it may outlive the owner.
+    /// The value lives exactly as long as there is a live reference to it; the returned box is the first
+    /// one. So it may outlive the owner.
     ///
-    /// Refused, in this order: `UnknownOwner`, where the store has no record of the owner;
-    /// `OutOfMemory`, where room for two slots or in the list was refused. The value comes back
-    /// then, and the store stays as it was. The call is O(1), but for finding room.
+    /// # Errors
+    ///
+    /// - `UnknownOwner` if the store has no record of the owner.
+    /// - `OutOfMemory` if room for two slots or in the list can't be allocated.
+    ///
+    /// The value comes back then, and the store is unchanged.
     ///
     /// Upstream's `insert_rc_with_caller`: its `insert_rc` takes the caller's location.
     ///
@@ -132,19 +137,23 @@ impl Owner {
         Ok(box_at(raw))
     }
 
-    /// Makes one reference more to the shared value that a box reaches. It ends when the last owner
-    /// value of this record is released, and keeps the value alive until then. Its id was never
-    /// given before, and it stands at the end of the record's list.
+    /// Adds a reference to the shared value that a box refers to, and returns its box. It is removed when
+    /// the last owner value of this record is released, and keeps the value alive until then. Its id was
+    /// never issued before, and is added at the end of the record's list. Amortised O(1).
     ///
-    /// The reference names the shared value itself and takes that value's location. So chains of
-    /// references are flat, and the new one lives on when the one that it came from ends.
+    /// The reference refers to the shared value itself, and has that value's location. So chains of
+    /// references are flat, and the new one stays live when the one that it came from is removed.
     ///
-    /// Refused, in this order: `UnknownOwner`, where the store has no record of the owner;
-    /// `Dropped` with the box's own creation location, where its cell has ended or is of another
-    /// store; `AlreadyBorrowedMut` with the writer's location; `Dropped` with the box's own
-    /// creation location, where its value isn't shared; `OutOfMemory`, where room for a slot or in
-    /// the list was refused. A refused call leaves the store as it was. The call is O(1), but for
-    /// finding room.
+    /// # Errors
+    ///
+    /// - `UnknownOwner` if the store has no record of the owner.
+    /// - `Dropped` with the box's own creation location if its cell was removed or belongs to another
+    ///   store.
+    /// - `AlreadyBorrowedMut` with the writer's location if the value is being written.
+    /// - `Dropped` with the box's own creation location if its value isn't shared.
+    /// - `OutOfMemory` if room for a slot or in the list can't be allocated.
+    ///
+    /// A call that fails leaves the store unchanged.
     ///
     /// Upstream's `insert_reference`.
     ///
@@ -164,10 +173,13 @@ impl Owner {
         Ok(box_at(raw))
     }
 
-    /// Another owner value of the same record: its boxes live until both are released.
+    /// Returns another owner value of the same record: its boxes live until both are released. Doesn't
+    /// allocate.
     ///
-    /// Refused, in this order: `UnknownOwner`, where the store has no record of the owner;
-    /// `NumbersExhausted`, where no ticket is left. Takes no memory.
+    /// # Errors
+    ///
+    /// - `UnknownOwner` if the store has no record of the owner.
+    /// - `NumbersExhausted` if the tickets are used up.
     ///
     /// Upstream's `Clone`.
     ///
@@ -184,16 +196,19 @@ impl Owner {
         store.clone_owner(self)
     }
 
-    /// Spends the owner value. With the last one of its record all live boxes of the list end, and
-    /// with them each shared value of which no reference is left, or nothing does.
+    /// Consumes the owner value. The last one of its record removes all live boxes of the list, and each
+    /// shared value without other references; or the call fails and removes nothing.
     ///
-    /// Refused, in this order: `UnknownOwner`, where the store has no record of the owner; the
-    /// answer of a write at the first box of the list, in order of insertion, that reaches a value
-    /// which would end and is borrowed: `AlreadyBorrowedMut`, or `AlreadyBorrowed`, in whose place
-    /// `OutOfMemory` is answered if its list finds no memory. The owner comes back then, and the
-    /// store stays as it was.
+    /// # Errors
     ///
-    /// Upstream's owners end their boxes by their Drop.
+    /// - `UnknownOwner` if the store has no record of the owner.
+    /// - The error of a write of the first box of the list, in order of insertion, that refers to a value
+    ///   which would be dropped and is borrowed: `AlreadyBorrowedMut`; or `AlreadyBorrowed`, or
+    ///   `OutOfMemory` instead if its list of locations can't be allocated.
+    ///
+    /// The owner comes back then, and the store is unchanged.
+    ///
+    /// Upstream's owners remove their boxes in their Drop.
     ///
     /// ```rust
     /// match other.release(store) {
@@ -215,8 +230,8 @@ impl Owner {
         store.release_owner(self)
     }
 
-    /// Spends the owner value and leaves its record as it is: the record's boxes never end by an
-    /// owner from then on.
+    /// Consumes the owner value and leaves its record unchanged: no owner ever removes the record's boxes
+    /// from then on.
     ///
     /// ```rust
     /// let Ok(other) = owner.clone(store) else {
@@ -248,7 +263,7 @@ pub fn number_of(owner: &Owner) -> u64
     owner.store
 }
 
-/// The place that the owner's maker gave as a hint.
+/// The index that the owner's maker passed as a hint.
 pub fn place_of(owner: &Owner) -> usize {
     owner.place
 }

@@ -1,5 +1,5 @@
-//! What a storage makes and takes apart: for who implements one. Who uses boxes needs none of it,
-//! and `generational_box` doesn't export it.
+//! Making and destructuring boxes, owners and guards, for implementers of a storage. Users of boxes don't
+//! need it, and `generational_box` doesn't export it.
 
 pub use crate::borrow::Borrow;
 pub use crate::boxes::{box_at, id_at, pointer_at};

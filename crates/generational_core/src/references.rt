@@ -12,10 +12,10 @@ use std::marker::{Model, PhantomData};
 use std::ops::{Deref, DerefMut};
 use std::{fmt, mem};
 
-/// A reader's guard. Contracts see it as its store's number, its cell's name and its ticket.
+/// A reader's guard. Contracts model it as its store's number, its cell's name and its ticket.
 ///
-/// It names a borrow and holds no reference, so the store may be used while it stands. It has no
-/// `Drop`: `release` must spend it.
+/// It refers to a borrow and holds no reference, so the store may be used while the borrow is active. It
+/// has no `Drop`: `release` must consume it.
 pub struct GenerationalRef<T> {
     id: GenerationalBoxId,
     ticket: u64,
@@ -37,7 +37,7 @@ impl<T> GenerationalRef<T> {
     ghost use Rattle.generational_core.specs.Machine.Answer.{Flag};
     ghost use Rattle.generational_core.specs.Steps.{Meets};
 
-    /// The number of the borrow, by which a recorded release names it.
+    /// The number of the borrow, by which a recorded release identifies it.
     #[inline(always)]
     pub fn ticket(&self) -> u64
         ensures { result ≡ self.now.ticket }
@@ -45,8 +45,8 @@ impl<T> GenerationalRef<T> {
         self.ticket
     }
 
-    /// A view of the value, exactly where the store knows the guard: where the store's number is
-    /// the guard's, and a reader with its ticket stands at its cell. Takes no memory.
+    /// A view of the value, exactly if the store knows the guard: if the store's number is the guard's,
+    /// and its cell has a reader with its ticket. Doesn't allocate.
     ///
     /// ```rust
     /// let length = guard.deref(&store).map(|view| view.len());
@@ -59,10 +59,10 @@ impl<T> GenerationalRef<T> {
         Some(Ref { value })
     }
 
-    /// Ends the read. The answer is whether the store knew the guard; where it didn't, the guard
-    /// is spent and the store stays as it was. Takes no memory.
+    /// Ends the read. Returns whether the store knew the guard; if it didn't, the guard is consumed and
+    /// the store is unchanged. Doesn't allocate.
     ///
-    /// Upstream's guards end by their Drop.
+    /// Upstream's guards end the borrow in their Drop.
     ///
     /// ```rust
     /// guard.release(&mut store);
@@ -105,7 +105,7 @@ pub fn id_read<T>(guard: &GenerationalRef<T>) -> GenerationalBoxId
     guard.id
 }
 
-/// The cell and the ticket of a reader's guard, which is spent.
+/// The cell and the ticket of a reader's guard, which is consumed.
 #[inline(always)]
 pub fn into_reader<T>(guard: GenerationalRef<T>) -> (GenerationalBoxId, u64)
     ensures { guard ≡ record
@@ -129,7 +129,7 @@ pub fn writer_at<T>(id: GenerationalBoxId, ticket: u64, value: T) -> Generationa
     GenerationalRefMut { id, ticket, value }
 }
 
-/// The cell, the ticket and the value of a writer's guard, which is spent.
+/// The cell, the ticket and the value of a writer's guard, which is consumed.
 #[inline(always)]
 pub fn into_writer<T>(guard: GenerationalRefMut<T>) -> (GenerationalBoxId, u64, T)
     ensures guard { guard.guard ≡ record
@@ -140,7 +140,7 @@ pub fn into_writer<T>(guard: GenerationalRefMut<T>) -> (GenerationalBoxId, u64, 
     (id, ticket, value)
 }
 
-/// A view of a value that is read. It may be let go at any time: its guard's borrow stands until
+/// A view of a value that is being read. It may be dropped at any time: its guard's borrow lasts until
 /// the guard is released.
 #[derive(Drop)]
 pub struct Ref<'a, T> {
@@ -171,8 +171,8 @@ impl<'a, T> Ref<'a, T> {
     ghost use Rattle.std.specs.Fn.{FnOnceReturnsAt};
     ghost use Rattle.generational_errors.specs.declared.error.StoreError.TheVariants.{OutOfMemory};
 
-    /// The view of what the closure finds in the value, as a part of it. The closure is called
-    /// once. Takes no memory of its own.
+    /// A view of the part of the value that the closure returns. The closure is called once. Doesn't
+    /// allocate itself.
     ///
     /// Upstream's `AnyStorage::map`.
     #[inline(always)]
@@ -186,8 +186,8 @@ impl<'a, T> Ref<'a, T> {
         }
     }
 
-    /// A view of a part of the value, if there is such a part: None exactly where the closure answers
-    /// so. Only this view ends then, and the borrow stands until its guard is released.
+    /// A view of a part of the value, if there is such a part: None exactly if the closure returns None.
+    /// Only this view is dropped then, and the borrow lasts until its guard is released.
     ///
     /// Upstream's `AnyStorage::try_map`.
     #[inline(always)]
@@ -200,8 +200,11 @@ impl<'a, T> Ref<'a, T> {
         Some(Ref { value })
     }
 
-    /// A clone of the value, as its type clones it. Refused by `OutOfMemory` where the clone lacks
-    /// memory. Takes the memory that the clone takes.
+    /// A clone of the value, by its type's `Clone`. Allocates what that allocates.
+    ///
+    /// # Errors
+    ///
+    /// `OutOfMemory` if the clone fails.
     ///
     /// Upstream's `cloned` of a reader's guard.
     pub fn cloned(&self) -> Result<T, StoreError>
@@ -235,10 +238,10 @@ impl<'a, T: fmt::Display> fmt::Display for Ref<'a, T> {
     }
 }
 
-/// A writer's guard, which owns the value meanwhile. Contracts see it as a guard and the value.
+/// A writer's guard, which owns the value during the borrow. Contracts model it as a guard and the value.
 ///
-/// The value is read and written without the store. The guard has no `Drop`: `release` must spend
-/// it, which puts the value back.
+/// The value is read and written without the store. The guard has no `Drop`: `release` must consume it,
+/// which puts the value back.
 pub struct GenerationalRefMut<T> {
     id: GenerationalBoxId,
     ticket: u64,
@@ -267,7 +270,7 @@ impl<T> GenerationalRefMut<T> {
     ghost use Rattle.generational_core.specs.Answers.{back_answer};
     ghost use Rattle.generational_core.specs.Steps.{Meets};
 
-    /// The number of the borrow, by which a recorded release names it.
+    /// The number of the borrow, by which a recorded release identifies it.
     #[inline(always)]
     pub fn ticket(&self) -> u64
         ensures { result ≡ self.now.guard.ticket }
@@ -275,7 +278,7 @@ impl<T> GenerationalRefMut<T> {
         self.ticket
     }
 
-    /// The value. Takes no memory.
+    /// The value. Doesn't allocate.
     #[inline(always)]
     pub fn deref(&self) -> &T
         ensures { result.now ≡ self.now.value }
@@ -283,8 +286,8 @@ impl<T> GenerationalRefMut<T> {
         &self.value
     }
 
-    /// A view of the value for writing: what is written through it is the guard's value from then
-    /// on. Takes no memory.
+    /// A mutable view of the value: what is written through it is the guard's value from then on. Doesn't
+    /// allocate.
     ///
     /// ```rust
     /// *writer.deref_mut() = 8;
@@ -306,7 +309,7 @@ impl<T> GenerationalRefMut<T> {
         &mut self.value
     }
 
-    /// Puts another value in the place of the guard's, and answers the old one. Takes no memory.
+    /// Replaces the guard's value, and returns the old one. Doesn't allocate.
     ///
     /// ```rust
     /// let old = guard.replace(value);
@@ -319,9 +322,9 @@ impl<T> GenerationalRefMut<T> {
         mem::replace(&mut self.value, value)
     }
 
-    /// Ends the write, and puts the value into the cell. A store that doesn't know the guard hands
-    /// the value back and stays as it was; the guard is spent all the same, and its own cell stays
-    /// borrowed. Takes no memory.
+    /// Ends the write, and puts the value back into the cell. A store that doesn't know the guard returns
+    /// the value and is unchanged; the guard is consumed anyway, and its own cell stays borrowed. Doesn't
+    /// allocate.
     ///
     /// ```rust
     /// match guard.release(store) {
@@ -386,8 +389,8 @@ impl<'a, T> DerefMut for Mut<'a, T> {
 }
 
 impl<'a, T> Mut<'a, T> {
-    /// A view for writing of what the closure finds in the value, as a part of it. The closure is
-    /// called once. Takes no memory of its own.
+    /// A mutable view of the part of the value that the closure returns. The closure is called once.
+    /// Doesn't allocate itself.
     ///
     /// Upstream's `AnyStorage::map_mut`.
     #[inline(always)]
@@ -400,8 +403,8 @@ impl<'a, T> Mut<'a, T> {
         }
     }
 
-    /// A view of a part of the value that may be written through, if there is such a part: None where
-    /// the closure answers so. Only this view ends then, and the guard stays.
+    /// A mutable view of a part of the value, if there is such a part: None if the closure returns None.
+    /// Only this view is dropped then, and the guard stays.
     ///
     /// Upstream's `AnyStorage::try_map_mut`.
     #[inline(always)]
@@ -444,7 +447,7 @@ impl<'a, T> DerefMut for MutPart<'a, T> {
 }
 
 impl<'a, T> MutPart<'a, T> {
-    /// A view for writing of a part of this part, as `Mut::map_mut` gives one.
+    /// A mutable view of a part of this part, like `Mut::map_mut`.
     #[inline(always)]
     pub fn map_mut<U, F: FnOnce(&mut T) -> &mut U>(self, part: F) -> MutPart<'a, U>
         requires { F.IsAlwaysCallable part }
@@ -453,7 +456,7 @@ impl<'a, T> MutPart<'a, T> {
         MutPart { value: part(value) }
     }
 
-    /// A view of a part of this part, if there is one, as `Mut::try_map_mut` answers it.
+    /// A mutable view of a part of this part, if there is one, like `Mut::try_map_mut`.
     #[inline(always)]
     pub fn try_map_mut<U, F: FnOnce(&mut T) -> Option<&mut U>>(
         self,

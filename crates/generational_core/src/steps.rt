@@ -4,7 +4,7 @@ use crate::boxes::GenerationalPointer;
 use crate::owner::OwnerId;
 use generational_errors::Location;
 
-/// A call of a store, without a value that was handed in. A guard is named by its ticket, and an
+/// A call of a store, without the value that was passed in. A guard is identified by its ticket, and an
 /// owner by its id.
 #[derive(Clone, Copy, Debug, PartialEq)]
 pub enum StepCall {
@@ -12,7 +12,7 @@ pub enum StepCall {
     Leak(Location),
     /// An insertion of a shared value and its first reference, at a location.
     LeakRc(Location),
-    /// An insertion of a reference to what a box reaches.
+    /// An insertion of a reference to what a box refers to.
     LeakReference(GenerationalPointer),
     /// A new owner.
     Owner,
@@ -22,7 +22,7 @@ pub enum StepCall {
     Insert(OwnerId, Location),
     /// An insertion of a shared value and its first reference by an owner, at a location.
     InsertRc(OwnerId, Location),
-    /// An insertion of a reference by an owner, to what a box reaches.
+    /// An insertion of a reference by an owner, to what a box refers to.
     InsertReference(OwnerId, GenerationalPointer),
     /// A read of a box, at a location.
     Read(GenerationalPointer, Location),
@@ -30,9 +30,9 @@ pub enum StepCall {
     Write(GenerationalPointer, Location),
     /// Another value for a box.
     Set(GenerationalPointer),
-    /// The end of a box's cell.
+    /// A removal of a box's cell.
     ManuallyDrop(GenerationalPointer),
-    /// A reference that is pointed to what another box reaches.
+    /// A reference that is pointed to what another box refers to.
     PointTo(GenerationalPointer, GenerationalPointer),
     /// The release of the reader with this ticket.
     ReleaseRead(u64),

@@ -32,147 +32,160 @@ use generational_errors::{
     BorrowMutError, BorrowMutResult, BorrowResult, Location, Refusal, Refused, StoreError,
 };
 
-/// What a store of values of one type does, whatever it keeps.
+/// A store of values of one type: the calls that don't depend on how it keeps the values.
 ///
-/// Every clause speaks of the abstract state alone, and says that the call is a step of the
-/// machine (`docs/machine.md`). The sequential stores of `generational_box` implement it.
+/// Every clause is about the abstract state alone, and states that the call is a step of the machine
+/// (`docs/machine.md`). The sequential stores of `generational_box` implement it.
 pub trait AnyStorage<T> {
-    /// The state of the abstract machine for which the store stands.
+    /// The state of the abstract machine that the store represents.
     ghost state: { Self → State T };
 
     /// The number that the store's maker chose.
     fn number(&self) -> u64
         ensures { result ≡ (state self.now).number };
 
-    /// Whether the store is as a new one, but for its numbers: no slot was made, and no owner's
-    /// record stands. It is so again once all owners of a store without slots are released. Takes
-    /// no memory.
+    /// Whether the store is like a new one, except for its numbers: no slot was made, and there is no
+    /// owner's record. A store without slots is so again once all its owners are released. Doesn't
+    /// allocate.
     fn is_fresh(&self) -> bool
         ensures { IsTrue result ↔ IsFresh (state self.now) };
 
-    /// How many slots were ever made: each is live, free or retired. They are never more than the
-    /// most cells that were live at once and the retired slots. Takes no memory.
+    /// How many slots were ever made: each is live, free or retired. That is never more than the peak
+    /// number of live cells plus the number of retired slots. Doesn't allocate.
     fn slots(&self) -> usize
         ensures count { result ≡ slots (state self.now) }
         ensures bounded { slots (state self.now)
             ≤ (state self.now).peak + retired (state self.now) };
 
-    /// How many slots have no live cell and may be used again. Takes no memory.
+    /// How many slots have no live cell and may be reused. Doesn't allocate.
     fn free(&self) -> usize
         ensures { result ≡ free (state self.now) };
 
-    /// How many slots are never used again, since their last cell had the last generation and has
-    /// ended. Takes no memory.
+    /// How many slots are never reused, since their last cell had the last generation and was removed.
+    /// Doesn't allocate.
     fn retired(&self) -> usize
         ensures { result ≡ retired (state self.now) };
 
-    /// How many cells are live: values, shared values and references. Takes no memory.
+    /// How many cells are live: values, shared values and references. Doesn't allocate.
     fn len(&self) -> usize
         ensures { result ≡ map.len (state self.now).cells };
 
-    /// The most cells that were live at once. Takes no memory.
+    /// The peak number of live cells. Doesn't allocate.
     fn peak_live(&self) -> usize
         ensures { result ≡ (state self.now).peak };
 
-    /// How many tickets are left: each owner, each owner's clone and each borrow takes one. Takes
-    /// no memory.
+    /// How many tickets remain: each owner, each owner's clone and each borrow takes one. Doesn't
+    /// allocate.
     fn tickets_left(&self) -> u64
         ensures count { result ≡ last_ticket - (state self.now).next }
         ensures bounded { (state self.now).next ≤ last_ticket };
 
-    /// The number of the slot that the pointer names. Looks at no slot: the cell may have ended,
-    /// or be of another store. Takes no memory.
+    /// The number of the pointer's slot. Accesses no slot: the cell may have been removed, or belong to
+    /// another store. Doesn't allocate.
     fn data_ptr(&self, pointer: GenerationalPointer) -> usize
         ensures { result ≡ pointer.id.slot };
 
-    /// The pointer with an id, exactly where a live box of this store has it, with the location where
-    /// that was made. Takes no memory.
+    /// The pointer with an id, with the location where its box was made, exactly if a live box of this
+    /// store has the id. Doesn't allocate.
     fn find(&self, id: GenerationalBoxId) -> Option<GenerationalPointer>
         ensures { result ≡ box_with (state self.now) id };
 
-    /// Whether a read of the value that the pointer reaches is free: whether it reaches a value at
-    /// which no writer stands. Takes no memory.
+    /// Whether the value that the pointer refers to may be read: whether there is one, and it isn't being
+    /// written. Doesn't allocate.
     fn can_read(&self, pointer: GenerationalPointer) -> bool
         ensures { result ≡ can_read (state self.now) pointer };
 
-    /// Whether the pointer reaches a value, also one that a writer has. Takes no memory.
+    /// Whether the pointer refers to a value, even if the value is being written. Doesn't allocate.
     fn is_live(&self, pointer: GenerationalPointer) -> bool
         ensures { result ≡ is_some (reach (state self.now) pointer) };
 
-    /// Whether a write of the value that the pointer reaches is free: whether it reaches a value at
-    /// which no borrow stands. Takes no memory.
+    /// Whether the value that the pointer refers to may be written: whether there is one, and it isn't
+    /// borrowed. Doesn't allocate.
     fn can_write(&self, pointer: GenerationalPointer) -> bool
         ensures { result ≡ can_write (state self.now) pointer };
 
-    /// An owner without boxes, of a record of its own.
+    /// Returns an owner without boxes, of a new record.
     ///
-    /// Refused, in this order: `NumbersExhausted`, where no ticket is left; `OutOfMemory`. A
-    /// refused call changes nothing.
+    /// # Errors
+    ///
+    /// - `NumbersExhausted` if the tickets are used up.
+    /// - `OutOfMemory`.
+    ///
+    /// A call that fails changes nothing.
     fn owner(&mut self) -> Result<Owner, StoreError>
         ensures { Meets (state self.old) NewOwner (owner_answer result) (state self.new) };
 
-    /// Another owner value of the same record.
+    /// Returns another owner value of the same record.
     ///
-    /// Refused, in this order: `UnknownOwner`, where the store has no record of the owner;
-    /// `NumbersExhausted`, where no ticket is left. A refused call changes nothing, and no call
-    /// takes memory.
+    /// # Errors
+    ///
+    /// - `UnknownOwner` if the store has no record of the owner.
+    /// - `NumbersExhausted` if the tickets are used up.
+    ///
+    /// A call that fails changes nothing, and the call never allocates.
     fn clone_owner(&mut self, owner: &Owner) -> Result<Owner, StoreError>
         ensures { Meets (state self.old) (CloneOwner owner.now) (owner_answer result)
             (state self.new) };
 
-    /// Spends an owner value. With the last one of its record all live boxes of the list end, and
-    /// with them each shared value of which no reference is left, or nothing does.
+    /// Consumes an owner value. The last one of its record removes all live boxes of the list, and each
+    /// shared value without other references; or the call fails and removes nothing.
     ///
-    /// Refused, in this order: `UnknownOwner`, where the store has no record of the owner; the
-    /// answer of a write at the first box of the list, in order of insertion, that reaches a value
-    /// which would end and is borrowed, in whose place `OutOfMemory` is answered if its list of
-    /// locations finds no memory. A borrowed value that keeps a reference hinders nothing. The
-    /// owner comes back then, and nothing changes.
+    /// # Errors
+    ///
+    /// - `UnknownOwner` if the store has no record of the owner.
+    /// - The error of a write of the first box of the list, in order of insertion, that refers to a value
+    ///   which would be dropped and is borrowed, or `OutOfMemory` instead if the list of its readers'
+    ///   locations can't be allocated.
+    ///
+    /// A borrow of a value that keeps a reference isn't an error. With each error the owner comes back,
+    /// and nothing changes.
     fn release_owner(&mut self, owner: Owner) -> Result<(), (Owner, Refused<BorrowMutError>)>
         ensures step { Meets (state self.old) (ReleaseOwner owner) (release_answer result)
             (state self.new) }
         ensures back { IfErr result (λ refusal. refusal.0 ≡ owner) };
 
-    /// Ends the cell that the pointer names, and its slot is free from then on; a slot whose cell
-    /// ends at the last generation is retired instead. With the last reference to a shared value
-    /// that value ends too, and its slot likewise. A pointer that names no live cell of this store
-    /// is Ok and changes nothing.
+    /// Removes the pointer's cell, and frees its slot; a slot whose cell had the last generation is
+    /// retired instead. The last reference to a shared value removes the value too, and frees or retires
+    /// its slot. For a pointer without a live cell of this store, the call returns Ok and changes
+    /// nothing.
     ///
-    /// Refused, in this order, where the value would end and is borrowed: `AlreadyBorrowedMut`
-    /// with the writer's location, or `AlreadyBorrowed` with the readers' locations in order, in
-    /// whose place `OutOfMemory` is answered if that list finds no memory. So a borrow of a shared
-    /// value hinders the end of its last reference alone. A refused call changes nothing, and
-    /// nothing else takes memory.
+    /// # Errors
+    ///
+    /// If the value would be removed and is borrowed: `AlreadyBorrowedMut` with the writer's location, or
+    /// `AlreadyBorrowed` with the readers' locations in order, or `OutOfMemory` instead if that list
+    /// can't be allocated. So a borrow of a shared value matters only for the removal of its last
+    /// reference.
+    ///
+    /// A call that fails changes nothing, and nothing else allocates.
     fn recycle(&mut self, pointer: GenerationalPointer) -> BorrowMutResult<()>
         ensures { Meets (state self.old) (End pointer) (end_answer result) (state self.new) };
 
-    // ---- What the shared store alone asks of a storage.
+    // ---- What only the shared store calls.
 
-    /// Whether the call would be answered without telling of a borrow in its way. A read, or an
-    /// insertion of a reference, meets no writer; a write, or another value, no borrow; the end of
-    /// a box or of an owner's boxes, and a reference that is pointed elsewhere, no borrow of a value
-    /// that would end. Takes no memory.
+    /// Whether no borrow would make the call fail. A read, or an insertion of a reference, needs that
+    /// there is no writer; a write, or a `set`, that there is no borrow; a removal of a box or of an
+    /// owner's boxes, and a reference that is pointed elsewhere, that no value which would be dropped is
+    /// borrowed. Doesn't allocate.
     fn ready(&self, call: &StepCall) -> bool
         ensures { result ≡ is_ready (state self.now) call.now };
 
-    /// Whether the owner's release would be answered without telling of a borrow in its way. Its record
-    /// is found at once: `ready` has to look for it among all records. Takes no memory.
+    /// Whether no borrow would make the owner's release fail. The owner's hint finds its record at once;
+    /// `ready` has to search all records. Doesn't allocate.
     fn may_release(&self, owner: &Owner) -> bool
         ensures { result ≡ meets_no_borrow (state self.now) (ReleaseOwner owner.now) };
 
-    /// What the pointer's own cell names, exactly where that is a live reference of this store. Takes
-    /// no memory.
+    /// What the pointer's own cell refers to, exactly if that is a live reference of this store. Doesn't
+    /// allocate.
     fn target(&self, pointer: GenerationalPointer) -> Option<GenerationalBoxId>
         ensures { result ≡ target_of (state self.now) pointer };
 
-    /// What the store has, without values, in rows: its slots, ascending, and after each slot its
-    /// live cell, with that cell's borrows in the order in which they began; then the records of
-    /// owners by their keys, and after each the boxes of its list in order of insertion. Where
-    /// generations begin at 1, the store's state without values is read back from the rows, the
-    /// number, the next ticket and the peak.
+    /// What the store has, without values, in rows: its slots, ascending, and after each slot its live
+    /// cell, with that cell's borrows in the order in which they began; then the records of owners by
+    /// their keys, and after each the boxes of its list in order of insertion. If generations begin at 1,
+    /// the rows, the number, the next ticket and the peak determine the store's state without values.
     ///
-    /// Refused by `OutOfMemory` at most. It changes nothing, and takes time and memory for each
-    /// slot, each borrow, each record of an owner and each box of these lists.
+    /// It changes nothing, and takes time and memory for each slot, each borrow, each record of an owner
+    /// and each box of these lists. The only possible error is `OutOfMemory`.
     fn rows(&self) -> Result<Vec<BaseRow>, StoreError>
         ensures rows { IfOk result (λ rows. rows.items ≡ rows_of (state self.now)) }
         ensures back { IfOk result (λ rows. ReadBack (state self.now) rows.items) }
@@ -181,19 +194,22 @@ pub trait AnyStorage<T> {
     /// The state of a store is sound at any time.
     ghost sound: { (s : Self) → IsSound (state s) };
 
-    /// There are never more slots than the most cells that were live at once and the retired slots,
-    /// and each live name is the last that its slot has had. So each slot is live, free or retired.
+    /// The number of slots is at most the peak number of live cells plus the number of retired slots, and
+    /// each live name is the last of its slot. So each slot is live, free or retired.
     ghost bounded: { (s : Self) → IsBounded (state s) };
 }
 
 /// What a store of values of one type does with values.
 pub trait Storage<T>: AnyStorage<T> {
-    /// Makes a cell of a value, under a name that was never given before. With an owner it stands
-    /// at the end of the owner's list.
+    /// Makes a cell of a value, under a name that was never issued before. With an owner, the name is
+    /// added at the end of the owner's list.
     ///
-    /// Refused, in this order: `UnknownOwner`, where the store has no record of the owner;
-    /// `OutOfMemory`, only where no slot is free or the owner's list has no room. The value comes
-    /// back, and nothing changes.
+    /// # Errors
+    ///
+    /// - `UnknownOwner` if the store has no record of the owner.
+    /// - `OutOfMemory` only if no slot is free or the owner's list has no room.
+    ///
+    /// With each error the value comes back, and nothing changes.
     fn new(
         &mut self,
         value: T,
@@ -204,14 +220,17 @@ pub trait Storage<T>: AnyStorage<T> {
             (make_answer result) (Self.state self.new) }
         ensures back { IfErr result (λ refusal. refusal.value ≡ value) };
 
-    /// Makes a shared value, and a first reference to it, each under a name that was never given
-    /// before. The reference's pointer is given, and with an owner it stands at the end of the
-    /// owner's list. The value takes a slot, and the reference takes another. A shared value lives
-    /// as long as there is a live reference to it.
+    /// Makes a shared value, and a first reference to it, each under a name that was never issued before,
+    /// and returns the reference's pointer. With an owner, the reference's name is added at the end of
+    /// the owner's list. The value takes a slot, and the reference takes another. A shared value lives as
+    /// long as there is a live reference to it.
     ///
-    /// Refused, in this order: `UnknownOwner`, where the store has no record of the owner;
-    /// `OutOfMemory`, only where fewer than two slots are free or the owner's list has no room. The
-    /// value comes back, and nothing changes.
+    /// # Errors
+    ///
+    /// - `UnknownOwner` if the store has no record of the owner.
+    /// - `OutOfMemory` only if fewer than two slots are free or the owner's list has no room.
+    ///
+    /// With each error the value comes back, and nothing changes.
     fn new_rc(
         &mut self,
         value: T,
@@ -223,15 +242,19 @@ pub trait Storage<T>: AnyStorage<T> {
             (Self.state self.new) }
         ensures back { IfErr result (λ refusal. refusal.value ≡ value) };
 
-    /// Makes a reference to the shared value that a pointer reaches, under a name that was never
-    /// given before, with the value's location. It names the value itself, never another reference.
-    /// With an owner it stands at the end of the owner's list.
+    /// Makes a reference to the shared value that a pointer refers to, under a name that was never issued
+    /// before, with the value's location. It refers to the value itself, never to another reference. With
+    /// an owner, its name is added at the end of the owner's list.
     ///
-    /// Refused, in this order: `UnknownOwner`, where the store has no record of the owner;
-    /// `Dropped` with the pointer's own location, where it reaches no value; `AlreadyBorrowedMut`
-    /// with the writer's location; `Dropped` with the pointer's own location, where it reaches a
-    /// value that isn't shared; `OutOfMemory`, only where no slot is free or the owner's list has
-    /// no room. A refused call changes nothing.
+    /// # Errors
+    ///
+    /// - `UnknownOwner` if the store has no record of the owner.
+    /// - `Dropped` with the pointer's own location if it refers to no value.
+    /// - `AlreadyBorrowedMut` with the writer's location if the value is being written.
+    /// - `Dropped` with the pointer's own location if it refers to a value that isn't shared.
+    /// - `OutOfMemory` only if no slot is free or the owner's list has no room.
+    ///
+    /// A call that fails changes nothing.
     fn new_reference(
         &mut self,
         inner: GenerationalPointer,
@@ -240,24 +263,24 @@ pub trait Storage<T>: AnyStorage<T> {
         ensures { Meets (Self.state self.old) (Refer (option_copied owner.entry) inner)
             (reference_answer result) (Self.state self.new) };
 
-    /// Lets a reference lead to the shared value that another pointer reaches. The value that it
-    /// led to before ends if no live reference to it is left. The reference keeps its name and its
-    /// location.
+    /// Points a reference to the shared value that another pointer refers to. The value that it referred
+    /// to before is removed if this was the last live reference to it. The reference keeps its name and
+    /// its location.
     ///
-    /// Answered in this order:
-    /// 1. Ok, where both pointers have one id, even of a cell that has ended: nothing changes.
-    /// 2. `Dropped` with the other's own location, where that reaches no value;
-    ///    `AlreadyBorrowedMut` with the writer's location, where the value it reaches is written.
-    /// 3. `Dropped` with the pointer's own location, where it names no live cell of this store.
-    /// 4. `Dropped` with the location of the value that the other reaches, where the pointer is no
+    /// The result, in the order in which it is found:
+    /// 1. Ok if both pointers have the same id, even if its cell was removed: nothing changes.
+    /// 2. `Dropped` with the other's own location if that refers to no value; `AlreadyBorrowedMut` with
+    ///    the writer's location if the value that it refers to is being written.
+    /// 3. `Dropped` with the pointer's own location if it has no live cell of this store.
+    /// 4. `Dropped` with the location of the value that the other refers to, if the pointer is no
     ///    reference's or that value isn't shared.
-    /// 5. Ok, where the reference leads to that value already: nothing changes.
+    /// 5. Ok if the reference refers to that value already: nothing changes.
     /// 6. `AlreadyBorrowedMut` with the writer's location, or `AlreadyBorrowed` with the readers'
-    ///    locations in order, where the value that it led to would end and is borrowed;
-    ///    `OutOfMemory` in place of `AlreadyBorrowed` if that list finds no memory.
-    /// 7. Ok: the reference leads to the other value from then on.
+    ///    locations in order, if the value that it referred to would be removed and is borrowed;
+    ///    `OutOfMemory` instead of `AlreadyBorrowed` if that list can't be allocated.
+    /// 7. Ok: the reference refers to the other value from then on.
     ///
-    /// A refused call changes nothing, and nothing else takes memory.
+    /// A call that fails changes nothing, and nothing else allocates.
     fn change_reference(
         &mut self,
         pointer: GenerationalPointer,
@@ -266,17 +289,21 @@ pub trait Storage<T>: AnyStorage<T> {
         ensures { Meets (Self.state self.old) (Point pointer other) (end_answer result)
             (Self.state self.new) };
 
-    /// The value that a pointer reaches, looked at in passing: without a guard, a ticket or a
-    /// location. None where it reaches no value, or a writer has it. Takes no memory.
+    /// Borrows the value that a pointer refers to, without a guard, a ticket or a location. None if there
+    /// is no such value, or it is being written. Doesn't allocate.
     fn peek(&self, pointer: GenerationalPointer) -> Option<&T>
         ensures { option_copied result ≡ value_in (Self.state self.now) pointer };
 
-    /// Begins a read of the value that a pointer reaches: its own, or the shared value to which a
-    /// reference leads.
+    /// Begins a read of the value that a pointer refers to: its own, or a reference's shared value.
     ///
-    /// Refused, in this order: `Dropped` with the pointer's own location, where it reaches no
-    /// value; `AlreadyBorrowedMut` with the writer's location; `NumbersExhausted`, where no ticket
-    /// is left; `OutOfMemory`, only for a reader beside another. A refused call changes nothing.
+    /// # Errors
+    ///
+    /// - `Dropped` with the pointer's own location if it refers to no value.
+    /// - `AlreadyBorrowedMut` with the writer's location if the value is being written.
+    /// - `NumbersExhausted` if the tickets are used up.
+    /// - `OutOfMemory` only if the value has another reader.
+    ///
+    /// A call that fails changes nothing.
     fn try_read(
         &mut self,
         pointer: GenerationalPointer,
@@ -285,18 +312,22 @@ pub trait Storage<T>: AnyStorage<T> {
         ensures { Meets (Self.state self.old) (Read pointer location) (read_answer result)
             (Self.state self.new) };
 
-    /// The value that a reader's guard opens, exactly where the store knows the guard.
+    /// The value of a reader's guard, exactly if the store knows the guard.
     fn open(&self, guard: &GenerationalRef<T>) -> Option<&T>
         ensures { option_copied result ≡ value_behind (Self.state self.now) guard.now };
 
-    /// Begins a write of the value that a pointer reaches: its own, or the shared value to which a
-    /// reference leads. The value goes out of its cell and into the guard.
+    /// Begins a write of the value that a pointer refers to: its own, or a reference's shared value. The
+    /// value moves from its cell into the guard.
     ///
-    /// Refused, in this order: `Dropped` with the pointer's own location, where it reaches no
-    /// value; `AlreadyBorrowedMut` with the writer's location; `AlreadyBorrowed` with the readers'
-    /// locations in the order in which they began, in whose place `OutOfMemory` is answered if that
-    /// list finds no memory; `NumbersExhausted`, where no ticket is left. A refused call changes
-    /// nothing, and nothing else takes memory.
+    /// # Errors
+    ///
+    /// - `Dropped` with the pointer's own location if it refers to no value.
+    /// - `AlreadyBorrowedMut` with the writer's location if the value is being written.
+    /// - `AlreadyBorrowed` with the readers' locations, in the order in which they began, if the value is
+    ///   being read; or `OutOfMemory` instead if that list can't be allocated.
+    /// - `NumbersExhausted` if the tickets are used up.
+    ///
+    /// A call that fails changes nothing, and nothing else allocates.
     fn try_write(
         &mut self,
         pointer: GenerationalPointer,
@@ -305,40 +336,38 @@ pub trait Storage<T>: AnyStorage<T> {
         ensures { Meets (Self.state self.old) (Write pointer location) (write_answer result)
             (Self.state self.new) };
 
-    /// Ends a write, and puts the guard's value into the cell. Where the store doesn't know the
-    /// guard, the value comes back and nothing changes. Takes no memory.
+    /// Ends a write, and puts the guard's value back into the cell. If the store doesn't know the guard,
+    /// the value comes back and nothing changes. Doesn't allocate.
     fn release_write(&mut self, guard: GenerationalRefMut<T>) -> Result<(), T>
         ensures { Meets (Self.state self.old) (ReleaseWriter guard.guard guard.value)
             (back_answer result) (Self.state self.new) };
 
-    /// Puts another value in the place of the one that the pointer reaches, at which no borrow
-    /// stands (`can_write` is the test), and answers the old one. No ticket is used up. Takes no
-    /// memory.
+    /// Replaces the value that the pointer refers to, which isn't borrowed (see `can_write`), and returns
+    /// the old one. No ticket is used. Doesn't allocate.
     fn replace_value(&mut self, pointer: GenerationalPointer, value: T) -> T
         requires { can_write (Self.state self.old) pointer ≡ true }
         ensures { Meets (Self.state self.old) (SetValue pointer value) (Old result)
             (Self.state self.new) };
 
-    /// Changes the value that the pointer reaches, at which no borrow stands (`can_write` is the
-    /// test), by a closure, which is called once on the value in its place. Answers what the closure
-    /// answers. No ticket is used up, and the value isn't moved. Takes no memory of its own.
+    /// Calls a closure once on the value that the pointer refers to, mutably; the value isn't borrowed
+    /// (see `can_write`). Returns the closure's result. No ticket is used, and the value isn't moved.
+    /// Doesn't allocate itself.
     fn change_value<R, F: FnOnce(&mut T) -> R>(&mut self, pointer: GenerationalPointer, f: F) -> R
         requires free { can_write (Self.state self.old) pointer ≡ true }
         requires callable { (value : MutBor T) →
             value_in (Self.state self.old) pointer ≡ Some value.now → F.pre f value }
         ensures { Changes F.FnOnce f (Self.state self.old) pointer result (Self.state self.new) };
 
-    /// Ends the cell that the pointer names, and hands its value back, exactly where that is a value
-    /// that isn't shared and at which no borrow stands. `None` elsewhere, and nothing changes. Takes no
-    /// memory.
+    /// Removes the pointer's cell and returns its value, exactly if that value isn't shared and isn't
+    /// borrowed. `None` otherwise, and nothing changes. Doesn't allocate.
     fn take_value(&mut self, pointer: GenerationalPointer) -> Option<T>
         ensures value { result ≡ value_to_take (Self.state self.old) pointer }
         ensures ended { IfSome result (λ value. Meets (Self.state self.old) (End pointer) Done
             (Self.state self.new)) }
         ensures none { IfNone result (Self.state self.new ≡ Self.state self.old) };
 
-    /// Ends a read. The answer is whether the store knew the guard; where it didn't, nothing
-    /// changes. Takes no memory.
+    /// Ends a read. Returns whether the store knew the guard; if it didn't, nothing changes. Doesn't
+    /// allocate.
     fn release_read(&mut self, guard: GenerationalRef<T>) -> bool
         ensures { Meets (Self.state self.old) (ReleaseReader guard) (Flag result)
             (Self.state self.new) };

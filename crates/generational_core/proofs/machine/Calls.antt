@@ -1,4 +1,4 @@
--- What the answer of each call tells.
+-- What the answer of each call says.
 pub mod Steps
 use Rattle.generational_core.specs.Leaving.{GivesOtherOwner, LeavesGuard, LeavesOwner, refuses}
 use Rattle.std.specs.Prelude.{OnErr}
@@ -8,17 +8,17 @@ use Rattle.std.specs.FinSet as set
 use Rattle.generational_errors.specs.declared.error.Refused.TheVariants as refused
 unfoldable pub use Steps.*
 
--- ==== what the answer of each call tells of boxes, guards and owners
+-- ==== what the answer of each call says of boxes, guards and owners
 
 module _ {T : Type 0} where
-  -- ---- what answers tell
+  -- ---- what answers say
 
-  -- the name stands at the end of the owner's list
+  -- the name is at the end of the owner's list
   abbrev pub Lists : State T → Option OwnerName → Name → State T → Type 0
   Lists S o n R = (a : OwnerName) (h : Ownership)
       → o ≡ Some a → ownership S a ≡ Some h → ownership R a ≡ Some (one_listed n h)
 
-  -- what a call's answer tells of the states before and after it
+  -- what a call's answer says of the states before and after it
   abbrev pub Tells : State T → Action T → Answer T → State T → Type 0
   Tells S (Make o v l) (Made b) R = (reach R b ≡ Some (name_of b))
       × (value_in R b ≡ Some v) × Lists S o (name_of b) R × (can_write R b ≡ true)
@@ -158,10 +158,10 @@ module _ {T : Type 0} where
   meets_tells S R call answer = meets_each S R call answer (TellsOf S call)
       (λ h. grind arith) (λ f new. act_tells S call f (new_fresh S call f new))
 
--- ==== what callers cite: what results tell, and what calls leave as it was. The arguments of each
--- are found from the clause of the call that it is given
+-- ==== what callers cite: what results say, and what calls leave unchanged. The arguments of each are
+-- found from the clause of the call that it is about
 
--- a name stands in the list that it ends
+-- a name is in the list that it is the last of
 pub listed_last : (names : List Name) (n : Name) → among (names ++ n ∷ []) n ≡ true
 listed_last [] n = ap (λ x. x || false) (name_here n)
 listed_last (m ∷ names) n = or_right (is_name n m) _ (listed_last names n)
@@ -278,7 +278,7 @@ module _ {T : Type 0} where
         → OnOk r ((b : GenerationalPointer) → reach S b ≡ Some g.cell → value_in R b ≡ Some v)
     puts_back g v r m = grind (arith, meets_tells S R (ReleaseWriter g v) (back_answer r) m)
 
-    -- ---- values at which no borrow stands
+    -- ---- values that aren't borrowed
 
     pub keeps_free : (call : Action T) (answer : Answer T) → IsSound S → Meets S call answer R
         → (b : GenerationalPointer) → LeavesUnborrowed S call b
@@ -336,7 +336,7 @@ module _ {T : Type 0} where
     keeps call answer s m b v leaves seen =
         grind (arith, seen_reached S b v seen, value_stays S R call answer b)
 
-    -- which is so of each box that isn't in the list, where an owner is released
+    -- the same holds of each box that isn't in the list when an owner is released
     pub keeps_unowned : (o : OwnerName) (answer : Answer T) → IsSound S
         → Meets S (ReleaseOwner o) answer R → (h : Ownership) → ownership S o ≡ Some h
         → (b : GenerationalPointer) (v : T) → AllByRecursion (λ n. n ≢ name_of b) h.names
@@ -355,7 +355,7 @@ module _ {T : Type 0} where
         → LeavesBox S call b → reach S b ≡ Some m → reach R b ≡ Some m
     keeps_reach call answer s meets b m = reach_stays S R call answer b m s meets
 
--- ==== owners' records: which calls list a box there, and which leave a record as it was
+-- ==== owners' records: which calls list a box there, and which leave a record unchanged
 
 module _ {T : Type 0} where
   -- ---- a box at the end of its owner's list
@@ -375,7 +375,7 @@ module _ {T : Type 0} where
     lists_reference c r m =
         grind (arith, meets_tells S R (Refer (Some o) c) (reference_box_answer r) m)
 
-  -- a name that was never given is in no list
+  -- a name that was never issued is in no list
   pub unlisted : (S : State T) (o : OwnerName) (h : Ownership) (n : Name) → IsSound S
       → ownership S o ≡ Some h → set.contains S.given n ≡ false → among h.names n ≡ false
   unlisted S o h n s held new = grind (arith, boxed_among)
@@ -399,7 +399,7 @@ module _ {T : Type 0} where
 
   -- no call but those of owners changes a record
   module _ (S : State T) (o : OwnerName) where
-    -- the record is kept where another owner's is changed, put in or forgotten
+    -- the record is kept when another owner's is changed, inserted or removed
     abbrev Kept : Owners → Type 0
     Kept owners = cond (nat_eq o.store S.number) (map.get owners o.key) None ≡ ownership S o
 
@@ -428,7 +428,7 @@ module _ {T : Type 0} where
     act_keeps call f ne next = grind arith
 
   module _ {S R : State T} where
-    -- which is so of each call, where it doesn't make the owner
+    -- the same holds of each call that doesn't make the owner
     kept : (call : Action T) (answer : Answer T) → Meets S call answer R → (o : OwnerName)
         → LeavesOwner call o → ((f : NewNames) → (answer, R) ≡ act S call f → IsNotNext S call o)
         → ownership R o ≡ ownership S o
@@ -454,13 +454,13 @@ module _ {T : Type 0} where
         → IfOk r (λ o. o.store ≡ S.number)
     owner_number r m = grind arith
 
--- ==== names of boxes: that they stay so, that they end for good, and what a box sees that was
--- pointed elsewhere
+-- ==== names of boxes: that they stay so, that removed names are never live again, and what a box sees
+-- that was pointed elsewhere
 
 module _ {T : Type 0} where
   -- ---- names of boxes
 
-  -- a box that reaches something is the store's, and its name was given to a box
+  -- a box that reaches something is the store's, and its name was issued to a box
   pub reached_boxed : (S : State T) (b : GenerationalPointer) (m : Name) → IsSound S
       → reach S b ≡ Some m → (b.id.store ≡ S.number) × IsBoxed S (name_of b)
   reached_boxed S b m s to = grind (arith, reaches)
@@ -511,9 +511,9 @@ filled_twice : {T : Type 0} (m : NameMap (Cell T)) (k : Name) (c d : Content T)
 filled_twice m k c d = map.same_map name_total name_exact _ _ (λ q. grind (arith, get-changed_name))
 
 module _ {T : Type 0} where
-  -- ---- a guard is told by its ticket
+  -- ---- a ticket identifies a guard
 
-  -- the ticket of a known guard stands at its cell
+  -- the ticket of a known guard is at its cell
   pub reader_stands : (c : Option (Content T)) (t : ℕ)
       → has_reader c t ≡ true → list_any (nat_eq t) (tickets_of c) ≡ true
   reader_stands (Some (Here v (r ∷ readers))) t h =
@@ -563,13 +563,13 @@ module _ {T : Type 0} where
       (λ v is. (v, rw known is))
 
   module _ {S R : State T} where
-    -- a read that isn't refused gives a guard that opens a value, which the box sees
+    -- a read that succeeds returns a guard that opens a value, which the box sees
     pub opens_value : (b : GenerationalPointer) (l : Location) (r : Result Guard (error.Refused BorrowError))
         → Meets S (Read b l) (read_answer r) R
         → IfOk r (λ g. (v : T) × (value_behind R g ≡ Some v) × (value_in S b ≡ Some v))
     opens_value b l r m = grind (arith, reads_known S R (Read b l), opens b l r m)
 
-    -- a known reader's release is answered so, and a known writer's is done
+    -- a known reader's release returns true, and a known writer's is done
     pub reader_leaves : (g : Guard) (flag : Bool) → knows_reader S g ≡ true
         → Meets S (ReleaseReader g) (Flag flag) R → flag ≡ true
     reader_leaves g flag known m = grind arith
@@ -580,7 +580,7 @@ module _ {T : Type 0} where
 
   -- ---- a write that was released
 
-  -- what a write that isn't refused found and left
+  -- what a write that succeeds found and left
   wrote : (S R : State T) (b : GenerationalPointer) (l : Location) (g : Guard) (w : T)
       → Meets S (Write b l) (Writes g w) R
       → (reach S b ≡ Some g.cell) × (content_at S g.cell ≡ Some (Here w []))
@@ -599,7 +599,7 @@ module _ {T : Type 0} where
 
   -- ---- what boxes see then
 
-  -- a ticket more leaves each box
+  -- using a ticket leaves each box
   ticket_leaves : (S : State T) (b : GenerationalPointer) → IsUnchanged S b (take_ticket S)
   unfolding reach value_in
   ticket_leaves S b = record { reached = refl; content = λ m to. refl; seen = refl }
@@ -632,13 +632,13 @@ module _ {T : Type 0} where
     pub set_owners : (o : OwnerName) → ownership Q o ≡ ownership S o
     set_owners o = ap (λ (X : State T). ownership X o) it.after
 
--- ==== a call that is refused changes nothing
+-- ==== a call that fails changes nothing
 
 module _ {T : Type 0} where
-  -- ---- how the machine refuses
+  -- ---- how calls of the machine fail
 
-  -- A call of the machine is refused by a borrow, for its owner or with its value, and changes
-  -- nothing then; or it isn't refused.
+  -- A call of the machine fails because of a borrow, for its owner or with its value, and changes nothing
+  -- then; or it succeeds.
   pub data IsAnswered (S : State T) : Outcome T → Type 0 where
     troubled : (t : BorrowRefusal) → IsAnswered S (BorrowRefused t, S)
     unknown : IsAnswered S (Refused UnknownOwner, S)
@@ -652,7 +652,7 @@ module _ {T : Type 0} where
       → refuses out.0 ≡ true → out.1 ≡ S
   answered_still S out h refused = grind arith
 
-  -- ---- a refused call changes nothing, whichever it is
+  -- ---- a call that fails changes nothing, whatever the call
 
   module _ {S R : State T} (call : Action T) where
     pub refused_stays : (answer : Answer T) → Meets S call answer R → refuses answer ≡ true → R ≡ S

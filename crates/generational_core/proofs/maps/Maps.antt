@@ -29,7 +29,7 @@ pub name_total : IsTotalOrder name_cmp
 name_total = then_total (on_total (λ (s : Name). s.slot) nat_cmp_total)
     (on_total (λ (s : Name). s.generation) nat_cmp_total)
 
--- an order of keys, which tells them apart
+-- an order of keys that distinguishes them
 pub record IsKeyOrder {K : Type 0} (R : K → K → Ordering) : Type 0 where
   pub total : IsTotalOrder R
   pub exact : map.IsAntisymmetric R
@@ -41,7 +41,7 @@ by_name = record { total = name_total; exact = name_exact }
 pub by_number : IsKeyOrder nat_cmp
 by_number = record { total = nat_cmp_total; exact = map.nat_cmp-IsAntisymmetric }
 
--- what holds where there is nothing, and where there is a value
+-- what holds if there is nothing, and if there is a value
 pub by_option : {A B : Type 0} (x : Option A) → (x ≡ None → B) → ((a : A) → x ≡ Some a → B) → B
 by_option x none some = grind arith
 
@@ -63,7 +63,7 @@ module _ {K : Type 0} {R : K → K → Ordering} (o : IsKeyOrder R) where
   key_cases j k = ⊎_elim (λ h. inl (key_same j k h)) (λ h. inr (λ e. cc (key_here k)))
       (cases_Bool (eq_by_cmp R j k))
 
-  -- what holds where they are one, and where they are apart
+  -- what holds if they are equal, and if they differ
   pub by_keys : {A : Type 0} (j k : K) → (j ≡ k → A) → (j ≢ k → A) → A
   by_keys j k same apart = ⊎_elim same apart (key_cases j k)
 
@@ -92,7 +92,7 @@ module _ {K : Type 0} {R : K → K → Ordering} (o : IsKeyOrder R) where
     remove_each m j k =
         map.same_map o.total o.exact _ _ (λ q. grind (arith, map.get-remove {X = X} o.total))
 
-    -- a key is kept with what it had, or taken away
+    -- a key is kept with what it had, or removed
     pub keep_view : (m : map.FinMap R X) (p : K → Bool) (q : K)
         → ((map.get (map.retain_keys m p) q ≡ map.get m q) × (p q ≡ true))
         ⊎ ((map.get (map.retain_keys m p) q ≡ None) × (p q ≡ false))
@@ -108,7 +108,7 @@ module _ {K : Type 0} {R : K → K → Ordering} (o : IsKeyOrder R) where
     unfolding change
     changed_there m k f x h = ap (change_if m k f) h
 
-    -- what stands at a key, put there again
+    -- what a key has, put there again
     pub insert_there : (m : map.FinMap R X) (k : K) (x : X) → map.get m k ≡ Some x → map.insert m k x ≡ m
     insert_there m k x there =
         map.same_map o.total o.exact _ _ (λ q. grind (arith, map.get-insert {X = X} o.total, key_same))
@@ -123,14 +123,14 @@ module _ {K : Type 0} {R : K → K → Ordering} (o : IsKeyOrder R) where
     unfolding change
     get-changed_apart m k f q ne = grind (arith, get-insert_apart m k)
 
-    -- the one key that is changed, if anything stands there
+    -- the one key that is changed, if it has anything
     pub changed_view : (m : map.FinMap R X) (k : K) (f : X → X) (q : K)
         → (map.get (change m k f) q ≡ map.get m q)
         ⊎ ((q ≡ k) × (x : X) × (map.get m q ≡ Some x) × (map.get (change m k f) q ≡ Some (f x)))
     unfolding change
     changed_view m k f q = grind (arith, get-insert_here, get-insert_apart, key_cases q k)
 
-  -- what is in a set with one key more
+  -- what is in a set with another key
   pub contains-insert_here : (s : set.FinSet R) (k : K) → set.contains (set.insert s k) k ≡ true
   contains-insert_here s k = rw (set.contains-insert o.total s k k, key_here k)
 
@@ -144,7 +144,7 @@ module _ {K : Type 0} {R : K → K → Ordering} (o : IsKeyOrder R) where
 
 -- ---- names
 
--- names that are told to be the same are one
+-- a name is the same as itself
 pub name_here : (n : Name) → is_name n n ≡ true
 unfolding is_name
 name_here n = key_here by_name n
@@ -245,7 +245,7 @@ pub name_test : (a b : Name) → is_name a b ≡ (nat_eq a.slot b.slot && nat_eq
 unfolding is_name
 name_test a b = grind arith
 
--- boxes have the same id exactly where the ids are one
+-- boxes have the same id exactly if the ids are one
 pub same_ids : (a b : GenerationalPointer) → (has_same_id a b ≡ true) ↔ (a.id ≡ b.id)
 same_ids a b = grind arith
 

@@ -16,7 +16,7 @@ unfoldable pub use Changes.*
 abbrev tickets : List Borrow → List ℕ
 tickets rs = list_map (λ r. r.ticket) rs
 
--- what passes a filter was there, and stands apart still
+-- what passes a filter was there, and is still distinct
 in_filter : (p : Borrow → Bool) (q : ℕ → Bool) (rs : List Borrow)
     → list_any q (tickets (filter p rs)) ≡ true → list_any q (tickets rs) ≡ true
 in_filter p q [] h = h
@@ -89,7 +89,7 @@ module _ {T : Type 0} where
         (⊎_elim (λ e. Turned old to l e.0 e.1) (λ e. Gone e.0 e.1))
         (turned_view S a old to l law.0 law.2 q)
 
-  -- no change leads to another store's number or first generation, or changes owners' records
+  -- no change changes the store's number, its first generation or owners' records
   pub same_store : (S : State T) (f : NewNames) (c : Change T) → ((after S f c).number ≡ S.number)
       × ((after S f c).start ≡ S.start) × ((after S f c).owners ≡ S.owners)
   same_store S f c = grind arith
@@ -107,7 +107,7 @@ module _ {T : Type 0} where
   follows_same S call n = record
       { number = refl; start = refl; next = omega arith; given = λ q h. h; spot = n; view = λ q. Same refl }
 
-  -- what a call leads to comes after it
+  -- what a call leads to follows the state before it
   module _ {S : State T} {call : Action T} {f : NewNames} {out : Outcome T} where
     abbrev pub last : Leads S call f out → State T
     last h = record (after S f h.change) { owners = h.owners; next = h.next }
@@ -125,7 +125,7 @@ module _ {T : Type 0} where
     pub leads_follows : AreNew S call f → Leads S call f out → Follows S call out.1
     leads_follows new h = subst (Follows S call) (sym h.is) (change_follows new h)
 
-  -- what holds of what a name had and has, shown for each way in which that may change
+  -- what holds of what a name had and has, proved for each way in which that may change
   pub keep_each : {S R : State T} {call : Action T} (h : Follows S call R)
       (q : Name) (P : Option (Cell T) → Option (Cell T) → Type 0) → ((x : Option (Cell T)) → P x x)
       → ((IsSound S → IsBorrowed (map.get S.cells q) → ⊥) → P (map.get S.cells q) None)
@@ -143,15 +143,15 @@ module _ {T : Type 0} where
       ⊎ ((set.contains S.given q ≡ false) × IsGiven R q)
   live_before h q live = grind arith
 
-  -- an ended name has no cell again
+  -- a removed name never has a cell again
   pub ended_still : {S R : State T} {call : Action T} (h : Follows S call R) (q : Name)
       → IsEnded S q → map.get R.cells q ≡ None
   ended_still h q ended = grind arith
 
   -- ---- tickets
 
-  -- The tickets of one content stand apart if those of another did, which were below the next; and
-  -- each of them stood before, or is a next one at one name alone.
+  -- The tickets of one content are distinct if those of another were, which were below the next; and each
+  -- of them was there before, or is the next one, at one name alone.
   abbrev Renews : State T → ℕ → Name → Name → Option (Content T) → Option (Content T) → Type 0
   Renews S next spot q x y = IsDistinct nat_eq (tickets_of x)
       → ((t : ℕ) → list_any (nat_eq t) (tickets_of x) ≡ true → t < S.next)
@@ -167,7 +167,7 @@ module _ {T : Type 0} where
 
   -- ---- what Refs name
 
-  -- nothing stands at a name that was never given, also beside another new one
+  -- there is nothing at a name that was never issued, even next to another new one
   pub absent : (S : State T) → IsSound S → (n : Name)
       → set.contains S.given n ≡ false → map.get S.cells n ≡ None
   absent S s n new = grind arith
@@ -200,7 +200,7 @@ module _ {T : Type 0} where
     each_boxed [] all = tt
     each_boxed (n ∷ names) all = grind (arith, h.given, shared_still, each_boxed names all.1)
 
-    -- tickets stand apart, and each stood before, or is new
+    -- tickets are distinct, and each was there before, or is new
     tickets_still : (q : Name) → IsDistinct nat_eq (tickets_at R.cells q) × ((t : ℕ)
         → Stands R.cells q t → Stands S.cells q t ⊎ ((q ≡ h.spot) × (S.next ≤ t) × (t < R.next)))
     unfolding IsDistinct
@@ -251,7 +251,7 @@ module _ {T : Type 0} where
   unfolding reach
   ref_reaches S b m l s own is = grind arith
 
--- ==== what holds of each call of a store, whichever names it takes and whatever memory lacks
+-- ==== what holds of each call of a store, whatever names it takes and whatever allocations fail
 
 -- a reader stays when another ticket goes
 unread_stays : (u t : ℕ) (readers : List Borrow)
@@ -264,25 +264,25 @@ unread_stays u t readers other h = any-filter_same (λ r. nat_eq r.ticket t)
 module _ {T : Type 0} where
   -- ---- the first generation of slots, and names, whichever names a call takes
 
-  -- an outcome with the same first generation, and where it isn't that of a making, the same names
+  -- an outcome with the same first generation, and, unless it is that of a making, the same names
   pub record Begins (making : Bool) (S : State T) (out : Outcome T) : Type 0 where
     pub start : out.1.start ≡ S.start
     pub given : making ≡ false → out.1.given ≡ S.given
 
-  -- each call leaves the first generation, and none but a making gives names
+  -- each call keeps the first generation, and only a making issues names
   pub act_start : (S : State T) (call : Action T) (f : NewNames)
       → Begins (is_making call) S (act S call f)
   act_start S call f = grind (arith, act_leads S call f)
 
   -- ---- the two cases of a call
 
-  -- whether an answer refuses a call
+  -- whether an answer is an error
   abbrev pub is_refusal : Answer T → Bool
   is_refusal (BorrowRefused t) = true
   is_refusal (Refused e) = true
   is_refusal _ = false
 
-  -- a call is refused, and changes nothing
+  -- a call fails, and changes nothing
   abbrev pub IsRefused : State T → Answer T → State T → Type 0
   IsRefused S answer R = (is_refusal answer ≡ true) × (R ≡ S)
 
@@ -290,15 +290,15 @@ module _ {T : Type 0} where
   abbrev pub Acts : State T → Action T → Answer T → State T → Type 0
   Acts S call answer R = (new : NewNames) × AreNew S call new × ((answer, R) ≡ act S call new)
 
-  -- an outcome takes new names, or is a refusal
+  -- an outcome takes new names, or is an error
   abbrev pub TakesNew : State T → Action T → NewNames → Outcome T → Type 0
   TakesNew S call f out = Takes S call out.0 f → AreNew S call f ⊎ IsRefused S out.0 out.1
 
-  -- a call takes new names, or is refused
+  -- a call takes new names, or fails
   pub takes_new : (S : State T) (call : Action T) (f : NewNames) → TakesNew S call f (act S call f)
   takes_new S call f = grind arith
 
-  -- a call is refused and changes nothing, or takes new names and does what the machine does
+  -- a call fails and changes nothing, or takes new names and does what the machine does
   pub meets_cases : (S R : State T) (call : Action T) (answer : Answer T)
       → Meets S call answer R → IsRefused S answer R ⊎ Acts S call answer R
   meets_cases S R call answer (inl m) = by_cond
@@ -308,7 +308,7 @@ module _ {T : Type 0} where
       (takes_new S call m.0 (grind (arith, e, m.1)))) m.2
   meets_cases S R call answer (inr m) = inl (grind arith)
 
-  -- a box of an ended name reaches nothing, so it is answered that its value is gone
+  -- a box of a removed name reaches nothing, so reads of it fail with `Dropped`
   pub ended_read : (S : State T) (b : GenerationalPointer)
       → IsEnded S (name_of b) → refusal_to_read S b ≡ Some (Dropped b.created_at)
   unfolding refusal_to_read reach
@@ -331,7 +331,7 @@ module _ {T : Type 0} where
   -- ---- soundness, and what nothing takes back
 
   module _ (S R : State T) (call : Action T) (answer : Answer T) where
-    -- what holds of a refusal, which changes nothing, and of what the machine does holds of a call
+    -- what holds of an error, which changes nothing, and of what the machine does holds of a call
     pub meets_each : (P : Outcome T → Type 0) → (is_refusal answer ≡ true → P (answer, S))
         → ((f : NewNames) → AreNew S call f → P (act S call f)) → Meets S call answer R → P (answer, R)
     meets_each P refused acts m = ⊎_elim (λ e. subst (λ X. P (answer, X)) (sym e.1) (refused e.0))
@@ -362,7 +362,7 @@ module _ {T : Type 0} where
     pub meets_ended : Meets S call answer R → (n : Name) → IsEnded S n → IsEnded R n
     meets_ended m n e = let f = meets_follows m in (f.given n e.0, ended_still f n e)
 
-    -- what an answer says is so
+    -- what an answer says is true
     pub meets_says : Meets S call answer R → Says S answer R
     meets_says = meets_each (λ o. Says S o.0 o.1) (λ h. grind arith)
         (λ f new. (act_says S call f (new_fresh S call f new)).so)
@@ -382,7 +382,7 @@ module _ {T : Type 0} where
 
     -- ---- guards
 
-    -- a store knows a guard until it is given back
+    -- a store knows a guard until it is released
     pub reader_stays : IsSound S → Meets S call answer R → (g : Guard)
         → knows_reader S g ≡ true → ends_reader call g.ticket ≡ false → knows_reader R g ≡ true
     reader_stays s m g known other =
@@ -415,7 +415,7 @@ module _ {T : Type 0} where
 
 -- ==== names that end one after the other, and Refs that turn: what is left, and what hinders it
 
--- what stands in a list of one name
+-- what is in a list of one name
 just_one : (n q : Name) → among (n ∷ []) q ≡ true → q ≡ n
 just_one n q h = name_same q n (rw or-false at h)
 
@@ -428,7 +428,7 @@ module _ {T : Type 0} where
 
   -- ---- which names Refs name
 
-  -- what a Ref names is named where each such Ref is one still
+  -- what a Ref names stays named if each such Ref stays one
   pub named_still : (a b : NameMap (Cell T)) (m : Name)
       → ((k : Name) → refers_to m (map.get a k) ≡ true → refers_to m (map.get b k) ≡ true)
       → is_named a m ≡ true → is_named b m ≡ true
@@ -446,12 +446,12 @@ module _ {T : Type 0} where
 
   -- ---- names end one after the other
 
-  -- names are taken away one after the other
+  -- names are removed one after the other
   pub away_each : (cells : NameMap (Cell T)) (n : Name) (names : List Name)
       → take_away cells (n ∷ names) ≡ take_away (take_away cells (n ∷ [])) names
   away_each cells n names = grind (arith, same_cells, get-without)
 
-  -- a sweep between changes nothing in the end
+  -- a sweep in between changes nothing in the end
   sweep_between : (cells : NameMap (Cell T)) (names : List Name)
       → sweep (take_away (sweep cells) names) ≡ sweep (take_away cells names)
   sweep_between cells names =
@@ -462,7 +462,7 @@ module _ {T : Type 0} where
       let fewer = named_still second cells q (λ k. grind (arith, get-without)) in
       grind (arith, get-swept, get-without, same, fewer))
 
-  -- what is left where names end is what is left where they end one after the other
+  -- what is left when names end together is what is left when they end one after the other
   pub close_each : (cells : NameMap (Cell T)) (n : Name) (names : List Name)
       → cells_after cells (n ∷ names) ≡ cells_after (cells_after cells (n ∷ [])) names
   close_each cells n names = grind (arith, away_each, sweep_between)
@@ -476,11 +476,11 @@ module _ {T : Type 0} where
   away_nothing cells names nothing = grind (arith, same_cells, without_view)
 
   module _ (cells : NameMap (Cell T)) (n : Name) where
-    -- so a Shared cell stays where its name alone ends
+    -- so a Shared cell stays if its name alone ends
     pub away_shared : is_shared (map.get cells n) ≡ true → take_away cells (n ∷ []) ≡ cells
     away_shared shared = away_nothing cells (n ∷ []) (λ q there plain. cc (just_one n q there))
 
-    -- and where none stands, nothing goes
+    -- and if there is none, nothing goes
     pub away_absent : map.get cells n ≡ None → take_away cells (n ∷ []) ≡ cells
     away_absent none = away_nothing cells (n ∷ []) (λ q there plain. cc (just_one n q there))
 
@@ -489,14 +489,14 @@ module _ {T : Type 0} where
     away_one plain =
         grind (arith, same_cells, by_name, get-without, name_here, get-remove_here, get-remove_apart, name_apart)
 
-  -- ---- a sweep of cells where each Shared cell is named, or each but one
+  -- ---- a sweep of cells of which each Shared cell is named, or each except one
 
-  -- where each is named, none goes
+  -- if each is named, none goes
   pub sweep_all : (cells : NameMap (Cell T)) → ((q : Name) → is_shared (map.get cells q) ≡ true
       → is_named cells q ≡ true) → sweep cells ≡ cells
   sweep_all cells named = grind (arith, same_cells, swept_view)
 
-  -- where each but m is named, m alone may go
+  -- if each except m is named, only m may go
   pub sweep_but : (cells : NameMap (Cell T)) (m : Name) → is_shared (map.get cells m) ≡ true
       → ((q : Name) → q ≢ m → is_shared (map.get cells q) ≡ true → is_named cells q ≡ true)
       → sweep cells ≡ cond (is_named cells m) cells (map.remove cells m)
@@ -505,15 +505,15 @@ module _ {T : Type 0} where
 
   -- ---- the end of one name, of cells that are linked
 
-  -- nothing is left out of linked cells
+  -- a sweep removes nothing from linked cells
   pub sweep_linked : (cells : NameMap (Cell T)) → IsLinked cells → sweep cells ≡ cells
   sweep_linked cells linked = sweep_all cells (λ q h. named_from cells q (linked.named q h))
 
-  -- nor where no names end
+  -- nor does an end of no names
   pub close_nothing : (cells : NameMap (Cell T)) → IsLinked cells → cells_after cells [] ≡ cells
   close_nothing cells linked = grind (arith, away_nothing, sweep_linked)
 
-  -- what is left where the name of a cell ends: a Ref's target goes with the last Ref to it
+  -- what is left when the name of a cell ends: a Ref's target goes with the last Ref to it
   abbrev pub left_of_end : NameMap (Cell T) → Name → Option (Cell T) → NameMap (Cell T)
   left_of_end cells n (Some (Value c l)) = map.remove cells n
   left_of_end cells n (Some (Ref m l)) = let rest = map.remove cells n in
@@ -539,7 +539,7 @@ module _ {T : Type 0} where
 
   -- ---- what hinders the end of names
 
-  -- what hinders the end of a cell, where a test tells what is named afterwards
+  -- what hinders the end of a cell, given a test for what is named afterwards
   abbrev pub borrowed_end : NameMap (Cell T) → (Name → Bool) → Option (Cell T) → Option BorrowRefusal
   borrowed_end cells named (Some (Value c l)) = write_refusal (Some c)
   borrowed_end cells named (Some (Ref m l)) =
@@ -559,7 +559,7 @@ module _ {T : Type 0} where
         (map.get cells n) n ≡ borrowed_end cells (is_named (take_away cells names)) cell
     end_hindered n there cell at = grind (arith, get-swept, get-without)
 
-    -- so the first hindrance is that of each name by itself
+    -- so the first hindrance is that of each name alone
     pub first_hindered : first_hindrance cells (cells_after cells names) names
         ≡ first_borrowed_end cells (is_named (take_away cells names)) names
     first_hindered = of_some names (λ n h. h)
@@ -589,7 +589,7 @@ module _ {T : Type 0} where
     apart : (k : Name) → k ≢ a → map.get (map.insert cells a (Ref new l)) k ≡ map.get cells k
     apart k ne = get-insert_apart by_name cells a (Ref new l) k ne
 
-    -- all but the old target are named still
+    -- all except the old target are named still
     turned_named : (q : Name) → q ≢ old → is_shared (map.get turned q) ≡ true → is_named turned q ≡ true
     turned_named q ne h = grind (arith, apart, named_from, by_name, get-insert_here)
 
@@ -610,7 +610,7 @@ module _ {T : Type 0} where
           (is_named (map.remove cells a) old) None (write_refusal (content_of (map.get cells old)))
       turn_hindered = grind (arith, get-swept, turn_names, apart)
 
--- ==== what a box sees after a call: what the call's answer tells of it, and what the call leaves
+-- ==== what a box sees after a call: what the call's answer says of it, and what the call leaves
 
 module _ {T : Type 0} where
   -- ---- what a box reaches
@@ -629,12 +629,12 @@ module _ {T : Type 0} where
       → (is_some c ≡ true) × (is_shared c ≡ false)
   led_box c q m e = grind arith
 
-  -- a content stands where a box reaches
+  -- there is a content at the name that a box reaches
   pub reached_content : (S : State T) (b : GenerationalPointer) (m : Name)
       → IsSound S → reach S b ≡ Some m → is_some (content_at S m) ≡ true
   reached_content S b m s e = grind (arith, reaches)
 
-  -- so what stands there is live
+  -- so the name is live
   pub reached_live : (S : State T) (b : GenerationalPointer) (m : Name)
       → IsSound S → reach S b ≡ Some m → is_some (map.get S.cells m) ≡ true
   reached_live S b m s e = live_by (λ c. is_some (content_of c)) refl _ (reached_content S b m s e)
@@ -671,7 +671,7 @@ module _ {T : Type 0} where
         (grind (arith, name_apart)) (λ t. grind arith) h.change h.lawful in
         grind (arith, h.is, stays, r.number, r.leads, same_store S f h.change)) meets
 
-    -- what stands at a live name keeps its value, unless the call lends it or sets it
+    -- what a live name has keeps its value, unless the call lends it or sets it
     pub kept_value : (m : Name) → IsSound S → Meets S call answer R
         → (Lends S call m → ⊥) → (Sets S call m → ⊥) → is_some (map.get S.cells m) ≡ true
         → is_some (map.get R.cells m) ≡ true → value_at R m ≡ value_at S m
@@ -688,10 +688,10 @@ module _ {T : Type 0} where
         let view = (meets_follows S R call answer meets).view m in
         grind (arith, stays, view, live, reached_live S b m s e)
 
--- ==== values at which no borrow stands: which calls leave them so, that they may be read and
--- ended, and that a read which was released leaves no trace but a ticket
+-- ==== values that aren't borrowed: which calls leave them so, that they may be read and removed, and
+-- that a read and its release change only the next ticket
 
--- a ticket that stood nowhere is taken away from the end, where it was put
+-- a ticket that was nowhere is removed from the end of the list where it was put
 left_again : (t : ℕ) (readers : List Borrow) (r : Borrow) → r.ticket ≡ t → list_any
     (nat_eq t) (list_map (λ b. b.ticket) readers) ≡ false → without t (readers ++ r ∷ []) ≡ readers
 left_again t [] r is none = grind (arith, nat_eq_equiv)
@@ -700,7 +700,7 @@ left_again t (b ∷ readers) r is none = grind (arith, nat_eq_equiv, left_again 
 module _ {T : Type 0} where
   -- ---- what a box that may be written reaches
 
-  -- a box reaches a name at which no borrow stands
+  -- a box reaches a name that isn't borrowed
   pub record Rests (S : State T) (b : GenerationalPointer) (m : Name) : Type 0 where
     pub reaches : reach S b ≡ Some m
     pub free : write_refusal (content_at S m) ≡ None
@@ -725,8 +725,7 @@ module _ {T : Type 0} where
 
   -- ---- what calls leave
 
-  -- no borrow stands where none stood, unless the call asks for one there, ends the box or points
-  -- it elsewhere
+  -- a value stays unborrowed, unless the call begins a borrow of it, ends the box or points it elsewhere
   pub free_stays : (S R : State T) (call : Action T) (answer : Answer T) (b : GenerationalPointer)
       → IsSound S → Meets S call answer R → LeavesUnborrowed S call b
       → can_write S b ≡ true → can_write R b ≡ true
@@ -743,7 +742,7 @@ module _ {T : Type 0} where
   unfolding hindrance_to
   unhindered S b h = search (arith, rests, reaches)
 
-  -- an end of it is answered Ok
+  -- a removal of it returns Ok
   pub free_ends : (S R : State T) (b : GenerationalPointer) (answer : Answer T)
       → can_write S b ≡ true → Meets S (End b) answer R → answer ≡ Done
   unfolding may_lack
@@ -757,7 +756,7 @@ module _ {T : Type 0} where
   refilled_back S m c d had = map.same_map name_total name_exact _ _
       (λ q. grind (arith, get-changed_name, name_same q m))
 
-  -- the state is as it was, but for a ticket
+  -- the state is unchanged except for the next ticket
   pub read_released : (S R Q : State T) (b : GenerationalPointer) (l : Location) (g : Guard)
       (flag : Bool) → IsSound S → Meets S (Read b l) (Reads g) R
       → Meets R (ReleaseReader g) (Flag flag) Q → Q ≡ record S { next = S.next + 1 }

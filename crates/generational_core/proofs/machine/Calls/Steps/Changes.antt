@@ -5,7 +5,7 @@ use Rattle.std.specs.FinMap as map
 use Rattle.std.specs.FinSet as set
 unfoldable pub use Common.*
 
--- ==== a write that is free is refused by the end of numbers alone: it wants no memory
+-- ==== a write that may be made fails only if the tickets are used up: it doesn't allocate
 
 module _ {T : Type 0} where
   pub write_refused_by : (S R : State T) (b : GenerationalPointer) (l : Location) (e : StoreError)
@@ -35,7 +35,7 @@ pub cond_gives : {A : Type 0} (b : Bool) (o : Option A) (x : A)
 cond_gives b o x h = grind arith
 
 module _ {T : Type 0} where
-  -- what stands at a name where names are taken away, and after a sweep
+  -- what a name has after names are removed, and after a sweep
   pub get-without : (cells : NameMap (Cell T)) (names : List Name) (n : Name)
       → map.get (take_away cells names) n
       ≡ cond (is_shared (map.get cells n) || not (among names n)) (map.get cells n) None
@@ -55,7 +55,7 @@ module _ {T : Type 0} where
       × (is_shared (map.get cells n) ≡ true) × (is_named cells n ≡ false))
   swept_view cells n = grind (arith, get-swept)
 
-  -- what is taken away wasn't Shared, and is among the names
+  -- what is removed wasn't Shared, and is among the names
   pub without_view : (cells : NameMap (Cell T)) (names : List Name) (n : Name)
       → (map.get (take_away cells names) n ≡ map.get cells n)
       ⊎ ((map.get (take_away cells names) n ≡ None) × (is_shared (map.get cells n) ≡ false)
@@ -65,7 +65,7 @@ module _ {T : Type 0} where
 
   -- ---- what Refs name
 
-  -- where Shared cells stay, and each Ref was there or names a Shared cell
+  -- Shared cells stay, and each Ref was there or names a Shared cell
   pub targets_still : (old new : NameMap (Cell T)) → HasTargets old
       → ((m : Name) → is_shared (map.get old m) ≡ true → is_shared (map.get new m) ≡ true)
       → ((n m : Name) (l : Location) → map.get new n ≡ Some (Ref m l)
@@ -81,7 +81,7 @@ module _ {T : Type 0} where
   pub swept_linked : (cells : NameMap (Cell T)) → HasTargets cells → IsLinked (sweep cells)
   swept_linked cells t = grind (arith, named_from, swept_view, named_gives)
 
-  -- where names end, each Ref names a Shared cell still
+  -- after names end, each Ref still names a Shared cell
   pub closed_linked : (cells : NameMap (Cell T)) (names : List Name)
       → HasTargets cells → IsLinked (cells_after cells names)
   closed_linked cells names t =
@@ -90,11 +90,11 @@ module _ {T : Type 0} where
 
   -- ---- what nothing hinders from ending isn't borrowed
 
-  -- a borrow stands at a cell, as a write of it is refused
+  -- a cell is borrowed if a write of it fails
   abbrev pub IsBorrowed : Option (Cell T) → Type 0
   IsBorrowed cell = is_some (write_refusal (content_of cell)) ≡ true
 
-  -- where nothing hinders the end of some names, nothing hinders the end of one of them
+  -- if nothing hinders the end of some names, nothing hinders the end of one of them
   none_hindered : (cells left : NameMap (Cell T)) (names : List Name)
       → first_hindrance cells left names ≡ None
       → (n : Name) → among names n ≡ true → hindrance_of cells left (map.get cells n) n ≡ None
@@ -107,7 +107,7 @@ module _ {T : Type 0} where
       → hindrance_of cells left cell n ≡ None → map.get left n ≡ None → IsBorrowed cell → ⊥
   own_free cells left n cell is plain h gone borrowed = grind arith
 
-  -- each name keeps its cell where some end unhindered, or loses one that isn't borrowed
+  -- when names end unhindered, each name keeps its cell, or loses one that isn't borrowed
   pub closed_view : (S : State T) (names : List Name) → hindrance_to S names ≡ None → (n : Name)
       → (map.get (cells_after S.cells names) n ≡ map.get S.cells n)
       ⊎ ((map.get (cells_after S.cells names) n ≡ None)
@@ -121,7 +121,7 @@ module _ {T : Type 0} where
       let away = without_view S.cells names in
       grind (arith, away, own, none, named_gives S.cells n, named_from rest n, swept_view rest n)
 
-  -- the same where a Ref turns to another cell, but for the Ref
+  -- the same when a Ref turns to another cell, except for the Ref
   pub turned_view : (S : State T) (a old new : Name) (l : Location) → map.get
       S.cells a ≡ Some (Ref old l) → let left = sweep (map.insert S.cells a (Ref new l)) in
       hindrance_at S.cells left old ≡ None → (n : Name) → (map.get left n ≡ map.get S.cells n)
@@ -142,14 +142,14 @@ module _ {T : Type 0} where
       swept_linked _ (targets_still cells (map.insert cells a (Ref new l)) t
       (grind (arith, get-insert_apart, by_name)) (grind (arith, get-insert_here, get-insert_apart, by_name)))
 
--- ==== cells that are linked stay so: where cells come, and where contents change
+-- ==== cells that are linked stay so: when cells come, and when contents change
 
 module _ {T : Type 0} where
   -- the cells of a sound state are linked
   pub sound_linked : (S : State T) → IsSound S → IsLinked S.cells
   sound_linked S s = grind (arith, named_gives)
 
-  -- and those that are left of linked ones where names end
+  -- and those that are left of linked ones when names end
   pub closing_linked : (cells : NameMap (Cell T)) (names : List Name)
       → IsLinked cells → IsLinked (cells_after cells names)
   closing_linked cells names linked = closed_linked cells names linked.targets
@@ -190,7 +190,7 @@ module _ {T : Type 0} where
   pub refilled_shared : (c : Content T) (x : Cell T) → is_shared (Some (refill c x)) ≡ is_shared (Some x)
   refilled_shared c x = grind arith
 
-  -- so cells stay linked where a content changes
+  -- so cells stay linked when a content changes
   pub refilled_linked : (cells : NameMap (Cell T)) (n : Name) (c : Content T)
       → IsLinked cells → IsLinked (change cells n (refill c))
   refilled_linked cells n c linked = grind (arith, changed_view, by_name)
@@ -198,17 +198,17 @@ module _ {T : Type 0} where
 -- ==== what a call does to a state: one change of its cells, another table of owners and maybe a
 -- ticket, and what its answer says of that
 
--- the name behind another was never given, and isn't the other
+-- the name behind another was never issued, and isn't the other
 pub second_fresh : (given : Names) (m n : Name) → set.contains (set.insert given m) n ≡ false
     → (set.contains given n ≡ false) × (m ≢ n)
 second_fresh given m n h = grind (arith, contains-insert_name, name_here)
 
--- the readers but for those with a ticket
+-- the readers except for those with a ticket
 abbrev pub without : ℕ → List Borrow → List Borrow
 without t readers = filter (λ r. not (nat_eq r.ticket t)) readers
 
--- How a content is filled anew: a reader comes, a writer comes, a reader goes, a writer gives the
--- value back, a value is set.
+-- How a content is filled again: a reader comes, a writer comes, a reader goes, a writer gives the value
+-- back, a value is set.
 pub data Filling (T : Type 0) : Type 0 where
   Reader : (value : T) (readers : List Borrow) (at : Location) → Filling T
   Writer : (value : T) (at : Location) → Filling T
@@ -227,7 +227,7 @@ pub data Change (T : Type 0) : Type 0 where
   Turn : (ref old new : Name) (created : Location) → Change T
 
 module _ {T : Type 0} where
-  -- the names that a making takes were never given, and are two
+  -- the names that a making takes were never issued, and are two
   abbrev pub AreFresh : State T → Action T → NewNames → Type 0
   AreFresh S (Make o v l) f = set.contains S.given f.first ≡ false
   AreFresh S (MakeShared o v l) f = (set.contains S.given f.first ≡ false)
@@ -235,7 +235,7 @@ module _ {T : Type 0} where
   AreFresh S (Refer o b) f = set.contains S.given f.first ≡ false
   AreFresh S _ f = Unit {0}
 
-  -- new names were never given
+  -- new names were never issued
   pub new_fresh : (S : State T) (call : Action T) (f : NewNames) → AreNew S call f → AreFresh S call f
   new_fresh S call f new = grind (arith, second_fresh)
 
@@ -263,7 +263,7 @@ module _ {T : Type 0} where
   new_content S (Return w g v) = Here v []
   new_content S (Replace old v) = Here v []
 
-  -- what is known where a call fills a content, and which ticket is the next then
+  -- what is known when a call fills a content, and which ticket is next then
   abbrev pub IsFilling : State T → Action T → ℕ → Name → Filling T → Type 0
   IsFilling S call next n (Reader v readers l) = (next ≡ S.next + 1) × Borrows S call n
   IsFilling S call next n (Writer v l) = (next ≡ S.next + 1) × Lends S call n × Borrows S call n
@@ -287,7 +287,7 @@ module _ {T : Type 0} where
   IsBirth S c = (is_shared (Some c) ≡ false) × (tickets_of (content_of (Some c)) ≡ [])
       × ((m : Name) (l : Location) → Some c ≡ Some (Ref m l) → is_shared (map.get S.cells m) ≡ true)
 
-  -- what is known where a call makes a change
+  -- what is known when a call makes a change
   abbrev pub IsLawful : State T → Action T → NewNames → ℕ → Change T → Type 0
   IsLawful S call f next Stay = Unit {0}
   IsLawful S call f next (Birth c) = (is_making call ≡ true) × IsBirth S c
@@ -303,13 +303,13 @@ module _ {T : Type 0} where
 
   -- ---- what an answer says
 
-  -- a box of the store, at a name that was never given before, and is no Shared cell's
+  -- a box of the store, at a name that was never issued before, and is no Shared cell's
   pub record IsNewBox (S R : State T) (b : GenerationalPointer) : Type 0 where
     pub number : b.id.store ≡ S.number
     pub ungiven : set.contains S.given (name_of b) ≡ false
     pub boxed : IsBoxed R (name_of b)
 
-  -- a ticket, which is spent from now on
+  -- a ticket, which is used up from now on
   pub record IsNewTicket (S R : State T) (t : ℕ) : Type 0 where
     pub is : t ≡ S.next
     pub next : R.next ≡ S.next + 1
@@ -322,12 +322,12 @@ module _ {T : Type 0} where
   Says S (Owned o) R = R.next ≡ S.next + 1
   Says S _ R = Unit {0}
 
-  -- the want that an answer tells
+  -- the store's error that an answer has
   abbrev pub wants : Answer T → Option StoreError
   wants (Refused e) = want e
   wants _ = None
 
-  -- what a call answers is so
+  -- what a call answers is true
   pub record IsSaid (S : State T) (out : Outcome T) : Type 0 where
     pub so : Says S out.0 out.1
     -- the machine itself wants neither memory nor tickets
@@ -335,7 +335,7 @@ module _ {T : Type 0} where
 
   -- ---- what a call does
 
-  -- records of owners have names of boxes, and keys that were given
+  -- records of owners have names of boxes, and keys that were issued
   abbrev pub AreRecords : State T → ℕ → Owners → Type 0
   AreRecords S next owners = (k : ℕ) (h : Ownership)
       → map.get owners k ≡ Some h → AllByRecursion (IsBoxed S) h.names × (k < next)
@@ -361,7 +361,7 @@ module _ {T : Type 0} where
   boxed_push S [] n h b = (b, tt)
   boxed_push S (m ∷ names) n h b = (h.0, boxed_push S names n h.1 b)
 
-  -- a name more in a list, a record put in, and a record forgotten
+  -- another name in a list, a record inserted, and a record removed
   module _ (S : State T) (next : ℕ) (owners : Owners) (all : AreRecords S next owners) (key : ℕ) where
     records_listed : (n : Name) → IsBoxed S n → AreRecords S next (change owners key (one_listed n))
     records_listed n boxed = grind (arith, boxed_push, changed_view, by_number)
@@ -400,13 +400,13 @@ module _ {T : Type 0} where
     still : {call : Action T} {answer : Answer T} → Leads S call f (answer, S)
     still = leads Stay _ S.next (omega arith) tt (λ h. h)
 
-    -- a content is filled anew
+    -- a content is filled again
     fills : {call : Action T} {answer : Answer T} (n : Name) (k : Filling T) (next : ℕ) → S.next ≤ next
         → content_at S n ≡ Some (old_content k) → IsFilling S call next n k
         → Leads S call f (answer, record (fill S n (new_content S k)) { next = next })
     fills n k next up had law = leads (Fill n k) _ next up (had, law) (λ h. h)
 
-    -- a refusal where a refusal stands, and one of two outcomes
+    -- an error if there is one, else one of two outcomes
     leads_unless : {call : Action T} (t : Option BorrowRefusal) {x : Outcome T}
         → (t ≡ None → Leads S call f x) → Leads S call f (unless t S x)
     leads_unless t h = grind (arith, still)
@@ -520,7 +520,7 @@ module _ {T : Type 0} where
   act_leads S call f =
       search (leads_if, leads_unless, leads_referred, leads_pointed, owning, borrowing, still)
 
-  -- what each call answers is so
+  -- what each call answers is true
   pub act_says : (S : State T) (call : Action T) (f : NewNames)
       → AreFresh S call f → IsSaid S (act S call f)
   act_says S (Read b l) f new = grind (arith, get-changed_name, name_here, list_any-append)
@@ -533,7 +533,7 @@ module _ {T : Type 0} where
   -- ---- what is left of the cells when names end
 
   module _ (cells : NameMap (Cell T)) (names : List Name) (n : Name) where
-    -- a Value or a Ref goes exactly where the names hold it
+    -- a Value or a Ref goes exactly if the names hold it
     module _ (box : is_shared (map.get cells n) ≡ false) where
       pub box_ends : among names n ≡ true → map.get (cells_after cells names) n ≡ None
       box_ends there = rw (get-swept, get-without, box, there)
@@ -541,7 +541,7 @@ module _ {T : Type 0} where
       pub box_stays : among names n ≡ false → map.get (cells_after cells names) n ≡ map.get cells n
       box_stays apart = rw (get-swept, get-without, box, apart, box)
 
-    -- a Shared cell goes exactly where no Ref that is left names it
+    -- a Shared cell goes exactly if no Ref that is left names it
     module _ (shared : is_shared (map.get cells n) ≡ true) where
       pub shared_ends : (IsNamed (cells_after cells names) n → ⊥)
           → map.get (cells_after cells names) n ≡ None
@@ -551,7 +551,7 @@ module _ {T : Type 0} where
           → map.get (cells_after cells names) n ≡ map.get cells n
       shared_stays h = grind (arith, named_from, get-swept, get-without)
 
-  -- what stands in a list of names of boxes is one
+  -- what is in a list of names of boxes is one
   pub boxed_among : (S : State T) (names : List Name) (n : Name)
       → AllByRecursion (IsBoxed S) names → among names n ≡ true → IsBoxed S n
   boxed_among S [] n all there = cc
@@ -566,7 +566,7 @@ module _ {T : Type 0} where
     last_release : h.count ≤ 1 → R ≡ record (close S h.names) { owners = map.remove S.owners o.key }
     last_release last = grind arith
 
-    -- else the record stands for one owner value less
+    -- else the record has one owner value less
     earlier_release : 1 < h.count → R ≡ set_ownership S o.key (one_less h)
     earlier_release more = grind arith
 
@@ -605,7 +605,7 @@ module _ {T : Type 0} where
       → recorded_as call ≡ Some step → is_ready S step ≡ not (is_hindered call (act S call new).0)
   ready_told S call step new e = grind arith
 
-  -- a call that is ready is answered by no borrow
+  -- a call that is ready doesn't fail because of a borrow
   pub ready_free : (S R : State T) (call : Action T) (step : StepCall) (answer : Answer T)
       → recorded_as call ≡ Some step → is_ready S step ≡ true → Meets S call answer R
       → is_hindered call answer ≡ false
