@@ -8,8 +8,7 @@ use Rattle.std.specs.FinSet as set
 use Rattle.generational_errors.specs.declared.error.Refused.TheVariants as refused
 unfoldable pub use Common.*
 
--- ==== how many owner values the records stand for, below which key they stand, and what is put on
--- their lists
+-- ==== how many owner values the records have, below which key they are, and what is put on their lists
 
 -- names are compared for equality
 name_equal : IsEquivalence is_name
@@ -67,12 +66,12 @@ module _ {next : ℕ} {owners : Owners} (counted : AreCounted next owners) where
   counted_up k = counted_changed (counted_more counted) k one_more (λ h is c.
       let old = rw is at (counted.each k) in grind arith)
 
--- what is found of an owner is what stands under its key
+-- what is found of an owner is what is under its key
 pub record_held : (number : ℕ) (owners : Owners) (o : OwnerName) (h : Ownership)
     → Some h ≡ record_of number owners o → map.get owners o.key ≡ Some h
 record_held number owners o h is = grind arith
 
--- it stands for no more owner values than tickets were given
+-- it has no more owner values than tickets were issued
 pub counted_within : {next : ℕ} {owners : Owners} → AreCounted next owners → (number : ℕ)
     (o : OwnerName) (h : Ownership) → Some h ≡ record_of number owners o → h.count ≤ next
 counted_within {next} {owners} counted number o h is =
@@ -92,7 +91,7 @@ guard_at number n t = record { store = number; cell = n; ticket = t }
 pub state_is : {T : Type 0} {s r : SoundState T} → s ≡ r → s.state ≡ r.state
 state_is same = ap (λ s. s.state) same
 
--- what is told by the proofs that a state is sound and bounded is told by any
+-- what one proof that a state is sound and bounded implies, any such proof implies
 pub both : {T A : Type 0} {S : State T} (f : IsSound S → IsBounded S → A) {s r : IsSound S}
     {b c : IsBounded S} → f s b ≡ f r c
 both f {s} {r} {b} {c} = λ i. f (IsSound-prop _ s r i) (IsBounded-prop _ b c i)
@@ -109,7 +108,7 @@ module _ {T : Type 0} where
       → Meets S.state call answer R → IsSound R × (IsBounded R × Unit {0})
   kept S call answer = meets_kept _ _ call answer S.sound S.bounded
 
-  -- borrows that stand in the way, or no memory for the list of their locations
+  -- borrows that are in the way, or no memory for the list of their locations
   pub hindered_step : (S : State T) (call : Action T) (e : Refused BorrowMutError)
       (t : Option BorrowRefusal) (out : Outcome T) → act S call no_names ≡ unless t S out
       → FoundBorrowed t (Err e) → Meets S call (end_refused e) S
@@ -122,7 +121,7 @@ module _ {T : Type 0} where
   unfolding reach
   reach_own S b own = grind (arith, nat_tests)
 
-  -- what stands in the way of a write
+  -- what is in the way of a write
   write_own : (S : State T) (b : GenerationalPointer) {n : Name} → Some n ≡ own_of S.number b.id
       → refusal_to_write S b ≡ refusal_to_write_at S n b.created_at
   unfolding reach refusal_to_write
@@ -137,7 +136,7 @@ module _ {T : Type 0} where
       (subst (λ t. FoundBorrowed t (Err e)) (sym (write_own S b own)) found)
 
   module _ (S : State T) (sound : IsSound S) where
-    -- in a sound state a content stands where a name leads, and where a box does
+    -- in a sound state there is a content at what a name refers to, and at what a box refers to
     pub led : (n m : Name) → reached S n ≡ Some m → is_some (content_at S m) ≡ true
     led n m to = grind (arith, sound.targets)
 
@@ -150,13 +149,13 @@ module _ {T : Type 0} where
     pub readers_below : (m : Name) → AreBelow S.next (readers_of (content_at S m))
     readers_below m t stands = let below = sound.below m t in grind (arith, any_ticket)
 
-  -- the content that stands at a name, put there again, changes nothing
+  -- the content that is at a name, put there again, changes nothing
   filled_own : (S : State T) (n : Name) (c d : Content T) → content_at S n ≡ Some c → d ≡ c
       → change S.cells n (refill d) ≡ S.cells
   unfolding change
   filled_own S n c d is same = rw same (grind (arith, insert_there by_name S.cells n))
 
-  -- the answer to a reader's end is whether it stood; X stands for the slots of a store, and S for
+  -- a reader's release returns whether the borrow was active; X represents the slots of a store, and S
   -- the store
   pub released : (X : State T) {S : State T} {number next : ℕ} {owners : Owners}
       → with_records X number owners next ≡ S → (id : GenerationalBoxId) (t : ℕ) {n : Name}
@@ -201,7 +200,7 @@ made_read_back S rows made slots = rw made (rows_read_back S slots)
 -- ==== the makings of cells, as steps of the machine
 
 module _ {T : Type 0} where
-  -- no owner's list has a name that was never given
+  -- no owner's list has a name that was never issued
   unlisted : (S : State T) → IsSound S → (n : Name) → set.contains S.given n ≡ false → (k : ℕ)
       → among (names_under S.owners k) n ≡ false
   unlisted S sound n fresh k = let owned = sound.owned k in grind (arith, all)
@@ -216,13 +215,13 @@ module _ {T : Type 0} where
       → AreCounted S.next (add_to_list_in S.owners o n)
   made_counted S sound counted n fresh o = counted_listed counted o n (unlisted S sound n fresh)
 
-  -- each reference still names a shared cell where one more was made
+  -- each reference still names a shared cell after another was made
   pub pair_targets : (cells : NameMap (Cell T)) (c : Content T) (l : Location) (m : Name)
       → HasTargets cells → HasTargets (map.insert cells m (Shared c l))
   pair_targets cells c l m old n k j at =
       grind (arith, get-insert_here, get-insert_apart, by_name, name_cases)
 
-  -- s stands for the slots of a store, and S for the store
+  -- s represents the slots of a store, and S the store
   module _ (s : SlotsState T) {S : State T} {number next : ℕ} {owners : Owners}
       (view : with_records s.state number owners next ≡ S) (o : Option OwnerName) where
     -- a value of a box's own
@@ -293,11 +292,11 @@ module _ {T : Type 0} where
 -- ==== the ends of names, and which calls no borrow hinders, as steps of the machine
 
 module _ {T : Type 0} where
-  -- X stands for the slots of a store, and S for the store
+  -- X represents the slots of a store, and S the store
   module _ (X : State T) {S : State T} {number next : ℕ} {owners : Owners}
       (view : with_records X number owners next ≡ S) (b : GenerationalPointer) {n : Name}
       (own : Some n ≡ own_of S.number b.id) where
-    -- the name of a box ends unless a borrow stands in the way
+    -- the name of a box ends unless a borrow is in the way
     pub end_own : (Y : State T) (result : Result (Unit {0}) (Refused BorrowMutError))
         → HasEnded X Y (n ∷ []) result
         → Meets S (End b) (end_answer result) (with_records Y number owners next)
@@ -306,7 +305,7 @@ module _ {T : Type 0} where
     end_own Y (Err (refused.Borrow e)) ended = inl (no_names, tt, grind (arith, nat_tests))
     end_own Y (Err (refused.Store e)) ended = inr (grind (arith, nat_tests))
 
-    -- and a value is handed back as its box ends
+    -- and a value is returned when its box is removed
     pub taken_ends : (Y : State T) (result : Option T)
         → IfSome result (λ v. hindrance_to X (n ∷ []) ≡ None)
         → IfSome result (λ v. Y ≡ close X (n ∷ []))
@@ -336,7 +335,7 @@ module _ {T : Type 0} where
 
 -- ==== the release of an owner's last value, as a step of the machine
 
--- a borrow stands in the way
+-- a borrow is in the way
 pub last_refused : {T : Type 0} (S : State T) (o : OwnerName) (h : Ownership) (names : List Name)
     (e : Refused BorrowMutError) → Some h ≡ record_of S.number S.owners o → h.count ≤ 1
     → names ≡ h.names → FoundBorrowed (hindrance_to S names) (Err e)
@@ -362,7 +361,7 @@ module _ {T : Type 0} (X : State T) {S : State T} {number next : ℕ} {owners : 
   unfolding may_lack
   turned call Y result same t left acts turning = grind arith
 
-  -- so is a refusal that tells where something was made
+  -- the same holds of an error that says where something was made
   told : (call : Action T) (Y : State T) (result : Result (Unit {0}) (Refused BorrowMutError))
       (t : BorrowRefusal) → act V call no_names ≡ (BorrowRefused t, V)
       → IsTurned X Y result (BorrowRefused t, X)

@@ -38,7 +38,7 @@ module _ {T : Type 0} where
   live_told i n = rw (← tells i, slice_get-map, get_cells (list_map slot_told i.slots.items) n, told_at i.slots.items n.slot)
       (live_in (slice_get i.slots.items n.slot) n.generation)
 
-  -- under another number it tells the same state but for that
+  -- under another number it determines the same state except for the number
   pub told_as : (i : Image T) (number : ℕ)
       → told (record i { number = number }) ≡ record (told i) { number = number }
   unfolding told

@@ -70,7 +70,7 @@ no_at n small = decimal_by_steps (λ n ds. list_any is_at ds ≡ false)
     digit : (n : ℕ) → n < 10 → list_any is_at ((48 + n) ∷ []) ≡ false
     digit n few = let apart : (48 + n == 64) ≡ false = grind (arith, common_steps) in rw apart refl
 
--- so it stands first after them
+-- so it comes first after them
 pub at_after : (ds rest : List ℕ) → list_any is_at ds ≡ false
     → position_or_len is_at (ds ++ (64 ∷ rest)) ≡ length ds
 at_after [] rest none = refl

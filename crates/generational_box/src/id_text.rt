@@ -9,7 +9,7 @@ use generational_core::GenerationalBoxId;
 use generational_core::parts::id_at;
 
 /// The id of this slot of the store with this number, under this generation. It needn't be one that was
-/// given: `GenerationalBox::find` returns a box only if its cell is live.
+/// issued: `GenerationalBox::find` returns a box only if its cell is live.
 ///
 /// Upstream has no such call.
 pub fn box_id(store: u64, slot: usize, generation: u64) -> GenerationalBoxId
@@ -20,7 +20,7 @@ pub fn box_id(store: u64, slot: usize, generation: u64) -> GenerationalBoxId
 
 /// The id of the store with this number that prints as this text: `slot@generation`, both decimal,
 /// without a sign or leading zeros. None for any other text. Doesn't allocate. It needn't be an id that
-/// was given.
+/// was issued.
 ///
 /// Upstream has no such call.
 pub fn parse_box_id(number: u64, text: &str) -> Option<GenerationalBoxId>

@@ -1,16 +1,14 @@
 //! Generational boxes: `Copy` boxes over recycled slots.
 //!
-//! A [`Store`] keeps values of one type. A [`GenerationalBox`] names one of them: it is copied
-//! freely, owns nothing, and may outlive its value, since a name is never given twice. A value is
-//! read or written under a guard, which names its borrow and is spent by `release`; a call that
-//! meets a borrow, or a value that is gone, is answered by an error that tells where the borrow
-//! began or where the box was made. [`Session`] runs lists of calls that name each other by their
-//! places.
+//! A [`Store`] stores values of one type. A [`GenerationalBox`] refers to one of them: it is `Copy`, owns
+//! nothing, and may outlive its value, since a name is never issued twice. A value is read or written
+//! under a guard, which refers to its borrow and is consumed by `release`. If a borrow is in the way, or
+//! the value was removed, a call fails with an error that says where the borrow began or where the box
+//! was made. [`Session`] runs lists of calls that refer to each other by their places.
 //!
-//! Every call is proved to be a step of a small abstract machine, for every element type that can
-//! be let go and every storage: the clauses of [`AnyStorage`] and [`Storage`] say which step. The
-//! definitions stand in the `specs/` of `generational_core`, and in plain words in
-//! `docs/machine.md` at the repository's root.
+//! Every call is proved to be a step of a small abstract machine, for every element type that can be
+//! dropped and every storage: the clauses of [`AnyStorage`] and [`Storage`] say which step. The
+//! definitions are in `specs/` of `generational_core`; `docs/machine.md` describes them in plain words.
 #![tactic(auto)]
 
 mod id_text;

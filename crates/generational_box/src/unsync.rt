@@ -1,5 +1,5 @@
 //! The sequential store.
-// These words on the machine are opened at each goal that has no answer.
+// These definitions of the machine are unfolded at each goal without a proof file.
 #![tactic(auto, unfolding(generational_core::specs::Borrowing::reach, generational_core::specs::Borrowing::refusal_to_read, generational_core::specs::Borrowing::refusal_to_write, generational_core::specs::Ending::hindrance_to, generational_core::specs::Seeing::value_in, generational_core::specs::Seeing::value_to_take))]
 
 ghost use Rattle.std.specs.Prelude.{◌≡◌, ◌<◌, IfSome, [], true};
@@ -38,11 +38,11 @@ use store_slots::found::Found;
 use store_slots::refusals::{dropped, dropped_mut};
 use store_slots::slots::Slots;
 
-/// A store of values of one type in recycled slots. Contracts see it as the state of the abstract
-/// machine, with the proofs that the state is sound and that its slots are bounded. `P` chooses
-/// which free slot is taken.
+/// A store of values of one type in recycled slots. Contracts model it as the state of the abstract
+/// machine, with the proofs that the state is sound and that its slots are bounded. `P` chooses which
+/// free slot is taken.
 ///
-/// It isn't `Clone`, and whoever makes it hands it to each call.
+/// It isn't `Clone`; its maker passes it to each call.
 pub struct Store<T, P: SlotPool> {
     alloc: Global,
     number: u64,
@@ -54,7 +54,7 @@ pub struct Store<T, P: SlotPool> {
     ghost bounded: { IsBounded (with_records slots.state number owners.owners next) } by { IsBounded-prop (with_records slots.state number owners.owners next) },
 }
 
-/// The store that takes the slot that was freed last.
+/// The store that reuses the slot that was freed last.
 pub type UnsyncStorage<T> = Store<T, LastFirst>;
 
 impl<T, P: SlotPool> Model for Store<T, P> {
@@ -78,8 +78,8 @@ impl<T, P: SlotPool> Model for Store<T, P> {
     ghost invariant = { λ s. AreCounted s.next s.owners.owners };
 }
 
-// A store goes in a function of its own: LLVM follows few uses of a local variable, and what it
-// knows of a store it knows for as long as these are few.
+// A store is dropped in a separate function: LLVM follows few uses of a local variable, and it knows
+// something of a store only while these are few.
 impl<T: Drop, P: SlotPool> Drop for Store<T, P> {
     #[cold]
     #[inline(never)]
@@ -109,13 +109,13 @@ impl<T, P: SlotPool> Store<T, P> {
     ghost use Rattle.std.specs.Prelude.{◌≡◌, ◌≤◌};
     ghost use Rattle.generational_core.specs.Conditions.{fresh};
 
-    /// An empty store with this number, by which it tells its boxes from those of other stores:
-    /// its maker chooses it. Generations begin at 1, and tickets at 0. Takes no memory.
+    /// An empty store with this number, which its maker chooses, and which tells its boxes from those of
+    /// other stores. Generations begin at 1, and tickets at 0. Doesn't allocate.
     ///
     /// ```rust
     /// let mut store = UnsyncStorage::new(alloc, 1);
     /// ```
-    // Not inlined, nor is a store's end: see its `Drop`.
+    // Not inlined, nor is a store's drop: see its `Drop`.
     #[inline(never)]
     pub fn new(alloc: Global, number: u64) -> Self
         ensures { result.state ≡ fresh number 1 0 }
@@ -130,7 +130,8 @@ impl<T, P: SlotPool> Store<T, P> {
         )
     }
 
-    /// An empty store with other first numbers, to see what happens at their ends. Takes no memory.
+    /// An empty store with other first numbers, to test what happens when they are used up. Doesn't
+    /// allocate.
     ///
     /// ```rust
     /// let numbers = Numbers {
@@ -160,13 +161,15 @@ impl<T: Drop, P: SlotPool> Store<T, P> {
     ghost use Rattle.store_rows.specs.Past.{ArePast};
     ghost use Rattle.generational_errors.specs.declared.error.StoreError.TheVariants.{OutOfMemory};
 
-    /// Makes room for this many cells more, where there isn't, and for no more than these. After it so
-    /// many insertions without an owner take no memory, where a shared value is two cells. Their
-    /// contracts don't say so, since they allow a refusal wherever no slot is free: it is proved of
-    /// the slots beneath, and tested.
+    /// Reserves exact capacity for this many more cells, if there isn't enough. After it so many
+    /// insertions without an owner don't allocate; a shared value counts as two cells. Their contracts
+    /// don't say so, since they allow an error whenever no slot is free: it is proved of the underlying
+    /// slots, and tested. Allocates if there isn't enough capacity, and then takes O(n) time for n slots,
+    /// which are moved.
     ///
-    /// Refused by `OutOfMemory` alone. The state stays as it was, carried out or refused. Takes memory
-    /// where there isn't room, and O(n) time for n slots that are moved then.
+    /// # Errors
+    ///
+    /// `OutOfMemory` only. The state is unchanged in either case.
     ///
     /// Upstream has no such call.
     ///
@@ -180,13 +183,16 @@ impl<T: Drop, P: SlotPool> Store<T, P> {
         self.slots.reserve(more)
     }
 
-    /// The rows of the store, packed: those that `rows` gives, in the same order. What the shared
-    /// store's checkpoint asks, which hands in the rows of an earlier state: their memory is used again,
-    /// and a free slot, or a value that nobody borrows, isn't written where it is there as it is now.
+    /// The rows of the store, packed: those that `rows` returns, in the same order. The shared store's
+    /// checkpoint calls it with the rows of an earlier state: their memory is reused, and the entry of a
+    /// free slot, or of a value that isn't borrowed, isn't written again if it is unchanged.
     ///
-    /// Refused by `OutOfMemory` alone. It changes nothing, and takes time for each slot, each borrow,
-    /// each record of an owner and each box of its list; and memory for each of these for which there
-    /// is no room.
+    /// It changes nothing, and takes time for each slot, each borrow, each record of an owner and each
+    /// box of its list. Allocates for each of these for which there is no room.
+    ///
+    /// # Errors
+    ///
+    /// `OutOfMemory` only.
     pub fn pack_rows(&self, past: PackedRows) -> Result<PackedRows, StoreError>
         requires { ArePast (plain self.now.state) past }
         ensures rows { IfOk result (λ rows. rows ≡ rows_of self.now.state) }
@@ -215,12 +221,14 @@ impl<T: Drop, P: SlotPool> Store<T, P> {
         }
     }
 
-    /// Packs the slots from one on, up to another, ahead of the rest, into the place of rows that were
-    /// packed in an earlier state. So `pack_rows` needn't write those of them that don't change until
-    /// then. The answer is such rows too; which of them were packed, no clause says.
+    /// Packs a range of slots ahead of the rest, over rows that were packed in an earlier state. So
+    /// `pack_rows` needn't write those of them that don't change until then. Returns such rows; which of
+    /// them were packed, no clause says. Takes time for each of these slots, and allocates if they have
+    /// no room.
     ///
-    /// Refused by `OutOfMemory` at most, and the rows that were handed in are lost then. Takes time for
-    /// each of these slots, and memory where they have no room.
+    /// # Errors
+    ///
+    /// `OutOfMemory` only; the rows that were passed in are dropped then.
     pub fn pack_ahead(
         &self,
         past: PackedRows,
@@ -505,7 +513,7 @@ impl<T: Drop, P: SlotPool> Storage<T> for Store<T, P> {
             Err(_) => return Err(Refused::Store(StoreError::OutOfMemory)),
         };
         self.owners.list(place, name);
-        // Asked of the new cell, so that nothing is kept of the place while it is made.
+        // Read from the new cell, so that the location needn't be kept while the cell is made.
         Ok(pointer_in(self.number, name, self.slots.created_at(name)))
     }
 
@@ -622,7 +630,7 @@ impl<T: Drop, P: SlotPool> Storage<T> for Store<T, P> {
     }
 }
 
-// What the calls ask and do.
+// What the calls check and do.
 impl<T: Drop, P: SlotPool> Store<T, P> {
     ghost use Rattle.std.specs.Prelude.{◌≡◌, ◌<◌, true, None, Some, option_copied};
     ghost use Rattle.std.specs.Prelude.{if◌then◌else◌, nat_eq, not, option_map};
@@ -642,7 +650,7 @@ impl<T: Drop, P: SlotPool> Store<T, P> {
     ghost use Rattle.generational_core.specs.Steps.{Meets, last_ticket};
     ghost use Rattle.store_parts.specs.CellNames.{name_of_cell};
 
-    // The name in an id, exactly where the id is of this store.
+    // The name in an id, exactly if the id is of this store.
     #[inline(always)]
     fn own(&self, id: GenerationalBoxId) -> Option<CellName>
         ensures { option_map name_of_cell result
@@ -654,7 +662,7 @@ impl<T: Drop, P: SlotPool> Store<T, P> {
         Some(cell_name(id))
     }
 
-    // What the box reaches, and which borrow is there.
+    // What the box refers to, and its borrow.
     #[inline(always)]
     fn look(&self, pointer: GenerationalPointer) -> Found
         ensures { Finds self.now.state.cells (reach self.now.state pointer) result }
@@ -665,7 +673,7 @@ impl<T: Drop, P: SlotPool> Store<T, P> {
         }
     }
 
-    // Whether no writer has what the box reaches, if it reaches a value.
+    // Whether the value that the box refers to, if any, isn't being written.
     fn may_read(&self, pointer: GenerationalPointer) -> bool
         ensures { result ≡ not (tells_of_borrow (refusal_to_read self.now.state pointer)) }
     {
@@ -677,7 +685,7 @@ impl<T: Drop, P: SlotPool> Store<T, P> {
         }
     }
 
-    // Whether no borrow stands at what the box reaches, if it reaches a value.
+    // Whether the value that the box refers to, if any, isn't borrowed.
     fn may_write(&self, pointer: GenerationalPointer) -> bool
         ensures write { result ≡ not (tells_of_borrow (refusal_to_write self.now.state pointer)) }
         ensures set { result ≡ may_set (reach self.now.state pointer)
@@ -691,7 +699,7 @@ impl<T: Drop, P: SlotPool> Store<T, P> {
         }
     }
 
-    // Whether no borrow stands in the way of the end of the box's cell.
+    // Whether no borrow is in the way of removing the box's cell.
     fn may_end(&self, pointer: GenerationalPointer) -> bool
         ensures { result
             ≡ not (tells_of_borrow (hindrance_to self.now.state (own_name self.now.state pointer))) }
@@ -702,7 +710,7 @@ impl<T: Drop, P: SlotPool> Store<T, P> {
         }
     }
 
-    // Whether no borrow stands in the way where a box is pointed to what another reaches.
+    // Whether no borrow is in the way of pointing a box to what another refers to.
     fn may_point(&self, pointer: GenerationalPointer, other: GenerationalPointer) -> bool
         ensures { result ≡ meets_no_borrow self.now.state (Point pointer other) }
     {
@@ -723,8 +731,7 @@ impl<T: Drop, P: SlotPool> Store<T, P> {
         self.slots.may_point(name, new, shared)
     }
 
-    // Whether no borrow stands in the way of the release of an owner value of a record, if the
-    // store has it.
+    // Whether no borrow is in the way of releasing an owner value of a record, if the store has it.
     fn may_end_record(&self, held: Option<&OwnerRecord>) -> bool
         requires { IfSome (option_copied held) (λ r. IsDistinct is_name r.ownership.names) }
         ensures { (o : OwnerName)
@@ -744,7 +751,7 @@ impl<T: Drop, P: SlotPool> Store<T, P> {
         self.owners.permits(self.number, owner)
     }
 
-    // Why a read is refused where no ticket is left.
+    // Why a read fails if the tickets are used up.
     #[cold]
     #[inline(never)]
     fn refusal_to_read(&self, pointer: GenerationalPointer) -> Refused<BorrowError>
@@ -762,7 +769,7 @@ impl<T: Drop, P: SlotPool> Store<T, P> {
         }
     }
 
-    // Begins a read of the value that the box reaches, and no writer has.
+    // Begins a read of the value that the box refers to and that isn't being written.
     #[inline(always)]
     fn begin_read(
         &mut self,
@@ -789,9 +796,9 @@ impl<T: Drop, P: SlotPool> Store<T, P> {
         }
     }
 
-    // The noted borrow, if there is one, goes to a list. Nothing that contracts see changes. The
-    // number is written back after it: LLVM takes it that whoever has a part of the store may write
-    // all of it, and so it would ask for the number again.
+    // Moves the noted borrow, if there is one, to a list. Nothing that contracts model changes. The
+    // number is written back afterwards: LLVM assumes that the holder of a part of the store may write
+    // all of it, and would load the number again.
     #[inline(always)]
     fn list_noted(&mut self)
         ensures { self.new.state ≡ self.old.state }
@@ -804,7 +811,7 @@ impl<T: Drop, P: SlotPool> Store<T, P> {
         self.number = number;
     }
 
-    // Begins a write of the value that the box reaches, and at which no borrow stands.
+    // Begins a write of the value that the box refers to and that isn't borrowed.
     #[inline(always)]
     fn begin_write(
         &mut self,

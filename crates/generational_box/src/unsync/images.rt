@@ -18,14 +18,14 @@ use store_parts::pool::SlotPool;
 use store_slots::slots::Room;
 
 impl<T: Drop, P: SlotPool> Store<T, P> {
-    /// The store as an image, with its values. The image tells the store's state: a store that is
+    /// The store as an image, with its values. The image determines the store's state: a store that is
     /// made of it has that state again.
     ///
     /// # Errors
     ///
     /// The store, unchanged, with `Owned` if it has an owner's record, `Borrowed` with the first slot
-    /// whose value is borrowed, or `OutOfMemory`. Allocates the image's list of slots, before a value
-    /// is moved. Takes O(n) for n slots and as many places of owners.
+    /// whose value is borrowed, or `OutOfMemory`. Allocates the image's list of slots, before a value is
+    /// moved. Takes O(n) for n slots and places of owners' records.
     ///
     /// Upstream has no such call.
     pub fn into_image(self) -> Result<Image<T>, (Self, SaveError)>
@@ -56,8 +56,8 @@ impl<T: Drop, P: SlotPool> Store<T, P> {
     /// # Errors
     ///
     /// The same as those of `into_image`; `OutOfMemory` also if a value's `clone` fails. Allocates the
-    /// image's list of slots, and what the copies take. Takes O(n) for n slots and as many places of
-    /// owners.
+    /// image's list of slots, and what the copies allocate. Takes O(n) for n slots and places of owners'
+    /// records.
     ///
     /// Upstream has no such call.
     pub fn image(&self) -> Result<Image<T>, SaveError>
@@ -92,18 +92,18 @@ impl<T: Drop, P: SlotPool> Store<T, P> {
         }
     }
 
-    /// The store that the image describes: its cells, the names that it gave, its peak and the next
+    /// The store that the image describes: its cells, the names that it issued, its peak and the next
     /// ticket. It has no borrows and no owners. Any image may be passed in.
     ///
-    /// Boxes that were given before the image was made refer to the same cells again. Names that were
-    /// given after it aren't in it, so the loaded store may give them again, to other values:
-    /// `from_image_as` tells these apart.
+    /// Boxes that were issued before the image was made refer to the same cells again. Names that were
+    /// issued after it aren't in it, so the loaded store may issue them again, for other values:
+    /// `from_image_as` distinguishes these.
     ///
     /// # Errors
     ///
-    /// The image, unchanged, with the image's fault if no store can have it, or `OutOfMemory`. Allocates
-    /// for the check a byte for each slot, and all memory of the slots before a value is moved. Takes
-    /// O(n) for n slots.
+    /// The image, unchanged, with the image's fault if no store can be in that state, or `OutOfMemory`.
+    /// Allocates for the check a byte for each slot, and all memory of the slots before a value is moved.
+    /// Takes O(n) for n slots.
     ///
     /// Upstream has no such call.
     pub fn from_image(alloc: Global, image: Image<T>) -> Result<Self, LoadRefusal<T>>
@@ -117,10 +117,10 @@ impl<T: Drop, P: SlotPool> Store<T, P> {
         }
     }
 
-    /// The same store as that of `from_image`, but under another number, and what is needed to turn
-    /// ids that were saved with the image into its ids: `Loaded::adopt`. With a number that no store
-    /// had yet, no id that was ever given is one of the loaded store: so a handle that was given after
-    /// the image was made, and lost with its run, is refused like any other store's.
+    /// The same store as that of `from_image`, but under another number, and what is needed to turn ids
+    /// that were saved with the image into its ids: `Loaded::adopt`. With a number that no store had yet,
+    /// no id that was ever issued is one of the loaded store: so a handle that was issued after the image
+    /// was made, and lost with its run, is treated like any other store's handle.
     ///
     /// # Errors
     ///

@@ -1,4 +1,4 @@
--- Rows of an earlier state, of which some slots are packed anew, are such still.
+-- Rows of an earlier state, of which some slots are packed again, are still such.
 use Rattle.generational_box.proofs.{plain}
 use Rattle.store_rows.proofs.Unpacking.{past_slots, slots_past}
 use Rattle.generational_box.proofs.unsync.Store.pack_ahead.Goals as goal
