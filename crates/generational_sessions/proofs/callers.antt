@@ -1,4 +1,4 @@
--- What code over a store cites: lists, boxes, refusals, rows, tickets, owners' lists.
+-- What code over a store cites: lists, boxes, errors, rows, tickets, owners' lists.
 pub mod carrying
 use Rattle.generational_core.proofs
 use proofs.machine.{quiet_free, quiet_fresh, quiet_sees, quiet_stays, same_reach}
@@ -64,8 +64,8 @@ module _ {X : Type 0} where
   pushed_new [] x = refl
   pushed_new (z ∷ xs) x = pushed_new xs x
 
--- ==== what a box reaches and sees depends on its id alone; a box of another store sees nothing. So
--- a call that leaves each box of another name leaves each of another id
+-- ==== what a box reaches and sees depends on its id alone; a box of another store sees nothing. so a
+-- call that leaves each box of another name leaves each of another id
 
 module _ {T : Type 0} where
   -- what a box sees lies at what it reaches
@@ -114,7 +114,7 @@ module _ {T : Type 0} where
       → name_of a ≡ name_of b → a.id ≡ b.id
   one_id S a b s seen saw same = grind (arith, seen_store)
 
-  -- where each box of another name is left, each of another id is
+  -- if each box of another name is left, each of another id is
   others_apart : (S R : State T) (a b : GenerationalPointer) → R.number ≡ S.number
       → a.id.store ≡ S.number → (name_of a ≢ name_of b → value_in R b ≡ value_in S b)
       → a.id ≢ b.id → value_in R b ≡ value_in S b
@@ -129,7 +129,7 @@ module _ {T : Type 0} where
   others_left {S} {R} call answer m a b =
       others_apart S R a b (meets_number S R call answer m)
 
--- ==== what a store lacks where it refuses a call by itself, and what such a call leaves
+-- ==== what a store lacks when a call fails without a borrow, and what such a call leaves
 
 module _ {T : Type 0} where
   -- the first reader at a value needs no memory
@@ -139,12 +139,12 @@ module _ {T : Type 0} where
   first_reader S b l free = grind arith
 
   module _ {S R : State T} where
-    -- a making lacks memory alone, where its owner is known
+    -- a making lacks only memory, if its owner is known
     pub make_lacks : (o : Option OwnerName) (v : T) (l : Location) (e : StoreError)
         → is_known S o ≡ true → Meets S (Make o v l) (Refused e) R → e ≡ OutOfMemory
     make_lacks o v l e known h = grind arith
 
-    -- and a read where no borrow stands lacks a ticket alone
+    -- and a read without other borrows lacks only a ticket
     pub free_read_lacks : (b : GenerationalPointer) (l : Location) (e : StoreError)
         → can_write S b ≡ true → Meets S (Read b l) (Refused e) R
         → (e ≡ NumbersExhausted) × (S.next ≡ last_ticket)
@@ -152,7 +152,7 @@ module _ {T : Type 0} where
 
     -- ---- tickets
 
-    -- a making and an end use no ticket up
+    -- a making and a removal use no ticket
     pub made_next : (v : T) (l : Location) (answer : Answer T)
         → Meets S (Make None v l) answer R → R.next ≡ S.next
     made_next v l answer m = grind arith
@@ -212,14 +212,14 @@ module _ {T : Type 0} where
   stays_plain (Refer o b) answer m none plain = absurd none
   stays_plain call answer m none plain = kept_plain call answer m refl plain
 
--- ==== what clauses on results and options say of the value with which a caller goes on
+-- ==== what clauses on results and options say of the value that a caller goes on with
 
 module _ {X : Type 0} where
-  -- what follows where a result is Ok
+  -- what follows if a result is Ok
   pub on_ok_so : {E P Q : Type 0} (r : Result X E) → (P → Q) → OnOk r P → OnOk r Q
   on_ok_so r so p = grind arith
 
-  -- and where it is Err
+  -- and if it is Err
   pub err_so : {E : Type 0} {P Q : E → Type 0} (r : Result X E) → ((e : E) → P e → Q e)
       → IsErrAnd r P → IfErr r Q
   err_so r so p = grind arith
@@ -241,7 +241,7 @@ module _ {X : Type 0} where
       → IfSome r (λ s. s ≡ v)
   finds r o v seen is = grind arith
 
--- ==== rows of boxes: one more, one emptied, and a state in which they show what they showed
+-- ==== rows of boxes: one added, one emptied, and a state in which they have the same values
 
 module _ {T : Type 0} where
   -- ---- what holds of each box
@@ -278,7 +278,7 @@ module _ {T : Type 0} where
   apart_emptied (r ∷ rows) (suc row) apart = grind (arith, apart_emptied rows row, each_emptied)
   apart_emptied rows row apart = grind arith
 
-  -- once a row is emptied, all that are left have other names than its box
+  -- once a row is emptied, all others have other names than its box
   others : (rows : Rows T) (row : ℕ) (a : GenerationalBox T) → AreApart rows
       → slice_index_or rows row None ≡ Some a
       → EachBox (HasOtherName (pointer_of a)) (slice_set rows row None)
@@ -304,7 +304,7 @@ module _ {T : Type 0} where
   within (r ∷ rows) (suc row) a is = omega (arith, within rows row a is)
   within rows row a is = grind arith
 
-  -- a state keeps a box: it sees what it saw, and no borrow stands there if none did
+  -- a state keeps a box: it sees the same value, which stays unborrowed if it was
   pub record Keeps (S R : State T) (b : GenerationalPointer) : Type 0 where
     pub free : can_write S b ≡ true → can_write R b ≡ true
     pub seen : (v : T) → value_in S b ≡ Some v → value_in R b ≡ Some v
@@ -315,7 +315,7 @@ module _ {T : Type 0} where
   unfolding value_in reach refusal_to_write
   ticket_keeps S b = record { free = λ e. e; seen = λ v e. e }
 
-  -- rows whose boxes are kept show what they showed
+  -- rows whose boxes are kept have the same values
   values_kept : (S R : State T) (rows : Rows T) → IsSound S → EachBox (IsFree S) rows
       → EachBox (Keeps S R) rows → values_in R rows ≡ values_in S rows
   values_kept S R [] s free all = refl
@@ -337,12 +337,12 @@ module _ {T : Type 0} where
         let all = each_so {P = IsFree S} {Q = Keeps S R} rows (λ b _. keeps b) k.free in
         (assumption (free, k.apart), values_kept S R rows s k.free all)
 
-    -- a making, refused or not, leaves the rows
+    -- a making leaves the rows, even if it fails
     pub made_beside : (o : Option OwnerName) (v : T) (l : Location) (answer : Answer T)
         → Meets S (Make o v l) answer R → AreKept R rows × (values_in R rows ≡ values_in S rows)
     made_beside o v l answer m = search (arith, rows_kept, keeps_free, keeps)
 
-    -- and its box may stand at their end
+    -- and its box may be at their end
     pub made_last : (o : Option OwnerName) (v : T) (l : Location) (a : GenerationalBox T)
         → Meets S (Make o v l) (Made (pointer_of a)) R → AreKept R (rows ++ Some a ∷ [])
         × (values_in R (rows ++ Some a ∷ []) ≡ values_in S rows ++ Some v ∷ [])
@@ -375,7 +375,7 @@ module _ {T : Type 0} where
         let still = still_free S R left free kept in let apart = apart_emptied rows row k.apart in
         (assumption (still, apart), values_kept S R left s free kept ∙ map-set (shown_in S) rows row None)
 
--- ==== what a box hands back as it ends: the value that it sees, and in a store of plain values
+-- ==== what a box returns when it is removed: the value that it sees, and in a store of plain values
 -- without borrows each value that is seen
 
 module _ {T : Type 0} where
@@ -404,21 +404,21 @@ module _ {T : Type 0} (S R : State T) where
 -- ==== what calls leave: one that changed nothing, one after another, and a write that was released
 
 module _ {T : Type 0} where
-  -- a box is left where nothing changed
+  -- a box is unchanged if nothing changed
   pub left_still : {S R : State T} (b : GenerationalPointer) → R ≡ S → IsUnchanged S b R
   left_still b is = rw is (record { reached = refl; content = λ m to. refl; seen = refl })
 
-  -- and where a ticket alone was given
+  -- and if only a ticket was issued
   pub left_ticket : (S : State T) (b : GenerationalPointer) → IsUnchanged S b (take_ticket S)
   unfolding reach value_in
   left_ticket S b = record { reached = refl; content = λ m to. refl; seen = refl }
 
-  -- and where it is left twice
+  -- and if two calls leave it unchanged
   pub left_twice : {S R Q : State T} {b : GenerationalPointer} → IsUnchanged S b R → IsUnchanged R b Q
       → IsUnchanged S b Q
   left_twice first second = grind arith
 
-  -- and by a call that leaves it, where its name was given before
+  -- and by a call that leaves it, if its name was issued before
   pub left_given : {S R : State T} (call : Action T) (answer : Answer T) → IsSound S
       → Meets S call answer R → (b : GenerationalPointer) → LeavesContent S call b
       → IsGiven S (name_of b) → IsUnchanged S b R
@@ -443,10 +443,10 @@ module _ {T : Type 0} where
         free = ap write_refusal (filled_content S it.name (Here v []) (Here it.old []) it.content);
       })))
 
--- ==== for what the calls of new boxes are refused: how many slots a making takes, and that a
--- borrow which nothing hinders takes a ticket and no memory
+-- ==== why calls of new boxes fail: how many slots a making takes, and that a borrow which nothing
+-- hinders takes a ticket and no memory
 
--- a map with one more entry, or another one, has one key more at most
+-- a map with another entry, or a changed one, has at most another key
 one_longer : {X : Type 0} (m : map.FinMap nat_cmp X) (k : ℕ) (v : X)
     → map.len (map.insert m k v) ≤ map.len m + 1
 one_longer m k v = grind (arith, map.len-insert)
@@ -499,8 +499,7 @@ module _ {T : Type 0} where
     unfolding may_lack
     share_short v l e h = grind arith
 
-  -- a shared value takes two slots at most and no ticket; its box is that of a reference to a new
-  -- cell
+  -- a shared value takes at most two slots and no ticket; its box is that of a reference to a new cell
   pub record Shares (S R : State T) (b : GenerationalPointer) : Type 0 where
     pub slots : free S ≤ free R + 2
     pub next : R.next ≡ S.next
@@ -528,7 +527,7 @@ module _ {T : Type 0} where
             new = new;
           }
 
-  -- so no box whose name was given before reaches it
+  -- so no box whose name was issued before reaches it
   pub shared_apart : {S R : State T} (v : T) (l : Location) (b : GenerationalPointer) → IsSound S
       → Meets S (MakeShared None v l) (Made b) R → (c : GenerationalPointer)
       → IsGiven S (name_of c) → reach R b ≢ reach R c
@@ -542,7 +541,7 @@ module _ {T : Type 0} where
       let old = reached_live S c it.reference.shared s (cc (was.reached, same, to.0)) in
       cc (it.new, s.given it.reference.shared old)
 
-  -- ---- a reference, where no writer has the value
+  -- ---- a reference to a value that no writer has
 
   limited : (S : State T) (out : Outcome T) → is_box out.0 ≡ true → limit_tickets S out ≡ out
   limited S out h = grind arith
@@ -558,7 +557,7 @@ module _ {T : Type 0} where
 
   module _ {S R : State T} (b : GenerationalPointer) (l : Location) (s : IsSound S)
       (alone : can_write S b ≡ true) where
-    -- it is refused only where all tickets were given
+    -- it fails only if all tickets were issued
     pub write_short : (e : error.Refused BorrowMutError) → Meets S (Write b l) (end_refused e) R
         → (e ≡ refused.Store NumbersExhausted) × (S.next ≡ last_ticket)
     unfolding may_lack
@@ -576,7 +575,7 @@ module _ {T : Type 0} where
       → Meets S (Refer None b) answer R → R.next ≡ S.next
   referred_next b answer m = grind arith
 
-  -- and where the value may be written that it names, it may be written through the new box
+  -- and if the value that it names may be written, it may be written through the new box
   pub referred_free : {S R : State T} (o : Option OwnerName) (c : GenerationalPointer)
       (b : GenerationalBox T) → IsSound S → Meets S (Refer o c) (Made (pointer_of b)) R
       → can_write S c ≡ true → can_write R (pointer_of b) ≡ true
@@ -604,7 +603,7 @@ module _ {T : Type 0} where
     simple_still call answer m begins plain =
         search (arith, quiet_stays, stays_plain, meets_bounded)
 
-  -- where no borrow stands the test of a write tells which they are
+  -- in a store without borrows the test of a write finds which they are
   pub free_seen : {S : State T} (b : GenerationalPointer) → IsSound S → IsSimple S → {r : Bool}
       → r ≡ can_write S b → r ≡ true → IsSeen S b
   free_seen {S} b s k is can = sym (quiet_sees S k.unborrowed b s) ∙ (sym is ∙ can)
@@ -619,19 +618,19 @@ module _ {T : Type 0} where
       → is_some (value_in R b) ≡ is_some (value_in S b)
   reached_alike S R b s r quiet still same = grind (arith, unseen, free_sees, quiet_free)
 
-  -- a fresh store shows no box a value
+  -- in a fresh store no box sees a value
   pub fresh_sees : (number start next : ℕ) (b : GenerationalPointer)
       → value_in (fresh {T = T} number start next) b ≡ None
   fresh_sees number start next b = let none = map.get-empty {X = Cell T} name_cmp in
       let seen = seen_cell (fresh {T = T} number start next) b in grind arith
 
-  -- a set leaves which boxes see a value
+  -- after a set the same boxes see a value
   pub set_seen : {S R : State T} → IsSound S → HasNoBorrows S → (a : GenerationalPointer) (v old : T)
       → Meets S (SetValue a v) (Old old) R → (b : GenerationalPointer)
       → is_some (value_in R b) ≡ is_some (value_in S b)
   set_seen s quiet a v old m b = search (arith, quiet_stays, same_reach, reached_alike, meets_sound)
 
-  -- what a making by no owner gives and leaves
+  -- what a making without an owner returns and leaves
   pub record IsMaking (S : State T) (v : T) (l : Location) (b : GenerationalPointer) (R : State T) : Type 0 where
     pub fits : Fits S (name_of b)
     pub after : R ≡ add_cell S (name_of b) (Value (Here v []) l)
@@ -641,7 +640,7 @@ module _ {T : Type 0} where
       → Meets S (Make None v l) (Made b) R → IsMaking S v l b R
   making v l b m = grind arith
 
--- ==== owners' lists: no name stands twice in one, nor in two of them, and each call leaves them so
+-- ==== owners' lists: no name is twice in one, nor in two of them, and each call keeps it so
 
 -- names are compared for equality
 name_equal : IsEquivalence is_name
@@ -652,13 +651,13 @@ name_equal = eq_by_cmp_equiv name_total
 owner_cases : (a o : OwnerName) → (a ≡ o) ⊎ (a ≢ o)
 owner_cases a o = grind arith
 
--- a name that isn't among others, nor the one behind them, isn't among all of them
+-- a name that isn't among others, nor the one after them, isn't among all of them
 unlisted_pushed : (names : List Name) (m n : Name) → among names n ≡ false → n ≢ m
     → among (names ++ m ∷ []) n ≡ false
 unlisted_pushed names m n before ne = grind (arith, list_any-append, name_apart)
 
 module _ {T : Type 0} where
-  -- the names of an owner's list: none where the store doesn't know the owner
+  -- the names of an owner's list: none if the store doesn't know the owner
   abbrev names_of : State T → OwnerName → List Name
   names_of S o = names_in (ownership S o)
 
@@ -678,9 +677,9 @@ module _ {T : Type 0} where
   pub fresh_listed : (number start next : ℕ) → AreListedOnce (fresh {T = T} number start next)
   fresh_listed number start next = grind (arith, map.get-empty {X = Ownership} nat_cmp)
 
-  -- ---- what becomes of the list of the owner by which a call goes
+  -- ---- what becomes of the list of the owner that a call is made by
 
-  -- it is the same, or none, or has a name more, which was never given
+  -- it is the same, or none, or has another name, which was never issued
   data Becomes (S : State T) (old new : List Name) : Type 0 where
     as_was : new ≡ old → Becomes S old new
     emptied : new ≡ [] → Becomes S old new
@@ -695,7 +694,7 @@ module _ {T : Type 0} where
     unless_follows None out h = h
     unless_follows (Some t) out h = as_was refl
 
-    -- in a store's own list or in another store's, where a name is put behind the others
+    -- in a store's own list or in another store's, when a name is added after the others
     listed : (owners : Owners) (own : Bool) (n : Name) → set.contains S.given n ≡ false
         → Becomes S (names_in (cond own (map.get owners a.key) None))
         (names_in (cond own (map.get (change owners a.key (one_listed n)) a.key) None))
@@ -709,7 +708,7 @@ module _ {T : Type 0} where
         at (Some h) is = more n new
             (rw (get-changed_here by_number owners a.key (one_listed n) h is, is))
 
-    -- where another record is put in the place of the owner's
+    -- when the owner's record is replaced
     put : (own : Bool) (names : List Name) (h : Ownership) → h.names ≡ names
         → Becomes S names (names_in (cond own (map.get (map.insert S.owners a.key h) a.key) None))
     put own names h is = grind (arith, get-insert_here, by_number)
@@ -740,7 +739,7 @@ module _ {T : Type 0} where
 
   -- ---- what each call leaves
 
-  -- a name that was never given stands in no list
+  -- a name that was never issued is in no list
   unlisted_by : (S : State T) → IsSound S → (o : OwnerName) (n : Name)
       → set.contains S.given n ≡ false → among (names_of S o) n ≡ false
   unlisted_by S s o n new = grind (arith, unlisted)
@@ -760,7 +759,7 @@ module _ {T : Type 0} where
           → among (names_of S p) n ≡ true → among (names_of R o) n ≡ false
       apart_after p n ne h there = grind (arith, a.apart p o n, unlisted_pushed, unlisted_by)
 
-      -- where the other lists are what they were
+      -- if the other lists are unchanged
       keeps_apart : ((p : OwnerName) → o ≢ p → names_of R p ≡ names_of S p)
           → Becomes S (names_of S o) (names_of R o) → AreDisjoint R
       keeps_apart others own = record {
@@ -771,12 +770,12 @@ module _ {T : Type 0} where
             let p_was = others p in let q_was = others q in grind arith;
       }
 
-    -- where all lists are
+    -- if all lists are
     all_kept : ((o : OwnerName) → names_of R o ≡ names_of S o) → AreDisjoint R
     all_kept still = grind arith
 
     module _ (call : Action T) (answer : Answer T) (m : Meets S call answer R) where
-      -- a call that goes by an owner leaves the lists so, if the machine's outcome does
+      -- a call by an owner keeps the lists so, if the machine's outcome does
       by_owner : (o : OwnerName)
           → ((p : OwnerName) → o ≢ p → LeavesOwner call p × GivesOtherOwner call answer p)
           → ((f : NewNames) → AreNew S call f → Follows S o (act S call f)) → AreDisjoint R

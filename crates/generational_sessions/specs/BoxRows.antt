@@ -1,4 +1,4 @@
--- Rows of boxes in a store: what they show, and when each may be read, written and ended.
+-- Rows of boxes in a store: the values that they have, and when each may be read, written and removed.
 use Rattle.std.specs.Prelude.{◌≡◌, ◌≢◌, true, List, [], ◌∷◌, Option, None, Some, map}
 use Rattle.generational_core.specs.Answers.{pointer_of}
 use Rattle.generational_core.specs.Borrowing.{can_write}
@@ -15,7 +15,7 @@ abbrev pub HasOtherName : GenerationalPointer → GenerationalPointer → Type 0
 HasOtherName a b = name_of a ≢ name_of b
 
 module _ {T : Type 0} where
-  -- what a row shows in a state: the value that its box sees
+  -- what a row has in a state: the value that its box sees
   abbrev pub shown_in : State T → Option (GenerationalBox T) → Option T
   shown_in S None = None
   shown_in S (Some b) = value_in S (pointer_of b)
@@ -38,7 +38,7 @@ module _ {T : Type 0} where
   AreApart (None ∷ rows) = AreApart rows
   AreApart (Some b ∷ rows) = EachBox (HasOtherName (pointer_of b)) rows × AreApart rows
 
-  -- each box sees a value at which no borrow stands, and no two have one name
+  -- each box sees a value that isn't borrowed, and no two have one name
   pub record AreKept (S : State T) (rows : Rows T) : Type 0 where
     pub free : EachBox (IsFree S) rows
     pub apart : AreApart rows

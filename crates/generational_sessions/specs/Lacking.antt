@@ -1,4 +1,4 @@
--- What a store lacks where it refuses a call by itself.
+-- What a store lacks when a call fails without a borrow.
 use Rattle.std.specs.Prelude.{◌≡◌, ℕ, ◌+◌, ◌<◌, Some}
 use Rattle.std.specs.FinMap as map
 use Rattle.generational_core.specs.Boxes.{name_of}
@@ -15,21 +15,21 @@ use Rattle.generational_errors.specs.declared.error.StoreError.{StoreError}
 use Rattle.generational_errors.specs.declared.error.StoreError.TheVariants as error
 
 module _ {T : Type 0} where
-  -- A store may refuse a call for lack of memory, and of numbers only where all tickets were
-  -- given. It knows its own owners.
+  -- A call may fail to allocate, and fail for lack of numbers only if all tickets were issued. The store
+  -- knows its own owners.
   abbrev pub Lacks : State T → StoreError → Type 0
   Lacks S error.OutOfMemory = Unit {0}
   Lacks S error.NumbersExhausted = S.next ≡ last_ticket
   Lacks S error.UnknownOwner = ⊥
 
-  -- What is refused needs so many slots and so many tickets, and fewer slots are free, so that it
-  -- needs memory, or fewer tickets are left.
+  -- A call that fails needs so many slots and so many tickets, and fewer slots are free, so that it has
+  -- to allocate, or fewer tickets remain.
   abbrev pub IsShort : State T → ℕ → ℕ → StoreError → Type 0
   IsShort S slots tickets error.OutOfMemory = free S < slots
   IsShort S slots tickets error.NumbersExhausted = last_ticket < S.next + tickets
   IsShort S slots tickets error.UnknownOwner = ⊥
 
-  -- a refusal that no borrow has caused, for lack of so many slots or tickets
+  -- an error that isn't a borrow's, for lack of so many slots or tickets
   abbrev pub IsShortage : {E : Type 0} → State T → ℕ → ℕ → Refused E → Type 0
   IsShortage S slots tickets (refused.Store cause) = IsShort S slots tickets cause
   IsShortage S slots tickets (refused.Borrow e) = ⊥

@@ -1,5 +1,5 @@
--- The numbered machine: the k-th name given is the number k, tickets count without end, and there
--- are no slots. What it answers depends on the calls, and on the refusals that they met.
+-- The numbered machine: the k-th name issued is the number k, tickets count without end, and there are no
+-- slots. Its replies depend on the calls, and on the errors that they met.
 use Rattle.std.specs.Prelude.{◌≡◌, ◌+◌, true, List, [], Option, None, Some, length, map as list_map}
 use Rattle.std.specs.Prelude.{ℕ, ◌<◌, ◌∷◌}
 use Rattle.std.specs.List.{slice_index_or, AllByRecursion}
@@ -28,13 +28,13 @@ number k = record { slot = k; generation = 0 }
 abbrev pub IsNumberBelow : ℕ → Name → Type 0
 IsNumberBelow n k = (k.generation ≡ 0) × (k.slot < n)
 
--- the numbers given are those below n
+-- the numbers issued are those below n
 pub record AreNumbersBelow (n : ℕ) (given : Names) : Type 0 where
   pub count : set.len given ≡ n
   pub all : (k : Name) → IsNumberBelow n k → set.contains given k ≡ true
   pub only : (k : Name) → set.contains given k ≡ true → IsNumberBelow n k
 
--- the name in a list for which a number stands
+-- the name in a list that a number represents
 abbrev pub named_by : List Name → Name → Name
 named_by order k = slice_index_or order k.slot k
 
@@ -59,13 +59,13 @@ pub record CarriesSession {T : Type 0}
   pub table : s.table ≡ list_map (rename_held f d a.state.number) a.table
   pub known : AllByRecursion (KnowsHeld Knows a.state.number) a.table
 
--- the names given are those of a list, in which each stands once
+-- the names issued are those of a list without duplicates
 pub record AreListed (order : List Name) (given : Names) : Type 0 where
   pub count : set.len given ≡ length order
   pub all : (n : Name) → set.contains given n ≡ among order n
 
--- A session matches a numbered one: a list of all names given, each of them once, carries the one
--- into the other.
+-- A session matches a numbered one: a list of all names issued, each of them once, carries the one into
+-- the other.
 pub record Matches {T : Type 0} (s a : SessionState T) : Type 0 where
   pub order : List Name
   pub difference : ℕ
@@ -73,7 +73,7 @@ pub record Matches {T : Type 0} (s a : SessionState T) : Type 0 where
   pub names : AreListed order s.state.given
   pub numbers : AreNumbersBelow (length order) a.state.given
 
--- the id that stands for every id
+-- the id that represents every id
 abbrev pub any_id : GenerationalBoxId
 any_id = id_of 0 (number 0)
 
@@ -85,20 +85,20 @@ module _ {T : Type 0} where
   erase (TheSlot n) = TheSlot 0
   erase reply = reply
 
-  -- the lack of memory or of numbers that a reply tells
+  -- the error for memory or for numbers in a reply
   abbrev pub refusal_in : SessionReply T → Option StoreError
   refusal_in (SessionReply.Lacking e) = want e
   refusal_in (SessionReply.HandedBack v e) = want e
   refusal_in _ = None
 
-  -- the numbers behind all that were given
+  -- the numbers after all that were issued
   abbrev pub next_numbers : SessionState T → NewNames
   next_numbers a =
       let count = set.len a.state.given in
       record { first = number count; second = number (count + 1) }
 
-  -- What a call comes to in the numbered machine. A refusal that it meets is answered, with the
-  -- value where one was handed in, and changes nothing.
+  -- What a call comes to in the numbered machine. An error that it meets is the reply, with the value if
+  -- one was passed in, and changes nothing.
   abbrev pub numbered : SessionState T
       → Call T → Request T → Option StoreError → SessionReply T × SessionState T
   numbered a c (Asks action) None = settle a c (act a.state action (next_numbers a))
@@ -111,7 +111,7 @@ module _ {T : Type 0} where
       → Call T → Option StoreError → SessionReply T × SessionState T
   numbered_act a c e = numbered a c (ask a c) e
 
-  -- the replies to calls, with the refusals that they met; calls beyond the refusals met none
+  -- the replies to calls, with the errors that they met; calls beyond the errors met none
   abbrev pub answers : SessionState T
       → List (Call T) → List (Option StoreError) → List (SessionReply T)
   answers a [] refusals = []
@@ -119,14 +119,14 @@ module _ {T : Type 0} where
       let out = numbered_act a c e in out.0 ∷ answers out.1 calls refusals
   answers a (c ∷ calls) [] = let out = numbered_act a c None in out.0 ∷ answers out.1 calls []
 
-  -- the numbered session that is left after the calls
+  -- the numbered session after the calls
   abbrev pub after : SessionState T → List (Call T) → List (Option StoreError) → SessionState T
   after a [] refusals = a
   after a (c ∷ calls) (e ∷ refusals) = after (numbered_act a c e).1 calls refusals
   after a (c ∷ calls) [] = after (numbered_act a c None).1 calls []
 
-  -- The replies to calls are those of a numbered session, ids aside, that meets the refusals which
-  -- they tell; and what the calls left matches what they left of the numbered session.
+  -- The replies to calls are those of a numbered session, ids aside, that meets the errors in them; and
+  -- the session after the calls matches the numbered session after them.
   pub record AnswersAs (a : SessionState T)
       (calls : List (Call T)) (replies : List (SessionReply T)) (r : SessionState T) : Type 0 where
     pub same : list_map erase replies

@@ -56,17 +56,17 @@ module _ {T : Type 0} where
   abbrev pub as_replies : List (Reply T) → List (SessionReply T)
   as_replies replies = list_map as_reply replies
 
-  -- what the reply to a refusal says, where no value was handed in
+  -- what the reply to an error says, if no value was passed in
   abbrev pub as_refusal : Refused BorrowMutError → SessionReply T
   as_refusal (refused.Borrow e) = Error (refusal_of_error e)
   as_refusal (refused.Store e) = Lacking e
 
-  -- the same of a refused read, and of a refused making of a reference
+  -- the same of a failed read, and of a failed making of a reference
   abbrev pub as_read_refusal : Refused BorrowError → SessionReply T
   as_read_refusal (refused.Borrow e) = Error (refusal_of_read_error e)
   as_read_refusal (refused.Store e) = Lacking e
 
-  -- the reply to a making of a value, and what it gives
+  -- the reply to a making of a value, and what its place gets
   abbrev pub as_making : Result (GenerationalBox T) (Refusal T) → SessionReply T × Held T
   as_making (Ok b) = (ABox (pointer_of b), Boxed (pointer_of b))
   as_making (Err r) = (HandedBack r.value r.cause, Nothing)
@@ -75,7 +75,7 @@ module _ {T : Type 0} where
   abbrev pub session_in : State T → List (Thing T) → SessionState T
   session_in S things = record { state = S; table = list_map as_held things }
 
-  -- the reply when another value is to go into a writer, and what its place holds then
+  -- the reply when a writer's value is replaced, and what its place holds then
   abbrev pub exchange : Held T → T → SessionReply T × Held T
   exchange (Writing g old) v = (TheOld old, Writing g v)
   exchange h v = (NoSuch (Some v), h)
@@ -91,6 +91,6 @@ module _ {T : Type 0} where
   GivesAsked s c (Tells y) x h m = (x ≡ y) × (h ≡ Nothing) × (m ≡ s)
   GivesAsked s c (Swaps p g v old) x h m = (x ≡ TheOld old) × (h ≡ Nothing) × (m ≡ swap s p g v)
 
-  -- a call of a session is answered x and gives h, before h has its place
+  -- a call of a session has the reply x and gives h, before h has its place
   abbrev pub Gives : SessionState T → Call T → SessionReply T → Held T → SessionState T → Type 0
   Gives s c x h m = GivesAsked s c (ask s c) x h m

@@ -16,13 +16,13 @@ module _ {T : Type 0} where
   pub record IsPlain (S : State T) : Type 0 where
     pub none : (n m : Name) (l : Location) → map.get S.cells n ≡ Some (Ref m l) → ⊥
 
-  -- a call asks for no shared value and for no reference
+  -- a call makes no shared value and no reference
   abbrev pub MakesNoReference : Action T → Type 0
   MakesNoReference (MakeShared o v l) = ⊥
   MakesNoReference (Refer o b) = ⊥
   MakesNoReference _ = Unit {0}
 
-  -- no borrow stands, no cell is a reference, and there are no more slots than are needed
+  -- there is no borrow, no cell is a reference, and there are no more slots than are needed
   pub record IsSimple (S : State T) : Type 0 where
     pub unborrowed : HasNoBorrows S
     pub plain : IsPlain S

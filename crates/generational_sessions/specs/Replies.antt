@@ -37,8 +37,8 @@ module _ {T : Type 0} where
   NeedsBox s (call.Set b v) box = box_in s b ≡ Some box
   NeedsBox s _ box = ⊥
 
-  -- How such a call of a box whose name has ended is answered: with the box's own location, and a
-  -- call with a condition is told that this doesn't hold.
+  -- The reply to such a call of a box whose name has ended: an error with the box's own location, and of
+  -- a call with a condition that this doesn't hold.
   abbrev pub ended_reply : Call T → GenerationalPointer → SessionReply T
   ended_reply (call.Read a l) b = Unready None
   ended_reply (call.Write a l) b = Unready None
@@ -49,12 +49,12 @@ module _ {T : Type 0} where
   TellsEnds s c x = (b : GenerationalPointer)
       → NeedsBox s c b → IsEnded s.state (name_of b) → x ≡ ended_reply c b
 
-  -- a box of this store, whose name was never given before
+  -- a box of this store, whose name was never issued before
   pub record IsFirstGiven (S : State T) (b : GenerationalPointer) : Type 0 where
     pub number : b.id.store ≡ S.number
     pub ungiven : set.contains S.given (name_of b) ≡ false
 
-  -- a reply gives no box but one that is given for the first time
+  -- a box in a reply is issued for the first time
   abbrev pub GivesNewBox : SessionState T → SessionReply T → Type 0
   GivesNewBox s x = (b : GenerationalPointer) → x ≡ ABox b → IsFirstGiven s.state b
 
@@ -67,33 +67,33 @@ module _ {T : Type 0} where
     pub known : ownership s.state owner ≡ Some h
     pub last : h.count ≤ 1
 
-  -- the last release of an owner that is answered `Done` ends the boxes of its list
+  -- the last release of an owner with the reply `Done` ends the boxes of its list
   abbrev pub EndsOwned : SessionState T → Call T → SessionReply T → SessionState T → Type 0
   EndsOwned s c x r = (h : Ownership)
       → ReleasesLast s c h → x ≡ IsDone → AreEnded s.state h.names r.state
 
-  -- a call asks the machine for something that may lack memory there
+  -- a call needs something of the machine that may have to be allocated
   pub record MayLackMemory (s : SessionState T) (c : Call T) : Type 0 where
     pub action : Action T
     pub asks : ask s c ≡ Asks action
     pub lacks : may_lack s.state action ≡ true
 
-  -- a reply tells lack of memory only where it may lack
+  -- a reply says that memory ran out only if the call may have to allocate
   abbrev pub TellsLack : SessionState T → Call T → SessionReply T → Type 0
   TellsLack s c x = refusal_in x ≡ Some OutOfMemory → MayLackMemory s c
 
-  -- a call asks the machine for something that takes a ticket, and none is left
+  -- a call needs a ticket of the machine, and they are used up
   pub record LacksTicket (s : SessionState T) (c : Call T) : Type 0 where
     pub action : Action T
     pub asks : ask s c ≡ Asks action
     pub takes : takes_ticket (act s.state action no_names).0 ≡ true
     pub last : s.state.next ≡ last_ticket
 
-  -- a reply tells that the numbers are used up exactly where a ticket is lacking
+  -- a reply says that the numbers are used up exactly if a ticket is lacking
   abbrev pub TellsExhaustion : SessionState T → Call T → SessionReply T → Type 0
   TellsExhaustion s c x = (refusal_in x ≡ Some NumbersExhausted) ↔ LacksTicket s c
 
-  -- whether a reply refuses its call
+  -- whether a reply is an error
   abbrev pub refuses : SessionReply T → Bool
   refuses (Error t) = true
   refuses (Lacking e) = true
@@ -102,7 +102,7 @@ module _ {T : Type 0} where
   refuses (NoSuch back) = true
   refuses _ = false
 
-  -- a call that is refused leaves all as it was, and its place holds nothing
+  -- a call that fails leaves all unchanged, and its place holds nothing
   abbrev pub RefusalLeavesAll : SessionState T → SessionReply T → SessionState T → Type 0
   RefusalLeavesAll s x r = refuses x ≡ true → r ≡ add_place s Nothing
 
@@ -127,7 +127,7 @@ module _ {T : Type 0} where
       KeepsPromises s c x run.0 × AllKeepPromises run.0 calls replies r run.2
   AllKeepPromises s _ _ r run = ⊥
 
-  -- In a run, such a call of a box whose name had ended before the run is answered so.
+  -- In a run, such a call of a box whose name had ended before the run has that reply.
   abbrev pub AllTellEnds : SessionState T → List (Call T) → List (SessionReply T) → Type 0
   AllTellEnds s calls replies = (i : ℕ) (c : Call T) (b : GenerationalPointer)
       → slice_get calls i ≡ Some c → NeedsBox s c b → IsEnded s.state (name_of b)
@@ -138,7 +138,7 @@ module _ {T : Type 0} where
   KeepBoxes s r = (p : ℕ) (b : GenerationalPointer)
       → at_place s.table p ≡ Boxed b → at_place r.table p ≡ Boxed b
 
-  -- no two of the replies give boxes with one id
+  -- no two of the replies have boxes with the same id
   abbrev pub GiveBoxesApart : List (SessionReply T) → Type 0
   GiveBoxesApart replies = (i j : ℕ) (b c : GenerationalPointer)
       → slice_get replies i ≡ Some (ABox b) → slice_get replies j ≡ Some (ABox c)

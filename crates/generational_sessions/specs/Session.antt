@@ -1,4 +1,4 @@
--- A session: calls that name earlier boxes, guards and owners by their places.
+-- A session: calls that refer to earlier boxes, guards and owners by their places.
 use Rattle.std.specs.Prelude.{◌≡◌, ℕ, Bool, true, false, if◌then◌else◌, nat_eq, List, [], ◌∷◌, ◌++◌}
 use Rattle.std.specs.Prelude.{Option, None, Some, slice_set}
 use Rattle.std.specs.List.{slice_index_or}
@@ -62,7 +62,7 @@ pub data Request (T : Type 0) : Type 0 where
   Swaps : (place : ℕ) (guard : Guard) (value old : T) → Request T
 
 module _ {T : Type 0} where
-  -- what a place holds; a place that isn't given yet holds nothing
+  -- what a place holds; a place that isn't issued yet holds nothing
   abbrev pub at_place : List (Held T) → ℕ → Held T
   at_place table place = slice_index_or table place Nothing
 
@@ -74,7 +74,7 @@ module _ {T : Type 0} where
   owner_held (Owning o) = Some o
   owner_held _ = None
 
-  -- the box that a call names; a foreign one must be of another store
+  -- the box that a call refers to; a foreign one must be of another store
   abbrev pub box_in : SessionState T → BoxAt T → Option GenerationalPointer
   box_in s (Place p) = box_held (at_place s.table p)
   box_in s (Foreign b) =
@@ -102,16 +102,16 @@ module _ {T : Type 0} where
   replace p (Writing g old) v = Swaps p g v old
   replace p _ v = Tells (NoSuch (Some v))
 
-  -- a call with a condition, which is told where it doesn't hold
+  -- a call with a condition, with its own reply if that doesn't hold
   abbrev pub if_ready : Bool → Option T → Request T → Request T
   if_ready true back next = next
   if_ready false back next = Tells (Unready back)
 
-  -- the owner that a call names
+  -- the owner that a call refers to
   abbrev pub owner_in : SessionState T → ℕ → Option OwnerName
   owner_in s p = owner_held (at_place s.table p)
 
-  -- what each call asks of the machine
+  -- what each call comes to: of the machine, or at once
   abbrev pub ask : SessionState T → Call T → Request T
   ask s (call.Leak v l) = Asks (Make None v l)
   ask s (call.LeakRc v l) = Asks (MakeShared None v l)
@@ -147,7 +147,7 @@ module _ {T : Type 0} where
   ask s (call.RawPtr b) = tell (box_in s b) (λ b. TheSlot b.id.slot)
   ask s (call.CreatedAt b) = tell (box_in s b) (λ b. Created b.created_at)
 
-  -- a refusal of the store, with the value where one was handed in
+  -- an error of the store, with the value if one was passed in
   abbrev pub refusal : Call T → StoreError → SessionReply T
   refusal (call.Leak v l) e = HandedBack v e
   refusal (call.LeakRc v l) e = HandedBack v e
@@ -178,15 +178,15 @@ module _ {T : Type 0} where
   gives (Writes g v) = Writing g v
   gives _ = Nothing
 
-  -- A guard or an owner that is spent leaves nothing at its place. An owner whose release was
-  -- refused stays there.
+  -- A guard or an owner that is consumed leaves nothing at its place. An owner whose release failed stays
+  -- there.
   abbrev pub spend : Call T → Answer T → List (Held T) → List (Held T)
   spend (call.Release p) a table = slice_set table p Nothing
   spend (call.ReleaseOwner p) Done table = slice_set table p Nothing
   spend (call.LeakOwner p) a table = slice_set table p Nothing
   spend _ a table = table
 
-  -- the session with one place more
+  -- the session with another place
   abbrev pub add_place : SessionState T → Held T → SessionState T
   add_place s h = record s { table = s.table ++ h ∷ [] }
 
@@ -200,7 +200,7 @@ module _ {T : Type 0} where
       let after : SessionState T = record { state = out.1; table = spend c out.0 s.table } in
       (reply_of c out.0, add_place after (gives out.0))
 
-  -- a call that comes to this request is answered x and leads from s to r
+  -- a call that comes to this request has the reply x and leads from s to r
   abbrev pub Settles : SessionState T → Call T → Request T
       → SessionReply T → SessionState T → Type 0
   Settles s c (Asks action) x r =
@@ -211,7 +211,7 @@ module _ {T : Type 0} where
   Settles s c (Tells y) x r = (x ≡ y) × (r ≡ add_place s Nothing)
   Settles s c (Swaps p g v old) x r = (x ≡ TheOld old) × (r ≡ add_place (swap s p g v) Nothing)
 
-  -- a call of a session that is answered x leads from s to r
+  -- a call of a session with the reply x leads from s to r
   abbrev pub SessionStep : SessionState T → Call T → SessionReply T → SessionState T → Type 0
   SessionStep s c x r = Settles s c (ask s c) x r
 
@@ -222,13 +222,13 @@ module _ {T : Type 0} where
       (next : SessionState T) × SessionStep s c x next × Run next calls replies r
   Run s _ _ r = ⊥
 
-  -- the value that what a place holds lends
+  -- the value of the guard that a place holds, if it holds one
   abbrev pub loan_of : State T → Held T → Option T
   loan_of S (Reading g) = value_behind S g
   loan_of S (Writing g v) = Some v
   loan_of S _ = None
 
-  -- the value that a place lends
+  -- the value of the guard at a place
   abbrev pub loan_at : SessionState T → ℕ → Option T
   loan_at s p = loan_of s.state (at_place s.table p)
 

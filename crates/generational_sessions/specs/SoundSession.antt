@@ -10,7 +10,7 @@ use Rattle.generational_sessions.specs.Session.{SessionState, Held, at_place}
 use Rattle.generational_sessions.specs.Session.Held.{Boxed, Reading, Writing, Owning, Nothing}
 
 module _ {T : Type 0} where
-  -- What is held is the store's own: the name of a box was given there and is no Shared cell's, the
+  -- What is held is the store's own: the name of a box was issued there and is no Shared cell's, the
   -- store knows a guard, and an owner is of this store.
   unfoldable pub IsOwn : State T → Held T → Type 0
   IsOwn S (Boxed b) = (b.id.store ≡ S.number) × IsBoxed S (name_of b)
@@ -33,7 +33,7 @@ module _ {T : Type 0} where
 
   pub record IsSoundSession (s : SessionState T) : Type 0 where
     pub sound : IsSound s.state
-    -- a slot is made only where none is free
+    -- a slot is made only if none is free
     pub bounded : IsBounded s.state
     pub own : (p : ℕ) → IsOwn s.state (at_place s.table p)
     -- boxes at different places have different names, and each guard is held at one place

@@ -1,5 +1,5 @@
--- What a call answers whose box or owner stands in a struct of one's own. Each word takes first what
--- finds the box, or the owner, in the struct.
+-- What a call returns whose box or owner is in the caller's struct. Each word takes first what finds the
+-- box, or the owner, in the struct.
 use Rattle.std.specs.Prelude.{Result, Ok, Err}
 use Rattle.generational_core.specs.declared.boxes.GenerationalPointer.{GenerationalPointer}
 use Rattle.generational_errors.specs.declared.error.Refusal.{Refusal}

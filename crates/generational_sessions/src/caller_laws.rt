@@ -1,5 +1,5 @@
-//! Laws for those who keep boxes: what a call leaves as it was, and which calls are never refused.
-//! Each is the contract of a function that does nothing.
+//! Laws for code that stores boxes: what a call leaves unchanged, and which calls never fail. Each is the
+//! contract of a function that does nothing.
 
 ghost use Rattle.std.specs.Prelude.{◌≡◌, ◌≢◌, ◌≤◌, ◌<◌, ◌+◌, ℕ, true, false, Bool, List, Some, None, is_some};
 ghost use Rattle.std.specs.Prelude.{Option, Result, IfOk, IsOk, OnOk, OnErr};
@@ -53,10 +53,9 @@ ghost use Rattle.generational_sessions.specs.declared.calls.Call.{Call};
 ghost use Rattle.generational_sessions.specs.Session.Held.{Boxed};
 ghost use Rattle.generational_sessions.specs.SoundSession.{IsSoundSession};
 
-/// A call that is refused changes nothing, whichever call it is: one that is answered by a borrow or
-/// an end that stands in its way, by the store's refusal, or by its value, which comes back. So it
-/// is of each result that tells a refusal. The release of a reader that the store doesn't know
-/// changes nothing either.
+/// A call that fails changes nothing, whatever the call: whether it fails because of a borrow or a
+/// removed value, by an error of the store, or with its value, which comes back. The same holds of each
+/// result that is an error. The release of a reader that the store doesn't know changes nothing either.
 pub fn refused_calls_change_nothing<T>()
     ensures call { (S R : State T) (call : Action T) (answer : Answer T) →
         Meets S call answer R → refuses answer ≡ true → R ≡ S }
@@ -88,13 +87,12 @@ pub fn refused_calls_change_nothing<T>()
         Meets S (ReleaseReader g) (Flag false) R → R ≡ S }
 {}
 
-/// What each call leaves of boxes, as equations. A box reaches what it reached, unless the call ends
-/// it, points it elsewhere, or gives it as a new one; it sees what it saw, unless the call does
-/// that, begins or ends a write of its value, or sets it; and the content there is what it was,
-/// unless the call borrows it or ends its borrow as well. So a box that saw nothing sees nothing, and
-/// a box that isn't in an owner's list is left by the owner's release. A box whose name was given
-/// before is none that a call gives. A box that is left is answered as before where a borrow is
-/// asked for.
+/// What each call leaves of boxes, as equations. A box refers to the same cell, unless the call removes
+/// it, points it elsewhere, or returns it as a new one; it sees the same value, unless the call does one
+/// of these, begins or ends a write of its value, or sets it; and the content there is the same, unless
+/// the call also borrows it or ends its borrow. So a box that saw no value sees none, and an owner's
+/// release leaves each box that isn't in its list. No call returns a box whose name was issued before. A
+/// borrow of a box that a call leaves has the same result as before.
 pub fn calls_leave_other_boxes<T>()
     ensures reach { (S R : State T) (call : Action T) (answer : Answer T) →
         IsSound S → Meets S call answer R → (b : GenerationalPointer) →
@@ -116,8 +114,8 @@ pub fn calls_leave_other_boxes<T>()
         (refusal_to_read R b ≡ refusal_to_read S b) × (refusal_to_write R b ≡ refusal_to_write S b) }
 {}
 
-/// A guard stays known until that very guard is released, and a reader's opens the same value, which
-/// is there. The release of a known reader is answered so, and that of a known writer is Ok.
+/// A store knows a guard until that very guard is released, and a reader's guard opens the same value,
+/// which is live. The release of a known reader returns true, and that of a known writer returns Ok.
 pub fn guards_stay_known<T>()
     ensures reader { (S R : State T) (call : Action T) (answer : Answer T) →
         IsSound S → Meets S call answer R → (g : Guard) →
@@ -139,10 +137,9 @@ pub fn guards_stay_known<T>()
         knows_writer S g ≡ true → Meets S (ReleaseWriter g v) (back_answer r) R → IsOk r }
 {}
 
-/// A read that was released leaves every box as it was. A write that was released leaves the state
-/// as it was, but for the value and a ticket (`IsSet`), and its release is Ok: each box that reaches
-/// the same sees the value and may be written, every other box is left, and so is each owner's
-/// record.
+/// A read and its release leave every box unchanged. A write and its release leave the state unchanged
+/// except for the value and the next ticket (`IsSet`), and the release is Ok: each box that refers to the
+/// same cell sees the value and may be written, and every other box and each owner's record is unchanged.
 pub fn released_borrows_leave_the_rest<T>()
     ensures read { (S R Q : State T) (b : GenerationalPointer) (l : Location) (g : Guard)
         (known : Bool) → IsSound S → Meets S (Read b l) (Reads g) R →
@@ -160,11 +157,11 @@ pub fn released_borrows_leave_the_rest<T>()
         (o : OwnerName) → ownership Q o ≡ ownership S o }
 {}
 
-/// A box may be read exactly where it sees a value. In a store where no borrow stands it may be
-/// written exactly there, and one that sees nothing reaches nothing. No borrow stands in a fresh
-/// store; none does after a call that asks for none, and after a read or a write that was released.
-/// There no end and no owner's release is refused. An owner's release isn't refused either where no
-/// borrow stands at what would end with its list.
+/// A box may be read exactly if it sees a value. In a store without borrows it may be written exactly
+/// then, and a box that sees no value refers to no cell. A fresh store has no borrows; a store without
+/// borrows has none after a call that begins none, or after a read or a write and its release. In such a
+/// store no removal and no owner's release fails. Nor does an owner's release if nothing that would be
+/// removed with its list is borrowed.
 pub fn stores_without_borrows_refuse_no_end<T>()
     ensures reads { (S : State T) (b : GenerationalPointer) →
         IsSound S → can_read S b ≡ is_some (value_in S b) }
@@ -195,10 +192,10 @@ pub fn stores_without_borrows_refuse_no_end<T>()
         Meets S (ReleaseOwner o) (release_answer r) R → IsOk r }
 {}
 
-/// A call leaves each owner's record, but that of the owner by which it goes, and of the one that it
-/// gives; so the owners that a store knows keep theirs. A new owner is none that the store knew, and
-/// has the store's number. A shared value's box, and a reference's, that an owner makes stand at
-/// the end of its list. A name that was never given stands in no list.
+/// A call leaves each owner's record, except that of the owner it is called on and of an owner that it
+/// returns; so the owners that a store knows keep theirs. The store didn't know a new owner before, which
+/// has the store's number. A shared value's box, or a reference's, that an owner makes is at the end of
+/// its list. A name that was never issued is in no list.
 pub fn calls_leave_other_owners<T>()
     ensures records { (S R : State T) (call : Action T) (answer : Answer T) →
         Meets S call answer R → (o : OwnerName) →
@@ -225,9 +222,9 @@ pub fn calls_leave_other_owners<T>()
         among h.names n ≡ false }
 {}
 
-/// No name stands twice in an owner's list, nor in the lists of two owners: so it is in a fresh store,
-/// and stays so with each call, of a session too. So an owner's release, refused or not, leaves each
-/// box of another owner's list. That a state is sound doesn't say so by itself.
+/// No name is twice in an owner's list, nor in the lists of two owners: that holds in a fresh store, and
+/// each call preserves it, a session's too. So an owner's release, even if it fails, leaves each box of
+/// another owner's list. That a state is sound doesn't imply this.
 pub fn names_are_listed_once<T>()
     ensures fresh { (number start next : ℕ) → AreListedOnce (fresh {T = T} number start next) }
     ensures stays { (S R : State T) (call : Action T) (answer : Answer T) →
@@ -243,10 +240,10 @@ pub fn names_are_listed_once<T>()
         among h.names (name_of b) ≡ true → IsUnchanged S b R }
 {}
 
-/// The name of a box is one that was given, and no shared value's own: so it is of each box that a
-/// call gives, stays so, and is so of each box that reaches something, and of those that a session
-/// holds. Such a name has ended for good (`ended_names_stay_ended`) once its box was ended, and each
-/// name of an owner's list has after its last release.
+/// The name of a box was issued, and is no shared value's own: that holds of each box that a call
+/// returns, stays so, and holds of each box that refers to a cell, and of those that a session holds.
+/// Such a name is never live again (`ended_names_stay_ended`) once its box was removed, and the same
+/// holds of each name of an owner's list after its last release.
 pub fn boxes_end_for_good<T>()
     ensures made { (S R : State T) (call : Action T) (b : GenerationalPointer) →
         Meets S call (Made b) R → IsBoxed R (name_of b) }
@@ -266,7 +263,7 @@ pub fn boxes_end_for_good<T>()
         among h.names n ≡ true → IsEnded R n) }
 {}
 
-/// A box that was pointed to what another reaches sees what the other saw.
+/// A box that was pointed to what another refers to sees the value that the other saw.
 pub fn pointed_boxes_see_what_others_saw<T>()
     ensures { (S R : State T) (a b : GenerationalPointer)
         (r : Result (Unit {0}) (Refused BorrowMutError)) →
@@ -274,9 +271,9 @@ pub fn pointed_boxes_see_what_others_saw<T>()
         OnOk r (value_in R a ≡ value_in S b) }
 {}
 
-/// In a store without references a box reaches its own cell, if anything, and so boxes that reach the
-/// same have one name. A fresh store is such a one, and each call leaves it so that asks for no shared
-/// value and no reference. So a value that is set there is seen by boxes of its own name alone.
+/// In a store without references a box refers to its own cell, if any, and so boxes that refer to the
+/// same cell have the same name. A fresh store has none, and each call that makes no shared value and no
+/// reference keeps it so. So only boxes of the same name see a value that is set there.
 pub fn boxes_reach_their_own_cells<T>()
     ensures own { (S : State T) → IsPlain S → (b : GenerationalPointer) (m : Name) →
         reach S b ≡ Some m → m ≡ name_of b }
@@ -287,9 +284,8 @@ pub fn boxes_reach_their_own_cells<T>()
         Meets S call answer R → MakesNoReference call → IsPlain S → IsPlain R }
 {}
 
-/// What a store lacks that refuses a call by itself: memory, or a ticket where all were given. An
-/// insertion lacks memory alone, where its owner is known, and a read where no borrow stands a
-/// ticket alone.
+/// What a store lacks when a call fails without a borrow: memory, or a ticket, if all were issued. An
+/// insertion lacks only memory, if its owner is known, and a read without other borrows only a ticket.
 pub fn refusals_tell_what_lacks<T>()
     ensures owner { (S R : State T) (e : StoreError) →
         Meets S NewOwner (Answer.Refused e) R → Lacks S e }
@@ -304,12 +300,12 @@ pub fn refusals_tell_what_lacks<T>()
         (e ≡ NumbersExhausted) × (S.next ≡ last_ticket) }
 {}
 
-/// How many slots and tickets the calls of new boxes take. An insertion by no owner is refused only
-/// where no slot is free, or where fewer than two are, of a shared value. That takes two at most and
-/// no ticket, and gives the box of a reference; no box whose name was given before reaches what that
-/// one reaches. A reference to a value that no writer has is refused only where no slot is free, and
-/// takes no ticket; where the value may be written, it may be written through the new box. A write
-/// and a read where no borrow stands are refused only where all tickets were given.
+/// How many slots and tickets the calls of new boxes take. An insertion without an owner fails only if no
+/// slot is free, or, of a shared value, if fewer than two are. The latter takes at most two and no
+/// ticket, and returns the box of a reference; no box whose name was issued before refers to the same
+/// cell. A reference to a value that isn't being written fails only if no slot is free, and takes no
+/// ticket; if the value may be written, it may be written through the new box. A write, and a read
+/// without other borrows, fail only if all tickets were issued.
 pub fn new_boxes_take_slots_and_tickets<T>()
     ensures make { (S R : State T) (v : T) (l : Location) (e : StoreError) →
         Meets S (Make None v l) (Answer.Refused e) R → (e ≡ OutOfMemory) × (free S ≡ 0) }

@@ -18,15 +18,15 @@ pub enum Call<T> {
     Leak(T, Location),
     /// Makes a shared value, and a box that is its first reference.
     LeakRc(T, Location),
-    /// Makes one reference more to the shared value that the box reaches.
+    /// Adds a reference to the shared value that the box refers to.
     LeakReference(BoxAt<T>),
-    /// Makes a box of the value, which ends with the owner of this place.
+    /// Makes a box of the value, which is removed with the owner of this place.
     Insert(usize, T, Location),
-    /// Makes a shared value, and a box that is its first reference and ends with the owner of this
+    /// Makes a shared value, and a box that is its first reference and is removed with the owner of this
     /// place.
     InsertRc(usize, T, Location),
-    /// Makes one reference more to the shared value that the box reaches, which ends with the owner
-    /// of this place.
+    /// Adds a reference to the shared value that the box refers to, which is removed with the owner of
+    /// this place.
     InsertReference(usize, BoxAt<T>),
     /// Makes an owner.
     Owner,
@@ -34,7 +34,7 @@ pub enum Call<T> {
     CloneOwner(usize),
     /// Releases the owner of this place.
     ReleaseOwner(usize),
-    /// Spends the owner of this place, and leaves its boxes as they are.
+    /// Consumes the owner of this place, and leaves its boxes unchanged.
     LeakOwner(usize),
     /// Begins a read.
     TryRead(BoxAt<T>, Location),
@@ -46,29 +46,29 @@ pub enum Call<T> {
     Write(BoxAt<T>, Location),
     /// Sets a value that may be written.
     Set(BoxAt<T>, T),
-    /// Asks whether a value may be read.
+    /// Whether a value may be read.
     CanRead(BoxAt<T>),
-    /// Asks whether a value may be written.
+    /// Whether a value may be written.
     CanWrite(BoxAt<T>),
-    /// Puts a value in the place of the one that the writer of this place owns.
+    /// Replaces the value that the writer of this place owns.
     Replace(usize, T),
     /// Releases the guard that the call of this place gave.
     Release(usize),
-    /// Ends the box's cell.
+    /// Removes the box's cell.
     ManuallyDrop(BoxAt<T>),
-    /// Lets the first box, which is a reference, lead to the shared value that the second reaches.
+    /// Points the first box, which is a reference, to the shared value that the second refers to.
     PointTo(BoxAt<T>, BoxAt<T>),
-    /// Asks whether two boxes have one id.
+    /// Whether two boxes have the same id.
     PtrEq(BoxAt<T>, BoxAt<T>),
-    /// Asks for the box's id.
+    /// The box's id.
     Id(BoxAt<T>),
-    /// Asks for the number of the box's slot.
+    /// The number of the box's slot.
     RawPtr(BoxAt<T>),
-    /// Asks for the location at which the box was made.
+    /// The location at which the box was made.
     CreatedAt(BoxAt<T>),
 }
 
-/// What a call is answered.
+/// The reply to a call.
 #[derive(Debug, Drop)]
 pub enum Reply<T> {
     /// A box was made.
@@ -91,16 +91,16 @@ pub enum Reply<T> {
     Slot(usize),
     /// The location at which a box was made.
     Created(Location),
-    /// A borrow error. Nothing has changed: an owner whose release is refused so stays held.
+    /// A borrow error. Nothing has changed: an owner whose release fails stays held.
     Error(BorrowMutError),
-    /// A refusal of the store where no value was handed in. Nothing has changed.
+    /// An error of the store, if no value was passed in. Nothing has changed.
     Store(StoreError),
-    /// A refusal of the store, with the value that was handed in. Nothing has changed.
+    /// An error of the store, with the value that was passed in. Nothing has changed.
     Back(T, StoreError),
     /// A `Read`, a `Write` or a `Set` of a value that may not be read, or written. A value that was
-    /// handed in comes back. Nothing has changed.
+    /// passed in comes back. Nothing has changed.
     Unready(Option<T>),
-    /// A place that gave no such thing, or whose guard or owner is spent; a foreign box with this
-    /// store's number. A value that was handed in comes back. Nothing has changed.
+    /// A place that has no such thing, or whose guard or owner was consumed; a foreign box with this
+    /// store's number. A value that was passed in comes back. Nothing has changed.
     NoSuch(Option<T>),
 }

@@ -79,8 +79,8 @@ pub fn steps_are_sound<T>()
         IsSound S → Meets S call answer R → IsSound R }
 {}
 
-/// A name that has ended is never live again, and a box of such a name is answered that its value
-/// is gone, with the box's own location.
+/// A name that has ended is never live again, and a read and a write of a box of such a name fail with
+/// `Dropped`, with the box's own location.
 pub fn ended_names_stay_ended<T>()
     ensures step { (S R : State T) (call : Action T) (answer : Answer T) (n : Name) →
         Meets S call answer R → IsEnded S n → IsEnded R n }
@@ -90,8 +90,8 @@ pub fn ended_names_stay_ended<T>()
         IsEnded S (name_of b) → refusal_to_write S b ≡ Some (Dropped b.created_at) }
 {}
 
-/// In a sound state, a shared value is live exactly while a live Ref names it, and a box whose cell
-/// is a Ref reaches a live shared value. So it is in every session, for all boxes of its places.
+/// In a sound state, a shared value is live exactly while a live Ref names it, and a box whose cell is a
+/// Ref refers to a live shared value. The same holds in every session, for all boxes of its places.
 pub fn shared_values_live_by_references<T>()
     ensures named { (S : State T) (m : Name) →
         IsSound S → is_shared (map.get S.cells m) ≡ true → IsNamed S.cells m }
@@ -108,11 +108,10 @@ pub fn shared_values_live_by_references<T>()
         (reach s.state b ≡ Some m) × (is_shared (map.get s.state.cells m) ≡ true) }
 {}
 
-/// The last release of an owner ends all boxes of its list, and then the shared values that no
-/// live Ref names any more. Nothing else ends or changes, and only the owner's record goes. A
-/// release that isn't the last takes away one owner value and ends nothing. A release that is
-/// refused changes nothing, nor does a leak. In a session, an owner's release that is answered
-/// `Done` is such a release.
+/// The last release of an owner removes all boxes of its list, and then the shared values without a live
+/// Ref. Nothing else is removed or changes, except that the owner's record is removed. A release that
+/// isn't the last only takes away one owner value. A release that fails changes nothing, nor does a leak.
+/// In a session, an owner's release with the reply `Done` is such a release.
 pub fn owners_last_release_ends_its_boxes<T>()
     ensures boxes { (S R : State T) (o : OwnerName) (h : Ownership) (n : Name) →
         IsSound S → IsReleased S o h R → h.count ≤ 1 →
@@ -148,8 +147,8 @@ pub fn owners_last_release_ends_its_boxes<T>()
         ownership s.state o ≡ Some h → IsReleased s.state o h r.state }
 {}
 
-/// The slots of a store are never more than the most cells that were live at once and the slots
-/// whose generations are used up. Each is live, free or used up.
+/// The number of slots of a store is at most the peak number of live cells plus the number of slots whose
+/// generations are used up. Each is live, free or used up.
 pub fn slots_are_bounded<T>()
     ensures fresh { (number start next : ℕ) → IsBounded (fresh {T = T} number start next) }
     ensures step { (S R : State T) (call : Action T) (answer : Answer T) →
@@ -181,8 +180,8 @@ pub fn sessions_keep_names_ended<T>()
         (n : Name) → Run s calls replies r → IsEnded s.state n → IsEnded r.state n }
 {}
 
-/// A value stays as it is while nothing disturbs it: while the box lives on and isn't pointed
-/// elsewhere, no writer has the value, and no call sets it. A cell's location stays with the cell.
+/// A value is unchanged while nothing disturbs it: while the box is live and isn't pointed elsewhere, no
+/// writer has the value, and no call sets it. A cell's location stays with the cell.
 pub fn undisturbed_values_stay<T>()
     ensures step { (S R : State T) (call : Action T) (answer : Answer T)
         (b : GenerationalPointer) (m : Name) →
@@ -202,10 +201,11 @@ pub fn undisturbed_values_stay<T>()
         value_at r.state m ≡ value_at s.state m }
 {}
 
-/// A box sees the value that a read of it would show: that at the cell which it reaches, unless a
-/// writer has it. A box that was inserted sees the value that was handed in; one of a reference
-/// reaches and sees what the box sees from which it was made. No box has the name of a new one that
-/// saw a value before. A reference that was pointed elsewhere reaches what the other box reaches.
+/// A box sees the value that a read of it would return: that of the cell which it refers to, unless a
+/// writer has it. A box that was inserted sees the value that was passed in; one of a reference refers to
+/// the same cell, and sees the same value, as the box from which it was made. No box that saw a value
+/// before has the name of a new one. A reference that was pointed elsewhere refers to what the other box
+/// refers to.
 pub fn made_boxes_see_their_values<T>()
     ensures made { (S R : State T) (o : Option OwnerName) (v : T) (l : Location)
         (r : Result (GenerationalBox T) (Refusal T)) → Meets S (Make o v l) (box_answer r) R →
@@ -240,11 +240,11 @@ pub fn made_boxes_see_their_values<T>()
         OnOk r (reach R a ≡ reach S b) }
 {}
 
-/// A reader's guard opens the value that its box sees, and a writer's has it, whether the borrow
-/// was asked for with a condition or without. A write changes nothing that boxes reach. When a
-/// writer's guard is released, each box that reaches its cell sees the guard's value. A value that
-/// is set gives back the one that its box saw. Nothing changes what boxes reach then, and each box
-/// that reaches the same sees the value that was handed in.
+/// A reader's guard opens the value that its box sees, and a writer's has it, whether the borrow was
+/// begun with a condition or without. A write doesn't change what boxes refer to. When a writer's guard
+/// is released, each box that refers to its cell sees the guard's value. A set returns the value that its
+/// box saw. It doesn't change what boxes refer to, and each box that refers to the same cell sees the
+/// value that was passed in.
 pub fn guards_hold_what_boxes_see<T>()
     ensures opens { (S R : State T) (b : GenerationalPointer) (l : Location)
         (r : Result Guard (Refused BorrowError)) → Meets S (Read b l) (read_answer r) R →
@@ -273,10 +273,10 @@ pub fn guards_hold_what_boxes_see<T>()
         OnOk r ((b : GenerationalPointer) → reach S b ≡ Some g.cell → value_in R b ≡ Some v) }
 {}
 
-/// A box that may be written reaches a value at which no borrow stands. It sees that value, and may
-/// be read; its end is never refused. So it is of each box that was inserted, and it stays so,
-/// unless a call ends the box, points it elsewhere, or begins a borrow of what it reaches
-/// (`LeavesUnborrowed`). A read that was released leaves the state as it was, but for a ticket.
+/// A box that may be written refers to a value that isn't borrowed. It sees that value, and may be read;
+/// its removal never fails. That holds of each box that was inserted, and stays so, unless a call removes
+/// the box, points it elsewhere, or begins a borrow of what it refers to (`LeavesUnborrowed`). A read and
+/// its release leave the state unchanged except for the next ticket.
 pub fn unborrowed_boxes_are_free<T>()
     ensures made { (S R : State T) (o : Option OwnerName) (v : T) (l : Location)
         (r : Result (GenerationalBox T) (Refusal T)) → Meets S (Make o v l) (box_answer r) R →
@@ -299,8 +299,8 @@ pub fn unborrowed_boxes_are_free<T>()
         Meets R (ReleaseReader g) (Flag known) Q → Q ≡ record S { next = S.next + 1 } }
 {}
 
-/// A box that was ended reaches nothing, and so do the boxes of an owner's list after its last
-/// release. A box that reaches nothing sees nothing, and can't be read.
+/// A box that was removed refers to no cell, and nor do the boxes of an owner's list after its last
+/// release. A box that refers to no cell sees no value, and can't be read.
 pub fn ended_boxes_see_nothing<T>()
     ensures ends { (S R : State T) (b : GenerationalPointer)
         (r : Result (Unit {0}) (Refused BorrowMutError)) → Meets S (End b) (end_answer r) R →
@@ -318,8 +318,8 @@ pub fn ended_boxes_see_nothing<T>()
         Meets S (Read b l) (read_answer r) R → reach S b ≡ None → IsErr r }
 {}
 
-/// A new owner has a record without boxes and of one owner value. A box that is made by an owner
-/// stands at the end of its record's list.
+/// A new owner has a record without boxes and of one owner value. A box that is made by an owner is at
+/// the end of its record's list.
 pub fn owners_list_their_boxes<T>()
     ensures owned { (S R : State T) (r : Result OwnerName StoreError) →
         Meets S NewOwner (owner_answer r) R →
@@ -332,10 +332,10 @@ pub fn owners_list_their_boxes<T>()
     ensures last { (names : List Name) (n : Name) → among (names ++ n ∷ []) n ≡ true }
 {}
 
-/// What each call leaves as it was. A box reaches what it reached, unless the call ends it or
-/// points it elsewhere (`LeavesBox`). It sees the value that it saw, unless the call does either,
-/// begins or ends a write of that value, or sets it (`LeavesValue`). So it is of each box that isn't
-/// in the list, where an owner is released.
+/// What each call leaves unchanged. A box refers to the same cell, unless the call removes it or points
+/// it elsewhere (`LeavesBox`). It sees the same value, unless the call does either, begins or ends a
+/// write of that value, or sets it (`LeavesValue`). When an owner is released, both hold of each box that
+/// isn't in its list.
 pub fn calls_leave_the_rest<T>()
     ensures reach { (S R : State T) (call : Action T) (answer : Answer T) →
         IsSound S → Meets S call answer R → (b : GenerationalPointer) (m : Name) →
@@ -358,7 +358,7 @@ pub fn sessions_are_bounded<T>()
         IsSoundSession s → Run s calls replies r → IsBounded r.state }
 {}
 
-/// The machine without values takes the very same steps: what is answered, and what is left, are
+/// The machine without values takes the very same steps: its answers, and the states after them, are
 /// those of the machine with values, without the values.
 pub fn plain_states_step<T>()
     ensures step { (S : State T) (call : Action T) (new : NewNames) →
@@ -369,9 +369,9 @@ pub fn plain_states_step<T>()
         Meets (plain S) (plain_call call) (plain_answer answer) (plain R) }
 {}
 
-/// Ids aside, the replies of a run are those of the numbered machine, which has no choice: they
-/// depend on the calls, and on which of them memory or an exhausted number refused. Sessions that
-/// match were given equally many names, and the one has no owners but the other's.
+/// Ids aside, the replies of a run are those of the numbered machine, which has no choice: they depend on
+/// the calls, and on which of them failed for memory or for numbers that were used up. Sessions that
+/// match have issued equally many names, and the one has no owners that the other doesn't have.
 pub fn replies_depend_on_calls<T>()
     ensures fresh { (number start next : ℕ) (calls : List (Call T))
         (replies : List (SessionReply T)) (r : SessionState T) →
@@ -388,9 +388,9 @@ pub fn replies_depend_on_calls<T>()
         × (is_some (map.get a.state.owners k) ≡ true) }
 {}
 
-/// Two sessions over fresh stores of one number, of any two kinds and with any two beginnings,
-/// answer the same calls alike, ids and slot numbers aside, where memory or an exhausted number
-/// refused the same of them.
+/// Two sessions over fresh stores of the same number, of any two kinds and with any two first numbers,
+/// give the same replies to the same calls, ids and slot numbers aside, if the same of them failed for
+/// memory or for numbers that were used up.
 pub fn sessions_answer_alike<T>()
     ensures { (number start next start_again next_again : ℕ) (calls : List (Call T))
         (replies again : List (SessionReply T)) (r r_again : SessionState T) →
@@ -402,8 +402,8 @@ pub fn sessions_answer_alike<T>()
         map_list erase replies ≡ map_list erase again }
 {}
 
-/// Boxes are told apart by their ids: what `ptr_eq` answers is an equivalence, and it is true
-/// exactly where the ids are one.
+/// Ids identify boxes: what `ptr_eq` returns is an equivalence, and it is true exactly if the ids are
+/// equal.
 pub fn boxes_are_told_apart_by_ids()
     ensures itself { (a : GenerationalPointer) → has_same_id a a ≡ true }
     ensures turned { (a b : GenerationalPointer) → has_same_id a b ≡ has_same_id b a }
@@ -412,9 +412,9 @@ pub fn boxes_are_told_apart_by_ids()
     ensures ids { (a b : GenerationalPointer) → (has_same_id a b ≡ true) ↔ (a.id ≡ b.id) }
 {}
 
-/// A call that is recorded is ready exactly where the machine's answer tells of no borrow, neither
-/// of readers nor of a writer; a release by a ticket is the release of any guard with that ticket.
-/// So a call that is ready is never answered so.
+/// A recorded call is ready exactly if the machine's answer isn't an error of a borrow, neither of
+/// readers nor of a writer; a release by a ticket is the release of any guard with that ticket. So a call
+/// that is ready never fails because of a borrow.
 pub fn calls_are_ready_where_no_borrow_is_told<T>()
     ensures answer { (S : State T) (call : Action T) (step : StepCall) (new : NewNames) →
         recorded_as call ≡ Some step →
@@ -424,8 +424,8 @@ pub fn calls_are_ready_where_no_borrow_is_told<T>()
         is_hindered call answer ≡ false }
 {}
 
-/// No call changes the store's number or the first generation of its slots. Tickets never go
-/// back, and a name that was given stays given.
+/// No call changes the store's number or the first generation of its slots. Tickets never decrease, and a
+/// name that was issued stays issued.
 pub fn steps_keep_the_store<T>()
     ensures number { (S R : State T) (call : Action T) (answer : Answer T) →
         Meets S call answer R → R.number ≡ S.number }
@@ -437,8 +437,8 @@ pub fn steps_keep_the_store<T>()
         Meets S call answer R → IsGiven S n → IsGiven R n }
 {}
 
-/// A box that a call gives is of the store; its name was never given before, and is given from
-/// then on. A guard that a call gives is of the store, which knows it; its ticket is the next one.
+/// A box that a call returns is of the store; its name was never issued before, and is issued from then
+/// on. A guard that a call returns is of the store, which knows it; its ticket is the next one.
 pub fn boxes_and_guards_are_new<T>()
     ensures made { (S R : State T) (call : Action T) (b : GenerationalPointer) →
         Meets S call (Made b) R → b.id.store ≡ S.number }
@@ -464,8 +464,8 @@ pub fn fresh_states_are_plain<T>()
         plain (fresh {T = T} number start next) ≡ fresh number start next }
 {}
 
-/// The slots follow from which names were given, and not from their order: of each slot the
-/// greatest generation stands, and one more name counts as if it were given last.
+/// The set of issued names determines the slots, whatever their order: each slot has its greatest
+/// generation, and adding a name is the same as issuing it last.
 pub fn slots_follow_from_names()
     ensures none { lasts (set.items (set.empty {R = name_cmp})) ≡ lasts [] }
     ensures more { (given : Names) (n : Name) →

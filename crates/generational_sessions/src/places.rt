@@ -1,4 +1,4 @@
-//! What the places of a session hold, and how its calls are answered.
+//! What the places of a session hold, and the replies to its calls.
 
 ghost use Rattle.std.specs.Prelude.{◌≡◌, List, IfSome, IfNone, Some, option_map, option_copied};
 ghost use Rattle.std.specs.Prelude.{slice_get, slice_set, vec_len, vec_capacity, map as list_map};
@@ -29,7 +29,7 @@ pub(crate) enum Thing<T> {
     Nothing,
 }
 
-// Answers a call: the reply, and what the call gives to its place.
+// Runs a call: returns the reply, and what the call's place gets.
 pub(crate) fn answer<T: Drop, S: Storage<T>>(
     store: &mut S,
     things: &mut Vec<Thing<T>>,
@@ -76,7 +76,7 @@ pub(crate) fn answer<T: Drop, S: Storage<T>>(
     }
 }
 
-// The box that a call names.
+// The box that a call refers to.
 fn resolve<T, S: Storage<T>>(
     store: &S,
     things: &[Thing<T>],
@@ -119,7 +119,7 @@ fn leak_rc<T, S: Storage<T>>(store: &mut S, value: T, location: Location) -> (Re
     made(GenerationalBox::leak_rc(store, value, location))
 }
 
-// The reply to a making of a value, and what it gives.
+// The reply to a making of a value, and what its place gets.
 fn made<T>(making: Result<GenerationalBox<T>, Refusal<T>>) -> (Reply<T>, Thing<T>)
     ensures reply { as_reply result.0 ≡ (as_making making).0 }
     ensures thing { as_held result.1 ≡ (as_making making).1 }
@@ -130,7 +130,7 @@ fn made<T>(making: Result<GenerationalBox<T>, Refusal<T>>) -> (Reply<T>, Thing<T
     }
 }
 
-// Makes a reference to the shared value that a box reaches.
+// Adds a reference to the shared value that a box refers to.
 fn leak_reference<T, S: Storage<T>>(
     store: &mut S,
     things: &[Thing<T>],
@@ -192,7 +192,7 @@ fn insert_rc<T, S: Storage<T>>(
     made(owner.insert_rc(store, value, location))
 }
 
-// Makes a reference to the shared value that a box reaches, by the owner at a place.
+// Adds a reference to the shared value that a box refers to, by the owner at a place.
 fn insert_reference<T, S: Storage<T>>(
     store: &mut S,
     things: &[Thing<T>],
@@ -245,7 +245,7 @@ fn clone_owner<T, S: Storage<T>>(
     }
 }
 
-// Releases the owner at a place. One whose release is refused goes back to its place.
+// Releases the owner at a place. If that fails, the owner goes back to its place.
 fn release_owner<T, S: Storage<T>>(
     store: &mut S,
     things: &mut Vec<Thing<T>>,
@@ -269,7 +269,7 @@ fn release_owner<T, S: Storage<T>>(
     }
 }
 
-// Leaks the owner at a place. The store isn't asked.
+// Leaks the owner at a place. The store isn't called.
 fn leak_owner<T, S: Storage<T>>(
     store: &S,
     things: &mut Vec<Thing<T>>,
@@ -290,7 +290,7 @@ fn leak_owner<T, S: Storage<T>>(
     }
 }
 
-// Takes the owner away that a place holds. The place holds nothing then.
+// Takes the owner from its place, which holds nothing then.
 fn take_owner<T>(things: &mut Vec<Thing<T>>, place: usize) -> Option<Owner>
     ensures owner { result ≡ owner_held (at_place (list_map as_held things.old.items) place) }
     ensures taken { OnSome result
@@ -324,7 +324,7 @@ fn put_owner<T>(things: &mut Vec<Thing<T>>, place: usize, owner: Owner)
     }
 }
 
-// The reply to a refusal, where no value was handed in.
+// The reply to an error, if no value was passed in.
 fn refusal<T>(refused: Refused<BorrowMutError>) -> Reply<T>
     ensures { as_reply result ≡ as_refusal refused }
 {
@@ -334,7 +334,7 @@ fn refusal<T>(refused: Refused<BorrowMutError>) -> Reply<T>
     }
 }
 
-// The reply to a refused read, and to a refused making of a reference.
+// The reply to a read that failed, and to an insertion of a reference that failed.
 fn read_refusal<T>(refused: Refused<BorrowError>) -> Reply<T>
     ensures { as_reply result ≡ as_read_refusal refused }
 {
@@ -468,7 +468,7 @@ fn can_write<T, S: Storage<T>>(store: &S, things: &[Thing<T>], at: BoxAt<T>) -> 
     }
 }
 
-// Puts another value into the writer at a place. The store isn't asked.
+// Replaces the value of the writer at a place. The store isn't called.
 fn replace<T, S: Storage<T>>(
     store: &S,
     things: &mut Vec<Thing<T>>,
@@ -487,7 +487,7 @@ fn replace<T, S: Storage<T>>(
     }
 }
 
-// Puts another value into a thing that is a writer, and answers the old one.
+// Puts another value into a thing that is a writer, and returns the old one.
 fn exchange<T>(thing: &mut Thing<T>, value: T) -> Reply<T>
     ensures reply { as_reply result ≡ (exchange (as_held thing.old) value).0 }
     ensures thing { as_held thing.new ≡ (exchange (as_held thing.old) value).1 }
@@ -498,7 +498,7 @@ fn exchange<T>(thing: &mut Thing<T>, value: T) -> Reply<T>
     }
 }
 
-// Ends a cell.
+// Removes a cell.
 fn manually_drop<T, S: Storage<T>>(
     store: &mut S,
     things: &[Thing<T>],
@@ -516,7 +516,7 @@ fn manually_drop<T, S: Storage<T>>(
     }
 }
 
-// Lets a reference lead to the shared value that another box reaches.
+// Points a reference to the shared value that another box refers to.
 fn point_to<T, S: Storage<T>>(
     store: &mut S,
     things: &[Thing<T>],
@@ -619,7 +619,7 @@ fn release<T: Drop, S: Storage<T>>(
     }
 }
 
-// Lets go of what a place holds.
+// Drops what a place holds.
 pub(crate) fn let_go<T: Drop, S: Storage<T>>(store: &mut S, thing: Thing<T>)
     ensures { S.state store.new ≡ release_held (S.state store.old) (as_held thing) }
 {

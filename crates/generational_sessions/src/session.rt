@@ -10,10 +10,10 @@ use std::alloc::Global;
 use std::marker::Model;
 use store_room::reserve_more;
 
-/// A store, and what its calls gave. Contracts see it as the machine's state and a table of what
+/// A store, and what its calls returned. Contracts model it as the machine's state and a table of what
 /// each place holds.
 ///
-/// It has no `Drop`: `finish` must spend it.
+/// It has no `Drop`: `finish` must consume it.
 pub struct Session<T, S: Storage<T>> {
     alloc: Global,
     store: S,
@@ -58,7 +58,7 @@ impl<T: Drop, S: Storage<T>> Session<T, S> {
     ghost use Rattle.generational_sessions.specs.Replies.{TellsLack, TellsExhaustion};
     ghost use Rattle.generational_sessions.specs.Replies.{RefusalLeavesAll};
 
-    /// A session over a fresh store (`is_fresh` is the test). Takes no memory.
+    /// A session over a fresh store (see `is_fresh`). Doesn't allocate.
     ///
     /// ```rust
     /// let mut session = Session::new(alloc, store);
@@ -66,7 +66,7 @@ impl<T: Drop, S: Storage<T>> Session<T, S> {
     pub fn new(alloc: Global, store: S) -> Session<T, S>
         requires { IsFresh (S.state store) }
         ensures session { result ≡ record { state = S.state store; table = [] } }
-        // It matches the machine whose names are plain numbers, where nothing was called.
+        // It matches the machine whose names are plain numbers, before any call.
         ensures matches { Matches result (empty_session (S.state store).number) }
     {
         Session {
@@ -76,8 +76,11 @@ impl<T: Drop, S: Storage<T>> Session<T, S> {
         }
     }
 
-    /// Answers a call, and gives it the next place, whatever the reply. The call comes back where
-    /// its place finds no memory: then it has no place, and nothing changes.
+    /// Runs a call, and gives it the next place, whatever the reply.
+    ///
+    /// # Errors
+    ///
+    /// The call, if its place can't be allocated: then it has no place, and nothing changes.
     ///
     /// ```rust
     /// let made = session.call(Call::Leak(7, made()));
@@ -89,25 +92,24 @@ impl<T: Drop, S: Storage<T>> Session<T, S> {
         ensures back { IfErr result (λ back. back ≡ call) }
         ensures unchanged { OnErr result (self.new ≡ self.old) }
 
-        // Ids aside, the reply is the numbered machine's, which has no slots: it depends on the
-        // calls, and on which of them memory or an exhausted number refused.
+        // Ids aside, the reply is the numbered machine's, which has no slots: it depends on the calls,
+        // and on which of them failed for memory or for numbers that were used up.
         ensures same_answer { IfOk result (λ reply. (a : SessionState T) → Matches self.old a →
             AnswersAs a (call ∷ []) (as_reply reply ∷ []) self.new) }
 
-        // A read or a write of a box whose name has ended is answered so, and so is a making of a
-        // reference from it by no owner; a call with a condition is told that it doesn't hold. A
-        // box that is given was never given before, and a place keeps its box. The last release of
-        // an owner that is done ends the boxes of its list.
+        // A read or a write of a box whose name has ended fails with that, and so does a making of a
+        // reference from it without an owner; a call with a condition has the reply that it doesn't hold.
+        // A box in a reply was never issued before, and a place keeps its box. The last release of an
+        // owner removes the boxes of its list if the reply is `Done`.
         ensures tells_ends { IfOk result (λ reply. TellsEnds self.old call (as_reply reply)) }
         ensures new_box { IfOk result (λ reply. GivesNewBox self.old (as_reply reply)) }
         ensures keep_boxes { KeepBoxes self.old self.new }
         ensures ends_owned { IfOk result (λ reply.
             EndsOwned self.old call (as_reply reply) self.new) }
 
-        // Lack of memory is told only where the call asks the machine for something that may lack
-        // memory there. That the numbers are used up is told exactly where it asks for something
-        // that takes a ticket, and the next ticket is the last number. A call that is refused
-        // leaves all as it was, and its place holds nothing.
+        // The reply is `OutOfMemory` only if the call needs something of the machine that may have to be
+        // allocated. It is that the numbers are used up exactly if the call needs a ticket, and the next
+        // ticket is the last number. A call that fails changes nothing, and its place holds nothing.
         ensures tells_lack { IfOk result (λ reply. TellsLack self.old call (as_reply reply)) }
         ensures tells_exhaustion { IfOk result (λ reply.
             TellsExhaustion self.old call (as_reply reply)) }
@@ -132,8 +134,12 @@ impl<T: Drop, S: Storage<T>> Session<T, S> {
         Ok(reply)
     }
 
-    /// Answers calls in order, each as `call` does. All calls come back where memory for the
-    /// replies or the places is lacking: then none has a place, and nothing changes.
+    /// Runs calls in order, each like `call`.
+    ///
+    /// # Errors
+    ///
+    /// All calls, if the replies or the places can't be allocated: then none has a place, and nothing
+    /// changes.
     ///
     /// ```rust
     /// let leak = Call::Leak(7, made());
@@ -150,16 +156,16 @@ impl<T: Drop, S: Storage<T>> Session<T, S> {
         ensures unchanged { OnErr result (self.new ≡ self.old) }
 
         // Ids aside, the replies are the numbered machine's, which has no slots: they depend on the
-        // calls, and on which of them memory or an exhausted number refused.
+        // calls, and on which of them failed for memory or for numbers that were used up.
         ensures same_answers { IfOk result (λ replies. (a : SessionState T) → Matches self.old a →
             AnswersAs a calls.items (as_replies replies.items) self.new) }
 
-        // What `call` promises of a call holds of each call of the run: what ends, what is given,
-        // what is refused and that a refusal leaves all as it was, and that the state after it is
-        // sound, with no more slots than the peak and the retired ones. A read or a write of a box
-        // whose name had ended before the run is answered so, wherever in the run it stands, and so
-        // is a making of a reference from it by no owner; a call with a condition is told that it
-        // doesn't hold. No two replies give boxes with one id.
+        // What `call` promises of a call holds of each call of the run: what is removed, what is
+        // returned, what fails and that an error changes nothing, and that the state after it is sound,
+        // with no more slots than the peak and the retired ones. A read or a write of a box whose name
+        // had ended before the run fails with that, wherever it is in the run, and so does a making of a
+        // reference from it without an owner; a call with a condition has the reply that it doesn't hold.
+        // No two replies have boxes with the same id.
         ensures promises { IfOk result (λ replies.
             let list = as_replies replies.items in
             (run : Run self.old calls.items list self.new) →
@@ -198,8 +204,8 @@ impl<T: Drop, S: Storage<T>> Session<T, S> {
         Ok(replies)
     }
 
-    /// The value that the guard at a place lends, a writer's being its own: None where the place
-    /// holds no guard. Takes no memory.
+    /// The value of the guard at a place, a reader's or a writer's. None if the place holds no guard.
+    /// Doesn't allocate.
     ///
     /// ```rust
     /// let seen = session.view(1).copied();
@@ -214,15 +220,15 @@ impl<T: Drop, S: Storage<T>> Session<T, S> {
         }
     }
 
-    /// The store. Takes no memory.
+    /// The store. Doesn't allocate.
     pub fn store(&self) -> &S
         ensures { S.state result.now ≡ self.now.state }
     {
         &self.store
     }
 
-    /// The store, after the held guards were released in order of place; the values of writers are
-    /// put back, and owners are leaked. Takes no memory.
+    /// Releases the held guards in order of place, which puts back the values of writers, leaks the held
+    /// owners, and returns the store. Doesn't allocate.
     ///
     /// ```rust
     /// let store = session.finish();

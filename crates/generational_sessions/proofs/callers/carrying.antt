@@ -10,8 +10,8 @@ unfoldable pub use Cells.*
 
 -- ==== one state carries another: by other names, without values, and as numbers
 
--- ---- sessions that carry others: calls come to the same, ids aside, and new names are numbered
--- behind the old ones
+-- ---- sessions that carry others: calls come to the same, ids aside, and new names are numbered after
+-- the old ones
 
 -- ---- tables
 
@@ -40,7 +40,7 @@ module _ {T : Type 0} (f : Name → Name) (d : ℕ) (Knows : Name → Type 0) (s
       known (y ∷ u) (suc p) h = (h.0, known u p h.1)
       known u p h = grind arith
 
-  -- what an answer gives, what it spends, and what is said
+  -- what an answer returns, what it consumes, and the reply
   tables_give : (t u : List (Held T)) (answer : Answer T) → Tables t u → KnowsAnswer
       Knows store answer → Tables (t ++ gives (rename_reply answer) ∷ []) (u ++ gives answer ∷ [])
   tables_give t u answer h k = grind (arith, map-append, all_push)
@@ -130,7 +130,7 @@ module _ {T : Type 0} {f : Name → Name} {d : ℕ} {Knows : Name → Type 0} {s
         record { state = m.state; table = rw (m.same, m.answer) t.0; known = rw m.same t.1 },
       )
 
--- ---- a renaming that agrees with another one on the names known, where more are known
+-- ---- a renaming that agrees with another one on the known names, when more are known
 
 all_agree : {X Y : Type 0} (P Q : X → Type 0) (u w : X → Y) → ((x : X) → P x → (u x ≡ w x) × Q x)
     → (xs : List X) → AllByRecursion P xs → (list_map u xs ≡ list_map w xs) × AllByRecursion Q xs
@@ -153,10 +153,10 @@ module _ (f h : Name → Name) (d n : ℕ) (Knows More : Name → Type 0)
       → (rename_held h d n x ≡ rename_held f d n x) × KnowsHeld More n x
   held_agrees x k = grind arith
 
--- ---- one more name
+-- ---- another name
 
 module _ (order : List Name) (y : Name) {n : ℕ} (is : n ≡ length order) where
-  -- the names before keep their numbers, and the last number stands for the new name
+  -- the names before keep their numbers, and the last number represents the new name
   pub older : (k : Name) → IsNumberBelow (length order) k
       → (named_by (order ++ y ∷ []) k ≡ named_by order k)
       × IsNumberBelow (length (order ++ y ∷ [])) k
@@ -168,7 +168,7 @@ module _ (order : List Name) (y : Name) {n : ℕ} (is : n ≡ length order) wher
   pub last_known : IsNumberBelow (length (order ++ y ∷ [])) (number n)
   last_known = (refl, omega (arith, length_push order y))
 
--- a list carries one session into another; its names are those given, and some not given yet
+-- a list carries one session into another; its names are those issued, and some not issued yet
 pub record Reserves {T : Type 0} (s a : SessionState T)
     (d : ℕ) (order : List Name) (given_s given_a : Names) : Type 0 where
   pub carries : CarriesSession (named_by order) d (IsNumberBelow (length order)) s a
@@ -186,11 +186,11 @@ module _ {T : Type 0} {s a : SessionState T} {d : ℕ} {order : List Name} {give
   abbrev IsBelow : Name → Type 0
   IsBelow = IsNumberBelow (length order)
 
-  -- no number below stands for the new name, since the names of the list were given
+  -- no number below represents the new name, since the names of the list were issued
   other : (k : Name) → IsBelow k → named_by order k ≢ y
   other k b e = grind (arith, true≢false, list_any_at, name_here)
 
-  -- a name more, which was never given, at the end of the list
+  -- another name, which was never issued, at the end of the list
   pub reserve : Reserves s a d
       (order ++ y ∷ []) (set.insert given_s y) (set.insert given_a (number n))
   reserve =
@@ -241,9 +241,9 @@ module _ {T : Type 0} {s a : SessionState T} {d : ℕ} {order : List Name} {give
         more_a = λ m e. contains-insert_old by_name given_a (number n) m (r.more_a m e);
       }
 
--- ---- each call of a session, and each run, is answered as the numbered machine does it, ids aside
+-- ---- each call of a session, and each run, has the numbered machine's replies, ids aside
 
--- a slot behind those of all names in a list
+-- a slot after those of all names in a list
 slot_behind : (names : List Name)
     → (s : ℕ) × ((n : Name) → list_any (eq_by_cmp name_cmp n) names ≡ true → n.slot < s)
 slot_behind [] = (0, λ n h. cc)
@@ -252,7 +252,7 @@ slot_behind (m ∷ names) =
     (m.slot + rest.0 + 1, λ n h. grind (arith, rest.1 n, key_same by_name n m, or_cases))
 
 module _ {T : Type 0} where
-  -- there are always names that were never given
+  -- there are always names that were never issued
   fresh_names : (S : State T) (call : Action T) → (new : NewNames) × AreFresh S call new
   fresh_names S call =
       let behind = slot_behind (set.items S.given) in
@@ -260,17 +260,17 @@ module _ {T : Type 0} where
       let one = behind.1 both.first in let two = behind.1 both.second in
       let given = set.contains-items S.given in (both, grind (arith, given))
 
-  -- nothing changes, or names were given
+  -- nothing changes, or names were issued
   abbrev Left : Bool → State T → Names → State T → Type 0
   Left true S given R = R ≡ S
   Left false S given R = R.given ≡ given
 
-  -- a making is refused whichever names it takes, or takes its names
+  -- a making fails whichever names it takes, or takes its names
   record Making (S : State T) (given : NewNames → Names) (out : NewNames → Outcome T) : Type 0 where
     left : (new : NewNames) → Left (is_refusal (out new).0) S (given new) (out new).1
     unnamed : (f h : NewNames) → is_refusal (out f).0 ≡ true → out f ≡ out h
 
-  -- the names given after a making
+  -- the names issued after a making
   abbrev given_after : State T → Action T → NewNames → Names
   given_after S (MakeShared o v l) new = set.insert (set.insert S.given new.first) new.second
   given_after S _ new = set.insert S.given new.first
@@ -279,12 +279,12 @@ module _ {T : Type 0} where
       → is_making call ≡ true → Making S (given_after S call) (act S call)
   making S call h = grind arith
 
-  -- a call that is refused doesn't depend on the names
+  -- a call that fails doesn't depend on the names
   unnamed : (S : State T) (call : Action T) (f h : NewNames)
       → is_refusal (act S call f).0 ≡ true → act S call f ≡ act S call h
   unnamed S call f h k = grind arith
 
-  -- a call wants memory or tickets, or does what the machine does with names that were never given
+  -- a call wants memory or tickets, or does what the machine does with names that were never issued
   meets_fresh : {P : Type 0} (S R : State T) (call : Action T) (answer : Answer T)
       → ((e : StoreError) → want e ≡ Some e → ◌≡◌ {A = Outcome T} (answer, R) (Refused e, S) → P)
       → ((new : NewNames) → AreFresh S call new → (answer, R) ≡ act S call new → P)
@@ -302,7 +302,7 @@ module _ {T : Type 0} where
       → is_refusal (rename_answer f d (λ (v : T). v) n answer) ≡ is_refusal answer
   refusal_moved f d n answer = grind arith
 
-  -- a refusal has no names
+  -- an error has no names
   refusal_same : (f h : Name → Name) (d n : ℕ) (Knows : Name → Type 0) (answer : Answer T)
       → is_refusal answer ≡ true → KnowsAnswer Knows n answer
       × (rename_answer h d (λ (v : T). v) n answer ≡ rename_answer f d (λ (v : T). v) n answer)
@@ -328,14 +328,14 @@ module _ {T : Type 0} {s a : SessionState T} (m : Matches s a) where
   start : Reserves s a m.difference m.order s.state.given a.state.given
   start = assumption m
 
-  -- sessions that are carried match where the names of the list are those given
+  -- sessions that are carried match if the names of the list are those issued
   matched : {order : List Name} {given_s given_a : Names} {x y : SessionReply T × SessionState T}
       → Reserves s a m.difference order given_s given_a → (erase x.0 ≡ erase y.0)
       × CarriesSession (named_by order) m.difference (IsNumberBelow (length order)) x.1 y.1
       → x.1.state.given ≡ given_s → y.1.state.given ≡ given_a → StepMatches x y
   matched r both h k = grind arith
 
-  -- a making, once the new names are numbered behind the others
+  -- a making, once the new names are numbered after the others
   making_step : (x : Call T) (call : Action T) (new : NewNames) (order : List Name)
       → is_making call ≡ true → is_making (mine call) ≡ true
       → Reserves s a m.difference order (given_after s.state (mine call) new)
@@ -440,7 +440,7 @@ module _ {T : Type 0} {s a : SessionState T} (m : Matches s a) where
   settles_step c x r p q asked alike step = absurd alike
 
 module _ {T : Type 0} where
-  -- so a run is answered as by the numbered machine, ids aside, and the sessions left match
+  -- so a run has the replies of the numbered machine, ids aside, and the sessions after it match
   pub run_answers : (calls : List (Call T)) (replies : List (SessionReply T))
       (s r a : SessionState T)
       → Matches s a → IsSound s.state → Run s calls replies r → AnswersAs a calls replies r
@@ -467,7 +467,7 @@ module _ {T : Type 0} where
       let same : key ≡ k + m.difference = omega arith in
       (k, omega arith, rw (same, m.carries.state.owners k, some_map) at live)
 
-  -- a fresh store matches the numbered machine where nothing was called
+  -- a fresh store matches the numbered machine before any call
   pub fresh_matches : (store start next : ℕ)
       → (let s : SessionState T = record { state = fresh store start next; table = [] } in
       Matches s (empty_session store))
@@ -485,7 +485,7 @@ module _ {T : Type 0} where
       → IsFresh S → items ≡ [] → Matches (session_in S items) (empty_session S.number)
   new_matches S items f none = rw (none, f) (fresh_matches S.number S.start S.next)
 
--- ==== a call does the same to a state without its values, and is answered the same without values
+-- ==== a call does the same to a state without its values, and its answer is the same without values
 
 abbrev same_name : Name → Name
 same_name n = n
@@ -541,7 +541,7 @@ module _ {T : Type 0} where
   all_fresh : (call : Action T) (new : NewNames) → KnowsNewNames Any call new
   all_fresh call new = grind arith
 
-  -- what keeps its names loses its value alone
+  -- what keeps its names loses only its value
   same_mapping : (number : ℕ) → renaming same_name 0 (bare {T = T}) number ≡ without_values
   same_mapping number = grind arith
 
@@ -549,7 +549,7 @@ module _ {T : Type 0} where
   abbrev plain_out : Outcome T → Outcome (Unit {0})
   plain_out out = (plain_answer out.0, plain out.1)
 
-  -- a call of the plain state answers alike and leaves the plain state after
+  -- a call of the plain state has the same answer and leaves the plain state after it
   pub plain_act : (S : State T) (call : Action T) (new : NewNames)
       → act (plain S) (plain_call call) new ≡ plain_out (act S call new)
   plain_act S call new = let same = same_mapping S.number in
@@ -581,7 +581,7 @@ module _ {T : Type 0} where
       (plain_new S f.first new.0, rw born (plain_new (add_cell S f.first cell) f.second new.1))
   plain_are_new S call f new = grind (arith, plain_new)
 
-  -- ---- lack of memory
+  -- ---- failed allocations
 
   plain_reached : (S : State T) (b : GenerationalPointer)
       → is_some (write_refusal (content_of (cell_at (plain S) (reach (plain S) b))))

@@ -5,8 +5,7 @@ use Rattle.generational_core.specs.Machine.Action.{CanRead, CanWrite, Point, Rel
 use Rattle.generational_sessions.specs.Carrying.{Mapping, map_action, map_answer}
 unfoldable pub use sessions.*
 
--- ==== what is asked of cells that are carried is answered alike, and what is done to them is
--- carried
+-- ==== tests of carried cells have the same results, and changes of them are carried
 
 pub cond_map : {A B : Type 0} (h : A → B) (b : Bool) (x y : A) → cond b (h x) (h y) ≡ h (cond b x y)
 cond_map h b x y = grind arith
@@ -25,14 +24,14 @@ module _ {T U : Type 0} (f : Name → Name) (d : ℕ) (g : T → U) where
   abbrev moved_content : Content T → Content U
   moved_content = rename_content f d g
 
-  -- a cell's moved_content, whether it is Shared, its location, and how a read of it is refused
+  -- a cell's moved_content, whether it is Shared, its location, and how a read of it fails
   pub cell_moved : (o : Option (Cell T)) → (let moved = option_map (rename_cell f d g) o in
       (content_of moved ≡ option_map moved_content (content_of o))
       × (is_shared moved ≡ is_shared o) × (location_of moved ≡ location_of o)
       × (read_refusal (content_of moved) ≡ read_refusal (content_of o)))
   cell_moved o = grind arith
 
-  -- how a read, and a write, of a moved_content is refused
+  -- how a read, and a write, of a moved_content fail
   pub refusals_moved : (c : Option (Content T)) → (let moved = option_map moved_content c in
       (read_refusal moved ≡ read_refusal c) × (write_refusal moved ≡ write_refusal c))
   refusals_moved (Some (Here v (r ∷ readers))) =
@@ -100,7 +99,7 @@ known_target x leads = grind arith
 
 module _ {f : Name → Name} {Knows : Name → Type 0}
     (apart : (j k : Name) → Knows j → Knows k → f j ≡ f k → j ≡ k) where
-  -- known names are told apart as before
+  -- known names are distinguished as before
   pub same_test : (j k : Name) → Knows j → Knows k → is_name (f j) (f k) ≡ is_name j k
   same_test j k kj kk = grind (arith, name_here, name_apart)
 
@@ -138,7 +137,7 @@ module _ {T U : Type 0} {f : Name → Name} {d : ℕ} {g : T → U} {Knows : Nam
     unfolding sweep
     cells_swept = grind (arith, cells_keep, named_moved)
 
-    -- one moved_cell more, at a known name
+    -- another moved_cell, at a known name
     pub cells_insert : (n : Name) (x : Cell T) → Knows n → KnowsTarget Knows x
         → CarriesCells f d g Knows (map.insert S (f n) (moved_cell x)) (map.insert A n x)
     cells_insert n x kn target = grind (arith, get-insert_name, name_here, name_apart)
@@ -170,7 +169,7 @@ module _ {T U : Type 0} {f : Name → Name} {d : ℕ} {g : T → U} {Knows : Nam
     first_moved (n ∷ names) h =
         grind (arith, first_moved names h.1, c.at n h.0, hindrance_at_moved, known_target, c.leads)
 
--- ==== a call is answered alike where one state carries another, and the states after it carry
+-- ==== if one state carries another, a call has the same answer in both, and the states after it carry
 -- again
 
 -- ---- what is of a carried store, in calls and answers
@@ -231,7 +230,7 @@ pub record Matched {T U : Type 0} (f : Name → Name) (d : ℕ) (g : T → U)
   pub same : was.1.number ≡ number
   pub known : KnowsAnswer Knows number was.0
 
--- what holds of a list and of one element more holds of both together
+-- what holds of a list and of another element holds of both together
 pub all_push : {X : Type 0} (P : X → Type 0) (xs : List X) (x : X)
     → AllByRecursion P xs → P x → AllByRecursion P (xs ++ x ∷ [])
 all_push P [] x h k = (k, tt)
@@ -273,12 +272,12 @@ module _ {T U : Type 0} {f : Name → Name} {d : ℕ} {g : T → U}
       → B.number ≡ A.number → Carries f d g Knows R B → Alike (a, R) (b, B)
   matches e k n s = record { answer = e; state = s; same = n; known = k }
 
-  -- nothing changes, and the answers are alike
+  -- nothing changes, and the answers are the same
   stays : {a : Answer U} (b : Answer T)
       → a ≡ rename_answer f d g A.number b → KnowsAnswer Knows A.number b → Alike (a, S) (b, A)
   stays b e k = matches e k refl c
 
-  -- two outcomes by the same test, and by the same refusal
+  -- two outcomes by the same test, and with the same error
   if_alike : {b e : Bool} {x y : Outcome U} {v w : Outcome T}
       → b ≡ e → (e ≡ true → Alike x v) → Alike y w → Alike (cond b x y) (cond e v w)
   if_alike is h k = grind arith
@@ -324,7 +323,7 @@ module _ {T U : Type 0} {f : Name → Name} {d : ℕ} {g : T → U}
       → Carries f d g Knows (record S { cells = new }) (record A { cells = old })
   with_cells cells = assumption (cells, c)
 
-  -- a ticket more in both
+  -- another ticket in both
   next_moved : Carries f d g Knows (take_ticket S) (take_ticket A)
   next_moved = grind arith
 
@@ -339,7 +338,7 @@ module _ {T U : Type 0} {f : Name → Name} {d : ℕ} {g : T → U}
   with_born n x kn target = let more = cells_insert c.apart c.cells n x kn target in
       let size = same_size c.apart more in grind (arith, contains-insert_name, same_test c.apart)
 
-  -- a record put in, or taken away
+  -- a record put in, or removed
   with_record : (key : ℕ) (h : Option Ownership) → IfThere h (λ h. AllByRecursion Knows h.names)
       → (owners held : Owners)
       → ((q : ℕ) → map.get owners q
@@ -376,7 +375,7 @@ module _ {T U : Type 0} {f : Name → Name} {d : ℕ} {g : T → U}
     refl,
   )
 
-  -- known names end, and are hindered alike
+  -- known names end, and the same hinders them
   end_names : (names : List Name) → AllByRecursion Knows names
       → Carries f d g Knows (close S (list_map f names)) (close A names)
       × (hindrance_to S (list_map f names) ≡ hindrance_to A names)
@@ -386,7 +385,7 @@ module _ {T U : Type 0} {f : Name → Name} {d : ℕ} {g : T → U}
   unknown_alike : Alike (Refused UnknownOwner, S) (Refused UnknownOwner, A)
   unknown_alike = stays (Refused UnknownOwner) refl tt
 
-  -- a box whose value is gone is told its own location in both
+  -- a call on a box whose value is gone fails with its own location in both
   drop_alike : (b : GenerationalPointer)
       → Alike (BorrowRefused (Dropped (box b).created_at), S) (BorrowRefused (Dropped b.created_at), A)
   drop_alike b = stays (BorrowRefused (Dropped b.created_at)) (rw (created_moved b)) tt

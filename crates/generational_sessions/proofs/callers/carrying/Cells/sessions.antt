@@ -11,14 +11,15 @@ unfoldable pub use Common.*
 
 -- ==== each call of a session keeps what holds of every session, and so does a whole run
 
--- ---- how many owner values each call of a store gives and spends, beside what the records count
+-- ---- how many owner values each call of a store returns and consumes, compared with what the records
+-- count
 
 -- what a test lets through, if anything
 through : {X : Type 0} (b : Bool) (o : Option X) (x : X) → cond b o None ≡ Some x
     → (b ≡ true) × (o ≡ Some x)
 through b o x e = grind arith
 
--- nothing is there where something would be absurd
+-- there is nothing if something would be absurd
 pub not_there : {X : Type 0} (o : Option X) → (is_some o ≡ true → ⊥) → o ≡ None
 not_there o h = grind arith
 
@@ -27,7 +28,7 @@ pub itself : (key : ℕ) → cond {A = ℕ} (nat_eq key key) 1 0 ≡ 1
 itself key = ap (λ (b : Bool). cond {A = ℕ} b 1 0) (nat_eq_equiv.refl key)
 
 module _ {T : Type 0} where
-  -- what a call that is answered so takes from a place
+  -- what a call with this answer takes from a place
   abbrev pub takes : Action T → Answer T → Held T
   takes (Action.ReleaseReader g) answer = Held.Reading g
   takes (Action.ReleaseWriter g v) answer = Held.Writing g v
@@ -39,14 +40,14 @@ module _ {T : Type 0} where
   abbrev pub owners_in : ℕ → Held T → ℕ
   owners_in key x = cond (holds_owner key x) 1 0
 
-  -- The records count what a call gives, and no more is taken off than it takes. An owner that is
-  -- given is of the store.
+  -- The records count what a call returns, and lose no more than it takes. An owner that is returned is
+  -- of the store.
   pub record Counts (S : State T) (call : Action T) (out : Outcome T) : Type 0 where
     pub counted : (key : ℕ) → count_under S.owners key + owners_in key
         (gives out.0) ≤ count_under out.1.owners key + owners_in key (takes call out.0)
     pub own : (o : OwnerName) → out.0 ≡ Owned o → o.store ≡ S.number
 
-  -- a name more in a list changes no count
+  -- another name in a list changes no count
   listed_counts : (S : State T) (o : Option OwnerName) (n : Name) (key : ℕ)
       → count_under (add_to_list S o n).owners key ≡ count_under S.owners key
   listed_counts S o n key = grind (arith, changed_view, by_number)
@@ -79,7 +80,7 @@ module _ {T : Type 0} where
       (λ _. counts_point S a b _ (own_cell S a.id) (reach S b) (cell_at S (reach S b)))
   act_counts S call f sound = grind (arith, listed_counts, counts_cloned, counts_released)
 
-  -- so does each call of a store, whichever names it takes and whatever memory lacks
+  -- so does each call of a store, whatever names it takes and whatever allocations fail
   pub meets_counts : (S R : State T) (call : Action T) (answer : Answer T) → IsSound S
       → Meets S call answer R → Counts S call (answer, R)
   meets_counts S R call answer sound = meets_each S R call answer (Counts S call)
@@ -114,7 +115,7 @@ module _ {T : Type 0} where
       ⊎_elim inl (λ e. inr (e.0, λ same. e.1 cc)) (held_emptied table p q)
   held_emptied table p q = grind arith
 
-  -- a place that isn't given yet is empty already
+  -- a place that isn't issued yet is empty already
   beyond : (table : List (Held T)) → let p = length table in
       (table ≡ slice_set table p Nothing) × (at_place table p ≡ Nothing)
   beyond table = grind (arith, set_past, get_or_past)
@@ -142,7 +143,7 @@ module _ {T : Type 0} where
       → ((q : ℕ) → AreOne x (at_place old q) → k ≡ q) → AreApart new
   still_apart old new k x apart changes alone p q one = grind (arith, same_turned)
 
-  -- ---- sessions with one place more, and with another thing at a place
+  -- ---- sessions with another place, and with another thing at a place
 
   kept_pushed : (s : SessionState T) (x : Held T) → IsSoundSession s → IsOwn s.state x
       → ((q : ℕ) → AreOne x (at_place s.table q) → ⊥)
@@ -187,7 +188,7 @@ module _ {T : Type 0} where
       → takes action answer ≢ Boxed b
   takes_no_box action answer b e = grind arith
 
-  -- what is left, where a call of the machine takes a thing from a place that holds it
+  -- what remains when a call of the machine takes a thing from a place that holds it
   module _ (s : SessionState T) (action : Action T) (R : State T) (p : ℕ)
       (kept : IsSoundSession s) where
     -- what is given is the store's own
@@ -259,7 +260,7 @@ module _ {T : Type 0} where
           (λ e. given_new answer meets (at_place s.table q) (kept.own q) (rw e.0 at one))
           (held_emptied s.table p q)) room
 
-  -- the place that a call empties; one that isn't given yet, where it takes nothing
+  -- the place that a call empties; one that isn't issued yet, if it takes nothing
   abbrev pub emptied : SessionState T → Call T → Answer T → ℕ
   emptied s (call.Release p) answer = p
   emptied s (call.ReleaseOwner p) Done = p
@@ -272,7 +273,7 @@ module _ {T : Type 0} where
       (spend c answer s.table ≡ slice_set s.table p Nothing)
       × (at_place s.table p ≡ takes action answer)
 
-  -- a reply that needs no machine: it gives no box, and isn't a refusal of the store
+  -- a reply that needs no machine: it gives no box, and isn't an error of the store
   abbrev pub is_own : SessionReply T → Bool
   is_own (SessionReply.ABox b) = false
   is_own (SessionReply.Lacking e) = false
@@ -394,7 +395,7 @@ module _ {T : Type 0} where
   run_ended calls replies s r run n ended = by_run (λ s. IsEnded s.state n)
       (λ s r c x h step. session_ended s r c x step n h) calls replies s r ended run
 
-  -- a value that nothing disturbs in a run stays, which no writer has at its begin
+  -- a value that nothing disturbs in a run, and that no writer has at its start, stays
   pub run_value : (calls : List (Call T)) (replies : List (SessionReply T)) (s r : SessionState T)
       (b : GenerationalPointer) (m : Name) → IsSound s.state → (run : Run s calls replies r)
       → Undisturbed b m s calls replies r run
@@ -411,12 +412,12 @@ module _ {T : Type 0} where
 -- ==== what each call of a session leaves and promises, in the code and in the machine, and so each
 -- run
 
--- ---- what a reply tells of refusals: where memory or a ticket may lack, and that nothing changed
+-- ---- what a reply says of errors: when memory or a ticket may lack, and that nothing changed
 
 module _ {T : Type 0} where
-  -- ---- calls that are never refused
+  -- ---- calls that never fail
 
-  -- an outcome is no refusal, and needs no memory; and so is each outcome of a call
+  -- an outcome is no error, and needs no memory; and so is each outcome of a call
   abbrev Goes : State T → Action T → Outcome T → Type 0
   Goes S action out = let answer = (limit_tickets S out).0 in
       (is_refusal answer ≡ false) × (needs_memory S answer action ≡ false)
@@ -437,7 +438,7 @@ module _ {T : Type 0} where
       → AlwaysGoes S (with_owner o None (λ o. Asks (LeakOwner o)))
   leak_goes S o = grind arith
 
-  -- releases of guards and leaks are never refused, and what is refused else spends nothing
+  -- releases of guards and leaks never fail, and what else fails spends nothing
   pub unspent : (s : SessionState T) (c : Call T) (action : Action T) (answer : Answer T)
       (R : State T) → ask s c ≡ Asks action → Meets s.state action answer R
       → is_refusal answer ≡ true → spend c answer s.table ≡ s.table
@@ -452,7 +453,7 @@ module _ {T : Type 0} where
 
   -- ---- what a reply says of its answer
 
-  -- the refusal that a reply tells is that of the answer
+  -- the error in a reply is that of the answer
   pub refusal_told : (c : Call T) (e : StoreError)
       → (refusal_in (refusal c e) ≡ want e) × (refuses (refusal c e) ≡ true)
   refusal_told c e = grind arith
@@ -464,9 +465,9 @@ module _ {T : Type 0} where
   gives_nothing : (answer : Answer T) → is_refusal answer ≡ true → gives answer ≡ Nothing
   gives_nothing answer refused = grind arith
 
-  -- ---- how the machine refuses
+  -- ---- how calls of the machine fail
 
-  -- a call that is refused changes nothing, and what the machine answers of itself wants nothing
+  -- a call that fails changes nothing, and the machine alone never answers that something lacks
   still : (S : State T) (out : Outcome T) → IsAnswered S out → is_refusal out.0 ≡ true → out.1 ≡ S
   still S out how refused = grind arith
 
@@ -480,7 +481,7 @@ module _ {T : Type 0} where
       → takes_ticket (act S action f).0 ≡ takes_ticket (act S action no_names).0
   same_ticket S action f = grind arith
 
-  -- a call takes a ticket, and none is left
+  -- a call takes a ticket, and they are used up
   abbrev IsLast : State T → Action T → Type 0
   IsLast S action = (takes_ticket (act S action no_names).0 ≡ true) × (S.next ≡ last_ticket)
 
@@ -488,13 +489,13 @@ module _ {T : Type 0} where
       → limit_tickets S (act S action f) ≡ (Refused NumbersExhausted, S)
   limited S action f last = grind arith
 
-  -- such a call is refused for that
+  -- such a call fails with that
   exhausted : (S R : State T) (action : Action T) (answer : Answer T)
       → IsLast S action → Meets S action answer R → answer ≡ Refused NumbersExhausted
   unfolding may_lack
   exhausted S R action answer last h = grind arith
 
-  -- ---- what an answer tells of want, and what a refusal leaves
+  -- ---- what an answer says of lack, and what an error leaves
 
   record Refusing (S : State T) (action : Action T) (out : Outcome T) : Type 0 where
     lacks : wants out.0 ≡ Some OutOfMemory → may_lack S action ≡ true
@@ -514,7 +515,7 @@ module _ {T : Type 0} where
 
   -- ---- the replies of a session
 
-  -- what each reply promises of refusals
+  -- what each reply promises of errors
   pub record Refuses (s : SessionState T) (c : Call T) (x : SessionReply T)
       (r : SessionState T) : Type 0 where
     pub lack : TellsLack s c x
@@ -565,7 +566,7 @@ pub went : {A E P : Type 0} (r : Result A E) → false ≡ is_err r → OnOk r P
 went r ok p = grind arith
 
 module _ {T : Type 0} where
-  -- a call of an ended box is answered so, whatever names it takes
+  -- a call of an ended box fails with that, whatever names it takes
   pub tells_ends : (s r : SessionState T) (c : Call T) (x : SessionReply T)
       → SessionStep s c x r → TellsEnds s c x
   unfolding may_lack
@@ -576,7 +577,7 @@ module _ {T : Type 0} where
       → reply_of c answer ≡ ABox b → answer ≡ Made b
   made_by answer c b h = grind arith
 
-  -- a place more leaves what stands before it
+  -- adding a place leaves those before it
   held_before : (table : List (Held T)) (y : Held T) (p : ℕ) (b : GenerationalPointer)
       → at_place table p ≡ Boxed b → at_place (table ++ y ∷ []) p ≡ Boxed b
   held_before table y p b is = grind (arith, get_or_past, held_pushed)
@@ -587,7 +588,7 @@ module _ {T : Type 0} where
       → at_place (slice_set table q y) p ≡ Boxed b
   held_beside table q y p b other is = grind (arith, held_changed)
 
-  -- an owner at a place whose release is answered done was released by the store
+  -- an owner at a place was released by the store if the reply to its release is `Done`
   pub session_released : (s r : SessionState T) (p : ℕ) (o : OwnerName) (h : Ownership)
       → SessionStep s (call.ReleaseOwner p) IsDone r → at_place s.table p ≡ Owning o
       → ownership s.state o ≡ Some h → IsReleased s.state o h r.state
@@ -595,7 +596,7 @@ module _ {T : Type 0} where
 
   module _ (s r : SessionState T) (c : Call T) (x : SessionReply T)
       (step : SessionStep s c x r) where
-    -- a box that is given was never given before, and is given from then on
+    -- a box that is returned was never issued before, and is issued from then on
     session_new : (b : GenerationalPointer) → x ≡ ABox b → IsNewBox s.state r.state b
     session_new b is = at (ask s c) (comes_to s c) step
       where
@@ -651,7 +652,7 @@ module _ {T : Type 0} where
           shared_stays,
         )
 
-  -- no reply gives a box of a name that was given before the run
+  -- no reply has a box of a name that was issued before the run
   run_new : (calls : List (Call T)) (replies : List (SessionReply T)) (s r : SessionState T)
       → Run s calls replies r → (i : ℕ) (b : GenerationalPointer)
       → slice_get replies i ≡ Some (ABox b) → IsGiven s.state (name_of b) → ⊥
@@ -719,7 +720,7 @@ module _ {T : Type 0} where
       rw (← view, more, map-append as_held kept (t ∷ [])) (asked_step (session_in S items)
       (session_in R kept) c (ask (session_in S items) c) x (as_held t) gives)
 
-  -- what stands at a place, and what is put there
+  -- what is at a place, and what is put there
   pub held_there : (items : List (Thing T)) (p : ℕ) (t : Thing T) → slice_get items p ≡ Some t
       → at_place (list_map as_held items) p ≡ as_held t
   held_there (z ∷ items) (suc p) t h = held_there items p t h
@@ -729,13 +730,13 @@ module _ {T : Type 0} where
       → list_map as_held after ≡ slice_set (list_map as_held items) p (as_held u)
   set_there items after p u changes = ap (list_map as_held) changes ∙ map-set as_held items p u
 
-  -- whatever the store answers to a writer's release, the reply is the same
+  -- whatever a writer's release returns, the reply is the same
   pub back_reply : {U : Type 0} (p : ℕ) (back : Result U T)
       → (IsDone ≡ reply_of (call.Release p) (back_answer back))
       × (Nothing ≡ gives (back_answer back))
   back_reply p back = grind arith
 
-  -- a refusal of an owner's release spends nothing
+  -- an error of an owner's release consumes nothing
   pub refusal_reply : (p : ℕ) (e : error.Refused BorrowMutError) (table : List (Held T))
       → (◌≡◌ {A = SessionReply T} (as_refusal e) (reply_of (call.ReleaseOwner p) (end_refused e)))
       × (◌≡◌ {A = Held T} Nothing (gives (end_refused e)))
@@ -750,7 +751,7 @@ module _ {T : Type 0} where
       (session_in S items) (call.Replace p v) (replace p h v) x Nothing (session_in S after)
   exchange_gives S items after p v x u h is set reply put = grind (arith, set-get_or)
 
-  -- a run of the calls that are left, behind the replies so far, is a run of all
+  -- a run of the remaining calls, after the replies so far, is a run of all
   abbrev Continues : SessionState T → List (Call T) → State T → List (Thing T) → List (Call T)
       → List (Reply T) → Type 0
   Continues s all S items calls replies = (rs : List (SessionReply T)) (last : SessionState T)
@@ -762,7 +763,7 @@ module _ {T : Type 0} where
       → kept ≡ items → calls ≡ reverse all → replies ≡ [] → Continues s all S kept calls replies
   run_starts S items kept all calls replies view same turned none = grind (arith, reverse-reverse)
 
-  -- one call more of a run
+  -- another call of a run
   pub run_goes : (s : SessionState T) (S R : State T) (items kept after : List (Thing T))
       (all calls rest : List (Call T)) (c : Call T) (x : Reply T) (t : Thing T)
       (replies more : List (Reply T)) → calls ≡ rest ++ c ∷ [] → Gives (session_in S items) c

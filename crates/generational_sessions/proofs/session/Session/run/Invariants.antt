@@ -2,7 +2,7 @@ use Rattle.generational_sessions.proofs.{◌+◌, ◌≤◌, ◌++◌, reverse, 
 use Rattle.generational_sessions.proofs.{session_in, as_replies}
 use Rattle.generational_sessions.proofs.session.Session.run.Given as goal
 
--- a run of the calls that are left, behind the replies so far, is a run of all
+-- a run of the remaining calls, after the replies so far, is a run of all
 abbrev pub invariant-loop-call : goal.invariant-loop-call
 invariant-loop-call g l = record {
   run : (rest : _) (last : _) → Run (session_in (g.S.AnyStorage.state l.self-inside.store)
