@@ -7,7 +7,7 @@ use Rattle.shared_records.specs.declared.step.StepReply.TheVariants as reply
 use Rattle.generational_core.specs.declared.steps.StepCall.TheVariants as call
 unfoldable pub use Placing.*
 
--- ==== how a call that no borrow hinders is answered
+-- ==== the answer to a call that no borrow hinders
 
 -- what hinders an end is a borrow
 abbrev is_borrow : Option BorrowRefusal → Bool
@@ -38,7 +38,7 @@ module _ {T : Type 0} where
   unfolding refusal_to_write
   write_dropped S b k e = grind arith
 
-  -- ---- boxes that name or reach something are of the store
+  -- ---- boxes that name or reach something are the store's
 
   own_here : (S : State T) (id : GenerationalBoxId) (c : Cell T)
       → own_cell S id ≡ Some c → id.store ≡ S.number
@@ -64,8 +64,7 @@ module _ {T : Type 0} where
   pub reader_here : (S : State T) (g : Guard) → knows_reader S g ≡ true → g.store ≡ S.number
   reader_here S g known = eqb-true _ _ (and_parts (nat_eq g.store S.number) _ known).0
 
-  -- ---- an outcome's answer grants or refuses the call as it may, and takes no ticket but one that
-  -- it needs
+  -- ---- an outcome's answer succeeds or fails as the call may, and takes only a ticket that it needs
 
   abbrev AnswersFit : State T → Action T → Outcome T → Type 0
   AnswersFit S a out = (is_hindered a out.0 ≡ false → MayAnswer S.number a out.0)
@@ -137,7 +136,7 @@ module _ {T : Type 0} where
       (limited_fits S a _ (act_fits S a m.0 (ap is_some asked)) _ refl)
   answers_so S R a c answer asked (inr m) = λ free. subst (MayAnswer S.number a) (sym m.1) tt
 
--- ==== what lies under the lock stays as it is kept, and each call that is recorded is a step
+-- ==== what holds of what the lock protects holds after each call, and each recorded call is a step
 
 no_borrows : {T : Type 0} (es : List (Name × Cell T)) → length es ≡ 0 → borrows_in es ≡ 0
 no_borrows [] e = refl
@@ -149,7 +148,7 @@ abbrev LeadTo : (Plain → Plain → Type 0) → Type 0
 LeadTo Is = (P : Plain) (steps : List Step) (Q : Plain) → IsSound P
     → replay_from P steps ≡ Some Q → Is P Q
 
--- and recorded calls are lawful, and answered as they may be
+-- and recorded calls are lawful, with answers that they may have
 pub record Laws (T : Type 0) : Type 0 where
   pub lawful : (S R : State T) (a : Action T) (c : StepCall) (answer : Answer T) (r : StepReply)
       → IsSound (plain S) → recorded_as a ≡ Some c → Meets S a answer R
@@ -160,27 +159,27 @@ pub record Laws (T : Type 0) : Type 0 where
       → recorded_as a ≡ Some c → is_ready S c ≡ true → Meets S a answer R
       → MayAnswer S.number a answer
 
--- an answer is counted and kept as its record is; one that isn't recorded leaves all as it was
+-- an answer is counted and kept as its record is; one that isn't recorded leaves all unchanged
 record Tells {T : Type 0} (answer : Answer T) (r : Option StepReply) : Type 0 where
   kind : option_map step_kind r ≡ kind_in answer
   lent : lent_in r ≡ given_by answer
   left : r ≡ None → leaves answer ≡ true
 
--- a log that has made room, and is else as it was
+-- a log that has made room, and is else unchanged
 pub record HasRoom (log room : LogState) : Type 0 where
   pub bases : room.bases ≡ log.bases
   pub steps : room.steps ≡ log.steps
   pub standing : room.standing ≡ log.standing
 
 module _ {T : Type 0} where
-  -- it is so, where the answer is as it may be
+  -- this holds if the answer is one that the call may have
   told : (number : ℕ) (S R : State T) (a : Action T) (answer : Answer T) → Meets S a answer R
       → MayAnswer number a answer → Tells answer (recorded_reply R a answer)
   told number S R (MakeShared o v l) (Made b) m may =
       let it = shared_named S R o v l (Ok b) m in grind arith
   told number S R a answer m may = grind arith
 
-  -- a borrow that was ended stood
+  -- a borrow that was ended was active
   stood : (S R : State T) (a : Action T) (answer : Answer T) → ends_borrow a ≡ true
       → Meets S a answer R → is_some (recorded_reply R a answer) ≡ true → borrows R + 1 ≤ borrows S
   stood S R (ReleaseReader g) answer ends m is =
@@ -200,7 +199,7 @@ module _ {T : Type 0} where
     kept_start started = same_start kept.leads
         ∙ (started _ _ _ kept.sound kept.leads.replays ∙ told_start log.bases.base)
 
-    -- the base of a state that it tells, from which an empty history goes on
+    -- the base of a state that it describes, from which an empty history goes on
     pub rebased : {after : LogState} → LeadTo (λ P Q. Q.number ≡ P.number)
         → LeadTo (λ P Q. Q.start ≡ P.start)
         → after.bases.past ≡ log.bases.base.rows → after.bases.base.rows ≡ rows_of S
@@ -225,7 +224,7 @@ module _ {T : Type 0} where
           },
         )
 
-    -- where a log has made room, and where the rows of the base before were taken
+    -- after a log has made room, and after the rows of the previous base were taken
     pub room_kept : {room : LogState} → HasRoom log room → IsKept number S room
     room_kept {room = room} made = subst (λ (p : Bases × List Step × ℕ).
         IsKept number S (record { bases = p.0; steps = p.1; standing = p.2; room = room.room }))
@@ -260,8 +259,8 @@ module _ {T : Type 0} where
   room_shared S log room base steps view =
       (λ i. record { state = S; base = (base i).base; history = steps i }) ∙ view
 
-  -- what the record of a reply comes to, where the log had made room for it and was else as it was,
-  -- and the state before it, the call and the answer are known by other names
+  -- what recording a reply comes to, if the log had made room for it and was otherwise unchanged, and the
+  -- state before it, the call and the answer are known by other names
   module _ {number : ℕ} {S R : State T} {log room : LogState} {old : SharedState T} {c : StepCall}
       {r : Option StepReply} {a b : Action T} {answer : Answer T} (kept : IsKept number S log)
       (made : HasRoom log room) (view : shared S log ≡ old) (asks : a ≡ b)
@@ -300,7 +299,7 @@ module _ {T : Type 0} where
         recorded_step kept made view same asked ready met replied settled refl,
       )
 
-  -- makings that hand in a value are always ready
+  -- makings with a value are always ready
   pub make_ready : (S : State T) (o : Option OwnerName) (v : T) (l : Location) (c : StepCall)
       → recorded_as (Make o v l) ≡ Some c → is_ready S c ≡ true
   make_ready S o v l c e = grind arith
@@ -309,7 +308,7 @@ module _ {T : Type 0} where
       → recorded_as (MakeShared o v l) ≡ Some c → is_ready S c ≡ true
   shared_ready S o v l c e = grind arith
 
-  -- a call that is ready where the state and the call are known by other names
+  -- a call that is ready, with the state and the call known by other names
   pub ready_as : {s seen : SharedState T} {c d : StepCall} → s ≡ seen → c ≡ d
       → is_ready seen.state d ≡ true → is_ready s.state c ≡ true
   ready_as is same ready = (λ i. is_ready (is i).state (same i)) ∙ ready
@@ -328,12 +327,12 @@ module _ {T : Type 0} where
 abbrev tallied : Option StepReply → Counts → Counts
 tallied r c = raised_by (option_map step_kind r) c
 
--- ---- a call that the store has answered
+-- ---- a call that the store has run
 
 module _ {T : Type 0} (laws : Laws T) {number : ℕ} where
   module _ {S R : State T} {log : LogState} {a : Action T} {c : StepCall} {answer : Answer T}
       {r : Option StepReply} (it : IsAnswered number S log a c answer r R) where
-    -- it is answered as it may be
+    -- its answer is one that it may have
     may : MayAnswer number a answer
     may = subst (λ n. MayAnswer n a answer) (kept_number it.kept laws.numbered)
         (laws.answers S R a c answer it.asked it.ready it.met)
@@ -341,11 +340,11 @@ module _ {T : Type 0} (laws : Laws T) {number : ℕ} where
     tell : Tells answer r
     tell = rw it.replied (told number S R a answer it.met may)
 
-    -- a borrow that it ended stood
+    -- a borrow that it ended was active
     ended : ends_borrow a ≡ true → is_some r ≡ true → borrows R + 1 ≤ borrows S
     ended ends is = stood S R a answer ends it.met (ap is_some (sym it.replied) ∙ is)
 
-    -- what isn't recorded leaves the state as it was
+    -- what isn't recorded leaves the state unchanged
     stays : r ≡ None → R ≡ S
     stays is = (meets_fine S R a answer it.met).1 (tell.left is)
 
@@ -405,13 +404,13 @@ module _ {T : Type 0} (laws : Laws T) {number : ℕ} where
     fewer after None is ends stay =
         let had = it.kept.room in let same = ap borrows (stays is) in omega arith
 
-    -- there is room for the release of a borrow that stands
+    -- there is room for the release of an active borrow
     stands : (x : Option StepReply) → r ≡ x → ends_borrow a ≡ true → IfSome x (λ y. 0 < log.standing)
     stands (Some x) is ends =
         let had = it.kept.room in let less = ended ends (ap is_some is) in omega arith
     stands None is ends = tt
 
-  -- what a log and a tally come to that record its reply
+  -- what a log and a tally that record its reply come to
   module _ {R : State T} {log after : LogState} {c : StepCall} {r : Option StepReply}
       {counts raised : Counts} (based : after.bases ≡ log.bases) where
     settled_as : Records log.steps counts.worker c r after.steps → raised ≡ tallied r counts
@@ -425,7 +424,7 @@ module _ {T : Type 0} (laws : Laws T) {number : ℕ} where
     settled more count stay =
         settled_as more count (λ w. kept_more w.answered after counts based more stay)
 
-    -- where one stands, and so it does
+    -- if there is one, and there is
     pub settled_end : (IfSome r (λ y. 0 < log.standing)
         → Records log.steps counts.worker c r after.steps) → (IfSome r (λ y. 0 < log.standing) → raised ≡ tallied r counts)
         → (IfSome r (λ y. 0 < log.standing)
@@ -436,15 +435,15 @@ module _ {T : Type 0} (laws : Laws T) {number : ℕ} where
         settled_as (more there) (count there) (λ w. kept_on it after counts based (more there)
         (fewer it after r refl had.ends (stay there)))
 
-  -- what isn't recorded leaves the log and the tally as they are
+  -- what isn't recorded leaves the log and the tally unchanged
   pub settled_not : {R : State T} {log : LogState} {c : StepCall} {r : Option StepReply}
       {counts : Counts} → r ≡ None → IsSettled number log counts c r R log counts
   settled_not is = rw is (settled refl refl refl (omega arith))
 
--- ==== a call whose answer tells of no borrow, and of no want, was one in whose way none stood; one
--- that was refused left all as it was
+-- ==== a call whose answer is no error of a borrow, nor of a lack, was one that no borrow hindered; one
+-- that failed changed nothing
 
--- what the law says: a call is ready exactly where the machine's answer tells of no borrow
+-- what the law says: a call is ready exactly if the machine's answer isn't an error of a borrow
 abbrev AreTold : Type 0 → Type 0
 AreTold T = (S : State T) (a : Action T) (c : StepCall) (new : NewNames) → recorded_as a ≡ Some c
     → is_ready S c ≡ not (is_hindered a (act S a new).0)
@@ -452,7 +451,7 @@ AreTold T = (S : State T) (a : Action T) (c : StepCall) (new : NewNames) → rec
 pub on_true : {b : Bool} {P : Type 0} → b ≡ true → OnTrue b P → P
 on_true {P = P} is told = subst (λ b. OnTrue b P) is told
 
--- a refusal leaves all as it was
+-- an error leaves all unchanged
 pub read_leaves : (T : Type 0) (e : IsRefused BorrowError) → leaves {T = T} (read_refused e) ≡ true
 read_leaves T e = grind arith
 
@@ -465,7 +464,7 @@ module _ {T : Type 0} where
   refuses (Refused e) = true
   refuses _ = false
 
-  -- an answer that tells of no want is the machine's own
+  -- an answer that isn't an error of a lack is the machine's own
   unlimited : (S R : State T) (out : Outcome T) (answer : Answer T)
       → (answer, R) ≡ limit_tickets S out → refuses answer ≡ false → out.0 ≡ answer
   unlimited S R out answer is granted = grind arith
@@ -479,14 +478,14 @@ module _ {T : Type 0} where
   granted_ready told S R a c answer asked (inr m) granted free =
       absurd (true≢false (sym (ap refuses m.1) ∙ granted))
 
-  -- a call that is told of a value that is gone was ready too
+  -- a call that fails with `Dropped` was ready too
   pub dropped_ready : AreTold T → (S R : State T) (a : Action T) (c : StepCall) (answer : Answer T)
       (l : Location) → recorded_as a ≡ Some c → Meets S a answer R
       → Some (reply.Dropped l) ≡ recorded_reply R a answer → is_ready S c ≡ true
   dropped_ready told S R a c answer l asked met replied =
       granted_ready told S R a c answer asked met (grind arith) (grind arith)
 
-  -- a read tells of no location but the box's own
+  -- a read's error has no location except the box's own
   act_tells : (S : State T) (b : GenerationalPointer) (l : Location) (new : NewNames) (k : Location)
       → (act S (Read b l) new).0 ≡ BorrowRefused (Dropped k) → k ≡ b.created_at
   unfolding refusal_to_read
@@ -508,7 +507,7 @@ module _ {T : Type 0} where
   left_kept {number = number} {room = room} S R a answer kept made met left is =
       rw (is, left_as S R a answer met left) (room_kept kept made)
 
-  -- a call that was refused, where the state after it is known by another name
+  -- a call that failed, with the state after it known by another name
   pub refused : {c : StepCall} {r : Option StepReply} (S R : State T) (a : Action T) (answer : Answer T)
       → recorded_as a ≡ Some c → Meets S a answer R → r ≡ recorded_reply R a answer
       → leaves answer ≡ true → WasRefused c r R
@@ -516,13 +515,13 @@ module _ {T : Type 0} where
       let stays = subst (λ s. Meets s a answer R) (sym (left_as S R a answer met left)) met in
       record { action = a; answer = answer; asked = asked; met = stays; replied = replied }
 
-  -- and it was ready where it is now
+  -- and it was ready in the state after it
   pub left_ready : (c : StepCall) (S R : State T) (a : Action T) (answer : Answer T) → Meets S a answer R
       → leaves answer ≡ true → true ≡ is_ready R c → is_ready S c ≡ true
   left_ready c S R a answer met left now =
       ap (λ s. is_ready s c) (sym (left_as S R a answer met left)) ∙ sym now
 
-  -- a call in whose way a borrow stands, and that left all as it was
+  -- a call that a borrow hinders, and that changed nothing
   pub hindered : {old : SharedState T} {counts raised : Counts} {after : LogState}
       {c d : StepCall} (log room : LogState) (S R : State T) (a : Action T) (answer : Answer T)
       → room.bases ≡ log.bases
@@ -540,7 +539,7 @@ module _ {T : Type 0} where
 
 -- ==== the state without values takes the recorded step
 
--- what the laws of the machine say: a call is ready where its answer tells of no borrow, and each
+-- what the laws of the machine say: a call is ready if its answer isn't an error of a borrow, and each
 -- call is one of the state without values
 abbrev IsTold : Type 0
 IsTold = (P : Plain) (a : Action (Unit {0})) (c : StepCall) (new : NewNames)
@@ -550,13 +549,13 @@ abbrev IsPlain : Type 0 → Type 0
 IsPlain T = (S R : State T) (a : Action T) (answer : Answer T) → Meets S a answer R
     → Meets (plain S) (plain_call a) (plain_answer answer) (plain R)
 
--- ---- what answers are recorded
+-- ---- which answers are recorded
 
 -- how an outcome is recorded
 abbrev recorded_of : Plain → Action (Unit {0}) → Outcome (Unit {0}) → Option StepReply
 recorded_of P a out = recorded_reply (limit_tickets P out).1 a (limit_tickets P out).0
 
--- an answer that is recorded tells of no borrow
+-- an answer that is recorded isn't an error of a borrow
 unhindered : (P : Plain) (a : Action (Unit {0})) (out : Outcome (Unit {0})) (r : StepReply)
     → recorded_of P a out ≡ Some r → is_hindered a out.0 ≡ false
 unhindered P a out r h = grind arith
@@ -564,7 +563,7 @@ unhindered P a out r h = grind arith
 -- ---- a step without values
 
 module _ (tell : IsTold) (P : Plain) where
-  -- a call is a lawful step, where the names in its reply are those that it takes
+  -- a call is a lawful step if the names in its reply are those that it takes
   lawful : (c : StepCall) (r : StepReply) (a : Action (Unit {0})) → recorded_as a ≡ Some c
       → action_of P c ≡ Some a → gives_new P a r ≡ true
       → recorded_of P a (act P a (names_of_reply r)) ≡ Some r
@@ -602,7 +601,7 @@ module _ (tell : IsTold) (P : Plain) where
   some_is : (x y : StepReply) → Some x ≡ Some y → x ≡ y
   some_is x y e = cc
 
-  -- a refusal for an unknown owner tells no name
+  -- an error for an unknown owner has no name
   unknown : (a : Action (Unit {0})) (new : NewNames) (r : StepReply)
       → ((f : NewNames) → act P a f ≡ (Refused UnknownOwner, P))
       → Some (reply.Store UnknownOwner) ≡ Some r
@@ -635,7 +634,7 @@ module _ (tell : IsTold) (P : Plain) where
       → gives_new P a r ≡ true
   gives_any a r new = grind arith
 
-  -- the names that a recorded reply tells are those that the call takes, if it takes any
+  -- the names in a recorded reply are those that the call takes, if it takes any
   tells : (a : Action (Unit {0})) (new : NewNames) → Takes P a (limit_tickets P (act P a new)).0 new
       → (r : StepReply) → recorded_of P a (act P a new) ≡ Some r → TellsReply a new (act P a new) r
   tells (Make o v l) new takes r h = make_tells o l new takes r h

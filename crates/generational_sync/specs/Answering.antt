@@ -1,4 +1,4 @@
--- How a call may be answered in whose way no borrow stands.
+-- How a call that no borrow hinders may be answered.
 use Rattle.std.specs.Prelude.{◌≡◌, ℕ, ◌⊎◌, Bool, true, false, Option, None, Some}
 use Rattle.generational_errors.specs.declared.error.Location.{Location}
 use Rattle.generational_errors.specs.declared.error.StoreError.TheVariants.{NumbersExhausted}
@@ -14,13 +14,13 @@ use Rattle.generational_core.specs.Machine.Action.{ReleaseWriter, SetValue, Poin
 use Rattle.generational_core.specs.Machine.Answer.{Made, Owned, Reads, Writes, Back, Flag}
 use Rattle.generational_core.specs.Machine.Answer.{BorrowRefused, Refused}
 
--- an owner, if a making goes by one, is of the store with this number
+-- a making's owner, if it has one, is of the store with this number
 abbrev pub IsOwnList : ℕ → Option OwnerName → Type 0
 IsOwnList number None = Unit {0}
 IsOwnList number (Some o) = o.store ≡ number
 
 module _ {T : Type 0} where
-  -- whether a call goes by an owner
+  -- whether a call takes an owner
   abbrev pub needs_owner : Action T → Bool
   needs_owner (Make (Some o) v l) = true
   needs_owner (MakeShared (Some o) v l) = true
@@ -29,7 +29,7 @@ module _ {T : Type 0} where
   needs_owner (ReleaseOwner o) = true
   needs_owner _ = false
 
-  -- a call takes a ticket, and goes by what is of the store with this number
+  -- a call takes a ticket, and is made with what is of the store with this number
   abbrev pub TakesTicket : ℕ → Action T → Type 0
   TakesTicket number NewOwner = Unit {0}
   TakesTicket number (CloneOwner o) = o.store ≡ number
@@ -37,10 +37,10 @@ module _ {T : Type 0} where
   TakesTicket number (Write b l) = b.id.store ≡ number
   TakesTicket number _ = ⊥
 
-  -- With which location a call may be `Dropped`: with that of the box which it asks. A call that
-  -- points a box at another tells the other's, where that reaches nothing or can't be shared. Else
-  -- the other is of the store with this number, and the call tells the asked box's own, or that of
-  -- the value which the other reaches, and then the asked box is of the store too.
+  -- Which location a call's `Dropped` may have: that of the box on which it is made. A call that points a
+  -- box at another has the other's location if that reaches nothing or can't be shared. Else the other is
+  -- of the store with this number, and the location is that of the box itself, or of the value which the
+  -- other reaches, and then the box itself is of the store too.
   abbrev pub MayDrop : ℕ → Action T → Location → Type 0
   MayDrop number (Refer o b) l = l ≡ b.created_at
   MayDrop number (Read b k) l = l ≡ b.created_at
@@ -50,8 +50,8 @@ module _ {T : Type 0} where
       ⊎ ((b.id.store ≡ number) × ((l ≡ a.created_at) ⊎ (a.id.store ≡ number)))
   MayDrop number _ l = ⊥
 
-  -- The owner, the boxes and the guard by which any other call goes are of the store with this
-  -- number. A box may be pointed at itself whatever its store, and any box may be ended.
+  -- The owner, the boxes and the guard of any other call are of the store with this number. A box of any
+  -- store may be pointed at itself, and any box may be removed.
   abbrev pub IsOwn : ℕ → Action T → Type 0
   IsOwn number (Make o v l) = IsOwnList number o
   IsOwn number (MakeShared o v l) = IsOwnList number o
@@ -64,7 +64,7 @@ module _ {T : Type 0} where
       (has_same_id a b ≡ true) ⊎ ((a.id.store ≡ number) × (b.id.store ≡ number))
   IsOwn number _ = Unit {0}
 
-  -- What a call gives: the box of a new value, made at the location that was handed in, or that of a
+  -- What a call returns: the box of a new value, made at the location that was passed in, or that of a
   -- new reference; another value of the same owner, or an owner of the store with this number.
   abbrev pub GivesBox : Action T → GenerationalPointer → Type 0
   GivesBox (Make o v l) b = b.created_at ≡ l
@@ -76,15 +76,15 @@ module _ {T : Type 0} where
   GivesOwner number (CloneOwner o) p = p ≡ o
   GivesOwner number _ p = p.store ≡ number
 
-  -- the value that a release hands back is the guard's
+  -- the value that a release returns is the guard's
   abbrev pub GivesBack : Action T → T → Type 0
   GivesBack (ReleaseWriter g v) w = w ≡ v
   GivesBack _ w = ⊥
 
-  -- An answer of the store with this number grants the call, which goes by its own alone, and gives
-  -- what is its own; or it refuses it as it may: as one that is `Dropped`, for the last ticket,
-  -- which is asked of its own alone, for an owner that it doesn't know, or for lack of memory. The
-  -- release of a guard that it doesn't know is neither, and a writer's value comes back.
+  -- An answer of the store with this number is a success, of a call made with what is the store's own,
+  -- and with a result that is its own; or one of these errors: `Dropped`, the last ticket, of a call made
+  -- with what is its own, an owner that it doesn't know, or a failed allocation. The release of a guard
+  -- that it doesn't know is neither, and a writer's value comes back.
   abbrev pub MayAnswer : ℕ → Action T → Answer T → Type 0
   MayAnswer number call (Made b) = IsOwn number call × (b.id.store ≡ number) × GivesBox call b
   MayAnswer number call (Owned o) = TakesTicket number call × GivesOwner number call o

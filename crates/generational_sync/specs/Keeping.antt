@@ -1,4 +1,4 @@
--- What is kept under the lock, and how a call is made there.
+-- What holds of what the lock protects, and how a call is made there.
 use Rattle.std.specs.Prelude.{◌≡◌, ℕ, ◌≤◌, true, false, Option, Some}
 use Rattle.generational_core.specs.declared.steps.StepCall.{StepCall}
 use Rattle.generational_core.specs.State.{IsSound, State}
@@ -18,23 +18,23 @@ use Rattle.generational_sync.specs.Shared.{IsStep, SharedState}
 
 -- What holds whenever the lock is free.
 pub record IsKept {T : Type 0} (number : ℕ) (S : State T) (log : LogState) : Type 0 where
-  -- the base tells a sound state of this store, from which the history leads to the state without
-  -- its values, which is sound too
+  -- the base describes a sound state of this store, from which the history leads to the state without its
+  -- values, which is sound too
   pub own : log.bases.base.number ≡ number
   pub sound : IsSound (plain_of log.bases.base)
   pub leads : LeadsTo (plain_of log.bases.base) log.steps (plain S)
   pub ends : IsSound (plain S)
-  -- what its rows and those of the base before it tell of where values were made is so
+  -- what its rows and those of the previous base say of where values were made is true
   pub rows : ArePast (plain S) log.bases.base.rows
   pub past : ArePast (plain S) log.bases.past
-  -- there is room for the release of each borrow that stands
+  -- there is room for the release of each active borrow
   pub room : borrows S ≤ log.standing
 
--- a store's state with its log, as contracts see them
+-- a store's state with its log, as in contracts
 abbrev pub shared : {T : Type 0} → State T → LogState → SharedState T
 shared S log = record { state = S; base = log.bases.base; history = log.steps }
 
--- A call that the store has answered, in a state from which the log hasn't gone on yet.
+-- A call that the store has run, in a state from which the log hasn't gone on yet.
 pub record IsAnswered {T : Type 0} (number : ℕ) (S : State T) (log : LogState) (action : Action T)
     (call : StepCall) (answer : Answer T) (reply : Option StepReply) (R : State T) : Type 0 where
   pub kept : IsKept number S log
@@ -43,7 +43,7 @@ pub record IsAnswered {T : Type 0} (number : ℕ) (S : State T) (log : LogState)
   pub met : Meets S action answer R
   pub replied : reply ≡ recorded_reply R action answer
 
--- some call was answered so; and it was one that ends a borrow
+-- some call had this answer; and it was one that ends a borrow
 pub record WasAnswered {T : Type 0} (number : ℕ) (log : LogState) (call : StepCall)
     (reply : Option StepReply) (R : State T) : Type 0 where
   pub before : State T
@@ -56,7 +56,7 @@ pub record HasEnded {T : Type 0} (number : ℕ) (log : LogState) (call : StepCal
   pub some : WasAnswered number log call reply R
   pub ends : ends_borrow some.action ≡ true
 
--- A call that was answered in a state which it left as it was.
+-- A call whose answer left the state unchanged.
 pub record WasRefused {T : Type 0} (call : StepCall) (reply : Option StepReply) (S : State T) : Type 0 where
   pub action : Action T
   pub answer : Answer T
@@ -64,15 +64,15 @@ pub record WasRefused {T : Type 0} (call : StepCall) (reply : Option StepReply) 
   pub met : Meets S action answer S
   pub replied : reply ≡ recorded_reply S action answer
 
--- A borrow stood in a call's way, and nothing has changed.
+-- A borrow was in a call's way, and nothing has changed.
 pub record IsHindered {T : Type 0} (old : SharedState T) (counts : Counts) (call : StepCall)
     (new : SharedState T) (raised : Counts) : Type 0 where
   pub waits : is_ready old.state call ≡ false
   pub state : new ≡ old
   pub tally : raised ≡ counts
 
--- What becomes of a call once its reply is recorded: whatever call it was, made in whatever state, what is
--- kept under the lock holds again, and it is a step from there.
+-- What becomes of a call once its reply is recorded: for any call, made in any state, what holds under
+-- the lock holds again, and it is a step from there.
 pub record IsSettled {T : Type 0} (number : ℕ) (log : LogState) (counts : Counts) (call : StepCall)
     (reply : Option StepReply) (R : State T) (after : LogState) (raised : Counts) : Type 0 where
   pub kept : WasAnswered number log call reply R → IsKept number R after

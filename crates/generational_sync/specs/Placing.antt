@@ -36,8 +36,8 @@ module _ (p : Location → Location) where
     pub is : S ≡ record A { cells = cells }
     pub turned : AreTurned cells A.cells
 
--- A history leads from a state to another by the letters of locations: it replays to one that is the
--- same but for where the texts of its locations stand.
+-- A history leads from a state to another by the letters of locations: it replays to one that is the same
+-- except for where the texts of its locations are.
 pub record LeadsTo (P : Plain) (steps : List Step) (Q : Plain) : Type 0 where
   pub end : Plain
   pub replays : replay_from P steps ≡ Some end

@@ -1,4 +1,4 @@
--- What lies under the lock, as contracts see it.
+-- What the lock protects, as in contracts.
 use Rattle.std.specs.Prelude.{◌≡◌, ℕ, ◌+◌, ◌^◌, ◌<◌, ◌≤◌, ◌⊎◌, true, List, [], Option, None, Some}
 use Rattle.std.specs.Prelude.{is_some, length}
 use Rattle.std.specs.declared.sync.ledger.Blank.{Blank}
@@ -29,25 +29,25 @@ pub record SharedState (T : Type 0) : Type 0 where
   pub base : BaseState
   pub history : List Step
 
--- the history replays, from the sound state that its base tells of this store, to the state without
+-- the history replays, from the sound state of this store that its base describes, to the state without
 -- its values, by the letters of locations
 abbrev pub Replays : {T : Type 0} → ℕ → SharedState T → Type 0
 Replays number s =
     (s.base.number ≡ number) × IsSound (plain_of s.base)
     × LeadsTo (plain_of s.base) s.history (plain s.state)
 
--- a history after a worker's call: one step more, by the letters of its locations, if the call and
--- its reply are recorded
+-- a history after a worker's call: another step, by the letters of its locations, if the call and its
+-- reply are recorded
 abbrev pub RecordsCall : List Step → ℕ → Option StepCall → Option StepReply → List Step → Type 0
 RecordsCall steps worker None reply after = after ≡ steps
 RecordsCall steps worker (Some call) reply after = Records steps worker call reply after
 
--- A call of the store with this number, made with a tally: what it asked of the machine, what it
--- answered, and what became of the shared state and of the tally.
+-- A call of the store with this number, made with a tally: the machine's call and answer, and what became
+-- of the shared state and of the tally.
 pub record IsStep {T : Type 0} (number : ℕ) (old : SharedState T) (counts : Counts)
     (action : Action T) (answer : Answer T) (new : SharedState T) (raised : Counts) : Type 0 where
-  -- it does the machine's step; or memory lacked, for the machine where it may or for the history
-  -- at any time, and nothing changes
+  -- it does the machine's step; or an allocation failed, of the machine if it may or of the history in
+  -- any case, and nothing changes
   pub state : Meets old.state action answer new.state
       ⊎ ((answer ≡ refuses OutOfMemory) × (new.state ≡ old.state))
   -- the step of the tally's worker is appended, if its reply is recorded, on the same base
@@ -56,10 +56,10 @@ pub record IsStep {T : Type 0} (number : ℕ) (old : SharedState T) (counts : Co
   pub base : new.base ≡ old.base
   -- and the count of its kind is raised by one
   pub tally : raised ≡ raised_by (kind_in answer) counts
-  -- it goes by what is of the store alone, and is refused, if it is, as it may be
+  -- it is made only with what is of the store, and fails only as it may
   pub reply : MayAnswer number action answer
 
--- A step of a store that isn't seen: from some shared state it leads to another.
+-- A step of a store whose state isn't known: from some shared state it leads to another.
 pub record IsUnseenStep {T : Type 0} (number : ℕ) (counts : Counts) (action : Action T)
     (answer : Answer T) (raised : Counts) : Type 0 where
   pub old : SharedState T
@@ -71,14 +71,14 @@ abbrev pub IsBlank : ℕ → Blank → ℕ → ℕ → ℕ → Type 0
 IsBlank workers blank name parts all = (0 < workers)
     × (blank.name ≡ name) × (blank.parts ≡ parts) × (blank.parts ≡ workers) × (all ≡ workers)
 
--- a list that replays from the sound state that a base tells of the store with this number
+-- a list that replays from the sound state that a base describes, of the store with this number
 abbrev pub IsHistory : ℕ → BaseState → List Step → Type 0
 IsHistory number base steps =
     (base.number ≡ number) × IsSound (plain_of base)
     × (is_some (replay_from (plain_of base) steps) ≡ true)
 
--- a checkpoint: the base tells the state without its values and counts all steps so far, which are
--- so many then, none is left in the history, and the state stays
+-- a checkpoint: the base describes the state without its values and counts all steps so far, which are
+-- this many, the history is empty, and the state is unchanged
 pub record IsCheckpoint {T : Type 0} (old new : SharedState T) (trimmed : ℕ) : Type 0 where
   pub state : new.state ≡ old.state
   pub history : new.history ≡ []
@@ -87,13 +87,13 @@ pub record IsCheckpoint {T : Type 0} (old new : SharedState T) (trimmed : ℕ) :
   pub trims : Trims old.base old.history new.base
   pub counted : trimmed ≡ all_trimmed new.base
 
--- how a checkpoint is refused: where the trimmed steps would be too many, or memory runs out
+-- how a checkpoint fails: if the trimmed steps would be too many, or memory runs out
 abbrev pub MayRefuseCheckpoint : {T : Type 0} → SharedState T → StoreError → Type 0
 MayRefuseCheckpoint s NumbersExhausted = 2 ^ 64 ≤ all_trimmed s.base + length s.history
 MayRefuseCheckpoint s OutOfMemory = all_trimmed s.base + length s.history < 2 ^ 64
 MayRefuseCheckpoint s UnknownOwner = ⊥
 
--- how it is refused where the history isn't seen
+-- how it fails if the history isn't known
 abbrev pub MayRefuseTrimming : StoreError → Type 0
 MayRefuseTrimming UnknownOwner = ⊥
 MayRefuseTrimming e = Unit {0}

@@ -27,11 +27,11 @@ ghost use Rattle.shared_history.specs.History.{replay_from};
 
 use generational_box::laws;
 
-/// Each recorded step of a history that replays is the machine's step of this very call, taken
-/// without values in the state to which the steps before it led. No borrow stood in its way there,
-/// the machine's answer is the recorded reply, and the names that it gave were never given before
-/// and fit. The steps after it go on from where it led. Boxes are compared by their ids
-/// and locations, and locations by text, line and column.
+/// Each recorded step of a history that replays is the machine's step of this very call, taken without
+/// values in the state to which the steps before it led. No borrow was in its way there, the machine's
+/// answer is the recorded reply, and the names that it issued were never issued before and fit. The steps
+/// after it continue from the state that it led to. Boxes are compared by their ids and locations, and
+/// locations by text, line and column.
 pub fn recorded_steps_are_taken()
     ensures step { (P Q : Plain) (call : StepCall) (reply : StepReply) →
         plain_step P call reply ≡ Some Q → IsTaken P call reply Q }
@@ -53,9 +53,9 @@ pub fn recorded_calls_are_lawful<T>()
     laws::calls_are_ready_where_no_borrow_is_told::<()>();
 }
 
-/// A history that replays from a sound state leads to a sound state, so that a ticket alone names
-/// a reader in it, and to one of the store with the same number, whose slots have the same first
-/// generation. The state of an empty store is sound.
+/// A history that replays from a sound state leads to a sound state, in which a ticket identifies a
+/// reader, and to one of the store with the same number, whose slots have the same first generation. The
+/// state of an empty store is sound.
 pub fn histories_lead_to_sound_states()
     ensures start { (number : ℕ) → IsSound (start number) }
     ensures sound { (P : Plain) (steps : List Step) (Q : Plain) →
@@ -72,10 +72,10 @@ pub fn histories_lead_to_sound_states()
     laws::steps_keep_the_store::<()>();
 }
 
-/// A call in whose way no borrow stands is granted only where the owner, the boxes and the guard by
-/// which it goes are of this store, and so is what it gives. It is refused, if it is, as `Dropped`,
-/// for the last ticket, for an owner that the store doesn't know, or if memory runs out; each only
-/// where such a call may be.
+/// A call that no borrow hinders succeeds only if the owner, the boxes and the guard that are passed to
+/// it are of this store, and so is what it returns. If it fails, then with `Dropped`, for the last
+/// ticket, for an owner that the store doesn't know, or if memory runs out; each only if such a call may
+/// fail so.
 pub fn free_calls_are_answered_so<T>()
     ensures { (S R : State T) (action : Action T) (call : StepCall) (answer : Answer T) →
         recorded_as action ≡ Some call → is_ready S call ≡ true → Meets S action answer R →
@@ -84,7 +84,7 @@ pub fn free_calls_are_answered_so<T>()
     laws::calls_are_ready_where_no_borrow_is_told::<T>();
 }
 
-/// The release of a guard does the machine's step, and tells whether the state knew the guard.
+/// The release of a guard does the machine's step, and returns whether the state knew the guard.
 pub fn releases_tell_of_guards<T>()
     ensures reader { (number : ℕ) (old new : SharedState T) (counts raised : Counts) (g : Guard)
         (known : Bool) → IsStep number old counts (ReleaseReader g) (Flag known) new raised →
@@ -97,8 +97,7 @@ pub fn releases_tell_of_guards<T>()
         × (is_ok released ≡ knows_writer old.state g) }
 {}
 
-/// A call that takes no ticket and goes by no owner is refused by the store only if memory
-/// runs out.
+/// A call that takes no ticket and no owner fails with an error of the store only if memory runs out.
 pub fn memory_alone_may_lack<T>()
     ensures { (number : ℕ) (action : Action T) (cause : StoreError) →
         (TakesTicket number action → ⊥) → needs_owner action ≡ false →

@@ -1,3 +1,3 @@
-//! What a test of threads asks of a store. Who shares a store needs none of it.
+//! What tests of threads need of a store. Users of a shared store don't need it.
 
 pub use crate::storage::waiting;

@@ -1,4 +1,4 @@
-//! What lies under the lock.
+//! What the lock protects.
 
 ghost use Rattle.std.specs.Prelude.{◌≡◌, ◌<◌, ◌+◌, ◌^◌, [], IfOk, IfErr, IfSome, OnErr, OnOk, Some, length};
 ghost use Rattle.std.specs.Prelude.{option_copied};
@@ -41,23 +41,22 @@ use std::marker::Model;
 use std::sync::ledger::Blank;
 use store_rows::{PackedRows, RowCounts};
 
-/// A store with the history of its steps. Contracts see it as the machine's state, a base and that
+/// A store with the history of its steps. Contracts model it as the machine's state, a base and that
 /// list.
 ///
-/// It is what lies under the lock of a [`SyncStorage`](crate::SyncStorage), and needs no threads.
-/// Whatever is called, the history replays from the base, which is a sound state of this number, to
-/// the state, by the letters of locations; each kind's book has as many steps as were trimmed and
-/// as the history has; and the history has room for one more step for each borrow that stands. The
-/// base is that of an empty store until a checkpoint.
+/// It is what the lock of a [`SyncStorage`](crate::SyncStorage) protects, and needs no threads. After any
+/// calls, the history replays from the base, which is a sound state of this number, to the state, by the
+/// letters of locations; each kind's book has as many steps as were trimmed and as the history has; and
+/// the history has room for another step for each active borrow. The base is that of an empty store until
+/// a checkpoint.
 ///
-/// Each call that is answered is a step of the machine, and of the tally's worker: that step is
-/// appended, by the letters of its locations, and no other, and the count of its kind alone is
-/// raised by one; the call goes by what is of this store alone, gives what is of it, and is refused
-/// only as it may be. One word, `IsStep`, says all of this in the contract of each call. A call
-/// that is answered `OutOfMemory` is no step and changes nothing, and neither does the release of a
-/// guard that the store doesn't know. A step takes memory for its place in the history, so a call
-/// may also find none where the sequential store's would; `OutOfMemory` then comes in the place of
-/// any answer.
+/// Each call that returns is a step of the machine, and of the tally's worker: exactly that step is
+/// appended, by the letters of its locations, and only the count of its kind is raised by one; the call
+/// uses and returns only what is of this store, and fails only for the listed reasons. One definition,
+/// `IsStep`, says all of this in the contract of each call. A call that fails with `OutOfMemory` is no
+/// step and changes nothing, and neither does the release of a guard that the store doesn't know. A step
+/// needs memory for its place in the history, so a call may fail with `OutOfMemory` even if the
+/// sequential store's would return something else.
 #[derive(Drop)]
 pub struct SyncState<T, const NUMBER: u64, M: Count, L: Count, C: Count, R: Count> {
     store: UnsyncStorage<T>,
@@ -88,10 +87,13 @@ impl<T: Drop, const NUMBER: u64, M: Count, L: Count, C: Count, R: Count> SyncSta
     C,
     R,
 > {
-    /// A new store, and a tally for each worker, numbered from 0. Each tally counts nothing.
+    /// Creates a store, and a tally for each worker, numbered from 0. Each tally counts nothing.
     ///
-    /// Each blank is of its kind's ledger and has a part for each worker. Refused by `OutOfMemory`
-    /// at most, also for 2^32 workers or more, and the blanks are spent then.
+    /// Each blank must be of its kind's ledger and have a part for each worker.
+    ///
+    /// # Errors
+    ///
+    /// `OutOfMemory`, also for 2^32 workers or more. The blanks are consumed in either case.
     ///
     /// ```rust
     /// let state = SyncState::<String, 7, A, B, C, D>::new(alloc, 1, made, lent, changed, refused);
@@ -136,17 +138,17 @@ impl<T: Drop, const NUMBER: u64, M: Count, L: Count, C: Count, R: Count> SyncSta
         Ok((state, tallies))
     }
 
-    /// Does nothing: whatever was called before, the history replays from the base, which tells a sound
-    /// state of this store, to the state. A caller's proof cites it.
+    /// Does nothing. Its contract says that, after any calls, the history replays from the base, which
+    /// describes a sound state of this store, to the state. A caller's proof cites it.
     pub fn history_replays(&self)
         ensures { Replays NUMBER self.now }
     {
         let _ = &self.log;
     }
 
-    /// Whether no borrow stands in the call's way. A read, or a new reference, meets no
-    /// writer; a write, or another value, no borrow; an end, or a box that is pointed elsewhere, no
-    /// borrow of a value that would end. Takes no memory.
+    /// Whether no borrow is in the call's way. A read, or a new reference, needs that there is no writer;
+    /// a write, or a `set`, that there is no borrow; a removal, or a box that is pointed elsewhere, that
+    /// no value which would be dropped is borrowed. Doesn't allocate.
     ///
     /// ```rust
     /// if !state.ready(&StepCall::ManuallyDrop(made.pointer())) {
@@ -160,8 +162,8 @@ impl<T: Drop, const NUMBER: u64, M: Count, L: Count, C: Count, R: Count> SyncSta
         self.store.ready(call)
     }
 
-    // Whether no borrow stands in the way of a call that is handed in. It is inlined, so that the call is
-    // put into memory where it is asked, and not where the caller begins.
+    // Whether no borrow is in the way of a call that is passed in. It is inlined, so that the call is
+    // written to memory only here, and not at the start of the caller.
     #[inline(always)]
     fn is_ready(&self, call: StepCall) -> bool
         ensures { result ≡ is_ready self.now.state call }
@@ -169,8 +171,8 @@ impl<T: Drop, const NUMBER: u64, M: Count, L: Count, C: Count, R: Count> SyncSta
         self.ready(&call)
     }
 
-    /// Whether no borrow stands in the way of an owner's release. The record is found at once, where
-    /// `ready` has to look for it among all records. Takes no memory.
+    /// Whether no borrow is in the way of an owner's release. The owner's hint finds its record at once;
+    /// `ready` has to search all records. Doesn't allocate.
     ///
     /// ```rust
     /// if !state.may_release(&owner) {
@@ -184,8 +186,8 @@ impl<T: Drop, const NUMBER: u64, M: Count, L: Count, C: Count, R: Count> SyncSta
         self.store.may_release(owner)
     }
 
-    /// The value that a reader's guard opens, exactly where the state knows the guard. It isn't a
-    /// step. Takes no memory.
+    /// The value that a reader's guard opens, exactly if the state knows the guard. It isn't a step.
+    /// Doesn't allocate.
     ///
     /// ```rust
     /// let same = state.open(&guard).copied() == Some(value);
@@ -197,16 +199,19 @@ impl<T: Drop, const NUMBER: u64, M: Count, L: Count, C: Count, R: Count> SyncSta
         self.store.open(guard)
     }
 
-    /// Makes the state, without values, the base from which the history goes on, and empties the
-    /// history. The answer is how many steps were ever trimmed. It isn't a step. The room in the
-    /// history stays.
+    /// Makes the state, without values, the base from which the history goes on, and empties the history.
+    /// Returns how many steps were ever trimmed. It isn't a step. The history keeps its capacity.
     ///
-    /// Refused, in this order: `NumbersExhausted`, where the steps that were trimmed and those of
-    /// the history together would be more than fit into 64 bits; `OutOfMemory`. A refusal changes
-    /// nothing. It takes time for each slot, borrow and owner's box that there is. The rows stand in
-    /// the memory of those of the base before the last, so it takes more where there are more, as the
-    /// first two times; a free slot, or a value that nobody borrows, isn't written again where it is
-    /// there as it is now.
+    /// # Errors
+    ///
+    /// - `NumbersExhausted` if the steps that were trimmed and those of the history together would be
+    ///   more than fit into 64 bits.
+    /// - `OutOfMemory`.
+    ///
+    /// A call that fails changes nothing. It takes time for each slot, borrow and owner's box. The rows
+    /// reuse the memory of those of the base before the last, so it allocates only if there are more of
+    /// them, for example the first two times; the entry of a free slot, or of a value that isn't
+    /// borrowed, isn't written again if it is unchanged.
     ///
     /// ```rust
     /// rt.compare(&state.checkpoint(), &Ok(2));
@@ -225,8 +230,8 @@ impl<T: Drop, const NUMBER: u64, M: Count, L: Count, C: Count, R: Count> SyncSta
         }
     }
 
-    // For how many rows a checkpoint lacks room, so that it can be got while the lock is open. Refused
-    // where no more steps can be counted as trimmed.
+    // For how many rows a checkpoint lacks room, so that it can be reserved without the lock. Fails if no
+    // more steps can be counted as trimmed.
     pub(crate) fn wanted_rows(&self) -> Result<Option<WantedRows>, StoreError>
         ensures ok { OnOk result
             (all_trimmed self.now.base + length self.now.history < 2 ^ 64) }
@@ -244,8 +249,7 @@ impl<T: Drop, const NUMBER: u64, M: Count, L: Count, C: Count, R: Count> SyncSta
         }))
     }
 
-    // Has the next checkpoint's rows stand in fresh ones without any, and answers those in whose place
-    // they stand.
+    // Has the next checkpoint write its rows to fresh, empty ones, and returns those that they replace.
     pub(crate) fn replace_past(&mut self, fresh: PackedRows) -> PackedRows
         requires { fresh ≡ [] }
         ensures { self.new ≡ self.old }
@@ -270,7 +274,7 @@ impl<T: Drop, const NUMBER: u64, M: Count, L: Count, C: Count, R: Count> SyncSta
         self.store.slots()
     }
 
-    // Makes a checkpoint, and answers what is kept no more too, so that it can be let go later.
+    // Makes a checkpoint, and also returns what is no longer needed, so that it can be dropped later.
     pub(crate) fn trim(&mut self) -> Result<(u64, Outdated), StoreError>
         ensures ok { IfOk result (λ r. IsCheckpoint self.old self.new r.0) }
         ensures err { OnErr result (self.new ≡ self.old) }
@@ -292,11 +296,13 @@ impl<T: Drop, const NUMBER: u64, M: Count, L: Count, C: Count, R: Count> SyncSta
         Ok((trimmed, outdated))
     }
 
-    /// A copy of the base and of the history, asked for with a whole tally (`is_whole` is the test):
-    /// of each kind both together count exactly as many steps as the tally counts. It isn't a step.
+    /// A copy of the base and of the history, for a whole tally (see `is_whole`): of each kind both
+    /// together count exactly as many steps as the tally counts. It isn't a step. It takes time and
+    /// memory for each row of the base and each step.
     ///
-    /// Refused by `OutOfMemory` at most: nothing changes. It takes time and memory for each row of
-    /// the base and each step.
+    /// # Errors
+    ///
+    /// `OutOfMemory`: nothing changes.
     ///
     /// ```rust
     /// let (base, steps) = rt.expect(state.audit(tally), "an audit");
@@ -325,7 +331,7 @@ pub(crate) struct WantedRows {
 }
 
 impl WantedRows {
-    // Room for them, without any.
+    // Reserves room for them.
     pub(crate) fn reserve(self) -> Result<PackedRows, StoreError>
         ensures ok { IfOk result (λ rows. rows ≡ []) }
         ensures refusal { IfErr result (λ e. e ≡ OutOfMemory) }
@@ -337,7 +343,7 @@ impl WantedRows {
     }
 }
 
-// Records the step of a call that the store has answered.
+// Records the step of a call of the store.
 #[inline(always)]
 fn settle<T: Drop, const NUMBER: u64, M: Count, L: Count, C: Count, R: Count, E: Entry>(
     store: &UnsyncStorage<T>,
@@ -357,8 +363,8 @@ fn settle<T: Drop, const NUMBER: u64, M: Count, L: Count, C: Count, R: Count, E:
     log.settle(entry, tally);
 }
 
-// Records the step of any call that the store has answered, if its reply is one that is recorded. It
-// is inlined, so that what is handed to the other function is put into memory here.
+// Records the step of any call of the store, if its reply is one that is recorded. It is inlined, so that
+// the other function's arguments are written to memory here.
 #[inline(always)]
 fn settle_any<T: Drop, const NUMBER: u64, M: Count, L: Count, C: Count, R: Count>(
     store: &UnsyncStorage<T>,
@@ -395,10 +401,10 @@ fn settle_told<T: Drop, const NUMBER: u64, M: Count, L: Count, C: Count, R: Coun
     }
 }
 
-// Records the refusal of a read, which left the store as it was, if no writer stands in its way. The
-// answer is whether none does. That a value is gone is told often, since a handle may be kept for
-// longer; it is always the box's own location that is told. The reply is made here, so that it is put
-// into memory here, and not where a read begins.
+// Records a failed read, which left the store unchanged, if no writer is in its way. Returns whether none
+// is. Reads of a removed value are common, since a handle may be stored for longer; their error always
+// has the box's own location. The reply is made here, so that it is written to memory here, and not where
+// a read begins.
 #[inline(always)]
 fn settle_refused_read<T: Drop, const NUMBER: u64, M: Count, L: Count, C: Count, R: Count>(
     store: &UnsyncStorage<T>,
@@ -431,9 +437,9 @@ fn settle_refused_read<T: Drop, const NUMBER: u64, M: Count, L: Count, C: Count,
     settle_refused(store, log, StepCall::Read(asked, at), reply, tally)
 }
 
-// Records the refusal of a call, which left the store as it was, if no borrow stands in its way. The
-// answer is whether none does. It is inlined, so that what is handed to the other function is put into
-// memory here, and not where a call is granted.
+// Records a failed call, which left the store unchanged, if no borrow is in its way. Returns whether none
+// is. It is inlined, so that the other function's arguments are written to memory here, and not where a
+// call succeeds.
 #[inline(always)]
 fn settle_refused<T: Drop, const NUMBER: u64, M: Count, L: Count, C: Count, R: Count>(
     store: &UnsyncStorage<T>,
@@ -451,7 +457,7 @@ fn settle_refused<T: Drop, const NUMBER: u64, M: Count, L: Count, C: Count, R: C
     settle_seldom(store, log, call, reply, tally)
 }
 
-// Records a refusal out of line, since few calls are refused.
+// Records a failed call out of line, since few calls fail.
 #[cold]
 #[inline(never)]
 fn settle_seldom<T: Drop, const NUMBER: u64, M: Count, L: Count, C: Count, R: Count>(
@@ -474,8 +480,8 @@ fn settle_seldom<T: Drop, const NUMBER: u64, M: Count, L: Count, C: Count, R: Co
     true
 }
 
-// Records the end of a borrow, if the reply tells that the store knew its guard. There is room since the
-// borrow began.
+// Records the end of a borrow, if the reply says that the store knew its guard. The room for it was
+// reserved when the borrow began.
 #[inline(always)]
 fn settle_end<T: Drop, const NUMBER: u64, M: Count, L: Count, C: Count, R: Count, E: Entry>(
     store: &UnsyncStorage<T>,

@@ -28,16 +28,15 @@ const AT_ONCE: usize = 2048;
 
 /// A store that threads share: one [`SyncState`] under one lock.
 ///
-/// `NUMBER` is the store's number, by which it tells its boxes from those of other stores. Each
-/// call that takes a tally is a step of the store, whose states its contract doesn't show: it raises
-/// that tally's count of its reply's kind by one, goes by what is of the store, gives what is of it,
-/// and is refused only as it may be. `OutOfMemory` and the release of a guard that the store doesn't
-/// know raise no count. A call waits while a borrow stands in its way, and looks at everything anew
-/// after each wake. The calls that wait are woken
-/// after each end of a borrow, of a box or of an owner, after a box is pointed elsewhere, and after
-/// a reference is made. A thread that waits for a guard of its own waits for ever. That a call that
-/// waits is woken, that calls are handed on with their own boxes, locations and guards, and that an
-/// audit is a copy of the history, no clause says.
+/// `NUMBER` is the store's number, by which it tells its boxes from those of other stores. Each call that
+/// takes a tally is a step of the store, whose states its contract doesn't mention. It adds one to the
+/// tally's count of its reply's kind, uses and returns only what is of the store, and fails only for the
+/// listed reasons. `OutOfMemory` and the release of a guard that the store doesn't know raise no count. A
+/// call waits while a borrow is in its way, and checks everything again after each wake. The calls that
+/// wait are woken after each end of a borrow, of a box or of an owner, after a box is pointed elsewhere,
+/// and after a reference is made. A thread that waits for its own guard deadlocks. No clause says that a
+/// waiting call is woken, that calls are passed on with their own boxes, locations and guards, or that an
+/// audit is a copy of the history.
 #[derive(Drop)]
 pub struct SyncStorage<T, const NUMBER: u64, M: Count, L: Count, C: Count, R: Count> {
     shared: Arc<Shared<SyncState<T, NUMBER, M, L, C, R>>, Global>,
@@ -51,10 +50,13 @@ impl<T: Drop, const NUMBER: u64, M: Count, L: Count, C: Count, R: Count> SyncSto
     C,
     R,
 > {
-    /// A new store, and a tally for each worker, numbered from 0. Each tally counts nothing.
+    /// Creates a store, and a tally for each worker, numbered from 0. Each tally counts nothing.
     ///
-    /// Each blank is of its kind's ledger and has a part for each worker. Refused by `OutOfMemory`
-    /// at most, also for 2^32 workers or more, and the blanks are spent then.
+    /// Each blank must be of its kind's ledger and have a part for each worker.
+    ///
+    /// # Errors
+    ///
+    /// `OutOfMemory`, also for 2^32 workers or more. The blanks are consumed in either case.
     ///
     /// ```rust
     /// let (store, tallies) = SyncStorage::<u64, 7, M, L, C, R>::new(
@@ -88,7 +90,7 @@ impl<T: Drop, const NUMBER: u64, M: Count, L: Count, C: Count, R: Count> SyncSto
         }
     }
 
-    /// The store's number. Takes no memory and doesn't wait.
+    /// The store's number. Doesn't allocate and doesn't wait.
     ///
     /// ```rust
     /// rt.compare(&store.number(), &7);
@@ -99,7 +101,11 @@ impl<T: Drop, const NUMBER: u64, M: Count, L: Count, C: Count, R: Count> SyncSto
         NUMBER
     }
 
-    /// Another handle of the same store. Doesn't wait. Refused by `OutOfMemory` at most.
+    /// Another handle of the same store. Doesn't wait.
+    ///
+    /// # Errors
+    ///
+    /// `OutOfMemory` only.
     ///
     /// ```rust
     /// let mut workers = Vec::new(alloc);
@@ -117,7 +123,7 @@ impl<T: Drop, const NUMBER: u64, M: Count, L: Count, C: Count, R: Count> SyncSto
         }
     }
 
-    // Waits until no borrow stands in the call's way.
+    // Waits until no borrow is in the call's way.
     fn lock_when<'a>(
         &'a self,
         rt: &impl Wait,
@@ -129,7 +135,7 @@ impl<T: Drop, const NUMBER: u64, M: Count, L: Count, C: Count, R: Count> SyncSto
         self.wait_for(rt, held, call)
     }
 
-    // Waits, with the lock that is held, until no borrow stands in the call's way.
+    // Waits, with the lock held, until no borrow is in the call's way.
     fn wait_for<'a>(
         &'a self,
         rt: &impl Wait,
@@ -147,7 +153,7 @@ impl<T: Drop, const NUMBER: u64, M: Count, L: Count, C: Count, R: Count> SyncSto
         unreachable!()
     }
 
-    // Waits until no borrow stands in the way of the owner's release.
+    // Waits until no borrow is in the way of the owner's release.
     fn lock_to_release<'a>(
         &'a self,
         rt: &impl Wait,
@@ -166,7 +172,7 @@ impl<T: Drop, const NUMBER: u64, M: Count, L: Count, C: Count, R: Count> SyncSto
         unreachable!()
     }
 
-    // Lets the lock go until a wake, and takes it again. Meanwhile the call counts as one that waits.
+    // Releases the lock until a wake, and takes it again. Meanwhile the call counts as waiting.
     fn sleep<'a>(
         &'a self,
         rt: &impl Wait,
@@ -178,13 +184,13 @@ impl<T: Drop, const NUMBER: u64, M: Count, L: Count, C: Count, R: Count> SyncSto
         held
     }
 
-    // Lets the lock go, and wakes all calls that wait where this one may have freed some.
+    // Releases the lock, and wakes all waiting calls if this one may have freed some.
     fn unlock(&self, held: MutexGuard<'_, Held<SyncState<T, NUMBER, M, L, C, R>>>, frees: bool) {
         self.shared.unlock(held, frees);
     }
 
-    /// The store's lock, under which a closure makes several calls at once. Takes no memory and
-    /// doesn't wait.
+    /// The store's lock, under which a closure makes several calls at once. Doesn't allocate and doesn't
+    /// wait.
     ///
     /// ```rust
     /// let Worker { store, tally, .. } = self;
@@ -196,9 +202,9 @@ impl<T: Drop, const NUMBER: u64, M: Count, L: Count, C: Count, R: Count> SyncSto
         Together::of(&self.shared)
     }
 
-    /// Runs `f` on the value that a reader's guard opens, under the lock, and answers what it
-    /// answers; None where the store doesn't know the guard. It isn't a step. `f` must not call
-    /// the store: it would wait for ever. Takes no memory beyond what `f` takes.
+    /// Calls `f` on the value of a reader's guard, under the lock, and returns its result; None if the
+    /// store doesn't know the guard. It isn't a step. `f` must not call the store: it would deadlock.
+    /// Allocates only what `f` does.
     ///
     /// ```rust
     /// let reader = store.read(rt, total, here, &mut whole)?;
@@ -223,17 +229,22 @@ impl<T: Drop, const NUMBER: u64, M: Count, L: Count, C: Count, R: Count> SyncSto
         Some(f(value))
     }
 
-    /// Makes the store's state, without values, the base from which its history goes on, and empties
-    /// the history. The answer is how many steps were ever trimmed. It isn't a step, and raises no
-    /// count. All slots are packed ahead first, few at a time, with other calls in between. Then no
-    /// other call goes on while all are looked at again, and those that have changed meanwhile are
-    /// packed, with whatever is borrowed, is a reference, or is on an owner's list. The rows stand in the
-    /// memory of those of the base before the last; where that hasn't room for half as many slots more
-    /// than there are, room for twice as many is reserved. The steps are let go once the lock is open.
+    /// Makes the store's state, without values, the base from which its history goes on, and empties the
+    /// history. Returns how many steps were ever trimmed. It isn't a step, and raises no count. All slots
+    /// are packed ahead first, few at a time, with other calls in between. Then, under the lock, all are
+    /// checked again, and those that have changed meanwhile are packed, with everything that is borrowed,
+    /// is a reference, or is on an owner's list. The rows reuse the memory of those of the base before
+    /// the last; if that doesn't have room for one and a half times as many slots as there are, room for
+    /// twice as many is reserved. The steps are dropped after the lock is released.
     ///
-    /// Refused, in this order: `NumbersExhausted`, where the steps that were trimmed and those of
-    /// the history together would be more than fit into 64 bits; `OutOfMemory`. A refusal changes
-    /// nothing. It takes time for each slot, twice, and for each borrow and owner's box that there is.
+    /// # Errors
+    ///
+    /// - `NumbersExhausted` if the steps that were trimmed and those of the history together would be
+    ///   more than fit into 64 bits.
+    /// - `OutOfMemory`.
+    ///
+    /// A call that fails changes nothing. It takes time for each slot, twice, and for each borrow and
+    /// owner's box.
     ///
     /// ```rust
     /// self.store.checkpoint(rt, &mut self.tally).is_ok()
@@ -256,9 +267,9 @@ impl<T: Drop, const NUMBER: u64, M: Count, L: Count, C: Count, R: Count> SyncSto
         Ok(trimmed)
     }
 
-    // Packs all slots ahead, few at a time, so that a checkpoint has to write but those that change
-    // meanwhile. In between other calls go on; of the slots that these make, it packs as many as there
-    // were at first.
+    // Packs all slots ahead, few at a time, so that a checkpoint has to write only those that change
+    // meanwhile. Other calls run in between; of the slots that these make, it packs as many as there were
+    // at first.
     fn pack_ahead(&self, rt: &impl Wait) -> Result<(), StoreError>
         ensures refusal { IfErr result MayRefuseTrimming }
     {
@@ -273,7 +284,7 @@ impl<T: Drop, const NUMBER: u64, M: Count, L: Count, C: Count, R: Count> SyncSto
         Ok(())
     }
 
-    // Reserves room for a checkpoint's rows while the lock is open, and answers how many slots there are.
+    // Reserves room for a checkpoint's rows without the lock, and returns how many slots there are.
     fn reserve_rows(&self, rt: &impl Wait) -> Result<usize, StoreError>
         ensures refusal { IfErr result MayRefuseTrimming }
     {
@@ -291,13 +302,14 @@ impl<T: Drop, const NUMBER: u64, M: Count, L: Count, C: Count, R: Count> SyncSto
         Ok(slots)
     }
 
-    /// The base and the history, asked for with a whole tally (`is_whole` is the test). The list
-    /// that comes back replays from the base, a sound state of this number; and of each kind the
-    /// base and the list together count exactly as many steps as the tally counts. It isn't a step.
-    /// The files of the list's locations have the letters of those that were handed in, which may
-    /// stand elsewhere in memory.
+    /// The base and the history, for a whole tally (see `is_whole`). The returned list replays from the
+    /// base, a sound state of this number; and of each kind the base and the list together count exactly
+    /// as many steps as the tally counts. It isn't a step. The files of the list's locations have the
+    /// letters of those that were passed in, whose texts may be elsewhere in memory.
     ///
-    /// Refused by `OutOfMemory` at most: nothing changes.
+    /// # Errors
+    ///
+    /// `OutOfMemory`: nothing changes.
     ///
     /// ```rust
     /// if !whole.is_whole() {
@@ -323,7 +335,7 @@ impl<T: Drop, const NUMBER: u64, M: Count, L: Count, C: Count, R: Count> SyncSto
     }
 }
 
-/// How many calls of the store wait: each sleeps, or is so far that a wake reaches it.
+/// How many calls of the store wait: each sleeps, or has come so far that a wake would reach it.
 pub fn waiting<T: Drop, const NUMBER: u64, M: Count, L: Count, C: Count, R: Count>(
     store: &SyncStorage<T, NUMBER, M, L, C, R>,
     rt: &impl Wait,

@@ -4,11 +4,11 @@ ghost use Rattle.std.specs.Fn.{FnOnceReturnsAtMut};
 
 use std::sync::{Condvar, Mutex, MutexGuard, Wait};
 
-/// What lies under the lock.
+/// What the lock protects.
 #[derive(Drop)]
 pub(crate) struct Held<S> {
     pub(crate) state: S,
-    // how many calls sleep, or are so far that a wake reaches them
+    // how many calls sleep, or have come so far that a wake would reach them
     pub(crate) waiting: usize,
 }
 
@@ -16,12 +16,12 @@ pub(crate) struct Held<S> {
 #[derive(Drop)]
 pub(crate) struct Shared<S> {
     pub(crate) held: Mutex<Held<S>>,
-    // told after each step that may have freed a call that waits
+    // notified after each step that may have freed a waiting call
     pub(crate) freed: Condvar,
 }
 
 impl<S> Shared<S> {
-    // Lets the lock go, and wakes all calls that wait where there may be some to go on.
+    // Releases the lock, and wakes all waiting calls if some may go on.
     pub(crate) fn unlock(&self, held: MutexGuard<'_, Held<S>>, frees: bool) {
         let wakes = frees && held.waiting != 0;
         drop(held);
@@ -31,8 +31,8 @@ impl<S> Shared<S> {
     }
 }
 
-/// The lock of a shared store, as [`SyncStorage::together`](crate::SyncStorage::together) gives it,
-/// for several calls under it.
+/// The lock of a shared store, for several calls under it: see
+/// [`SyncStorage::together`](crate::SyncStorage::together).
 #[derive(Clone, Copy)]
 pub struct Together<'a, S> {
     shared: &'a Shared<S>,
@@ -43,13 +43,13 @@ impl<'a, S> Together<'a, S> {
         Together { shared }
     }
 
-    /// Runs `f` once on what lies under the lock, and answers what it answers. The lock is held
-    /// meanwhile: each call that `f` makes is a step of its own, and none of another worker's comes
-    /// between. So several calls cost one way to the lock and back. None of them waits: `ready` tells
-    /// whether a borrow stands in a call's way, and `f` decides what to do then. The calls that wait
-    /// are woken at its end. `f` must not call the store by a handle: it would wait for ever.
+    /// Calls `f` once on what the lock protects, and returns its result. The lock is held meanwhile: each
+    /// call that `f` makes is a separate step, and no step of another worker comes between. So several
+    /// calls take the lock once. None of them waits: `ready` returns whether no borrow is in a call's
+    /// way, and `f` decides what to do then. Waiting calls are woken at its end. `f` must not call the
+    /// store by a handle: it would deadlock.
     ///
-    /// Nothing is refused here, and no memory is taken beyond what `f` takes.
+    /// It never fails, and allocates only what `f` does.
     ///
     /// ```rust
     /// let Worker { store, tally, .. } = self;

@@ -1,4 +1,4 @@
--- Neither the machine nor a replay depends on where texts stand.
+-- Neither the machine nor a replay depends on where texts are in memory.
 pub mod Weighing
 use Rattle.std.proofs.Common.{T as IsTrue}
 use Rattle.std.specs.FinMap as map
@@ -7,8 +7,8 @@ use Rattle.generational_core.specs.Borrowing.BorrowRefusal.{BeingRead, BeingWrit
 use Rattle.generational_core.specs.declared.steps.StepCall.TheVariants as call
 unfoldable pub use Weighing.*
 
--- ==== the machine is blind to locations: a call, and a recorded step, does the same where each
--- location is turned
+-- ==== the machine ignores locations: a call, and a recorded step, does the same if each location is
+-- turned
 
 -- ---- a map with a function of each of its values
 
@@ -67,7 +67,7 @@ module _ {X Y : Type 0} (h : X → Y) where
   unfolding change
   change_each m n f g same = grind (arith, get_each, insert_each, same)
 
--- ---- refusals, calls and answers in which each location is turned
+-- ---- errors, calls and answers in which each location is turned
 
 module _ (p : Location → Location) where
   abbrev place_refusal : BorrowRefusal → BorrowRefusal
@@ -94,7 +94,7 @@ module _ (p : Location → Location) where
     place_answer (BorrowRefused t) = BorrowRefused (place_refusal t)
     place_answer a = a
 
-  -- the test of two locations doesn't see the turn
+  -- the test of two locations gives the same after the turn
   abbrev KeepsTest : Type 0
   KeepsTest = (a b : Location) → same_location (p a) (p b) ≡ same_location a b
 
@@ -122,7 +122,7 @@ module _ {T : Type 0} (p : Location → Location) where
   abbrev content : Content T → Content T
   content = place_content p
 
-  -- ---- what is asked of a cell, and of a content
+  -- ---- tests of a cell, and of a content
 
   cell_turned : (x : Option (Cell T)) (n : Name) (l : Location) → (let moved = option_map cell x in
       (leads_to moved n ≡ leads_to x n) × (content_of moved ≡ option_map content (content_of x))
@@ -209,7 +209,7 @@ module _ {T : Type 0} (p : Location → Location) where
         → act (turned S) (place_action p (Refer o b)) new ≡ turned_out (act S (Refer o b) new)
     refer_turned o b new = grind (arith, reach_turned, refused_turned, get_each, insert_each, len_each)
 
-    -- what stands at what was reached
+    -- what is at what was reached
     at_turned : (m : Option Name)
         → content_of (cell_at (turned S) m) ≡ option_map content (content_of (cell_at S m))
     at_turned m = grind (arith, get_each, cell_turned)
@@ -252,7 +252,7 @@ module _ {T : Type 0} (p : Location → Location) where
         rw (← insert_each cell S.cells (name_of a) (Ref new l), ← sweep_turned, hindrance_at_turned) (grind arith)
     point_turned a b x m y = grind arith
 
-  -- a call of a turned state is answered alike, and leaves a state that is turned alike
+  -- a call of a turned state has the turned answer, and leaves the turned state
   pub act_turned : (S : State T) (call : Action T) (new : NewNames)
       → act (turned S) (place_action p call) new ≡ turned_out (act S call new)
   act_turned S (Make o v l) new =
@@ -423,7 +423,7 @@ module _ (x : Step) (after : List Step) (R : Plain) where
   led_before (y ∷ ys) None e = absurd cc
   led_before (y ∷ ys) (Some S) e = led_before ys (plain_step S y.call y.reply) e
 
--- and so does the step, where those after it go on
+-- and so does the step, if those after it go on
 led_by : (xs : List Step) (o : Option Plain) (R : Plain) → replay_on xs o ≡ Some R
     → (Q : Plain) × (o ≡ Some Q) × (replay_on xs (Some Q) ≡ Some R)
 led_by xs (Some Q) R e = (Q, refl, e)
@@ -472,7 +472,7 @@ module _ (sound : Keeps (λ P Q. IsSound P → IsSound Q))
       → replay_from P steps ≡ Some Q → Good P.number P.start Q
   replay_kept P steps Q begins e = replay_good P.number P.start steps P Q (begins, refl, refl) e
 
--- one lawful step more
+-- another lawful step
 pub replay_more : (steps : List Step) (o : Option Plain) (P Q : Plain) (x : Step)
     → replay_on steps o ≡ Some P → plain_step P x.call x.reply ≡ Some Q
     → replay_on (steps ++ x ∷ []) o ≡ Some Q
@@ -503,7 +503,7 @@ led_as begins more ends led =
     subst (λ (p : Plain × List Step × Plain). LeadsTo p.0 p.1 p.2)
     (λ i. (begins i, more i, ends i)) led
 
--- what an audit answers of a state whose history replays
+-- what an audit returns of a state whose history replays
 pub audited : {T V E : Type 0} (items : V → List Step) (number : ℕ) (s : SharedState T)
     (result : Result (BaseState × V) E) → Replays number s → IfOk result (λ r. r.0 ≡ s.base)
     → IfOk result (λ r. items r.1 ≡ s.history)
@@ -520,7 +520,7 @@ mapped : {A B : Type 0} {f : A → B} (o : Option A) (y : B) → option_map f o 
     → (x : A) × (o ≡ Some x) × (f x ≡ y)
 mapped o y is = grind arith
 
--- a lawful step more, appended by its letters
+-- another lawful step, appended by its letters
 pub led_on : (P S R : Plain) (before after : List Step) (y : Step) → LeadsTo P before S
     → Appends before y after → plain_step S y.call y.reply ≡ Some R → LeadsTo P after R
 led_on P S R before after y led more step =

@@ -33,14 +33,18 @@ impl<T: Drop, const NUMBER: u64, M: Count, L: Count, C: Count, R: Count> SyncSta
     C,
     R,
 > {
-    /// Begins a read of the box's value, in whose way no writer stands. The guard has the store's
-    /// number.
+    /// Begins a read of the box's value, which no writer hinders. The guard has the store's number.
     ///
-    /// Refused, in this order: `Dropped` with the box's own creation location, where its cell has
-    /// ended or is of another store; `NumbersExhausted`, where no ticket is left; both are steps.
-    /// `OutOfMemory` comes before both where the history finds no room, and after them for a
-    /// reader beside another. Memory is taken for that reader, for the step and for the step of
-    /// its release.
+    /// Allocates for the reader if the value has another one, for the step and for the step of its
+    /// release.
+    ///
+    /// # Errors
+    ///
+    /// - `OutOfMemory` if the history has no room.
+    /// - `Dropped` with the box's own creation location if its cell was removed or belongs to another
+    ///   store (a step).
+    /// - `NumbersExhausted` if the tickets are used up (a step).
+    /// - `OutOfMemory` only if the value has another reader.
     ///
     /// ```rust
     /// if !state.ready(&StepCall::Read(asked.pointer(), place())) {
@@ -65,7 +69,7 @@ impl<T: Drop, const NUMBER: u64, M: Count, L: Count, C: Count, R: Count> SyncSta
         }
     }
 
-    // Begins a read. None where a writer stands in its way, and then nothing changes.
+    // Begins a read. None if a writer is in its way, and then nothing changes.
     #[inline(always)]
     pub(crate) fn read_at_once(
         &mut self,
@@ -106,7 +110,7 @@ impl<T: Drop, const NUMBER: u64, M: Count, L: Count, C: Count, R: Count> SyncSta
         }
     }
 
-    /// Calls `try_read`. The sequential store's `read` has a condition in place of the refusals.
+    /// Calls `try_read`. The sequential store's `read` has a condition instead of errors.
     ///
     /// ```rust
     /// if !state.ready(&StepCall::Read(asked.pointer(), read())) {
@@ -127,13 +131,17 @@ impl<T: Drop, const NUMBER: u64, M: Count, L: Count, C: Count, R: Count> SyncSta
         self.try_read(asked, location, tally)
     }
 
-    /// Begins a write of the box's value, in whose way no borrow stands. The value goes into the
-    /// guard, which has the store's number.
+    /// Begins a write of the box's value, which no borrow hinders. The value moves into the guard, which
+    /// has the store's number.
     ///
-    /// Refused, in this order: `Dropped` with the box's own creation location, where its cell has
-    /// ended or is of another store; `NumbersExhausted`, where no ticket is left; both are steps.
-    /// `OutOfMemory` comes before both, and only where the history finds no room. Memory is taken
-    /// for the step and for the step of its release.
+    /// # Errors
+    ///
+    /// - `OutOfMemory` only if the history has no room.
+    /// - `Dropped` with the box's own creation location if its cell was removed or belongs to another
+    ///   store (a step).
+    /// - `NumbersExhausted` if the tickets are used up (a step).
+    ///
+    /// Allocates for the step and for the step of its release.
     ///
     /// ```rust
     /// if !state.ready(&StepCall::Write(asked.pointer(), read())) {
@@ -158,7 +166,7 @@ impl<T: Drop, const NUMBER: u64, M: Count, L: Count, C: Count, R: Count> SyncSta
         }
     }
 
-    // Begins a write. None where a borrow stands in its way, and then nothing changes.
+    // Begins a write. None if a borrow is in its way, and then nothing changes.
     #[inline(always)]
     pub(crate) fn write_at_once(
         &mut self,
@@ -200,7 +208,7 @@ impl<T: Drop, const NUMBER: u64, M: Count, L: Count, C: Count, R: Count> SyncSta
         }
     }
 
-    /// Calls `try_write`. The sequential store's `write` has a condition in place of the refusals.
+    /// Calls `try_write`. The sequential store's `write` has a condition instead of errors.
     ///
     /// ```rust
     /// if !state.ready(&StepCall::Write(asked.pointer(), read())) {
@@ -221,9 +229,9 @@ impl<T: Drop, const NUMBER: u64, M: Count, L: Count, C: Count, R: Count> SyncSta
         self.try_write(asked, location, tally)
     }
 
-    /// Ends a read. The answer is whether the store knew the guard; where it didn't, the guard is
-    /// spent and nothing changes. Never refused, and takes no memory: the step's room was reserved
-    /// when the guard was given.
+    /// Ends a read. Returns whether the store knew the guard; if it didn't, the guard is consumed and
+    /// nothing changes. Never fails, and doesn't allocate: the room for its step was reserved when the
+    /// borrow began.
     ///
     /// ```rust
     /// let known = state.release_read(guard, tally);
@@ -242,9 +250,9 @@ impl<T: Drop, const NUMBER: u64, M: Count, L: Count, C: Count, R: Count> SyncSta
         known
     }
 
-    /// Ends a write, and puts the guard's value into the cell. Where the store doesn't know the
-    /// guard, the value comes back and nothing changes. Never refused, and takes no memory: the
-    /// step's room was reserved when the guard was given.
+    /// Ends a write, and puts the guard's value into the cell. If the store doesn't know the guard, the
+    /// value comes back and nothing changes. Never fails, and doesn't allocate: the room for its step was
+    /// reserved when the borrow began.
     ///
     /// ```rust
     /// rt.compare(&state.release_write(guard, tally), &Ok(()));
@@ -267,14 +275,16 @@ impl<T: Drop, const NUMBER: u64, M: Count, L: Count, C: Count, R: Count> SyncSta
         released
     }
 
-    /// Puts another value in the place of the one that the box reaches, at which no borrow stands,
-    /// and lets the old one go. Every box that reaches the value reaches the new one from then on.
-    /// No ticket is used.
+    /// Replaces the value that the box refers to, which isn't borrowed, and drops the old one. Every box
+    /// that refers to the value refers to the new one from then on. No ticket is used.
     ///
-    /// Refused, in this order: `Dropped` with the box's own creation location, where its cell has
-    /// ended or is of another store, a step; `OutOfMemory`, which comes first, and only where the
-    /// history finds no room for the step. The value that was handed in comes back then, and the
-    /// store is unchanged. Nothing else takes memory.
+    /// # Errors
+    ///
+    /// - `OutOfMemory` only if the history has no room for the step.
+    /// - `Dropped` with the box's own creation location if its cell was removed or belongs to another
+    ///   store (a step).
+    ///
+    /// The value that was passed in comes back then, and the store is unchanged. Nothing else allocates.
     ///
     /// ```rust
     /// if !state.ready(&StepCall::Set(set.pointer())) {
@@ -326,7 +336,7 @@ fn begin_read<T: Drop>(
     store.try_read(asked, location)
 }
 
-// Sets the value that the box reaches, where no borrow stands at it.
+// Sets the value that the box refers to, if it isn't borrowed.
 fn set_value<T: Drop>(
     store: &mut UnsyncStorage<T>,
     asked: GenerationalPointer,

@@ -1,4 +1,4 @@
-//! Calls that end boxes and owners, and that let a reference lead elsewhere.
+//! Calls that remove boxes, release owners, and point references elsewhere.
 
 ghost use Rattle.std.specs.Prelude.{◌≡◌, true, IfErr, IfNone, IfSome};
 ghost use Rattle.generational_core.specs.declared.steps.StepCall.TheVariants as call;
@@ -26,11 +26,13 @@ impl<T: Drop, const NUMBER: u64, M: Count, L: Count, C: Count, R: Count> SyncSta
     C,
     R,
 > {
-    /// Ends the box's cell, in whose way no borrow stands, and the value with it. A box whose cell
-    /// has ended or is of another store is Ok, a step that changes nothing.
+    /// Removes the box's cell, which no borrow hinders, and drops the value. For a box whose cell was
+    /// removed or belongs to another store, the call returns Ok, a step that changes nothing.
     ///
-    /// Refused by `OutOfMemory`, only where the history finds no room for the step: nothing
-    /// changes. Nothing else takes memory.
+    /// # Errors
+    ///
+    /// `OutOfMemory` only if the history has no room for the step: nothing changes. Nothing else
+    /// allocates.
     ///
     /// ```rust
     /// if !state.ready(&StepCall::ManuallyDrop(made.pointer())) {
@@ -54,7 +56,7 @@ impl<T: Drop, const NUMBER: u64, M: Count, L: Count, C: Count, R: Count> SyncSta
         }
     }
 
-    // Ends a box's cell. None where a borrow stands in its way, and then nothing changes.
+    // Removes a box's cell. None if a borrow is in its way, and then nothing changes.
     #[inline(always)]
     pub(crate) fn end_at_once(
         &mut self,
@@ -91,17 +93,21 @@ impl<T: Drop, const NUMBER: u64, M: Count, L: Count, C: Count, R: Count> SyncSta
         }
     }
 
-    /// Lets a reference lead to the shared value that another box reaches. No writer stands at that
-    /// value, and no borrow at the value that it led to before if that one would end. The value that
-    /// it led to before ends if no live reference to it is left. The reference keeps its id and its
-    /// location. Two boxes of one id are Ok, even of a cell that has ended, and so is a reference
-    /// that leads to that value already: a step that changes nothing.
+    /// Points a reference to the shared value that another box refers to. That value isn't being written,
+    /// and the value that the reference referred to before isn't borrowed if it would be dropped. The
+    /// value that it referred to before is dropped if this was the last live reference to it. The
+    /// reference keeps its id and its location. For two boxes of the same id, even of a removed cell, and
+    /// for a reference that refers to that value already, the call returns Ok, a step that changes
+    /// nothing.
     ///
-    /// Refused by `Dropped`, a step: with the other box's location, where that reaches no value;
-    /// with this box's own, where its cell has ended or is of another store; with that of the value
-    /// which the other reaches, where this box is no reference or that value isn't shared. Refused
-    /// by `OutOfMemory` where the history finds no room for the step. A refused call changes
-    /// nothing, and nothing else takes memory.
+    /// # Errors
+    ///
+    /// - `OutOfMemory` only if the history has no room for the step.
+    /// - `Dropped`, a step: with the other box's location if that refers to no value; with this box's own
+    ///   if its cell was removed or belongs to another store; with that of the value which the other
+    ///   refers to if this box is no reference or that value isn't shared.
+    ///
+    /// A call that fails changes nothing, and nothing else allocates.
     ///
     /// ```rust
     /// let call = StepCall::PointTo(asked.pointer(), other.pointer());
@@ -144,12 +150,15 @@ impl<T: Drop, const NUMBER: u64, M: Count, L: Count, C: Count, R: Count> SyncSta
         }
     }
 
-    /// Spends an owner value, in whose way no borrow stands. With the last one of its record all
-    /// live boxes of the list end, and with them each shared value of which no reference is left.
+    /// Consumes an owner value, whose release no borrow hinders. The last one of its record removes all
+    /// live boxes of the list, and each shared value without other references.
     ///
-    /// Refused, in this order: `UnknownOwner`, where the store has no record of the owner, a step;
-    /// `OutOfMemory`, which comes first, and only where the history finds no room for the step. The
-    /// owner comes back then, and the store is unchanged. Nothing else takes memory.
+    /// # Errors
+    ///
+    /// - `OutOfMemory` only if the history has no room for the step.
+    /// - `UnknownOwner` if the store has no record of the owner (a step).
+    ///
+    /// The owner comes back then, and the store is unchanged. Nothing else allocates.
     ///
     /// ```rust
     /// if let Err((owner, _)) = state.release_owner(owner, tally) {

@@ -30,11 +30,14 @@ impl<T: Drop, const NUMBER: u64, M: Count, L: Count, C: Count, R: Count> SyncSta
     C,
     R,
 > {
-    /// A new box of a value, which lives until it is ended by hand. The box has the store's
-    /// number and the location, and its id was never given before.
+    /// Stores a value, and returns its box. The value lives until it is removed manually. The box has the
+    /// store's number and the location, and its id was never issued before.
     ///
-    /// Refused by `OutOfMemory`: the value comes back, and nothing changes. Memory is taken for a
-    /// slot, if none is free, and for the step.
+    /// Allocates for a slot, if none is free, and for the step.
+    ///
+    /// # Errors
+    ///
+    /// `OutOfMemory`: the value comes back, and nothing changes.
     ///
     /// ```rust
     /// let made = state.leak(value, place(), tally).ok()?;
@@ -53,14 +56,18 @@ impl<T: Drop, const NUMBER: u64, M: Count, L: Count, C: Count, R: Count> SyncSta
         self.make(None, None, value, location, tally)
     }
 
-    /// A new box of a value, which ends when the last owner value of this record is released. The
-    /// box has the store's number and the location, its id was never given before, and it stands at
-    /// the end of the record's list.
+    /// Stores a value, and returns its box. The value is removed when the last owner value of this record
+    /// is released. The box has the store's number and the location, its id was never issued before, and
+    /// it is added at the end of the record's list.
     ///
-    /// Refused, in this order: `UnknownOwner`, where the store has no record of the owner, a step;
-    /// `OutOfMemory`, which comes first where the history finds no room. The value comes back then,
-    /// and the store is unchanged. Memory is taken for a slot, if none is free, for room on the
-    /// list, and for the step.
+    /// # Errors
+    ///
+    /// - `OutOfMemory` if the history has no room.
+    /// - `UnknownOwner` if the store has no record of the owner (a step).
+    /// - `OutOfMemory` if anything else can't be allocated.
+    ///
+    /// The value comes back then, and the store is unchanged. Allocates for a slot, if none is free, for
+    /// room on the list, and for the step.
     ///
     /// ```rust
     /// let kept = state.insert(owner, text(rt, alloc, "kept"), made(), tally);
@@ -119,13 +126,16 @@ impl<T: Drop, const NUMBER: u64, M: Count, L: Count, C: Count, R: Count> SyncSta
         }
     }
 
-    /// A new shared value, and a first reference to it, whose box is given and lives until it is
-    /// ended by hand. The box has the store's number and the location, and its id and that of the
-    /// value's cell were never given before. The value lives exactly as long as there is a live
-    /// reference to it.
+    /// Stores a shared value with a first reference to it, and returns the reference's box. The reference
+    /// lives until it is removed manually. The box has the store's number and the location, and its id
+    /// and that of the value's cell were never issued before. The value lives exactly as long as there is
+    /// a live reference to it.
     ///
-    /// Refused by `OutOfMemory`: the value comes back, and nothing changes. Memory is taken for two
-    /// slots, if fewer are free, and for the step.
+    /// Allocates for two slots, if fewer are free, and for the step.
+    ///
+    /// # Errors
+    ///
+    /// `OutOfMemory`: the value comes back, and nothing changes.
     ///
     /// ```rust
     /// let shared = state.leak_rc(text(rt, alloc, "free"), made_later(), tally);
@@ -144,16 +154,19 @@ impl<T: Drop, const NUMBER: u64, M: Count, L: Count, C: Count, R: Count> SyncSta
         self.make_shared(None, None, value, location, tally)
     }
 
-    /// A new shared value, and a first reference to it, whose box is given. The reference ends
-    /// when the last owner value of this record is released, and stands at the end of the record's
-    /// list. The box has the store's number and the location, and its id and that of the value's
-    /// cell were never given before. The value lives exactly as long as there is a live reference
-    /// to it.
+    /// Stores a shared value with a first reference to it, and returns the reference's box. The reference
+    /// is removed when the last owner value of this record is released, and is added at the end of the
+    /// record's list. The box has the store's number and the location, and its id and that of the value's
+    /// cell were never issued before. The value lives exactly as long as there is a live reference to it.
     ///
-    /// Refused, in this order: `UnknownOwner`, where the store has no record of the owner, a step;
-    /// `OutOfMemory`, which comes first where the history finds no room. The value comes back then,
-    /// and the store is unchanged. Memory is taken for two slots, if fewer are free, for room on
-    /// the list, and for the step.
+    /// # Errors
+    ///
+    /// - `OutOfMemory` if the history has no room.
+    /// - `UnknownOwner` if the store has no record of the owner (a step).
+    /// - `OutOfMemory` if anything else can't be allocated.
+    ///
+    /// The value comes back then, and the store is unchanged. Allocates for two slots, if fewer are free,
+    /// for room on the list, and for the step.
     ///
     /// ```rust
     /// let shared = state.insert_rc(owner, text(rt, alloc, "shared"), made(), tally);
@@ -215,14 +228,18 @@ impl<T: Drop, const NUMBER: u64, M: Count, L: Count, C: Count, R: Count> SyncSta
         }
     }
 
-    /// One reference more to the shared value that a box reaches, at which no writer stands.
-    /// It lives until it is ended by hand. The box has the store's number and the value's location,
-    /// and its id was never given before.
+    /// Adds a reference to the shared value that a box refers to and that isn't being written, and
+    /// returns its box. The reference lives until it is removed manually. The box has the store's number
+    /// and the value's location, and its id was never issued before.
     ///
-    /// Refused, in this order: `Dropped` with the box's own creation location, where its cell has
-    /// ended or is of another store, or where its value isn't shared, a step; `OutOfMemory`, which
-    /// comes first where the history finds no room. A refused call changes nothing.
-    /// Memory is taken for a slot, if none is free, and for the step.
+    /// # Errors
+    ///
+    /// - `OutOfMemory` if the history has no room.
+    /// - `Dropped` with the box's own creation location if its cell was removed or belongs to another
+    ///   store, or if its value isn't shared (a step).
+    /// - `OutOfMemory` if anything else can't be allocated.
+    ///
+    /// A call that fails changes nothing. Allocates for a slot, if none is free, and for the step.
     ///
     /// ```rust
     /// if !state.ready(&StepCall::LeakReference(asked.pointer())) {
@@ -243,16 +260,21 @@ impl<T: Drop, const NUMBER: u64, M: Count, L: Count, C: Count, R: Count> SyncSta
         self.refer(None, None, asked, tally)
     }
 
-    /// One reference more to the shared value that a box reaches, at which no writer stands.
-    /// It ends when the last owner value of this record is released, and stands at the end of the
-    /// record's list. The box has the store's number and the value's location, and its id was never
-    /// given before.
+    /// Adds a reference to the shared value that a box refers to and that isn't being written, and
+    /// returns its box. The reference is removed when the last owner value of this record is released,
+    /// and is added at the end of the record's list. The box has the store's number and the value's
+    /// location, and its id was never issued before.
     ///
-    /// Refused, in this order: `UnknownOwner`, where the store has no record of the owner;
-    /// `Dropped` with the box's own creation location, where its cell has ended or is of another
-    /// store, or where its value isn't shared; both are steps. `OutOfMemory` comes before both where
-    /// the history finds no room, and else after them. A refused call changes nothing.
-    /// Memory is taken for a slot, if none is free, for room on the list, and for the step.
+    /// # Errors
+    ///
+    /// - `OutOfMemory` if the history has no room.
+    /// - `UnknownOwner` if the store has no record of the owner (a step).
+    /// - `Dropped` with the box's own creation location if its cell was removed or belongs to another
+    ///   store, or if its value isn't shared (a step).
+    /// - `OutOfMemory` if anything else can't be allocated.
+    ///
+    /// A call that fails changes nothing. Allocates for a slot, if none is free, for room on the list,
+    /// and for the step.
     ///
     /// ```rust
     /// let call = StepCall::InsertReference(owner.id(), asked.pointer());
@@ -276,7 +298,7 @@ impl<T: Drop, const NUMBER: u64, M: Count, L: Count, C: Count, R: Count> SyncSta
         self.refer(Some(owner), Some(owner.id()), asked, tally)
     }
 
-    // Makes a reference to what the box reaches, on the list of the owner with this id if there is one.
+    // Makes a reference to what the box refers to, on the list of the owner with this id if there is one.
     #[inline(always)]
     fn refer(
         &mut self,
@@ -313,11 +335,15 @@ impl<T: Drop, const NUMBER: u64, M: Count, L: Count, C: Count, R: Count> SyncSta
         }
     }
 
-    /// An owner without boxes, of a record of its own. It has the store's number.
+    /// Returns an owner without boxes, of a new record. It has the store's number.
     ///
-    /// Refused, in this order: `NumbersExhausted`, where no ticket is left, a step; `OutOfMemory`,
-    /// which comes first where the history finds no room. A refused call changes nothing.
-    /// Memory is taken for the record and for the step.
+    /// # Errors
+    ///
+    /// - `OutOfMemory` if the history has no room.
+    /// - `NumbersExhausted` if the tickets are used up (a step).
+    /// - `OutOfMemory` if anything else can't be allocated.
+    ///
+    /// A call that fails changes nothing. Allocates for the record and for the step.
     ///
     /// ```rust
     /// let session = rt.expect(state.owner(tally), "an owner");
@@ -343,12 +369,15 @@ impl<T: Drop, const NUMBER: u64, M: Count, L: Count, C: Count, R: Count> SyncSta
         }
     }
 
-    /// Another owner value of the same record.
+    /// Returns another owner value of the same record.
     ///
-    /// Refused, in this order: `UnknownOwner`, where the store has no record of the owner;
-    /// `NumbersExhausted`, where no ticket is left; both are steps. `OutOfMemory` comes before both,
-    /// and only where the history finds no room for the step. A refused call changes
-    /// nothing. Nothing else takes memory.
+    /// # Errors
+    ///
+    /// - `OutOfMemory` only if the history has no room.
+    /// - `UnknownOwner` if the store has no record of the owner (a step).
+    /// - `NumbersExhausted` if the tickets are used up (a step).
+    ///
+    /// A call that fails changes nothing. Nothing else allocates.
     ///
     /// ```rust
     /// let again = rt.expect(state.clone_owner(&session, tally), "the same owner");
@@ -372,7 +401,7 @@ impl<T: Drop, const NUMBER: u64, M: Count, L: Count, C: Count, R: Count> SyncSta
     }
 }
 
-// The cell that the box of a new shared value names.
+// The cell that the box of a new shared value refers to.
 #[inline(always)]
 fn shared_cell<T: Drop>(store: &UnsyncStorage<T>, made: GenerationalPointer) -> GenerationalBoxId
     requires { is_some (target_of store.now.state made) ≡ true }

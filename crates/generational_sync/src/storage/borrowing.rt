@@ -27,14 +27,19 @@ impl<T: Drop, const NUMBER: u64, M: Count, L: Count, C: Count, R: Count> SyncSto
     C,
     R,
 > {
-    /// Begins a read of the box's value, once no writer stands in its way. The guard has the
-    /// store's number, and must be released.
+    /// Begins a read of the box's value, once no writer is in its way. The guard has the store's number,
+    /// and must be released.
     ///
-    /// Refused, in this order: `Dropped` with the box's own creation location, where its cell has
-    /// ended or is of another store; `NumbersExhausted`, where no ticket is left; both are steps.
-    /// `OutOfMemory` comes before both where the history finds no room, and after them for a
-    /// reader beside another. Memory is taken for that reader, for the step and for the step of
-    /// its release.
+    /// Allocates for the reader if the value has another one, for the step and for the step of its
+    /// release.
+    ///
+    /// # Errors
+    ///
+    /// - `OutOfMemory` if the history has no room.
+    /// - `Dropped` with the box's own creation location if its cell was removed or belongs to another
+    ///   store (a step).
+    /// - `NumbersExhausted` if the tickets are used up (a step).
+    /// - `OutOfMemory` only if the value has another reader.
     ///
     /// ```rust
     /// self.store.try_read(rt, asked, at, &mut self.tally)
@@ -56,8 +61,8 @@ impl<T: Drop, const NUMBER: u64, M: Count, L: Count, C: Count, R: Count> SyncSto
         self.read_later(rt, held, asked, location, tally)
     }
 
-    // Begins the read once the writer that stands in its way is gone. It is inlined, so that what is
-    // handed to the other is put into memory here, and not where a read begins at once.
+    // Begins the read once the writer that is in its way is gone. It is inlined, so that the other
+    // function's arguments are written to memory here, and not where a read begins at once.
     #[inline(always)]
     fn read_later<'a>(
         &'a self,
@@ -91,7 +96,7 @@ impl<T: Drop, const NUMBER: u64, M: Count, L: Count, C: Count, R: Count> SyncSto
         held.state.try_read(asked, location, tally)
     }
 
-    /// Calls `try_read`. The sequential store's `read` has a condition in place of the refusals.
+    /// Calls `try_read`. The sequential store's `read` has a condition instead of errors.
     ///
     /// ```rust
     /// let reader = self.store.read(rt, kept, here, &mut self.tally)?;
@@ -111,13 +116,17 @@ impl<T: Drop, const NUMBER: u64, M: Count, L: Count, C: Count, R: Count> SyncSto
         self.try_read(rt, asked, location, tally)
     }
 
-    /// Begins a write of the box's value, once no borrow stands in its way. The value goes into the
-    /// guard, which has the store's number and must be released. Its views need no lock.
+    /// Begins a write of the box's value, once no borrow is in its way. The value moves into the guard,
+    /// which has the store's number and must be released. Its views need no lock.
     ///
-    /// Refused, in this order: `Dropped` with the box's own creation location, where its cell has
-    /// ended or is of another store; `NumbersExhausted`, where no ticket is left; both are steps.
-    /// `OutOfMemory` comes before both, and only where the history finds no room. Memory is taken
-    /// for the step and for the step of its release.
+    /// # Errors
+    ///
+    /// - `OutOfMemory` only if the history has no room.
+    /// - `Dropped` with the box's own creation location if its cell was removed or belongs to another
+    ///   store (a step).
+    /// - `NumbersExhausted` if the tickets are used up (a step).
+    ///
+    /// Allocates for the step and for the step of its release.
     ///
     /// ```rust
     /// self.store.try_write(rt, asked, at, &mut self.tally)
@@ -139,7 +148,8 @@ impl<T: Drop, const NUMBER: u64, M: Count, L: Count, C: Count, R: Count> SyncSto
         self.write_later(rt, held, asked, location, tally)
     }
 
-    // Begins the write once the borrows that stand in its way are gone, and is inlined as a read is.
+    // Begins the write once the borrows that are in its way are gone. It is inlined for the same reason
+    // as a read's.
     #[inline(always)]
     fn write_later<'a>(
         &'a self,
@@ -173,7 +183,7 @@ impl<T: Drop, const NUMBER: u64, M: Count, L: Count, C: Count, R: Count> SyncSto
         held.state.try_write(asked, location, tally)
     }
 
-    /// Calls `try_write`. The sequential store's `write` has a condition in place of the refusals.
+    /// Calls `try_write`. The sequential store's `write` has a condition instead of errors.
     ///
     /// ```rust
     /// let mut writer = self.store.write(rt, total, here, &mut self.tally)?;
@@ -194,9 +204,9 @@ impl<T: Drop, const NUMBER: u64, M: Count, L: Count, C: Count, R: Count> SyncSto
         self.try_write(rt, asked, location, tally)
     }
 
-    /// Ends a read, and wakes the calls that wait. The answer is whether the store knew the
-    /// guard; where it didn't, the guard is spent and nothing changes. Never refused, and takes no
-    /// memory. Waits for no borrow.
+    /// Ends a read, and wakes the calls that wait. Returns whether the store knew the guard; if it
+    /// didn't, the guard is consumed and nothing changes. Never fails, and doesn't allocate. Waits for no
+    /// borrow.
     ///
     /// ```rust
     /// self.store.release_read(rt, reader, &mut self.tally);
@@ -216,9 +226,9 @@ impl<T: Drop, const NUMBER: u64, M: Count, L: Count, C: Count, R: Count> SyncSto
         known
     }
 
-    /// Ends a write, puts the guard's value into the cell, and wakes the calls that wait. Where the
-    /// store doesn't know the guard, the value comes back and nothing changes. Never refused, and
-    /// takes no memory. Waits for no borrow.
+    /// Ends a write, puts the guard's value into the cell, and wakes the calls that wait. If the store
+    /// doesn't know the guard, the value comes back and nothing changes. Never fails, and doesn't
+    /// allocate. Waits for no borrow.
     ///
     /// ```rust
     /// let _ = self.store.release_write(rt, writer, &mut self.tally);
@@ -238,14 +248,16 @@ impl<T: Drop, const NUMBER: u64, M: Count, L: Count, C: Count, R: Count> SyncSto
         released
     }
 
-    /// Puts another value in the place of the one that the box reaches, once no borrow stands at
-    /// it, and lets the old one go. Every box that reaches the value reaches the new one from then
-    /// on. No ticket is used.
+    /// Replaces the value that the box refers to, once it isn't borrowed, and drops the old one. Every
+    /// box that refers to the value refers to the new one from then on. No ticket is used.
     ///
-    /// Refused, in this order: `Dropped` with the box's own creation location, where its cell has
-    /// ended or is of another store, a step; `OutOfMemory`, which comes first, and only where the
-    /// history finds no room for the step. The value that was handed in comes back then, and the
-    /// store is unchanged. Nothing else takes memory.
+    /// # Errors
+    ///
+    /// - `OutOfMemory` only if the history has no room for the step.
+    /// - `Dropped` with the box's own creation location if its cell was removed or belongs to another
+    ///   store (a step).
+    ///
+    /// The value that was passed in comes back then, and the store is unchanged. Nothing else allocates.
     ///
     /// ```rust
     /// self.store.set(rt, asked, value, &mut self.tally)

@@ -1,4 +1,4 @@
-//! Calls that end boxes and owners, and that let a reference lead elsewhere.
+//! Calls that remove boxes, release owners, and point references elsewhere.
 
 ghost use Rattle.std.specs.Prelude.{◌≡◌, IfErr};
 ghost use Rattle.generational_core.specs.Answers.{end_answer, pointer_of, release_answer};
@@ -22,12 +22,14 @@ impl<T: Drop, const NUMBER: u64, M: Count, L: Count, C: Count, R: Count> SyncSto
     C,
     R,
 > {
-    /// Ends the box's cell, and the value with it, once no borrow stands in its way. A box whose
-    /// cell has ended or is of another store is Ok, a step that changes nothing. Wakes the calls that
-    /// wait.
+    /// Removes the box's cell, and drops the value, once no borrow is in the way. For a box whose cell
+    /// was removed or belongs to another store, the call returns Ok, a step that changes nothing. Wakes
+    /// the calls that wait.
     ///
-    /// Refused by `OutOfMemory`, only where the history finds no room for the step: nothing
-    /// changes. Nothing else takes memory.
+    /// # Errors
+    ///
+    /// `OutOfMemory` only if the history has no room for the step: nothing changes. Nothing else
+    /// allocates.
     ///
     /// ```rust
     /// self.store.manually_drop(rt, asked, &mut self.tally)
@@ -49,8 +51,8 @@ impl<T: Drop, const NUMBER: u64, M: Count, L: Count, C: Count, R: Count> SyncSto
         self.end_later(rt, held, asked, tally)
     }
 
-    // Ends the box's cell once the borrows that stand in its way are gone. It is inlined, so that what
-    // is handed to the other is put into memory here, and not where a cell ends at once.
+    // Removes the box's cell once the borrows that are in its way are gone. It is inlined, so that the
+    // other function's arguments are written to memory here, and not where a cell is removed at once.
     #[inline(always)]
     fn end_later<'a>(
         &'a self,
@@ -84,17 +86,21 @@ impl<T: Drop, const NUMBER: u64, M: Count, L: Count, C: Count, R: Count> SyncSto
         ended
     }
 
-    /// Lets a reference lead to the shared value that another box reaches, once no writer stands at
-    /// that value, and no borrow at the value that it led to before if that one would end. The value
-    /// that it led to before ends if no live reference to it is left. The reference keeps its id and
-    /// its location. Two boxes of one id are Ok, even of a cell that has ended, and so is a reference
-    /// that leads to that value already: a step that changes nothing. Wakes the calls that wait.
+    /// Points a reference to the shared value that another box refers to, once that value isn't being
+    /// written, and the value that the reference referred to before isn't borrowed if it would be
+    /// dropped. The value that it referred to before is dropped if this was the last live reference to
+    /// it. The reference keeps its id and its location. For two boxes of the same id, even of a removed
+    /// cell, and for a reference that refers to that value already, the call returns Ok, a step that
+    /// changes nothing. Wakes the calls that wait.
     ///
-    /// Refused by `Dropped`, a step: with the other box's location, where that reaches no value;
-    /// with this box's own, where its cell has ended or is of another store; with that of the value
-    /// which the other reaches, where this box is no reference or that value isn't shared. Refused
-    /// by `OutOfMemory` where the history finds no room for the step. A refused call changes
-    /// nothing, and nothing else takes memory.
+    /// # Errors
+    ///
+    /// - `OutOfMemory` only if the history has no room for the step.
+    /// - `Dropped`, a step: with the other box's location if that refers to no value; with this box's own
+    ///   if its cell was removed or belongs to another store; with that of the value which the other
+    ///   refers to if this box is no reference or that value isn't shared.
+    ///
+    /// A call that fails changes nothing, and nothing else allocates.
     ///
     /// ```rust
     /// self.store.point_to(rt, asked, other, &mut self.tally)
@@ -116,14 +122,17 @@ impl<T: Drop, const NUMBER: u64, M: Count, L: Count, C: Count, R: Count> SyncSto
         pointed
     }
 
-    /// Spends an owner value, once no borrow stands in its way. With the last one of its record all
-    /// live boxes of the list end, and with them each shared value of which no reference is left.
-    /// Wakes the calls that wait.
+    /// Consumes an owner value, once no borrow is in the way of its release. The last one of its record
+    /// removes all live boxes of the list, and each shared value without other references. Wakes the
+    /// calls that wait.
     ///
-    /// Refused, in this order: `UnknownOwner`, where the store has no record of the owner, which is
-    /// asked before any waiting, a step; `OutOfMemory`, which comes first, and only where the history
-    /// finds no room for the step. The owner comes back then, and the store is unchanged. Nothing
-    /// else takes memory.
+    /// # Errors
+    ///
+    /// - `OutOfMemory` only if the history has no room for the step.
+    /// - `UnknownOwner` if the store has no record of the owner, which is checked before any waiting (a
+    ///   step).
+    ///
+    /// The owner comes back then, and the store is unchanged. Nothing else allocates.
     ///
     /// ```rust
     /// if let Err((session, _)) = self.store.release_owner(rt, session, &mut self.tally) {

@@ -22,11 +22,14 @@ impl<T: Drop, const NUMBER: u64, M: Count, L: Count, C: Count, R: Count> SyncSto
     C,
     R,
 > {
-    /// A new box of a value, which lives until it is ended by hand. The box has the store's
-    /// number and the location, and its id was never given before. Waits for no borrow.
+    /// Stores a value, and returns its box. The value lives until it is removed manually. The box has the
+    /// store's number and the location, and its id was never issued before. Waits for no borrow.
     ///
-    /// Refused by `OutOfMemory`: the value comes back, and nothing changes. Memory is taken for a
-    /// slot, if none is free, and for the step.
+    /// Allocates for a slot, if none is free, and for the step.
+    ///
+    /// # Errors
+    ///
+    /// `OutOfMemory`: the value comes back, and nothing changes.
     ///
     /// ```rust
     /// let total = first.store.leak(rt, 0, here, &mut first.tally)?;
@@ -45,13 +48,16 @@ impl<T: Drop, const NUMBER: u64, M: Count, L: Count, C: Count, R: Count> SyncSto
         self.shared.held.lock(rt).state.leak(value, location, tally)
     }
 
-    /// A new shared value, and a first reference to it, whose box is given and lives until it is
-    /// ended by hand. The box has the store's number and the location, and its id was never given
-    /// before. The value lives exactly as long as there is a live reference to it. Waits for no
-    /// borrow.
+    /// Stores a shared value with a first reference to it, and returns the reference's box. The reference
+    /// lives until it is removed manually. The box has the store's number and the location, and its id
+    /// was never issued before. The value lives exactly as long as there is a live reference to it. Waits
+    /// for no borrow.
     ///
-    /// Refused by `OutOfMemory`: the value comes back, and nothing changes. Memory is taken for two
-    /// slots, if fewer are free, and for the step.
+    /// Allocates for two slots, if fewer are free, and for the step.
+    ///
+    /// # Errors
+    ///
+    /// `OutOfMemory`: the value comes back, and nothing changes.
     ///
     /// ```rust
     /// self.store.leak_rc(rt, value, at, &mut self.tally)
@@ -74,14 +80,18 @@ impl<T: Drop, const NUMBER: u64, M: Count, L: Count, C: Count, R: Count> SyncSto
             .leak_rc(value, location, tally)
     }
 
-    /// One reference more to the shared value that a box reaches, once no writer stands at
-    /// it. It lives until it is ended by hand. The box has the store's number and the value's
-    /// location, and its id was never given before. Wakes the calls that wait.
+    /// Adds a reference to the shared value that a box refers to, once that isn't being written, and
+    /// returns its box. The reference lives until it is removed manually. The box has the store's number
+    /// and the value's location, and its id was never issued before. Wakes the calls that wait.
     ///
-    /// Refused, in this order: `Dropped` with the box's own creation location, where its cell has
-    /// ended or is of another store, or where its value isn't shared, a step; `OutOfMemory`, which
-    /// comes first where the history finds no room. A refused call changes nothing.
-    /// Memory is taken for a slot, if none is free, and for the step.
+    /// # Errors
+    ///
+    /// - `OutOfMemory` if the history has no room.
+    /// - `Dropped` with the box's own creation location if its cell was removed or belongs to another
+    ///   store, or if its value isn't shared (a step).
+    /// - `OutOfMemory` if anything else can't be allocated.
+    ///
+    /// A call that fails changes nothing. Allocates for a slot, if none is free, and for the step.
     ///
     /// ```rust
     /// self.store.leak_reference(rt, of, &mut self.tally)
@@ -102,12 +112,15 @@ impl<T: Drop, const NUMBER: u64, M: Count, L: Count, C: Count, R: Count> SyncSto
         made
     }
 
-    /// An owner without boxes, of a record of its own. It has the store's number. Waits for no
-    /// borrow.
+    /// Returns an owner without boxes, of a new record. It has the store's number. Waits for no borrow.
     ///
-    /// Refused, in this order: `NumbersExhausted`, where no ticket is left, a step; `OutOfMemory`,
-    /// which comes first where the history finds no room. A refused call changes nothing.
-    /// Memory is taken for the record and for the step.
+    /// # Errors
+    ///
+    /// - `OutOfMemory` if the history has no room.
+    /// - `NumbersExhausted` if the tickets are used up (a step).
+    /// - `OutOfMemory` if anything else can't be allocated.
+    ///
+    /// A call that fails changes nothing. Allocates for the record and for the step.
     ///
     /// ```rust
     /// let session = self.store.owner(rt, &mut self.tally)?;
@@ -119,12 +132,15 @@ impl<T: Drop, const NUMBER: u64, M: Count, L: Count, C: Count, R: Count> SyncSto
         self.shared.held.lock(rt).state.owner(tally)
     }
 
-    /// Another owner value of the same record. Waits for no borrow.
+    /// Returns another owner value of the same record. Waits for no borrow.
     ///
-    /// Refused, in this order: `UnknownOwner`, where the store has no record of the owner;
-    /// `NumbersExhausted`, where no ticket is left; both are steps. `OutOfMemory` comes before both,
-    /// and only where the history finds no room for the step. A refused call changes
-    /// nothing. Nothing else takes memory.
+    /// # Errors
+    ///
+    /// - `OutOfMemory` only if the history has no room.
+    /// - `UnknownOwner` if the store has no record of the owner (a step).
+    /// - `NumbersExhausted` if the tickets are used up (a step).
+    ///
+    /// A call that fails changes nothing. Nothing else allocates.
     ///
     /// ```rust
     /// self.store.clone_owner(rt, owner, &mut self.tally)
@@ -141,14 +157,18 @@ impl<T: Drop, const NUMBER: u64, M: Count, L: Count, C: Count, R: Count> SyncSto
         self.shared.held.lock(rt).state.clone_owner(owner, tally)
     }
 
-    /// A new box of a value, which ends when the last owner value of this record is released. The
-    /// box has the store's number and the location, and its id was never given before. Waits for no
-    /// borrow.
+    /// Stores a value, and returns its box. The value is removed when the last owner value of this record
+    /// is released. The box has the store's number and the location, and its id was never issued before.
+    /// Waits for no borrow.
     ///
-    /// Refused, in this order: `UnknownOwner`, where the store has no record of the owner, a step;
-    /// `OutOfMemory`, which comes first where the history finds no room. The value comes back then,
-    /// and the store is unchanged. Memory is taken for a slot, if none is free, for room on the
-    /// owner's list, and for the step.
+    /// # Errors
+    ///
+    /// - `OutOfMemory` if the history has no room.
+    /// - `UnknownOwner` if the store has no record of the owner (a step).
+    /// - `OutOfMemory` if anything else can't be allocated.
+    ///
+    /// The value comes back then, and the store is unchanged. Allocates for a slot, if none is free, for
+    /// room on the owner's list, and for the step.
     ///
     /// ```rust
     /// let kept = self
@@ -174,15 +194,19 @@ impl<T: Drop, const NUMBER: u64, M: Count, L: Count, C: Count, R: Count> SyncSto
             .insert(owner, value, location, tally)
     }
 
-    /// A new shared value, and a first reference to it, whose box is given and ends when the last
-    /// owner value of this record is released. The box has the store's number and the location, and
-    /// its id was never given before. The value lives exactly as long as there is a live reference
-    /// to it. Waits for no borrow.
+    /// Stores a shared value with a first reference to it, and returns the reference's box. The reference
+    /// is removed when the last owner value of this record is released. The box has the store's number
+    /// and the location, and its id was never issued before. The value lives exactly as long as there is
+    /// a live reference to it. Waits for no borrow.
     ///
-    /// Refused, in this order: `UnknownOwner`, where the store has no record of the owner, a step;
-    /// `OutOfMemory`, which comes first where the history finds no room. The value comes back then,
-    /// and the store is unchanged. Memory is taken for two slots, if fewer are free, for room on
-    /// the owner's list, and for the step.
+    /// # Errors
+    ///
+    /// - `OutOfMemory` if the history has no room.
+    /// - `UnknownOwner` if the store has no record of the owner (a step).
+    /// - `OutOfMemory` if anything else can't be allocated.
+    ///
+    /// The value comes back then, and the store is unchanged. Allocates for two slots, if fewer are free,
+    /// for room on the owner's list, and for the step.
     ///
     /// ```rust
     /// self.store.insert_rc(rt, owner, value, at, &mut self.tally)
@@ -206,16 +230,21 @@ impl<T: Drop, const NUMBER: u64, M: Count, L: Count, C: Count, R: Count> SyncSto
             .insert_rc(owner, value, location, tally)
     }
 
-    /// One reference more to the shared value that a box reaches, once no writer stands at
-    /// it. It ends when the last owner value of this record is released. The box has the store's
-    /// number and the value's location, and its id was never given before. Wakes the calls that
-    /// wait.
+    /// Adds a reference to the shared value that a box refers to, once that isn't being written, and
+    /// returns its box. The reference is removed when the last owner value of this record is released.
+    /// The box has the store's number and the value's location, and its id was never issued before. Wakes
+    /// the calls that wait.
     ///
-    /// Refused, in this order: `UnknownOwner`, where the store has no record of the owner, which is
-    /// asked before any waiting; `Dropped` with the box's own creation location, where its cell has
-    /// ended or is of another store, or where its value isn't shared; both are steps. `OutOfMemory`
-    /// comes before both where the history finds no room, and else after them. A refused call changes
-    /// nothing. Memory is taken for a slot, if none is free, for room on the owner's
+    /// # Errors
+    ///
+    /// - `OutOfMemory` if the history has no room.
+    /// - `UnknownOwner` if the store has no record of the owner, which is checked before any waiting (a
+    ///   step).
+    /// - `Dropped` with the box's own creation location if its cell was removed or belongs to another
+    ///   store, or if its value isn't shared (a step).
+    /// - `OutOfMemory` if anything else can't be allocated.
+    ///
+    /// A call that fails changes nothing. Allocates for a slot, if none is free, for room on the owner's
     /// list, and for the step.
     ///
     /// ```rust

@@ -1,4 +1,4 @@
--- Histories: what they weigh, tell and leave.
+-- Histories: what they count, say and leave.
 pub mod Common
 use Rattle.std.specs.Prelude.{map as list_map, T as IsTrue}
 use Rattle.std.specs.FinMap as map
@@ -7,7 +7,7 @@ use Rattle.generational_core.specs.declared.steps.StepCall.TheVariants as call
 use Rattle.generational_core.specs.declared.rows.BaseRow.TheVariants as row
 unfoldable pub use Common.*
 
--- ==== the borrows of finite maps of cells, added up, and those that an answer and a reply give
+-- ==== the borrows of finite maps of cells, added up, and those in an answer and a reply
 
 abbrev pub given_by : {T : Type 0} → Answer T → ℕ
 given_by (Reads g) = 1
@@ -63,7 +63,7 @@ module _ {T : Type 0} where
       ∙ (map.Entries.find-where_key name_cmp p q (alike q) (map.entries m)
       ∙ ap (λ o. cond (p q) o None) (sym (map.get-entries m q)))))
 
-  -- cells that are taken away have no fewer borrows than are lost
+  -- cells that are removed have at least as many borrows as are lost
   pub borrows_retained : (m : NameMap (Cell T)) (p : Name → Bool)
       → borrows_in (map.entries (map.retain_keys m p)) ≤ borrows_in (map.entries m)
   borrows_retained m p =
@@ -72,7 +72,7 @@ module _ {T : Type 0} where
       let fewer = kept_weighs p (map.entries m) in
       omega arith
 
-  -- a cell in the place of another, or of none
+  -- a cell instead of another, or of none
   pub borrows_inserted : (m : NameMap (Cell T)) (k : Name) (v : Cell T)
       → borrows_in (map.entries (map.insert m k v)) + borrows_there (map.get m k)
       ≡ borrows_in (map.entries m) + borrows_of v
@@ -93,7 +93,7 @@ module _ {T : Type 0} where
       let weighs = borrows_inserted m k (f x) in
       omega arith
 
--- ==== how many borrows stand after a call
+-- ==== how many borrows are active after a call
 
 -- a list without a ticket that is in it is shorter
 fewer : (t : ℕ) (rs : List Borrow)
@@ -129,7 +129,7 @@ module _ {T : Type 0} where
       at None is h = absurd cc
       at (Some x) is h = let weighs = borrows_changed S.cells m (refill c) x is in grind arith
 
-  -- how a content's size changes that is filled anew
+  -- how the size of a content that is filled again changes
   pub refilled : (S : State T) (k : Filling T)
       → size (new_content S k) ≤ size (old_content k) + comes_with k
   refilled S (Reader v rs l) =
@@ -165,10 +165,10 @@ module _ {T : Type 0} where
       omega arith
   without_stand S n t c is h = absurd (true≢false (sym h))
 
--- ==== how many borrows stand after any call of the machine, and which answers leave all as it is
+-- ==== how many borrows are active after any call of the machine, and which answers change nothing
 
 module _ {T : Type 0} where
-  -- a writer that is known stands, and alone
+  -- a known writer is the only borrow
   written_at : (S : State T) (n : Name) (t : ℕ) (v : T) (c : Option (Content T))
       → content_at S n ≡ c → has_writer c t ≡ true → borrows (fill S n (Here v [])) + 1 ≡ borrows S
   written_at S n t v (Some (Lent w)) is h =
@@ -230,7 +230,7 @@ module _ {T : Type 0} where
       (λ out. (borrows out.1 ≤ borrows S + given_by out.0) × (leaves out.0 ≡ true → out.1 ≡ S))
       (λ refused. (omega arith, λ _. refl)) (λ f new. (act_counts S a f, act_leaves S a f))
 
--- ==== in a sound state a ticket alone names a reader, or a writer
+-- ==== in a sound state a ticket identifies a reader, or a writer
 
 -- the one name that passes is found
 one_found : (test : Name → Bool) (m : Name) → ((n : Name) → test n ≡ true → n ≡ m)
@@ -238,13 +238,13 @@ one_found : (test : Name → Bool) (m : Name) → ((n : Name) → test n ≡ tru
 one_found test m one [] h = absurd (true≢false (sym h))
 one_found test m one (n ∷ names) h = grind (arith, one_found test m one names, one n)
 
--- a reader's ticket stands
+-- a reader's ticket is found
 ticket_stands : (t : ℕ) (rs : List Borrow) → list_any (λ (r : Borrow). nat_eq r.ticket t) rs ≡ true
     → list_any (nat_eq t) (list_map (λ (r : Borrow). r.ticket) rs) ≡ true
 ticket_stands t [] h = h
 ticket_stands t (r ∷ rs) h = grind (arith, ticket_stands t rs)
 
--- a cell whose content passes a test that only a ticket which stands there passes is found by it
+-- a test that only a ticket of a cell's content passes finds that cell
 found : (P : Plain) (m : Name) (t : ℕ) (has : Option (Content (Unit {0})) → Bool)
     → ((c : Option (Content (Unit {0}))) → has c ≡ true → list_any (nat_eq t) (tickets_of c) ≡ true)
     → IsSound P → has (content_at P m) ≡ true
@@ -275,7 +275,7 @@ new_from P n h = grind arith
 pub new_to : (P : Plain) (n : Name) → IsNew P n → is_new P n ≡ true
 new_to P n new = grind arith
 
--- so with the names that a making takes
+-- the same of the names that a making takes
 pub are_from : (P : Plain) (a : Action (Unit {0})) (f : NewNames) → are_new P a f ≡ true
     → AreNew P a f
 are_from P (MakeShared o v l) f h =
@@ -283,15 +283,15 @@ are_from P (MakeShared o v l) f h =
     (new_from P f.first both.0, new_from _ f.second both.1)
 are_from P a f h = grind (arith, new_from)
 
--- what a recorded reply gives is new, where it passes
+-- what a recorded reply gives is new, if it passes
 pub gives_from : (P : Plain) (a : Action (Unit {0})) (r : StepReply) → gives_new P a r ≡ true
     → GivesNew P a r
 gives_from P a r h = grind (arith, are_from)
 
--- ==== what makings give
+-- ==== what makings return
 
 module _ {T : Type 0} where
-  -- the box of a new reference tells the cell that it names
+  -- the box of a new reference determines the cell that it names
   pub target_made : (S : State T) (o : Option OwnerName) (n m : Name) (l : Location)
       → target_of (make S o n (Ref m l) l).1 (box_of S.number n l) ≡ Some (id_of S.number m)
   target_made S o n m l = grind (arith, get-insert_here by_name S.cells n (Ref m l))
@@ -313,7 +313,7 @@ module _ {T : Type 0} where
   unfolding refusal_to_write
   set_drops S b v ready written = inl (no_names, tt, grind arith)
 
--- ==== a reply is the same as itself, and is recorded alike with and without values
+-- ==== a reply is the same as itself, and is recorded the same with and without values
 
 same_text : (xs : List ℕ) → pointwise nat_eq xs xs ≡ true
 same_text [] = refl
@@ -338,9 +338,9 @@ pub plain_reply : {T : Type 0} (R : State T) (a : Action T) (answer : Answer T)
     → recorded_reply (plain R) (plain_call a) (plain_answer answer) ≡ recorded_reply R a answer
 plain_reply R a answer = grind (arith, plain_target)
 
--- ==== bases: what their rows leave as it was, and what they count of the steps that were trimmed
+-- ==== bases: what their rows leave unchanged, and what they count of the steps that were trimmed
 
--- rows tell nothing of the number, nor of the first generation
+-- rows say nothing of the number, nor of the first generation
 rows_keep : (rows : List BaseRow) (P : Plain)
     → ((read_rows P rows).number ≡ P.number) × ((read_rows P rows).start ≡ P.start)
 rows_keep [] P = (refl, refl)
@@ -372,7 +372,7 @@ module _ (base : BaseState) (steps : List Step) (t : TrimmedSteps)
       } → Trims base steps new
   trims_of new is kind = grind arith
 
--- a checkpoint, as contracts see the states before and after it
+-- a checkpoint, with the states before and after it as in contracts
 pub checkpoint_seen : {T : Type 0} {S : State T} {old : SharedState T} (log after : LogState)
     {trimmed : ℕ} → shared S log ≡ old → after.steps ≡ [] → plain_of after.bases.base ≡ plain S
     → after.bases.base.rows ≡ rows_of S → Trims log.bases.base log.steps after.bases.base

@@ -1,4 +1,4 @@
--- The base after a checkpoint tells the state, and counts the steps that were trimmed.
+-- The base after a checkpoint describes the state, and counts the steps that were trimmed.
 use Rattle.generational_sync.proofs.{all_trimmed, ap, arith, Bases, BaseState, checkpoint_seen}
 use Rattle.generational_sync.proofs.{counts_of, state.SyncState.trim.Goals.In_ok-outdated, IsKept}
 use Rattle.generational_sync.proofs.{LogState, plain, plain_of, ReadBack, rebased, rules, shared}
@@ -22,7 +22,7 @@ rebase-requires g c =
           c.of-base.result c.of-base.ensures,
     )
 
--- the base tells the state, and the history goes on from it
+-- the base describes the state, and the history goes on from it
 tells : (g : _) (c : In_ok-outdated g)
     → (plain_of c.rebase.new.self.bases.base ≡ plain c.self.inside.store.state)
     × IsKept g.row.NUMBER c.self.inside.store.state c.rebase.new.self
