@@ -1,4 +1,4 @@
--- A write that begins was free.
+-- A write that begins wasn't hindered.
 use Rattle.std.proofs.Common.{◌≡◌, arith, true}
 use Rattle.generational_core.specs.Borrowing.{Guard, can_write}
 use Rattle.generational_core.specs.Machine.Action.{Write}

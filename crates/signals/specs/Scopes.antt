@@ -10,7 +10,7 @@ module _ {T : Type 0} where
   abbrev pub HasSignals : State T → OwnerName → List Name → Type 0
   HasSignals S scope names = ownership S scope ≡ Some (record { names = names; count = 1 })
 
-  -- from S to R each scope keeps its signals; and so does each but one
+  -- from S to R each scope keeps its signals; and so does each except one
   abbrev pub LeavesScopes : State T → State T → Type 0
   LeavesScopes S R = (scope : OwnerName) (names : List Name)
       → HasSignals S scope names → HasSignals R scope names

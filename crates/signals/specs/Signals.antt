@@ -1,4 +1,4 @@
--- A signal as its box, what makings of signals answer, and what boxes see that lead to one value.
+-- A signal as its box, the answers to makings of signals, and what boxes of the same value see.
 use Rattle.std.specs.Prelude.{◌≡◌, Result, Ok, Err, Some}
 use Rattle.generational_core.specs.Answers.{pointer_of, read_refused}
 use Rattle.generational_core.specs.Borrowing.{reach}
@@ -22,7 +22,7 @@ module _ {T : Type 0} where
   abbrev pub pointer_in : Signal T → GenerationalPointer
   pointer_in s = pointer_of (box_in s)
 
-  -- what a making of a signal, and of an alias, answers
+  -- the answer to a making of a signal, and of an alias
   abbrev pub signal_answer : Result (Signal T) (Refusal T) → Answer T
   signal_answer (Ok s) = Made (pointer_in s)
   signal_answer (Err r) = refuses r.cause
@@ -31,6 +31,6 @@ module _ {T : Type 0} where
   alias_answer (Ok s) = Made (pointer_in s)
   alias_answer (Err e) = read_refused e
 
-  -- from S to R each box that reaches what a box reaches has come to see a value
+  -- in R each box that reaches what a box reaches in S sees a value
   abbrev pub AllSee : State T → GenerationalPointer → T → State T → Type 0
   AllSee S b v R = (c : GenerationalPointer) → reach S c ≡ reach S b → value_in R c ≡ Some v

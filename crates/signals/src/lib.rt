@@ -1,9 +1,9 @@
-//! Signals above the boxes: values that end with the scope in which they were made, and live on
-//! where another scope has an alias of them.
+//! Signals, built on boxes: a value is dropped with the scope that created it, unless another scope holds
+//! an alias.
 //!
-//! A [`Scope`] is an owner, and a [`Signal`] the box of a reference to a shared value. Each call is
-//! a few calls of the store beneath, for every storage and every element type: its contract says
-//! what signals read afterwards, and which are unchanged.
+//! A [`Scope`] is an owner, and a [`Signal`] the box of a reference to a shared value. Each call is a few
+//! calls of the underlying store, for every storage and every element type: its contract says what
+//! signals read afterwards, and which are unchanged.
 #![tactic(auto)]
 
 mod scope;

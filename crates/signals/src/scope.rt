@@ -32,9 +32,9 @@ use generational_sessions::laws::{
 use std::fmt;
 use std::marker::Model;
 
-/// A scope of signals, which end with it. Contracts see it as its store's number and its key.
+/// A scope of signals, which are removed with it. Contracts model it as its store's number and its key.
 ///
-/// It has no `Drop`: `end` or `leak` must spend it.
+/// It has no `Drop`: `end` or `leak` must consume it.
 pub struct Scope {
     owner: Owner,
 }
@@ -71,11 +71,15 @@ impl Scope {
         self.owner.id()
     }
 
-    /// A scope without signals. It takes a ticket, one of the numbers that a store gives to its
-    /// borrows and owners.
+    /// Creates a scope without signals. It takes a ticket, one of the numbers that a store issues for its
+    /// borrows and owners. Allocates for the scope's record, and is amortised O(1).
     ///
-    /// Refused, in this order: `NumbersExhausted`, where no ticket is left; `OutOfMemory`. The store
-    /// is unchanged then. Takes memory for the scope's record, and is O(1), but for finding room.
+    /// # Errors
+    ///
+    /// - `NumbersExhausted` if the tickets are used up.
+    /// - `OutOfMemory`.
+    ///
+    /// The store is unchanged then.
     ///
     /// ```rust
     /// let dialog = Scope::new(store)?;
@@ -101,12 +105,16 @@ impl Scope {
         Ok(Scope { owner })
     }
 
-    /// A new signal of a value, which ends with the scope and with no other. The signal sees the
-    /// value, and each other box is unchanged.
+    /// Creates a signal of a value, which is removed with this scope and with no other. The signal reads
+    /// the value, and each other box is unchanged. Allocates if fewer than two slots are free, or the
+    /// scope's list has no room. Amortised O(1).
     ///
-    /// Refused, in this order: `UnknownOwner`, if the scope is of a store with another number;
-    /// `OutOfMemory`. The value comes back then, and the store is unchanged. Takes memory where fewer
-    /// than two slots are free, or the scope's list has no room. O(1), but for finding room.
+    /// # Errors
+    ///
+    /// - `UnknownOwner` if the scope is of a store with another number.
+    /// - `OutOfMemory`.
+    ///
+    /// The value comes back then, and the store is unchanged.
     ///
     /// ```rust
     /// let clicks = dialog.signal(store, 6, here)?;
@@ -143,14 +151,19 @@ impl Scope {
         Ok(Signal { raw })
     }
 
-    /// A new signal of the value to which another signal leads. It reaches and sees what the other
-    /// does, and each other box is unchanged. It ends with the scope and with no other, and the
-    /// value lives at least as long.
+    /// Creates another signal of the value that a signal refers to. It refers to the same value and reads
+    /// the same, and each other box is unchanged. It is removed with this scope and with no other, and
+    /// the value lives at least as long. Allocates if no slot is free, or the scope's list has no room.
+    /// Amortised O(1).
     ///
-    /// Refused, in this order: `UnknownOwner`, if the scope is of a store with another number;
-    /// `Dropped`, where the other has ended; `AlreadyBorrowedMut`, where its value is being written;
-    /// `OutOfMemory`. The store is unchanged then. Takes memory where no slot is free, or the scope's
-    /// list has no room. O(1), but for finding room.
+    /// # Errors
+    ///
+    /// - `UnknownOwner` if the scope is of a store with another number.
+    /// - `Dropped` if the other was removed.
+    /// - `AlreadyBorrowedMut` if its value is being written.
+    /// - `OutOfMemory`.
+    ///
+    /// The store is unchanged then.
     ///
     /// ```rust
     /// let clicks = dialog.signal(store, 6, here)?;
@@ -189,14 +202,18 @@ impl Scope {
         Ok(Signal { raw })
     }
 
-    /// Ends the scope and all of its signals: each name of its list has ended, and each other box is
-    /// unchanged. A value ends with the last signal that leads to it, so one to which a signal of
-    /// another scope leads lives on.
+    /// Removes the scope and all of its signals: each name of its list has ended, and each other box is
+    /// unchanged. A value is dropped with the last signal that refers to it, so one that a signal of
+    /// another scope refers to stays live. O(k) for k signals.
     ///
-    /// Refused, in this order: `UnknownOwner`, if the scope is of a store with another number; the
-    /// answer of a write at the first signal of the scope, in the order in which they were made, whose
-    /// value would end and is borrowed. The scope comes back then, and the store is unchanged. Takes
-    /// memory for a refusal's locations alone. O(k) for k signals.
+    /// # Errors
+    ///
+    /// - `UnknownOwner` if the scope is of a store with another number.
+    /// - The error of a write of the first signal of the scope, in the order in which they were made,
+    ///   whose value would be dropped and is borrowed.
+    ///
+    /// The scope comes back then, and the store is unchanged. Only the list of an error's locations is
+    /// allocated.
     ///
     /// ```rust
     /// if let Err((dialog, _)) = dialog.end(store) {
@@ -231,8 +248,8 @@ impl Scope {
         }
     }
 
-    /// Spends the scope, and its signals are unchanged: they never end by a scope from then on. So it
-    /// lets go of a scope whose end was refused. Doesn't allocate, and is O(1).
+    /// Consumes the scope, and leaves its signals unchanged: no scope ever removes them from then on. Use
+    /// it for a scope whose `end` failed. Doesn't allocate, and is O(1).
     ///
     /// ```rust
     /// if let Err((dialog, _)) = dialog.end(store) {

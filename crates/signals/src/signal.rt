@@ -30,15 +30,15 @@ use std::alloc::AllocError;
 use std::fmt;
 use std::hash::{Hash, Hasher};
 
-/// A signal: it leads to a value that other signals may lead to as well, and is copied freely.
-/// Contracts see it as its box (`box_in`).
+/// A signal: it refers to a value that other signals may refer to as well, and is `Copy`. Contracts model
+/// it as its box (`box_in`).
 ///
 /// A signal owns nothing: it reads its value until its scope ends.
 pub struct Signal<T> {
     pub(crate) raw: GenerationalBox<T>,
 }
 
-/// Never refused, and takes no memory.
+/// Never fails, and doesn't allocate.
 impl<T> Clone for Signal<T> {
     ghost use Rattle.std.specs.Prelude.{⊤};
 
@@ -53,7 +53,7 @@ impl<T> Clone for Signal<T> {
 
 impl<T> Copy for Signal<T> {}
 
-/// Equal if both are one signal: if their ids are. An alias isn't the signal of which it was made.
+/// Equal if their ids are. An alias isn't equal to the signal that it was made of.
 impl<T> PartialEq for Signal<T> {
     ghost use Rattle.std.proofs.Common.{rules};
     ghost use Rattle.std.specs.Cmp.Rules.{comparing};
@@ -103,7 +103,7 @@ impl<T> fmt::Debug for Signal<T> {
 }
 
 impl<T> Signal<T> {
-    /// The signal's box, with which each call of a box may be made.
+    /// The signal's box, on which each call of a box may be made.
     ///
     /// ```rust
     /// let is_live = kept.as_box().is_live(store);
@@ -126,12 +126,14 @@ impl<T> Signal<T> {
         self.raw.id()
     }
 
-    /// Reads the value, and answers what the closure makes of it, which is called once. The store is
-    /// unchanged, but that a ticket was used: the number by which it knows a borrow.
+    /// Calls a closure once on the value, and returns the closure's result. The store is unchanged,
+    /// except that a ticket was used: the number that identifies a borrow. O(1) except for the closure.
     ///
-    /// Refused as a read of the signal's box is, in this order: `Dropped`, `AlreadyBorrowedMut`,
-    /// `NumbersExhausted`, `OutOfMemory`, only beside another reader. The closure isn't called then,
-    /// and the store is unchanged. O(1), but for the closure.
+    /// # Errors
+    ///
+    /// Those of a read of the signal's box, in this order: `Dropped`, `AlreadyBorrowedMut`,
+    /// `NumbersExhausted`, `OutOfMemory`, only if the value has another reader. The closure isn't called
+    /// then, and the store is unchanged.
     ///
     /// ```rust
     /// let seen = signal.get(store, here, |seen| *seen)?;
@@ -163,13 +165,15 @@ impl<T> Signal<T> {
         Ok(answer)
     }
 
-    /// Sets the value, and lets the old one go: each box that reaches the same sees the value, and
-    /// nothing else changes, but that a ticket was used.
+    /// Sets the value, and drops the old one: each box of the same value reads the new one, and nothing
+    /// else changes, except that a ticket was used. O(1) except for dropping the old value, and for an
+    /// error's list of locations.
     ///
-    /// Refused as a write of the signal's box is, in this order: `Dropped`, `AlreadyBorrowedMut`,
-    /// `AlreadyBorrowed`, in whose place `OutOfMemory` is answered if its list of locations finds
-    /// no memory, `NumbersExhausted`. The value comes back then, and the store is unchanged. O(1),
-    /// but for letting the old value go, and for that list.
+    /// # Errors
+    ///
+    /// Those of a write of the signal's box, in this order: `Dropped`; `AlreadyBorrowedMut`;
+    /// `AlreadyBorrowed`, or `OutOfMemory` instead if its list can't be allocated; `NumbersExhausted`.
+    /// The value comes back then, and the store is unchanged.
     ///
     /// ```rust
     /// let alias = scope.alias(store, signal).ok()?;
@@ -211,14 +215,15 @@ impl<T> Signal<T> {
         }
     }
 
-    /// Changes the value in its place by a closure, which is called once on it, and answers what that
-    /// answers: each box that reaches the same sees what the closure made of it, and nothing else
-    /// changes. No ticket is used, and the value isn't moved.
+    /// Calls a closure once on the value, mutably, and returns the closure's result: each box of the same
+    /// value reads the changed value, and nothing else changes. No ticket is used, and the value isn't
+    /// moved. O(1) except for the closure, and for an error's list of locations.
     ///
-    /// Refused where the value has ended or is borrowed, as a write of the signal's box is, in this
-    /// order: `Dropped`, `AlreadyBorrowedMut`, `AlreadyBorrowed`, in whose place `OutOfMemory` is
-    /// answered if its list of locations finds no memory. The closure isn't called then, and the store
-    /// is unchanged. O(1), but for the closure, and for that list.
+    /// # Errors
+    ///
+    /// If the value was dropped or is borrowed, those of a write of the signal's box, in this order:
+    /// `Dropped`; `AlreadyBorrowedMut`; `AlreadyBorrowed`, or `OutOfMemory` instead if its list can't be
+    /// allocated. The closure isn't called then, and the store is unchanged.
     ///
     /// ```rust
     /// clicks.update(store, here, |count| *count = count.wrapping_add(1))?;
@@ -252,7 +257,7 @@ impl<T> Signal<T> {
         Ok(store.change_value(self.raw.pointer(), f))
     }
 
-    // Why a write is refused that isn't free. Nothing changes.
+    // Why a write that may not be made fails. Nothing changes.
     fn hindrance<S: Storage<T>>(self, store: &mut S, location: Location) -> Refused<BorrowMutError>
         requires { can_write (S.state store.old) (pointer_in self) ≡ false }
         ensures step { Meets (S.state store.old) (Write (pointer_in self) location)
@@ -265,11 +270,11 @@ impl<T> Signal<T> {
         }
     }
 
-    /// Reads the value in passing by a closure, which is called once on it, and answers what that
-    /// answers: without a ticket or a location. The store is lent meanwhile.
+    /// Calls a closure once on the value, without a ticket or a location, and returns the closure's
+    /// result. The store is borrowed meanwhile.
     ///
-    /// None where the signal has ended or is of another store, or a writer has the value: the closure
-    /// isn't called. Doesn't allocate of its own, and is O(1), but for the closure.
+    /// None if the signal was removed or belongs to another store, or its value is being written: the
+    /// closure isn't called. Doesn't allocate itself, and is O(1) except for the closure.
     ///
     /// ```rust
     /// let twice = kept.with(store, |count| count.wrapping_mul(2));
@@ -287,9 +292,9 @@ impl<T> Signal<T> {
         }
     }
 
-    /// The value, looked at in passing: without a ticket or a location. The store is lent meanwhile.
-    /// None where the signal has ended or is of another store, or a writer has the value. Takes no
-    /// memory, and is O(1).
+    /// Borrows the value without a ticket or a location. The store is borrowed meanwhile. None if the
+    /// signal was removed or belongs to another store, or its value is being written. Doesn't allocate,
+    /// and is O(1).
     ///
     /// ```rust
     /// if let Some(value) = kept.peek(store) {
@@ -302,8 +307,8 @@ impl<T> Signal<T> {
         self.raw.peek(store)
     }
 
-    /// Whether a read of the signal is free: false where it has ended or is of another store, or a
-    /// writer has the value. Doesn't allocate, and is O(1).
+    /// Whether the signal may be read: false if it was removed or belongs to another store, or its value
+    /// is being written. Doesn't allocate, and is O(1).
     ///
     /// ```rust
     /// if kept.is_readable(store) {
@@ -317,12 +322,13 @@ impl<T> Signal<T> {
         self.raw.can_read(store)
     }
 
-    /// Lets the signal lead to the value to which another leads: it reaches and sees what the other
-    /// did, and each other box is unchanged. The value to which it led before ends where no signal
-    /// leads there any more.
+    /// Points the signal to the value that another refers to: it refers to what the other did and reads
+    /// the same, and each other box is unchanged. The value that it referred to before is dropped if no
+    /// signal refers to it any more. O(1) except for an error's list of locations, the only thing that is
+    /// allocated.
     ///
-    /// Answered as `GenerationalBox::point_to` is; where it is refused, the store is unchanged.
-    /// Takes memory for a refusal's locations alone. O(1), but for that list.
+    /// The results, and the errors, are those of `GenerationalBox::point_to`. A call that fails leaves
+    /// the store unchanged.
     ///
     /// ```rust
     /// signal.swap_source(store, other)?;
@@ -348,7 +354,7 @@ impl<T> Signal<T> {
     }
 }
 
-// Sets the value of a writer's guard, and lets the old one go.
+// Sets the value of a writer's guard, and drops the old one.
 fn set_value<T: Drop>(guard: &mut GenerationalRefMut<T>, value: T)
     ensures { guard.new ≡ record guard.old { value = value } }
 {
