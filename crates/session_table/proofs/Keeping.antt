@@ -12,7 +12,7 @@ name_equal : IsEquivalence is_name
 unfolding is_name
 name_equal = eq_by_cmp_equiv name_total
 
--- no name stands twice where there is none
+-- no name is twice in an empty list
 none_twice : IsDistinct is_name []
 unfolding IsDistinct
 none_twice = tt
@@ -28,7 +28,7 @@ module _ {I T : Type 0} (eq : I → I → Bool) where
       let sees = fresh_sees {T = T} number start next in
       grind (arith, simple, sees, map.get-empty {X = Ownership} nat_cmp)
 
-  -- where there are no rows a box shows nothing
+  -- without rows no box shows a value
   pub empty_shows : (S : State T) → IsKept S eq no_rows → (b : GenerationalPointer) → value_in S b ≡ None
   empty_shows S k b = by_option (value_in S b) (λ none. none) (λ v is. let was = k.kept b (ap is_some is) in cc)
 
@@ -43,17 +43,17 @@ pub record IsRow {T : Type 0} (S : State T) (h : Held) : Type 0 where
   pub own : AllByRecursion (λ n. n ≡ S.number) h.stores
   pub live : (b : GenerationalPointer) → among h.names (name_of b) ≡ true → b.id.store ≡ S.number → Shows S b
 
--- the names of a row, where there is one
+-- the names of a row, if there is one
 abbrev pub listed_in : Option Held → List Name
 listed_in None = []
 listed_in (Some h) = h.names
 
--- a name that isn't among those of a list but for one is that one
+-- a name that isn't among those of a list except for one is that one
 pub grown : (names : List Name) (new n : Name) → among (names ++ new ∷ []) n ≡ (among names n || is_name n new)
 grown names new n = grind (arith, list_any-append)
 
 module _ {I T : Type 0} {eq : I → I → Bool} (S R : State T) {rows : I → Option Held} (k : IsKept S eq rows) where
-  -- the row of an id becomes another, or comes, or goes, and what isn't its own shows what it showed
+  -- the row of an id changes, is added or is removed, and every other entry is unchanged
   module _ (simple : IsSimple R) (number : R.number ≡ S.number) (owners : (o : OwnerName) → ownership R o ≡ ownership S o)
       (laws : IsEquivalence eq) {after : I → Option Held} (at : I) (was now : Option Held)
       (there : (i : I) → eq at i ≡ true → rows i ≡ was)
@@ -140,7 +140,7 @@ module _ {I T : Type 0} {eq : I → I → Bool} (S R : State T) {rows : I → Op
         → among x.names n ≡ true → among h.names n ≡ true → ⊥
     other_names i h f is n mine theirs = true≢false (sym (k.apart at i x h has is n mine theirs) ∙ f)
 
-    -- ---- a value that is put
+    -- ---- a value that is inserted
 
     module _ (s : IsSound S) {after : I → Option Held} (y : Held)
         (update : (i : I) → after i ≡ cond (eq at i) (Some y) (rows i))
@@ -232,7 +232,7 @@ module _ {I T : Type 0} {eq : I → I → Bool} (S R : State T) {rows : I → Op
           (λ mine. absurd (true≢false (sym shows ∙ ap is_some (lost.ended b mine))))
           (λ none. (none, sym (ap is_some (lost.others b none)) ∙ shows)) (cases_Bool (among x.names (name_of b)))))
 
-    -- ---- an entry that ends
+    -- ---- an entry that is removed
 
     module _ {after : I → Option Held} (y : Held) (update : (i : I) → after i ≡ cond (eq at i) (Some y) (rows i))
         (gone : Name) (lost : HasLost S (gone ∷ []) R)
@@ -269,7 +269,7 @@ module _ {I T : Type 0} {eq : I → I → Bool} (S R : State T) {rows : I → Op
               → among (gone ∷ []) n ≡ false
           beside i h f is n theirs = false_from_ne_true _ (λ one. other_names i h f is n (grind (arith, name_same n gone)) theirs)
 
--- ---- a session that begins, and one that gets another id
+-- ---- a session that starts, and one that gets another id
 
 module _ {I T : Type 0} {eq : I → I → Bool} {S : State T} {rows after : I → Option Held}
     (kept : IsKept S eq rows) (laws : IsEquivalence eq) where
@@ -315,7 +315,7 @@ module _ {I T : Type 0} {eq : I → I → Bool} {S : State T} {rows after : I �
       live = λ i g is. let was = was_row i g is in kept.live was.0 g was.1;
     }
 
--- ==== values that end, one after the other
+-- ==== values that are removed, one after the other
 
 module _ {T : Type 0} where
   -- of none
@@ -369,7 +369,7 @@ module _ {T : Type 0} where
       not_it : (c : GenerationalPointer) → among (name ∷ []) (name_of c) ≡ false → name_of c ≡ name → ⊥
       not_it c out is = grind (arith, name_here name)
 
--- ==== what a caller sees of rows, and what they say of the store
+-- ==== what a caller knows of rows, and what they say of the store
 
 module _ {I K T : Type 0} (eq : I → I → Bool) (S : State T) (rows : List (I × Session K T)) (sites : List Location) where
   -- the session of an id is that of its row
@@ -403,7 +403,7 @@ module _ {I K T : Type 0} (eq : I → I → Bool) (S : State T) (rows : List (I 
       live = λ i e kept own. let at = kept_row i e kept in k.live i at.0 at.1 (pointer_in e) at.2 own;
     }
 
--- ==== entries of which one is taken out
+-- ==== entries of which one is removed
 
 -- a name from which all of a list differ isn't among them
 apart_unnamed : (m n : Name) (names : List Name) → AllByRecursion (λ x. is_name m x ≡ false) names
@@ -434,12 +434,12 @@ module _ {K T : Type 0} (test : K → Bool) where
   found_all f P [] e is all = cc
   found_all f P (x ∷ es) e is all = grind (arith, found_all f P es e)
 
-  -- what holds of all of them holds of those that are left
+  -- what holds of all of them holds of the rest
   pub removed_all : {X : Type 0} (f : K × Entry T → X) (P : X → Type 0) (es : List (K × Entry T))
       → AllByRecursion P (map f es) → AllByRecursion P (map f (remove_entry test es))
   removed_all f P es all = recursion_from_All P _ (All-map-remove_entry test f P es (All-from_recursion P _ all))
 
-  -- and none of them stands there twice
+  -- and none of them is there twice
   pub removed_once : (es : List (K × Entry T)) → IsDistinct is_name (names_of es)
       → IsDistinct is_name (names_of (remove_entry test es))
   unfolding IsDistinct
@@ -449,9 +449,9 @@ module _ {K T : Type 0} (test : K → Bool) where
       let left = removed_all (λ y. name_of (pointer_in y.1)) apart es once.0 in
       grind (arith, left, removed_once es once.1)
 
--- ==== rows of which one is taken out, and tables whose old sessions end
+-- ==== rows of which one is removed, and tables whose old sessions end
 
--- what stands before a place stays there
+-- what is before an index stays there
 pub taken_before : {X : Type 0} (xs : List X) (i : ℕ) (d : X) → i < length xs
     → take i (swap_remove xs i d) ≡ take i xs
 taken_before xs i d lt = take-take i (length xs - 1) _ (omega (arith, lt)) ∙ take-set xs i _
@@ -461,7 +461,7 @@ swap_cons : {X : Type 0} (x y : X) (ys : List X) (i : ℕ) (d : X)
     → swap_remove (x ∷ y ∷ ys) (suc i) d ≡ x ∷ swap_remove (y ∷ ys) i d
 swap_cons x y ys i d = simp sub-one
 
--- what stands from a place on goes as the whole would
+-- what is at an index and after is filtered like the whole list
 pub dropped_from : {X : Type 0} (xs : List X) (i : ℕ) (d : X) → i < length xs
     → drop i (swap_remove xs i d) ≡ swap_remove (drop i xs) 0 d
 dropped_from [] i d lt = absurd (omega (arith, lt))
@@ -528,7 +528,7 @@ module _ {X : Type 0} (test : X → Bool) (xs : List X) (i : ℕ) where
       let none : length xs - i ≡ 0 = omega (arith, all) in
       ap (λ n. take i xs ++ swap_retain test n (drop i xs)) none ∙ (append-nil (take i xs) ∙ take_all i xs all)
 
--- what a caller sees of rows of which one was taken out, by its place or by its id
+-- what a caller knows of rows of which one was removed, by its index or by its id
 module _ {I K T : Type 0} where
   pub live_swapped : (rows : List (I × Session K T)) (i : ℕ) (e : I × Session K T) → i < length rows
       → map live_row (swap_remove rows i e) ≡ swap_remove (map live_row rows) i (live_row e)
@@ -547,9 +547,9 @@ module _ {I K T : Type 0} where
       ∙ sym (swap_remove_entry-found test (map live_row (e ∷ es)) i (live_row e) (keys ∙ is))))
 
 module _ {I K T : Type 0} (eq : I → I → Bool) (time : ℕ) where
-  -- from the one table to the other some old sessions have ended: those before a place are young, and
-  -- the others are still to be looked at; an id has the session that it had, or has none where that was
-  -- old, and an entry shows what it showed, but for those that such an id kept
+  -- from the one table to the other some old sessions have ended: those before an index are young, and
+  -- the others are still to be checked; an id has the same session, or none if that was old, and every
+  -- entry is unchanged except for those of such an id
   pub record Sheds (place : ℕ) (a b : TableState I K T) : Type 0 where
     pub within : place ≤ length b.sessions
     pub fewer : length b.sessions ≤ length a.sessions
@@ -571,7 +571,7 @@ module _ {I K T : Type 0} {eq : I → I → Bool} {time : ℕ} where
     had : (id : I) (x : LiveSession K T) → session_in eq b id ≡ Some x → session_in eq a id ≡ Some x
     had id x is = grind (arith, s.sessions id)
 
-    -- the session at the place is old, and ends
+    -- the session at the index is old, and ends
     pub sheds_old : IsEquivalence eq → {c : TableState I K T} → (e : EndsAt eq place b c)
         → is_young time e.ended.1 ≡ false → Sheds eq time place a c
     sheds_old laws {c} e old =
@@ -619,7 +619,7 @@ module _ {I K T : Type 0} {eq : I → I → Bool} {time : ℕ} where
           → shown_in b e ≡ shown_in a e
       shed_kept id e kept has = grind (arith, s.left e, keepers id)
 
--- a session that begins, or gets another id, comes last
+-- a session that starts, or gets another id, comes last
 pub begun_last : {I K T : Type 0} (eq : I → I → Bool) (old : List (I × Session K T)) {new : List (I × Session K T)}
     (k : I) (s : Session K T) → lookup (eq k) old ≡ None → new ≡ insert_entry eq old k s
     → map live_row new ≡ map live_row old ++ (k, live s) ∷ []
@@ -627,14 +627,14 @@ begun_last eq old k s none is =
     ap (map live_row) (is ∙ insert_entry-absent eq k s old (absent_from_lookup (eq k) old none))
     ∙ map-append live_row old ((k, s) ∷ [])
 
--- no rows are left where none are counted
+-- there are no rows if none are counted
 pub none_left : {I K T : Type 0} {eq : I → I → Bool} (S : State T) (rows : List (I × Session K T)) (sites : List Location)
     {t : TableState I K T} (n : ℕ) → IsKept S eq (held_in eq rows) → table_of S rows sites ≡ t
     → n ≡ length t.sessions → n ≤ 0 → IsKept S eq no_rows
 none_left S [] sites n k is len low = k
 none_left S (x ∷ rows) sites n k is len low = absurd (omega (arith, ap (λ t. length t.sessions) is))
 
--- ==== what a caller sees after one row has changed
+-- ==== what a caller knows after one row has changed
 
 -- a row's session that is to a caller what it was
 pub same_sessions : {I K T : Type 0} (test : I → Bool) (es : List (I × Session K T)) (s w : Session K T)
@@ -678,7 +678,7 @@ module _ {I K T : Type 0} {eq : I → I → Bool} {old new : List (I × Session 
   pub held_after : (q : I) → held_in eq new q ≡ cond (eq k q) (option_map held_of now) (held_in eq old q)
   held_after q = grind (arith, c.after q)
 
-  -- one whose owner and entries are as they were
+  -- one whose owner and entries are unchanged
   pub same_rows : {S : State T} → IsKept S eq (held_in eq old)
       → option_map held_of now ≡ option_map held_of was → IsKept S eq (held_in eq new)
   same_rows kept same = same_kept kept (λ q. grind (arith, held_after q, held_there q))
@@ -719,7 +719,7 @@ module _ {I K T : Type 0} {eq : I → I → Bool} {old new : List (I × Session 
   put_keeps = grind (arith, own_session c, grown_listed e, name_here (name_of (pointer_in e)))
 
   module _ (q : I) (f : Entry T) where
-    -- what was kept is kept, and nothing else of what was given
+    -- what was kept is kept, and nothing else of what was issued
     pub put_still : among (names_in (lookup (eq q) (map live_row old))) (name_of (pointer_in f)) ≡ true
         → among (names_in (lookup (eq q) (map live_row new))) (name_of (pointer_in f)) ≡ true
     put_still was = grind (arith, now_session c q, same_id c q, session_of (eq q) old refl, grown_listed f)
@@ -731,7 +731,7 @@ module _ {I K T : Type 0} {eq : I → I → Bool} {old new : List (I × Session 
         let apart = name_apart (name_of (pointer_in f)) (name_of (pointer_in e)) in
         grind (arith, now_session c q, same_id c q, session_of (eq q) old refl, grown_listed f, apart)
 
--- an entry that is taken out
+-- an entry that is removed
 module _ {I K T : Type 0} {eq : I → I → Bool} {S : State T} (old : List (I × Session K T)) (k : I)
     {s : Session K T} (kept : IsKept S eq (held_in eq old)) (found : lookup (eq k) old ≡ Some s) (test : K → Bool)
     {e : Entry T} (there : lookup test s.entries.entries ≡ Some e) where
@@ -813,12 +813,12 @@ set_beside sound plain a b v old m other =
     others_left _ _ m a b (seen_store _ _ sound (ap is_some saw)) (λ ne. same_value _ _ _ _ sound m _
     (λ same. ne (reach_apart _ plain _ _ to.0 to.1 (sym same))) tt) other
 
--- a row whose entries are as they were
+-- a row whose entries are unchanged
 pub same_held : {K T : Type 0} (s w : Session K T) → w.entries.entries ≡ s.entries.entries
     → ◌≡◌ {A = Option Held} (Some (held_of w)) (Some (held_of s))
 same_held s w entries j = Some (record { names = names_of (entries j); stores = stores_of (entries j) })
 
--- ==== entries that end, one after the other
+-- ==== entries that are removed, one after the other
 
 module _ {T : Type 0} where
   pub lost_both : {S R Q : State T} {ns ms : List Name} → HasLost S ns R → HasLost R ms Q → HasLost S (ns ++ ms) Q
@@ -859,7 +859,7 @@ pub take_one : {X : Type 0} (xs : List X) (i : ℕ) (x : X) → slice_get xs i �
 take_one xs i x is = rw add-one (take-suc xs i x (slice_get_within xs i x is)
     ∙ ap (λ v. take i xs ++ v ∷ []) (get_or_from_slice_get xs i x x is))
 
--- a place of a session's entries: the name there, and that it isn't among those before it
+-- an index of a session's entries: the name there, and that it isn't among those before it
 module _ {K T : Type 0} (es : List (K × Entry T)) (once : IsDistinct is_name (names_of es)) (i : ℕ) (p : K × Entry T)
     (at : slice_get es i ≡ Some p) where
   name_at : slice_get (names_of es) i ≡ Some (name_of (pointer_in p.1))
@@ -896,7 +896,7 @@ store_at P (x ∷ es) (suc i) p all at = store_at P es i p all.1 at
 -- ==== where values were put
 
 module _ {T : Type 0} where
-  -- what is told of the locations, it is told when more are
+  -- what is said of the locations stays so when more are added
   pub still_told : (number : ℕ) (s t : SiteState) (old : List Location) (e : Entry T) (l : Location)
       → s.told ≤ t.told → t.all ≡ s.all → told_in s ≡ old → told_at number old e ≡ Some l
       → told_at number (told_in t) e ≡ Some l
@@ -949,7 +949,7 @@ module _ {T : Type 0} where
 pub one_named : (n : Name) → among (n ∷ []) n ≡ true
 one_named n = grind (arith, name_here n)
 
--- where one entry's value ended, each other shows what it showed
+-- when one entry's value was removed, each other entry is unchanged
 pub lost_beside : {T : Type 0} {S R : State T} → IsSound S → (e f : Entry T) → (pointer_in e).id.store ≡ S.number
     → HasLost S (name_of (pointer_in e) ∷ []) R → IsOther e f → value_in R (pointer_in f) ≡ value_in S (pointer_in f)
 lost_beside {S = S} {R} s e f own lost other = ⊎_elim

@@ -39,12 +39,11 @@ module _ {T : Type 0} where
     pub own : AllByRecursion (λ n. n ≡ S.number) (stores_of entries)
     pub live : (b : GenerationalPointer) → among (names_of entries) (name_of b) ≡ true → b.id.store ≡ S.number → Shows S b
 
-  -- a cell was made with a value, which an entry names
+  -- a cell was made with a value, and an entry refers to it
   abbrev pub HasPut : State T → T → Location → Entry T → State T → Type 0
   HasPut old v here e new = (b : GenerationalPointer) × Meets old (Make None v here) (Made b) new × (id_in e ≡ b.id)
 
-  -- from one state to another the cells with these names have ended, and each other box shows what it
-  -- showed
+  -- from one state to another the cells with these names were removed, and each other box is unchanged
   pub record HasLost (old : State T) (names : List Name) (new : State T) : Type 0 where
     pub simple : IsSimple new
     pub number : new.number ≡ old.number
@@ -55,9 +54,9 @@ module _ {T : Type 0} where
     pub others : (b : GenerationalPointer) → among names (name_of b) ≡ false → value_in new b ≡ value_in old b
 
 module _ {I T : Type 0} where
-  -- no borrow stands, no cell is a reference, and no owner is known; no two ids list one name; what a
-  -- box shows is an entry of a row, and an entry of a row is of the store, stands there once, and shows
-  -- something
+  -- there is no borrow, no cell is a reference, and no owner is known; no two ids list one name; a box
+  -- that shows a value is an entry of a row, and an entry of a row is of the store, is there once, and
+  -- shows a value
   pub record IsKept (S : State T) (eq : I → I → Bool) (rows : I → Option Held) : Type 0 where
     pub simple : IsSimple S
     pub unowned : (o : OwnerName) → ownership S o ≡ None

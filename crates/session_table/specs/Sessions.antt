@@ -1,4 +1,4 @@
--- Sessions as a caller sees them.
+-- Sessions as a caller knows them.
 use Rattle.std.specs.Prelude.{ℕ, Bool, not, nat_lt, List, [], ◌∷◌, ◌++◌, Option, None, Some, map, if◌then◌else◌}
 use Rattle.std.specs.Map.{lookup, remove_entry}
 use Rattle.generational_core.specs.Boxes.{name_of}
@@ -16,11 +16,11 @@ pub record LiveSession (K T : Type 0) : Type 0 where
   pub entries : List (K × Entry T)
 
 module _ {K T : Type 0} where
-  -- one that has just begun
+  -- one that has just started
   abbrev pub begun : ℕ → LiveSession K T
   begun now = record { used_at = now; entries = [] }
 
-  -- one that was used at a time, and one with one entry more
+  -- one that was used at a time, and one with another entry
   abbrev pub used : ℕ → LiveSession K T → LiveSession K T
   used now s = record s { used_at = now }
 
@@ -31,7 +31,7 @@ module _ {K T : Type 0} where
   abbrev pub without_entry : (K → K → Bool) → K → LiveSession K T → LiveSession K T
   without_entry eq k s = record s { entries = remove_entry (eq k) s.entries }
 
-  -- whether one was used at a time or after it; the session, where it was
+  -- whether one was used at a time or after it; the session, if it was
   abbrev pub is_young : ℕ → LiveSession K T → Bool
   is_young time s = not (nat_lt s.used_at time)
 

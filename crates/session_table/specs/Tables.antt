@@ -1,4 +1,4 @@
--- What a caller sees of a table of sessions.
+-- What a caller knows of a table of sessions.
 use Rattle.std.specs.Prelude.{◌≡◌, ℕ, zero, suc, ◌+◌, Bool, true, false, cond, if◌then◌else◌, is_some}
 use Rattle.std.specs.Prelude.{List, [], ◌∷◌, Option, None, Some, length, slice_get, swap_remove}
 use Rattle.std.specs.Prelude.{map as list_map}
@@ -20,8 +20,8 @@ pub record TableState (I K T : Type 0) : Type 0 where
   pub sessions : List (I × LiveSession K T)
   pub sites : List Location
 
--- the rows that pass a test: from the front on, the last one takes the place of each that doesn't. So
--- many are looked at as are left, or as the number says
+-- the rows that pass a test: from the front on, the last one moves into the gap of each that doesn't. All
+-- remaining ones are checked, or as many as the number says
 abbrev pub swap_retain : {X : Type 0} → (X → Bool) → ℕ → List X → List X
 swap_retain test zero rows = []
 swap_retain test (suc n) [] = []
@@ -47,17 +47,17 @@ module _ {I K T : Type 0} where
   abbrev pub WasPut : TableState I K T → Entry T → Type 0
   WasPut t e = IsGiven t.state (name_of (pointer_in e))
 
-  -- where an entry's value was put, as the table tells it: nothing of another table's
+  -- where an entry's value was put, as the table says: nothing for another table's
   abbrev pub created_at : TableState I K T → Entry T → Option Location
   created_at t e = told_at t.state.number t.sites e
 
-  -- what a table tells of where a value was put, it tells for good
+  -- what a table says of where a value was put, it says forever
   abbrev pub KeepsTelling : TableState I K T → TableState I K T → Type 0
   KeepsTelling old new =
       (e : Entry T) (l : Location) → created_at old e ≡ Some l → created_at new e ≡ Some l
 
-  -- by what `==` says of ids: the session of an id, if there is one, whether there is, and whether it
-  -- keeps an entry
+  -- with `==` of ids: the session of an id, if there is one, whether there is, and whether it keeps an
+  -- entry
   module _ (eq : I → I → Bool) where
     abbrev pub session_in : TableState I K T → I → Option (LiveSession K T)
     session_in t id = lookup (eq id) t.sessions
@@ -68,8 +68,8 @@ module _ {I K T : Type 0} where
     abbrev pub keeps : TableState I K T → I → Entry T → Bool
     keeps t id e = among (names_in (session_in t id)) (name_of (pointer_in e))
 
-    -- no id has two sessions; each entry that shows something is kept by a session, and none by two; and
-    -- each that is kept shows something, but for entries of other stores
+    -- no id has two sessions; each entry that shows a value is in a session, and none in two; and each
+    -- that is in one shows a value, except for entries of other stores
     pub record IsOrderly (t : TableState I K T) : Type 0 where
       pub once : IsDistinct eq (keys_of t.sessions)
       pub kept : (e : Entry T) → is_some (shown_in t e) ≡ true → (id : I) × (keeps t id e ≡ true)
@@ -77,7 +77,7 @@ module _ {I K T : Type 0} where
       pub live : (id : I) (e : Entry T) → keeps t id e ≡ true
           → (pointer_in e).id.store ≡ t.state.number → is_some (shown_in t e) ≡ true
 
-    -- the session at a place ends, and nothing else; the last one takes its place
+    -- the session at an index ends, and nothing else; the last one moves into its place
     pub record EndsAt (place : ℕ) (t u : TableState I K T) : Type 0 where
       pub ended : I × LiveSession K T
       pub there : slice_get t.sessions place ≡ Some ended

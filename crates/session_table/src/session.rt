@@ -1,5 +1,5 @@
-//! Sessions: what a table keeps under an id, from its login to its end. They are a user's, and have
-//! nothing of the machine's runs, which `generational_sessions` calls so.
+//! Sessions: what a table stores under an id, from its login to its end. They are a user's; a session of
+//! `generational_sessions` is something else, a run of the machine.
 
 ghost use Rattle.std.specs.Prelude.{◌≡◌, ◌⊎◌, ◌++◌, ◌∷◌, [], true, Some, is_some, slice_get, IfOk, IfErr, IsErrAnd, OnErr, IfNone};
 ghost use Rattle.std.specs.List.{IsDistinct};
@@ -25,10 +25,10 @@ use std::error::Error;
 use std::fmt;
 use std::hash::Hash;
 
-/// How many slots there may be: an entry has 32 bits for its own.
+/// How many slots there may be: an entry has 32 bits for its slot.
 const SLOTS: usize = 4294967296;
 
-/// A session that is logged in. Its table keeps it under its id.
+/// A session that is logged in. Its table stores it under its id.
 pub struct Session<K: Eq + Hash, T> {
     pub(crate) used_at: u64,
     pub(crate) entries: IndexMap<K, Entry<T>>,
@@ -76,7 +76,7 @@ impl<K: Eq + Hash, T> Session<K, T> {
         }
     }
 
-    /// Keeps a value under a key that has none. What isn't kept comes back.
+    /// Stores a value under a key that has none. On an error the value comes back.
     pub(crate) fn keep<S: Storage<T>>(
         &mut self,
         store: &mut S,
@@ -131,7 +131,7 @@ impl<K: Eq + Hash, T> Session<K, T> {
         }
     }
 
-    /// Takes the entry from under a key, if there is one. The others keep their order.
+    /// Removes and returns the entry under a key, if there is one. The others keep their order.
     pub(crate) fn forget(&mut self, key: &K) -> Option<Entry<T>>
     where
         K: Drop,
@@ -144,7 +144,7 @@ impl<K: Eq + Hash, T> Session<K, T> {
         self.entries.shift_remove(key)
     }
 
-    /// Ends all that it keeps.
+    /// Drops all its values.
     pub(crate) fn end<S: Storage<T>>(self, store: &mut S)
     where
         K: Drop,
@@ -165,7 +165,7 @@ impl<K: Eq + Hash, T> Session<K, T> {
     }
 }
 
-// Ends the value of the entry at a place.
+// Drops the value of the entry at an index.
 fn end_at<K: Eq + Hash, T, S: Storage<T>>(
     store: &mut S,
     entries: &IndexMap<K, Entry<T>>,

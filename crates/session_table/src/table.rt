@@ -34,10 +34,11 @@ use std::alloc::Global;
 use std::hash::Hash;
 use std::marker::{Model, PhantomData};
 
-/// Sessions under ids, with what they keep under keys. Contracts see the machine's state, which says
-/// what each entry shows, the sessions with their entries, and the locations where values were put.
+/// Sessions under ids, with their values under keys. Contracts model it as the machine's state, which
+/// says which value each entry has, the sessions with their entries, and the locations where values were
+/// put.
 ///
-/// It has no `Drop`: `finish` must spend it.
+/// It has no `Drop`: `finish` must consume it.
 pub struct SessionTable<I: Eq + Hash, K: Eq + Hash, T, S: Storage<T>> {
     store: S,
     rows: IndexMap<I, Session<K, T>>,
@@ -62,7 +63,7 @@ impl<I: Eq + Hash, K: Eq + Hash, T, S: Storage<T>> Model for SessionTable<I, K, 
 }
 
 impl<I: Eq + Hash, K: Eq + Hash, T, S: Storage<T>> SessionTable<I, K, T, S> {
-    /// A table without sessions, over a fresh store (`is_fresh` is the test). Doesn't allocate.
+    /// Creates a table without sessions, over a fresh store (see `is_fresh`). Doesn't allocate.
     ///
     /// ```rust
     /// let store = UnsyncStorage::<u64>::new(rt.alloc(), 1);
@@ -81,13 +82,13 @@ impl<I: Eq + Hash, K: Eq + Hash, T, S: Storage<T>> SessionTable<I, K, T, S> {
         }
     }
 
-    /// Begins a session of an id, which was last used now and keeps nothing yet. It comes last; the
-    /// others are unchanged and keep their places, and every entry shows what it showed. Amortised O(1).
+    /// Starts an empty session for an id, last used at `now`. It comes last; the other sessions and their
+    /// order are unchanged, and so is every entry. Amortised O(1). Allocates if the rows have no room.
     ///
     /// # Errors
     ///
     /// - `IdInUse` if the id has a session.
-    /// - `Store` of `OutOfMemory`. The table allocates if the rows have no room.
+    /// - `Store` of `OutOfMemory`.
     ///
     /// The id comes back then, and the table is unchanged.
     ///
@@ -129,16 +130,16 @@ impl<I: Eq + Hash, K: Eq + Hash, T, S: Storage<T>> SessionTable<I, K, T, S> {
         }
     }
 
-    /// Keeps a value under a key until the end of an id's session. Its entry is none that was ever
-    /// given, every other entry shows what it showed, and every other session is unchanged. The table says
-    /// where the value was put as long as it lasts. Amortised O(1).
+    /// Stores a value under a key in an id's session, and returns its entry, which was never issued
+    /// before. Every other entry and every other session is unchanged. The table says for its whole
+    /// lifetime where the value was put. Amortised O(1). Allocates if no slot is free, if the session has
+    /// no room, or for a location from which nothing was put yet.
     ///
     /// # Errors
     ///
     /// - `NoSession` if the id has none.
     /// - `KeyInUse` if the session has an entry under the key.
-    /// - `Store` of `OutOfMemory`. The table allocates if no slot is free, if the session has no room, or for
-    ///   a location from which nothing was put yet.
+    /// - `Store` of `OutOfMemory`.
     ///
     /// The key and the value come back then, and the table is unchanged.
     ///
@@ -206,7 +207,7 @@ impl<I: Eq + Hash, K: Eq + Hash, T, S: Storage<T>> SessionTable<I, K, T, S> {
         self.session(id)?.entry(key)
     }
 
-    /// Whether an entry is live: false once it was removed or its session has ended, and if it is of
+    /// Whether an entry is live: false once it was removed or its session has ended, and for an entry of
     /// another table whose store has another number. Doesn't allocate, and is O(1).
     ///
     /// ```rust
@@ -218,8 +219,8 @@ impl<I: Eq + Hash, K: Eq + Hash, T, S: Storage<T>> SessionTable<I, K, T, S> {
         peek(&self.store, entry).is_some()
     }
 
-    /// Where an entry's value was put, also once it is gone; None of another table's. Doesn't allocate, and
-    /// is O(1).
+    /// Where an entry's value was put, even after it was removed; None for an entry of another table.
+    /// Doesn't allocate, and is O(1).
     ///
     /// ```rust
     /// if let Some(created_at) = table.created_at(basket) {
@@ -235,7 +236,7 @@ impl<I: Eq + Hash, K: Eq + Hash, T, S: Storage<T>> SessionTable<I, K, T, S> {
         self.sites.get(site_of(entry))
     }
 
-    // That an entry shows nothing, and where its value was put.
+    // The error for a stale entry, with the location where its value was put.
     #[cold]
     #[inline(never)]
     fn stale(&self, entry: Entry<T>) -> Stale
@@ -246,11 +247,11 @@ impl<I: Eq + Hash, K: Eq + Hash, T, S: Storage<T>> SessionTable<I, K, T, S> {
         }
     }
 
-    /// An entry's value. The table is borrowed meanwhile. Doesn't allocate, and is O(1).
+    /// Borrows an entry's value. Doesn't allocate, and is O(1).
     ///
     /// # Errors
     ///
-    /// `Stale` if the entry is gone, or is another table's.
+    /// `Stale` if the entry was removed, or belongs to another table.
     ///
     /// ```rust
     /// let count = *table.get(basket)?;
@@ -266,15 +267,15 @@ impl<I: Eq + Hash, K: Eq + Hash, T, S: Storage<T>> SessionTable<I, K, T, S> {
         }
     }
 
-    /// Replaces an entry's value, and drops the old one. Every other entry shows what it showed, and the
-    /// sessions stay.
+    /// Replaces an entry's value, and drops the old one. Every other entry and the sessions are
+    /// unchanged.
     ///
-    /// Doesn't allocate, and is O(1), but for dropping the old value.
+    /// Doesn't allocate, and is O(1) except for dropping the old value.
     ///
     /// # Errors
     ///
-    /// `Stale` if the entry is gone, or is another table's. The value comes back, and the table is
-    /// unchanged.
+    /// `Stale` if the entry was removed, or belongs to another table. The value comes back, and the table
+    /// is unchanged.
     ///
     /// ```rust
     /// if let Err(refusal) = table.set(basket, 43) {
@@ -304,14 +305,13 @@ impl<I: Eq + Hash, K: Eq + Hash, T, S: Storage<T>> SessionTable<I, K, T, S> {
         Ok(())
     }
 
-    /// Changes an entry's value in place by a closure, which is called once on it, and returns what
-    /// that returns. Every other entry shows what it showed, and the sessions stay. Doesn't allocate
-    /// itself, and is O(1), but for the closure.
+    /// Calls a closure once on an entry's value, mutably, and returns the closure's result. Every other
+    /// entry and the sessions are unchanged. Doesn't allocate itself, and is O(1) except for the closure.
     ///
     /// # Errors
     ///
-    /// `Stale` if the entry is gone, or is another table's. The closure isn't called then, and the table is
-    /// unchanged.
+    /// `Stale` if the entry was removed, or belongs to another table. The closure isn't called then, and
+    /// the table is unchanged.
     ///
     /// ```rust
     /// let more = table.update(basket, |count: &mut u64| {
@@ -341,12 +341,12 @@ impl<I: Eq + Hash, K: Eq + Hash, T, S: Storage<T>> SessionTable<I, K, T, S> {
         Ok(self.store.change_value(pointer_to(entry), f))
     }
 
-    /// Ends the value that an id's session has under a key, and hands it back. Its entry shows nothing
-    /// from then on, and no later value is mistaken for it. The session's other entries keep their
-    /// order, every other session is unchanged, and every other entry shows what it showed.
+    /// Removes and returns the value that an id's session has under a key. Its entry is stale from then
+    /// on, and never refers to a later value. The session's other entries keep their order, and every
+    /// other session and every other entry is unchanged.
     ///
-    /// `None` where the id has no session, or the session no entry under the key: nothing changes then.
-    /// Doesn't allocate, and is O(k) for k entries of the session, since those behind this one move up.
+    /// `None` if the id has no session, or the session has no entry under the key: nothing changes then.
+    /// Doesn't allocate, and is O(k) for k entries of the session, since those after this one move up.
     ///
     /// ```rust
     /// if let Some(count) = table.remove(&7, &1) {
@@ -389,8 +389,8 @@ impl<I: Eq + Hash, K: Eq + Hash, T, S: Storage<T>> SessionTable<I, K, T, S> {
         }
     }
 
-    /// Sets the time of a session's last use. Answers whether the id has a session; where it has none,
-    /// nothing changes. Never refused. Doesn't allocate, and is O(1).
+    /// Sets the time of a session's last use. Returns whether the id has a session; if it has none,
+    /// nothing changes. Never fails. Doesn't allocate, and is O(1).
     ///
     /// ```rust
     /// let is_known = table.touch(&7, 1200);
@@ -412,14 +412,18 @@ impl<I: Eq + Hash, K: Eq + Hash, T, S: Storage<T>> SessionTable<I, K, T, S> {
         true
     }
 
-    /// Gives an id's session another id: what it keeps, and the time of its last use, stay. It comes
-    /// last, after the last session has taken its place. Every other session is unchanged, and every
-    /// entry shows what it showed. So a session that was begun before a user proved who they are goes
-    /// on under an id that nobody knew before.
+    /// Gives an id's session another id. Its entries and the time of its last use are unchanged. It comes
+    /// last, after the last session has moved into its place. Every other session and every entry is
+    /// unchanged. For example, a session that started before its user was authenticated continues under
+    /// an id that nobody knew before. Allocates if the rows have no room. Amortised O(1).
     ///
-    /// Refused, in this order: `NoSession`, where the id has none; `IdInUse`, where the new id has one,
-    /// also where both are one; `Store` of `OutOfMemory`. The new id comes back then, and the table is
-    /// unchanged. The table allocates if the rows have no room. Amortised O(1).
+    /// # Errors
+    ///
+    /// - `NoSession` if the id has none.
+    /// - `IdInUse` if the new id has one, even if both ids are the same.
+    /// - `Store` of `OutOfMemory`.
+    ///
+    /// The new id comes back then, and the table is unchanged.
     ///
     /// ```rust
     /// table.rename(&visitor, user).ok()?;
@@ -472,13 +476,12 @@ impl<I: Eq + Hash, K: Eq + Hash, T, S: Storage<T>> SessionTable<I, K, T, S> {
         }
     }
 
-    /// Ends an id's session, and all that it keeps: those entries show nothing from then on, and no
-    /// later value is mistaken for theirs. The last session takes its place. Every other session is
-    /// unchanged, and what it keeps shows what it showed. Answers whether the id had a session; where
-    /// it had none, nothing changes.
+    /// Ends an id's session, and drops its values: its entries are stale from then on, and never refer to
+    /// later values. The last session moves into its place (swap-remove). Every other session and its
+    /// entries are unchanged. Returns whether the id had a session; if it had none, nothing changes.
     ///
-    /// Never refused, since no borrow outlives a call of the table. Doesn't allocate. O(k) for k
-    /// entries of this session.
+    /// Never fails, since no borrow outlives a call of the table. Doesn't allocate. O(k) for k entries of
+    /// this session.
     ///
     /// ```rust
     /// let was_logged_in = table.logout(&7);
@@ -513,7 +516,7 @@ impl<I: Eq + Hash, K: Eq + Hash, T, S: Storage<T>> SessionTable<I, K, T, S> {
         true
     }
 
-    // Ends the session at a place. The last one takes its place.
+    // Ends the session at an index. The last one moves into its place.
     fn end_at(&mut self, place: usize)
     where
         I: Drop,
@@ -539,12 +542,12 @@ impl<I: Eq + Hash, K: Eq + Hash, T, S: Storage<T>> SessionTable<I, K, T, S> {
         }
     }
 
-    /// Ends every session that was last used before a time, and all that those keep. From the front on,
-    /// the last session that is left takes the place of each that ends. Every other session is
-    /// unchanged, and what it keeps shows what it showed. Answers how many ended.
+    /// Ends every session that was last used before a time, and drops its values. From the front on, the
+    /// last remaining session moves into the place of each that ends. Every other session and its entries
+    /// are unchanged. Returns how many ended.
     ///
-    /// Never refused, as `logout`. Doesn't allocate. O(n + k) for n sessions and k entries of those
-    /// that end.
+    /// Never fails, like `logout`. Doesn't allocate. O(n + k) for n sessions and k entries of those that
+    /// end.
     ///
     /// ```rust
     /// let expired = table.expire(1100);
@@ -579,7 +582,7 @@ impl<I: Eq + Hash, K: Eq + Hash, T, S: Storage<T>> SessionTable<I, K, T, S> {
         count - self.len()
     }
 
-    /// Ends all sessions and all that they keep, and returns the store, which has nothing then: no
+    /// Ends all sessions, drops their values, and returns the store, which is empty then: it has no
     /// value, no borrow and no owner. Never fails. Doesn't allocate. O(n + k) for n sessions and k
     /// entries.
     ///

@@ -12,9 +12,9 @@ use std::hash::Hash;
 use std::iter::FusedIterator;
 use std::marker::Model;
 
-/// The sessions of a table with their ids, as
-/// [`SessionTable::sessions`](crate::SessionTable::sessions) gives them. Contracts see the list of
-/// those that are left.
+/// The iterator over the sessions of a table with their ids, returned by
+/// [`SessionTable::sessions`](crate::SessionTable::sessions). Contracts model it as the list of those
+/// that remain.
 #[derive(Drop)]
 pub struct Sessions<'a, I, K: Eq + Hash, T> {
     pub(crate) rows: map::Iter<'a, I, Session<K, T>>,
@@ -60,9 +60,9 @@ impl<'a, I, K: Eq + Hash, T> ExactSizeIterator for Sessions<'a, I, K, T> {
 
 impl<'a, I, K: Eq + Hash, T> FusedIterator for Sessions<'a, I, K, T> {}
 
-/// The entries of a session with their keys, in the order in which they were put, as
-/// [`Session::entries`](crate::Session::entries) gives them. Contracts see the list of those that are
-/// left.
+/// The iterator over the entries of a session with their keys, in the order in which they were put,
+/// returned by [`Session::entries`](crate::Session::entries). Contracts model it as the list of those
+/// that remain.
 #[derive(Drop)]
 pub struct Entries<'a, K, T> {
     pub(crate) pairs: map::Iter<'a, K, Entry<T>>,
