@@ -55,7 +55,7 @@ module _ {V : Type 0} where
   row_pushed (r ∷ rows) zero = refl
   row_pushed (r ∷ rows) (suc at) = row_pushed rows at
 
-  -- a row in the place of another, which is read at its slot
+  -- a row that replaces another, read at its slot
   pub replaced : (rows : List (Row V)) (slot : ℕ) (x r : Row V) → slot < length rows → x ≡ slice_index_or rows slot x
       → count (slice_set rows slot r) + one x ≡ count rows + one r
   replaced [] slot x r lt is = absurd (omega (arith, lt))
@@ -69,7 +69,7 @@ module _ {V : Type 0} where
 
   module _ (rows : List (Row V)) (live slot : ℕ) (x r : Row V) (lt : slot < length rows)
       (is : x ≡ slice_index_or rows slot x) (counted : (live ≡ count rows) × (length rows ≤ 2 ^ 32)) where
-    -- a value that is put into a vacant row, into one that holds another, and one that is taken
+    -- a value that is put into a vacant row, or into one that holds another, and one that is removed
     pub added : x ≡ Vacant → one r ≡ 1
         → (live + 1 ≡ count (slice_set rows slot r)) × (length (slice_set rows slot r) ≤ 2 ^ 32)
     unfolding one
@@ -131,7 +131,7 @@ module _ {V : Type 0} where
     listed_count number slot (Held site generation v ∷ rows) =
         omega (arith, listed_count number (slot + 1) rows)
 
--- ==== what handles show after a row was put, emptied or changed
+-- ==== what handles have after a row was filled, emptied or changed
 
 module _ {V T K : Type 0} where
   pub put_here : (number : ℕ) (rows : List (Row V)) (h : Handle T K) (v : V) → h.store ≡ number
@@ -158,7 +158,7 @@ module _ {V T K : Type 0} where
       → is_some (value_of m b) ≡ true → slot_in a ≡ slot_in b → IsSame a b
   one_slot m a b one other slot = grind arith
 
-  -- ==== rows that hold the same, with vacant ones more
+  -- ==== rows that hold the same, with more vacant ones
 
   pub same_values : (number : ℕ) (rows more : List (Row V)) (h : Handle T K)
       → ((at : ℕ) → row_at more at ≡ row_at rows at)

@@ -1,4 +1,4 @@
--- Locations that are told, before and after others come.
+-- Published locations, before and after others are added.
 use Rattle.std.proofs.Common.{◌≡◌, ◌<◌, ◌≤◌, ◌++◌, ◌∙◌, ◌∷◌, ℕ, Bool, true, false, List, [], Some, arith, ap, if◌then◌else◌}
 use Rattle.std.proofs.Common.{drop, length, refl, slice_get, sym, take}
 use Rattle.std.proofs.lemmas.List.Folds.{list_any-append}
@@ -17,7 +17,7 @@ take_with n list at le = by (is_among list at)
     by true = refl
     by false = take-append-le n list (at ∷ []) le
 
--- what is told of a site, and that it is told as more are
+-- what is published of a site stays so when more are
 pub told_here : (s : SiteState) (site : ℕ) (l : Location) → site < s.told → slice_get s.all site ≡ Some l
     → slice_get (told_in s) site ≡ Some l
 told_here s site l lt is = grind (arith, get_take)
@@ -29,7 +29,7 @@ told_more s t site l le same is =
     get_take t.all t.told site (omega (arith, lt, le)) ∙ (ap (λ list. slice_get list site) same
     ∙ (sym (get_take s.all s.told site lt) ∙ is))
 
--- a location that isn't there isn't told
+-- a location that isn't there isn't published
 pub untold : (n : ℕ) (list : List Location) (at : Location) → is_among list at ≡ false
     → is_among (take n list) at ≡ false
 untold n list at none =

@@ -342,7 +342,7 @@ module _ {V W : Type 0} (T K : Type 0) (number : ℕ) where
       none_listed slot (Vacant ∷ rows) = none_listed (slot + 1) rows
       none_listed slot (Held site generation v ∷ rows) = grind (arith, ne, none_listed (slot + 1) rows)
 
--- ==== what is left of each handle's value
+-- ==== what remains of each handle's value
 
 module _ {F H V : Type 0} (call : F → H → V → V → F → Type 0) where
   folded_at : (changes : List (H × V × V)) (p last : F) → FoldsTo (λ p c q. call p c.0 c.1 c.2 q) p changes last

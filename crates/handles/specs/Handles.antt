@@ -8,7 +8,7 @@ use Rattle.generational_core.specs.declared.boxes.GenerationalPointer.{Generatio
 use Rattle.generational_errors.specs.declared.error.Location.{Location}
 use Rattle.handles.specs.declared.handle.Handle.{Handle}
 
--- a location that says nothing
+-- a location without content
 abbrev pub nowhere : Location
 nowhere = record { file = record { ref_ptr = (0, 0); now = [] }; line = 0; column = 0 }
 
@@ -21,7 +21,7 @@ module _ {T K : Type 0} where
   abbrev pub id_in : Handle T K → GenerationalBoxId
   id_in h = record { store = h.store; slot = h.slot; generation = h.generation }
 
-  -- a handle's box without its element type: what it shows hangs on the id alone
+  -- a handle's box without its element type: what it refers to depends on the id alone
   abbrev pub pointer_in : Handle T K → GenerationalPointer
   pointer_in h = record { id = id_in h; created_at = nowhere }
 

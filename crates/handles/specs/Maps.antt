@@ -1,4 +1,4 @@
--- Values by handles of one table: what each handle shows, and all of them in the order of the slots.
+-- Values by handles of one table: what each handle has, and all of them in the order of the slots.
 use Rattle.std.specs.Prelude.{ℕ, ◌+◌, List, [], ◌∷◌, Option, None, Some, if◌then◌else◌, nat_eq}
 use Rattle.std.specs.Prelude.{option_map, slice_index_or}
 use Rattle.std.specs.List.{cons_option, filter_map}
@@ -22,7 +22,7 @@ module _ {V : Type 0} where
   held Vacant g = None
   held (Held site generation v) g = if nat_eq generation g then Some v else None
 
-  -- a row with another value in the place of its own
+  -- a row with its value replaced
   abbrev pub refilled : Row V → V → Row V
   refilled Vacant w = Vacant
   refilled (Held site generation v) w = Held site generation w
@@ -34,7 +34,7 @@ module _ {V : Type 0} where
   count (Held site generation v ∷ rows) = count rows + 1
 
   module _ {T K : Type 0} where
-    -- what a handle shows: its value, or nothing
+    -- what a handle has: its value, or nothing
     abbrev pub value_of : MapState V → Handle T K → Option V
     value_of m h =
         if nat_eq h.store m.number then held (row_at m.rows (slot_in h)) h.generation else None

@@ -1,4 +1,4 @@
--- What the error of a handle that shows nothing prints.
+-- What the error of a stale handle prints.
 use Rattle.std.specs.Prelude.{ℕ, List, ◌++◌, Option, None, Some, codes}
 use Rattle.generational_errors.specs.declared.error.Location.{Location}
 use Rattle.generational_errors.specs.Texts.{location_text}

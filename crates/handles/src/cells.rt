@@ -8,7 +8,7 @@ use crate::handle::Handle;
 use generational_core::parts::pointer_at;
 use generational_core::{GenerationalPointer, Location, Storage};
 
-/// The pointer to a handle's cell. Its location says nothing.
+/// The pointer to a handle's cell. Its location has no meaning.
 #[inline(always)]
 pub fn pointer_to<T, K>(handle: Handle<T, K>) -> GenerationalPointer
     ensures { result.id ≡ id_in handle }
@@ -21,7 +21,7 @@ pub fn pointer_to<T, K>(handle: Handle<T, K>) -> GenerationalPointer
     )
 }
 
-/// The value that a handle shows, looked at in passing. Doesn't allocate.
+/// Borrows a handle's value. Doesn't allocate.
 #[inline(always)]
 pub fn peek<T, K, S: Storage<T>>(store: &S, handle: Handle<T, K>) -> Option<&T>
     ensures { option_copied result ≡ value_in (S.state store.now) (pointer_in handle) }

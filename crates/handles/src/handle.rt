@@ -12,8 +12,8 @@ use std::fmt;
 use std::hash::{Hash, Hasher};
 use std::marker::PhantomData;
 
-/// A handle of a value of type `T` in a table of kind `K`. It is copied freely, owns nothing, and
-/// outlives its value: no later value is mistaken for it.
+/// A handle of a value of type `T` in a table of kind `K`. It is `Copy`, owns nothing, and may outlive
+/// its value: it never refers to a later one.
 pub struct Handle<T, K> {
     pub(crate) store: u64,
     pub(crate) generation: u64,
@@ -37,7 +37,7 @@ impl<T, K> Clone for Handle<T, K> {
 
 impl<T, K> Copy for Handle<T, K> {}
 
-/// Equal if both are of one value: if their ids are.
+/// Equal if both are of the same value: if their ids are equal.
 impl<T, K> PartialEq for Handle<T, K> {
     ghost use Rattle.std.proofs.Common.{rules};
     ghost use Rattle.std.specs.Cmp.Rules.{comparing};

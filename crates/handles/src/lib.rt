@@ -1,9 +1,9 @@
-//! Handles of 24 bytes, and what a table keeps beside them.
+//! Handles of 24 bytes, and what a table stores for them.
 //!
-//! A [`Handle`] names a cell of a store, and tells its table where the cell was made by a number in the
-//! table's own list of locations ([`Sites`]). A [`HandleMap`] keeps a value for each handle of one table,
-//! by the handle's slot. The libraries above the boxes stand on it; it exports nothing that users need
-//! beside what these pass on.
+//! A [`Handle`] refers to a cell of a store, and has a number in its table's own list of locations
+//! ([`Sites`]) for where the cell was made. A [`HandleMap`] stores a value for each handle of one table,
+//! by the handle's slot. The libraries built on boxes use this crate; it exports nothing that users need,
+//! except what these re-export.
 #![tactic(auto)]
 
 mod cells;
@@ -13,7 +13,7 @@ mod sites;
 mod stale;
 mod walk;
 
-/// What a table makes handles of, and reads of them. Users need none of it.
+/// How a table makes and reads handles. Users don't need it.
 pub mod parts {
     pub use crate::cells::{peek, pointer_to};
     pub use crate::handle::{handle_at, number_of, site_of, slot_of};

@@ -16,10 +16,10 @@ use std::marker::{Model, PhantomData};
 use std::mem;
 use store_room::reserve_more;
 
-/// How many slots there may be: a handle has 32 bits for its own.
+/// How many slots there may be: a handle has 32 bits for its slot.
 const SLOTS: usize = 4294967296;
 
-/// How many rows are made at once, so that few calls make some.
+/// How many rows are made at once, so that few calls make any.
 const AT_ONCE: usize = 64;
 
 /// What a slot holds: nothing, or the value of a handle, with its site and its generation.
@@ -57,7 +57,7 @@ impl<V> Row<V> {
         }
     }
 
-    // Changes the value of a generation in its place.
+    // Changes the value of a generation in place.
     #[inline(always)]
     fn change<R, F: FnOnce(&mut V) -> R>(&mut self, generation: u64, f: F) -> Option<R>
         requires { (value : MutBor V) → held self.old generation ≡ Some value.now → F.pre f value }
@@ -122,8 +122,8 @@ impl<V> Row<V> {
     }
 }
 
-/// Values by the handles of one table, with a row for each slot up to the highest that has had one.
-/// Contracts see the table's number and the rows.
+/// Values by the handles of one table, with a row for each slot up to the highest that ever had one.
+/// Contracts model it as the table's number and the rows.
 #[derive(Drop)]
 pub struct HandleMap<T, K, V> {
     number: u64,
@@ -199,8 +199,8 @@ impl<T, K, V> HandleMap<T, K, V> {
         row.handle(self.number, slot)
     }
 
-    /// Makes a row for a slot. False if memory runs out, or if there are too many slots: each row holds what
-    /// it held, also then. Amortised O(1) if slots come in order, and O(n) for n rows more.
+    /// Makes a row for a slot. False if an allocation fails, or if there are too many slots. Each row is
+    /// unchanged in either case. Amortised O(1) if slots come in order, and O(n) for n new rows.
     #[inline(always)]
     pub fn reserve(&mut self, slot: usize) -> bool
         ensures number { self.new.number ≡ self.old.number }
@@ -233,7 +233,7 @@ impl<T, K, V> HandleMap<T, K, V> {
         true
     }
 
-    /// Gives a handle a value, in the place of what its row holds. There is such a row.
+    /// Sets a handle's value, which replaces what its row holds. There must be such a row.
     #[inline(always)]
     pub fn put(&mut self, handle: Handle<T, K>, value: V)
     where
@@ -250,8 +250,8 @@ impl<T, K, V> HandleMap<T, K, V> {
         }
     }
 
-    /// Takes a handle's value away: its row holds nothing then. None if it has none, and nothing changes.
-    /// Doesn't allocate, and is O(1).
+    /// Removes and returns a handle's value. None if it has none, and nothing changes. Doesn't allocate,
+    /// and is O(1).
     #[inline(always)]
     pub fn take(&mut self, handle: Handle<T, K>) -> Option<V>
         ensures taken { result ≡ value_of self.old handle }
@@ -272,8 +272,8 @@ impl<T, K, V> HandleMap<T, K, V> {
         }
     }
 
-    /// Changes a handle's value in its place by a closure, which is called once on it, and returns what that
-    /// returns. None if it has none: the closure isn't called, and nothing changes.
+    /// Calls a closure once on a handle's value, mutably, and returns the closure's result. None if it
+    /// has none: the closure isn't called, and nothing changes.
     #[inline(always)]
     pub fn change<R, F: FnOnce(&mut V) -> R>(&mut self, handle: Handle<T, K>, f: F) -> Option<R>
         requires { (value : MutBor V) → value_of self.old handle ≡ Some value.now → F.pre f value }
@@ -347,7 +347,7 @@ impl<T, K, V> HandleMap<T, K, V> {
     }
 }
 
-// Makes vacant rows up to so many, for which there is room.
+// Adds vacant rows up to a length for which there is room.
 fn fill<V>(rows: &mut Vec<Row<V>>, len: usize)
     requires { len ≤ vec_capacity rows.old }
     ensures within { len ≤ length rows.new.items }

@@ -1,4 +1,4 @@
-//! The locations that a table was given.
+//! The locations that were passed to a table.
 
 ghost use Rattle.std.specs.Prelude.{◌≡◌, ◌≤◌, ◌<◌, [], false, OnErr, OnOk, IfOk, length, slice_get};
 ghost use Rattle.location_list.specs.Locations.{IsAt, is_among, with_location};
@@ -9,10 +9,10 @@ use location_list::LocationList;
 use std::alloc::{AllocError, Global};
 use std::marker::Model;
 
-/// Locations, each at a site, of which the first so many are told. The others wait for a handle.
+/// Locations, each at a site. The first few are published; the others wait for a handle.
 ///
-/// Each location stands once, however many handles are made there: it takes 40 to 80 bytes, and is found
-/// in the same time however many there are.
+/// Each location is stored once, however many handles are made there: it takes 40 to 80 bytes, and is
+/// found in the same time however many there are.
 #[derive(Drop)]
 pub struct Sites {
     list: LocationList<4294967295>,
@@ -41,11 +41,12 @@ impl Sites {
         }
     }
 
-    /// The site of a location, which isn't told before [`Sites::tell`].
+    /// The site of a location, which isn't published before [`Sites::tell`].
     ///
     /// # Errors
     ///
-    /// If memory runs out. Nothing changes then, and a location that there is never fails.
+    /// `AllocError` if an allocation fails. Nothing changes then, and the call never fails for a location
+    /// that is already there.
     #[inline(always)]
     #[tactic(auto, using(crate::proofs::Told::take_with))]
     pub fn find_or_add(&mut self, here: Location) -> Result<u32, AllocError>
@@ -58,7 +59,7 @@ impl Sites {
         self.list.find_or_add(here)
     }
 
-    /// Tells a site, and those before it, from now on.
+    /// Publishes a site, and those before it.
     #[inline(always)]
     pub fn tell(&mut self, site: u32)
         requires { site < length self.old.all }
@@ -71,7 +72,7 @@ impl Sites {
         }
     }
 
-    /// The location of a site, if it is told. Doesn't allocate.
+    /// The location of a site, if it is published. Doesn't allocate.
     pub fn get(&self, site: u32) -> Option<Location>
         ensures { result ≡ slice_get (told_in self.now) site }
     {

@@ -1,17 +1,17 @@
-//! Why a handle shows nothing.
+//! The error of a stale handle.
 
 use generational_core::Location;
 use std::error::Error;
 use std::fmt;
 
-/// The value of a handle is gone, or is another table's.
+/// The value of a handle was removed, or belongs to another table.
 #[derive(Clone, Copy, Debug, PartialEq, Eq)]
 pub struct Stale {
-    /// Where the value was made; None of another table's.
+    /// Where the value was made; None if it belongs to another table.
     pub created_at: Option<Location>,
 }
 
-/// Prints that the value is gone, and where it was made.
+/// Prints that the value was removed, and where it was made.
 impl fmt::Display for Stale {
     ghost use Rattle.std.specs.Prelude.{Some};
     ghost use Rattle.handles.specs.Texts.{stale_text};

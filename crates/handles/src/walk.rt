@@ -12,8 +12,8 @@ use crate::map::Row;
 use std::iter::FusedIterator;
 use std::marker::{Model, PhantomData};
 
-/// The handles of a table that have a value, with it, in the order of their slots. Contracts see the list
-/// of those that are left. All steps together are O(n) for n slots.
+/// The handles of a table that have a value, with it, in the order of their slots. Contracts model it as
+/// the list of those that remain. All steps together are O(n) for n slots.
 #[derive(Drop)]
 pub struct HandleIter<'a, T, K, V> {
     number: u64,
@@ -91,7 +91,7 @@ impl<'a, T, K, V> ExactSizeIterator for HandleIter<'a, T, K, V> {
 
 impl<'a, T, K, V> FusedIterator for HandleIter<'a, T, K, V> {}
 
-// The first slot from one on whose row holds a value, and the rows from there on; none where none does.
+// The first slot, from one on, whose row holds a value, and the rows from there on; None if no row does.
 #[inline(always)]
 fn first_held<T, K, V>(slot: usize, rows: &[Row<V>]) -> (usize, &[Row<V>])
     requires { slot + length rows.now ≤ 2 ^ 32 }
