@@ -48,7 +48,7 @@ found keys i key first =
     let p = position-Some (same_key key) keys i key first in
     placed keys i key _ (slice_get-get_or keys i key p.0) p.1
 
--- where a location is found, it is among them, and nothing is added
+-- if a location is found, it is among them, and nothing is added
 pub among_them : (list : List Location) (i : ℕ) (at : Location) → IsAt list i at → is_among list at ≡ true
 among_them list i at h =
     list_any_at (same_location at) list i at (slice_get_within list i h.kept h.there)
@@ -75,7 +75,7 @@ numbered keys other i n at same most h =
     let within = slice_get_within (map location_of other) i h.kept h.there in
     omega (arith, length-map other location_of, ap length same)
 
--- a copy, one more
+-- with another copy
 pub copied : (keys : List Key) (all more : List Location) (i : ℕ) (d : Key) (at : Location)
     → all ≡ map location_of (take i keys) → i < length keys → at ≡ location_of (get_or keys i d)
     → more ≡ all ++ at ∷ [] → more ≡ map location_of (take (i + 1) keys)

@@ -1,4 +1,4 @@
--- Locations in a list, by their letters, wherever the texts stand in memory.
+-- Locations in a list, by their letters, even if the texts are elsewhere in memory.
 use Rattle.std.specs.Prelude.{◌≡◌, ℕ, Bool, List, [], ◌∷◌, ◌++◌, Some, slice_get, if◌then◌else◌}
 use Rattle.std.specs.List.{list_any}
 use Rattle.generational_errors.specs.Texts.{same_location}

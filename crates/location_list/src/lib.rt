@@ -1,7 +1,7 @@
-//! A list of locations, each with its number, in which none stands twice.
+//! A list of locations without duplicates, each with its number.
 //!
-//! Whoever keeps many locations keeps a number for each, and a [`LocationList`] tells which location it
-//! stands for. It is a part of the stores, and exports nothing that users need.
+//! Code that stores many locations stores a number for each, and a [`LocationList`] has the location of
+//! each number. It is an internal crate: users don't need it.
 #![tactic(auto)]
 
 mod list;

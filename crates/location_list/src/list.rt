@@ -11,14 +11,15 @@ use indexmap::IndexSet;
 use std::alloc::{AllocError, Global};
 use std::marker::Model;
 
-/// Locations with the numbers from 0 to `LAST` at most, in the order in which they came. Contracts see
-/// them in that order. A location that is there by its letters isn't put there again.
+/// Locations with the numbers from 0 to at most `LAST`, in the order in which they were added. Contracts
+/// model it as the list in that order. A location with the same letters, line and column isn't added
+/// again.
 ///
 /// Each takes 40 to 80 bytes, and is found in the same time however many there are.
 #[derive(Drop)]
 pub struct LocationList<const LAST: u32> {
     kept: IndexSet<Key>,
-    // where a location is looked for first, by its line and column; what stands there may be wrong
+    // where a location is looked for first, by its line and column; a guess may be wrong
     guesses: [u32; 64],
 }
 
@@ -88,8 +89,8 @@ impl<const LAST: u32> LocationList<LAST> {
     ///
     /// # Errors
     ///
-    /// If memory is refused, or if all numbers are given. The list is as it was then, and a location that
-    /// it has never fails.
+    /// `AllocError` if an allocation fails, or if all numbers are used. The list is unchanged then, and
+    /// the call never fails for a location that it has.
     #[inline(always)]
     pub fn find_or_add(&mut self, at: Location) -> Result<u32, AllocError>
         ensures added { OnOk result (self.new ≡ with_location self.old at) }
@@ -140,7 +141,7 @@ fn is_at(kept: &[Key], number: u32, at: Location) -> bool
     }
 }
 
-// Whether two locations are the same by their letters, as `==` says. The numbers are looked at first,
+// Whether two locations are the same by their letters, as `==` says. The numbers are compared first,
 // without a call.
 #[inline(always)]
 fn is_same(one: Location, other: Location) -> bool
@@ -149,7 +150,7 @@ fn is_same(one: Location, other: Location) -> bool
     one.line() == other.line() && one.column() == other.column() && one.file() == other.file()
 }
 
-// The number of such a location, which is added if there is none. It is guessed from then on.
+// The number of such a location, which is added if there is none. It is the guess from then on.
 #[cold]
 #[inline(never)]
 fn find_or_add<const LAST: u32>(
