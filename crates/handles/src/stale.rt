@@ -11,7 +11,7 @@ pub struct Stale {
     pub created_at: Option<Location>,
 }
 
-/// Prints that the value was removed, and where it was made.
+/// Prints `the value made at file:line:column is gone`, or `the handle is of another table`.
 impl fmt::Display for Stale {
     ghost use Rattle.std.specs.Prelude.{Some};
     ghost use Rattle.handles.specs.Texts.{stale_text};
