@@ -1,4 +1,4 @@
--- Walks over the slots of an image: what holds of the first ones holds of one more.
+-- Walks over the slots of an image: what holds of the first ones holds with another one.
 use Rattle.std.proofs.Common.{◌≡◌, ◌<◌, ◌≤◌, ◌+◌, ◌||◌, ℕ, zero, suc, Bool, true, false, List, [], ◌∷◌, Some}
 use Rattle.std.proofs.Common.{add-one, arith, length, slice_get, slice_set, take, if◌then◌else◌, refl}
 use Rattle.std.proofs.Common.{◌≢◌, inl, inr, eq-eqb}
@@ -12,7 +12,7 @@ use Rattle.store_parts.specs.Lists.{how_many}
 use Rattle.store_images.specs.declared.image.SlotImage.{SlotImage}
 use Rattle.store_images.specs.Images.{HasTarget, HasTargetIn, is_referred_to, is_shared_in, refers_to_slot}
 
--- counted in the first elements, and in one more
+-- counted in the first elements, and with another one
 pub counted_more : {A : Type 0} (p : A → Bool) (xs : List A) (i : ℕ) (x : A) → slice_get xs i ≡ Some x
     → how_many p (take (suc i) xs) ≡ how_many p (take i xs) + (if p x then 1 else 0)
 counted_more p (y ∷ xs) zero x there = grind arith
@@ -28,12 +28,12 @@ any_more p [] i x there = grind arith
 
 module _ {T : Type 0} (slots : List (SlotImage T)) (i : ℕ) (s : SlotImage T)
     (there : slice_get slots i ≡ Some s) where
-  -- where each one before has a target, and this one has, so have all up to it
+  -- if each one before has a target, and this one has, so have all up to it
   pub target_more : ((k : ℕ) → k < i → HasTarget slots (slice_get slots k)) → HasTarget slots (Some s)
       → (k : ℕ) → k < i + 1 → HasTarget slots (slice_get slots k)
   target_more before own k below = grind arith
 
-  -- a slot that is named by one more
+  -- a slot that another one names
   pub referred_more : (k : ℕ) → is_referred_to (take (i + 1) slots) k ≡ (is_referred_to (take i slots) k || refers_to_slot k s.cell)
   referred_more k = rw add-one (any_more (λ s. refers_to_slot k s.cell) slots i s there)
 
@@ -50,7 +50,7 @@ unwritten (x ∷ xs) (suc t) zero apart = refl
 unwritten (x ∷ xs) (suc t) (suc k) apart = unwritten xs t k (λ e. apart (omega arith))
 unwritten [] t k apart = refl
 
--- a shared value stands within the slots
+-- a shared value is within the slots
 shared_within : {T : Type 0} (slots : List (SlotImage T)) (t g : ℕ) → is_shared_in (slice_get slots t) g ≡ true
     → t < length slots
 shared_within slots t g is = elim (slice_get_cases slots t).1 [
@@ -58,7 +58,7 @@ shared_within slots t g is = elim (slice_get_cases slots t).1 [
   | inr w ↦ absurd (let no = rw w.1 at is in grind arith)
 ]
 
--- what is named so far is noted, with one reference more
+-- what is named so far is noted, with another reference
 pub noted_more : {T : Type 0} (slots : List (SlotImage T)) (i : ℕ) (s : SlotImage T) (t g : ℕ) (l : Location)
     (named : List Bool) → slice_get slots i ≡ Some s → s.cell ≡ saved.Reference t g l
     → length named ≡ length slots → is_shared_in (slice_get slots t) g ≡ true

@@ -1,4 +1,4 @@
--- Images: the state that one tells, and when a store can have it.
+-- Images: the state that one describes, and when a store can have it.
 use Rattle.std.specs.Prelude.{◌≡◌, ◌<◌, ◌≤◌, ◌+◌, ◌-◌, ◌&&◌, ℕ, zero, suc, Bool, true, false}
 use Rattle.std.specs.Prelude.{nat_eq, nat_lt, List, [], ◌∷◌, ◌++◌, Option, Some, None, length}
 use Rattle.std.specs.Prelude.{slice_get}
@@ -28,7 +28,7 @@ names_told slot from (suc count) =
     record { slot = slot; generation = from + count } ∷ names_told slot from count
 
 module _ {T : Type 0} where
-  -- ---- the state that an image tells
+  -- ---- the state that an image describes
 
   -- a cell, which has no borrow
   abbrev pub cell_told : CellImage T → Option (Cell T)
@@ -47,13 +47,13 @@ module _ {T : Type 0} where
   cells_told i (s ∷ slots) =
       entry_told i s.generation (cell_told s.cell) ++ cells_told (i + 1) slots
 
-  -- their given names: each slot's generations from the first one to that of its last cell
+  -- their issued names: each slot's generations from the first one to that of its last cell
   abbrev pub given_told : ℕ → ℕ → List (SlotImage T) → List Name
   given_told start i [] = []
   given_told start i (s ∷ slots) =
       names_told i start (s.generation + 1 - start) ++ given_told start (i + 1) slots
 
-  -- what an image tells
+  -- the state that an image describes
   unfoldable pub told : Image T → State T
   told i = record {
     number = i.number;

@@ -13,8 +13,8 @@ use std::alloc::Global;
 ///
 /// # Errors
 ///
-/// The image's first fault, in the order of `ImageFault`'s variants but for the peak, which is
-/// checked before references; or `OutOfMemory`.
+/// The image's first fault, in the order of `ImageFault`'s variants except for the peak, which is checked
+/// before references; or `OutOfMemory`.
 pub fn check_image<T>(alloc: Global, image: &Image<T>) -> Result<(), LoadError>
     ensures ok { OnOk result (IsWhole image.now) }
     ensures err { IfErr result (λ e. IsLoadError image.now e) }

@@ -17,7 +17,7 @@ pub struct Image<T> {
     pub start: u64,
     /// The next ticket.
     pub next: u64,
-    /// The most cells that were live at once.
+    /// The peak number of live cells.
     pub peak: usize,
     /// The slots, in the order in which they were made.
     pub slots: Vec<SlotImage<T>>,
@@ -35,7 +35,7 @@ pub struct SlotImage<T> {
 /// A live cell with the location at which it was made, or none.
 #[derive(Debug, Drop)]
 pub enum CellImage<T> {
-    /// The slot's last cell has ended. The slot is free, or retired after the last generation.
+    /// The slot's last cell was removed. The slot is free, or retired after the last generation.
     Empty,
     /// A value of one box.
     Value(T, Location),
@@ -100,7 +100,7 @@ impl fmt::Display for LoadError {
 
 impl Error for LoadError {}
 
-/// An image that isn't loaded, as it was passed in, and why.
+/// An image that can't be loaded, unchanged, and why.
 #[derive(Debug, Drop)]
 pub struct LoadRefusal<T> {
     /// The image.
@@ -112,7 +112,7 @@ pub struct LoadRefusal<T> {
 /// Why a store has no image now.
 #[derive(Clone, Copy, Debug, PartialEq, Eq)]
 pub enum SaveError {
-    /// The store has an owner's record: that owner's values belong to whoever holds the owner.
+    /// The store has an owner's record: that owner's values belong to the holder of the owner.
     Owned,
     /// This slot's value is borrowed.
     Borrowed(usize),

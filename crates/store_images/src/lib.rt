@@ -1,6 +1,6 @@
 //! Images: what a store has, as plain data.
 //!
-//! It is a part of `generational_box`, which is what users take.
+//! It is an internal part of `generational_box`; users import that.
 #![tactic(auto)]
 
 mod check;

@@ -35,11 +35,12 @@ impl Loaded {
         })
     }
 
-    /// The id in the store of the cell that has this id in the image. None if the id is of another
-    /// store than the image, or if its cell wasn't live in it: such an id was given after the image was
-    /// made, or its cell had ended before. No two ids become one.
+    /// The id in the store of the cell that has this id in the image. None if the id is of another store
+    /// than the image, or if its cell wasn't live in it: such an id was issued after the image was made,
+    /// or its cell was removed before. Different ids stay different.
     ///
-    /// Doesn't allocate, and asks no store: the id is that cell's for good, also once it has ended.
+    /// Doesn't allocate, and accesses no store: the id is that cell's forever, even after the cell was
+    /// removed.
     ///
     /// Upstream has no such call.
     pub fn adopt(&self, id: GenerationalBoxId) -> Option<GenerationalBoxId>
