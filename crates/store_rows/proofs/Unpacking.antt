@@ -21,7 +21,7 @@ use Rattle.generational_core.specs.declared.rows.BaseRow.TheVariants as row
 -- ==== two lists side by side
 
 module _ {A B : Type 0} where
-  -- what stands first and what stands second in a pair
+  -- the first and the second of a pair
   pub pair_at : (xs : List A) (ys : List B) (i : ℕ) → length xs ≡ length ys
       → IfSome (slice_get (zip xs ys) i)
       (λ e. (slice_get xs i ≡ Some e.0) × (slice_get ys i ≡ Some e.1))
@@ -51,7 +51,7 @@ module _ {A B : Type 0} where
   drop_next zs i x y within first second = grind arith
 
 module _ {X : Type 0} where
-  -- behind the element that is set, and behind one that is appended, all is as it was
+  -- behind the element that is set, and behind one that is appended, all is unchanged
   pub get_behind : (xs : List X) (k : ℕ) (x : X) (i : ℕ) → k < i → slice_get (set xs k x) i ≡ slice_get xs i
   get_behind (a ∷ xs) (suc k) x (suc i) after = get_behind xs k x i (omega arith)
   get_behind xs k x i after = grind arith
@@ -66,7 +66,7 @@ module _ {X : Type 0} where
       → take (length xs + 1) (xs ++ x ∷ []) ≡ take (length xs) xs ++ x ∷ []
   take_after xs x = grind (arith, take_all, length-append)
 
--- ==== the rows of packed slots, one slot more, and where there are more whole rows
+-- ==== the rows of packed slots, with another slot, and with more whole rows
 
 -- a slot's whole rows come after those of the slots before it
 pub whole_snoc : (slots : List (PackedSlot × Location)) (e : PackedSlot × Location)

@@ -1,4 +1,4 @@
--- The rows for which packed slots stand.
+-- The rows that packed slots represent.
 use Rattle.std.specs.Prelude.{ℕ, ◌+◌, List, [], ◌∷◌, ◌++◌, take, drop}
 use Rattle.generational_errors.specs.declared.error.Location.{Location}
 use Rattle.generational_core.specs.declared.rows.BaseRow.{BaseRow}
@@ -17,7 +17,7 @@ whole_of [] = 0
 whole_of (e ∷ slots) = whole_in e.0 + whole_of slots
 
 module _ (number : ℕ) where
-  -- the rows of the slot with this number, where these are the next whole ones
+  -- the rows of the slot with this number, if these are the next whole ones
   abbrev pub unpack : List BaseRow → ℕ → PackedSlot × Location → List BaseRow
   unpack whole slot (packed.Free g, l) = row.Slot slot g ∷ []
   unpack whole slot (packed.Value g, l) =

@@ -1,4 +1,4 @@
--- Rows and packed slots of an earlier state, which tell where cells were made for as long as these live.
+-- Rows and packed slots of an earlier state, which say where cells were made, as long as these are live.
 use Rattle.std.specs.Prelude.{◌≡◌, ℕ, List, ◌++◌, Some, slice_get}
 use Rattle.std.specs.List.{AllByRecursion}
 use Rattle.std.specs.FinMap as map
@@ -14,7 +14,7 @@ use Rattle.store_rows.specs.Packed.{unpack_all}
 use Rattle.store_rows.specs.declared.packed.PackedSlot.{PackedSlot}
 use Rattle.store_rows.specs.declared.packed.PackedSlot.TheVariants as packed
 
--- a name was given, and its cell, if it is still live, was made there
+-- a name was issued, and its cell, if it is still live, was made there
 abbrev pub WasMadeAt : Plain → Name → Location → Type 0
 WasMadeAt P n l = IsGiven P n
     × ((c : Cell (Unit {0})) → map.get P.cells n ≡ Some c → location_of (Some c) ≡ Some l)

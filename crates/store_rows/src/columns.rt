@@ -9,9 +9,9 @@ use std::alloc::{AllocError, Global};
 use std::marker::Model;
 use store_room::reserve_more;
 
-/// Packed slots, and beside each where its cell was made. Contracts see the pairs.
+/// Packed slots, each with where its cell was made. Contracts model them as pairs.
 ///
-/// They are two lists, since who asks whether a slot is as it was needs no location.
+/// They are two lists, since a check whether a slot is unchanged needs no location.
 #[derive(Drop)]
 pub struct PackedSlots {
     slots: Vec<PackedSlot>,
@@ -32,7 +32,7 @@ impl Model for PackedSlots {
 }
 
 impl PackedSlots {
-    /// No slots. Takes no memory.
+    /// No slots. Doesn't allocate.
     pub fn new(alloc: Global) -> PackedSlots
         ensures { result ≡ [] }
     {
@@ -42,7 +42,7 @@ impl PackedSlots {
         }
     }
 
-    /// No slots, with room for so many. Its memory isn't touched.
+    /// No slots, with this capacity. Its memory isn't touched.
     pub fn with_room(alloc: Global, slots: usize) -> Result<PackedSlots, AllocError>
         ensures { IfOk result (λ slots. slots ≡ []) }
     {
@@ -52,7 +52,7 @@ impl PackedSlots {
         })
     }
 
-    /// Whether so many can stand in the memory that they take.
+    /// Whether the capacity is enough for so many.
     pub fn has_room(&self, slots: usize) -> bool {
         slots <= self.slots.capacity() && slots <= self.made_at.capacity()
     }
@@ -103,7 +103,7 @@ impl PackedSlots {
         self.push(packed, created_at)
     }
 
-    // Appends a slot, for which there mostly is room.
+    // Appends a slot. Mostly there is room for it.
     #[inline(always)]
     fn push(&mut self, packed: PackedSlot, created_at: Location) -> Result<(), AllocError>
         ensures ok { OnOk result (self.new ≡ self.old ++ (packed, created_at) ∷ []) }
@@ -124,7 +124,7 @@ impl PackedSlots {
     }
 }
 
-// Makes room for an element more, where there mostly is.
+// Reserves room for another element. Mostly there is room already.
 #[inline(always)]
 fn make_room<X>(items: &mut Vec<X>) -> Result<(), AllocError>
     ensures items { items.new.items ≡ items.old.items }

@@ -1,8 +1,8 @@
-//! The rows of what a store has, in few bytes, in the place of those that it had before.
+//! The rows of what a store has, in few bytes, written over those of an earlier state.
 //!
-//! A checkpoint of the shared store packs them while other workers wait. So they are few bytes, they
-//! go into memory that was touched before, and a slot without whole rows that stands there as it is now
-//! isn't written again.
+//! A checkpoint of the shared store packs them while other workers wait. So they are few bytes, they are
+//! written to memory that was touched before, and an unchanged slot without whole rows isn't written
+//! again.
 #![tactic(auto)]
 
 mod columns;

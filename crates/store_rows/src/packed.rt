@@ -1,4 +1,4 @@
-//! A slot with its cell, in place of the rows that tell of them.
+//! A slot with its cell, in fewer bytes than their rows.
 
 ghost use Rattle.std.specs.Prelude.{◌≡◌, ◌++◌, OnOk, drop};
 ghost use Rattle.store_rows.specs.Packed.{unpack, whole_in};
@@ -9,8 +9,8 @@ use std::alloc::AllocError;
 use std::mem::size_of;
 use store_room::push_more;
 
-/// A slot with its cell and the borrows of that. Which slot it is, its place in a list tells; where its
-/// cell was made stands beside it.
+/// A slot with its cell and the cell's borrows. Its index in a list is the slot's number; where its cell
+/// was made is stored next to it.
 #[derive(Clone, Copy, Debug)]
 pub enum PackedSlot {
     /// No live cell, but the generation of the last one.
@@ -23,11 +23,11 @@ pub enum PackedSlot {
     Whole(u32),
 }
 
-// What a slot takes of memory beside its location, where two rows take 160 bytes.
+// The memory of a slot in addition to its location; two rows take 160 bytes.
 const _: () = prove!(size_of::<PackedSlot>() == 8);
 
-/// Appends the rows for which the slot with this number stands, whose cell was made there. These are
-/// the next whole rows.
+/// Appends the rows that the slot with this number represents; its cell was made at this location.
+/// `whole` is the list of the next whole rows.
 pub fn unpack(
     rows: &mut Vec<BaseRow>,
     number: u64,

@@ -24,8 +24,8 @@ pub struct RowCounts {
     pub names: usize,
 }
 
-/// The packed slots and owners of an earlier state, and room for whole rows, without any. A slot that
-/// hasn't changed needn't be written again.
+/// The packed slots and owners of an earlier state, and an empty list with room for whole rows. A slot
+/// that hasn't changed needn't be written again.
 #[derive(Drop)]
 pub struct PastRows {
     pub slots: PackedSlots,
@@ -34,7 +34,7 @@ pub struct PastRows {
     ghost no_whole: { whole.items ≡ [] },
 }
 
-/// The rows of what a store with this number has, packed. Contracts see the rows.
+/// The rows of what a store with this number has, packed. Contracts model it as the rows.
 #[derive(Drop)]
 pub struct PackedRows {
     number: u64,
@@ -58,7 +58,7 @@ impl Model for PackedRows {
 }
 
 impl PackedRows {
-    /// No rows. Takes no memory.
+    /// No rows. Doesn't allocate.
     pub fn new(alloc: Global) -> PackedRows
         ensures { result ≡ [] }
     {
@@ -66,7 +66,7 @@ impl PackedRows {
         PackedRows::of(0, slots, Vec::new(alloc), PackedOwners::new(alloc))
     }
 
-    /// No rows, with room for so many of each, and but for slots some more, whose memory is touched.
+    /// No rows, with room for so many of each, and, except for slots, some more. Their memory is touched.
     pub fn with_room(alloc: Global, counts: RowCounts) -> Result<PackedRows, AllocError>
         ensures { IfOk result (λ rows. rows ≡ []) }
     {
@@ -99,14 +99,14 @@ impl PackedRows {
         self.whole.len()
     }
 
-    /// Whether so many of each can stand in the memory that the rows take.
+    /// Whether the capacity is enough for so many of each.
     pub fn has_room(&self, counts: RowCounts) -> bool {
         self.slots.has_room(counts.slots)
             && counts.whole <= self.whole.capacity()
             && self.owners.has_room(counts.owners, counts.names)
     }
 
-    /// The slots and owners, for the next rows in their place.
+    /// The slots and owners, for the next rows to be written over them.
     pub fn into_past(self) -> PastRows
         ensures { AreSlotsOf self result.slots }
     {
@@ -135,7 +135,7 @@ impl PackedRows {
     }
 }
 
-// Appends the rows for which these slots stand in order, the first of which is slot 0.
+// Appends the rows that these slots represent, in order; the first is slot 0.
 fn unpack_all(
     rows: &mut Vec<BaseRow>,
     number: u64,
