@@ -1,4 +1,4 @@
--- The state for which slots stand is bounded.
+-- The state that slots represent is bounded.
 use Rattle.std.proofs.Common.{◌≡◌, ◌<◌, ℕ, true}
 use Rattle.std.proofs.Common.{arith, length, refl, is_some, inl, inr}
 use Rattle.std.proofs.lemmas.Bool.Decides.{nat_tests}

@@ -53,13 +53,13 @@ pub last_changed : {T : Type 0} (slots : List (Entry T)) (e : Entry T) (f : Entr
     → change_entry (slots ++ e ∷ []) (length slots) f ≡ slots ++ f e ∷ []
 last_changed slots e f = rw (last_there slots e) (last_set slots e (f e))
 
--- counting a list with one element more
+-- counting a list with another element
 many_more : {X : Type 0} (p : X → Bool) (xs : List X) (x : X)
     → how_many p (xs ++ x ∷ []) ≡ how_many p xs + (if p x then 1 else 0)
 many_more p [] x = omega arith
 many_more p (y ∷ xs) x = let rest = many_more p xs x in omega arith
 
--- what a list has at an index, with one element more
+-- what a list has at an index, with another element
 more_at : {X : Type 0} (e : X) (xs : List X) (k : ℕ) → k ≢ length xs → slice_get (xs ++ e ∷ []) k ≡ slice_get xs k
 more_at e [] zero apart = absurd (apart refl)
 more_at e [] (suc k) apart = refl

@@ -1,4 +1,4 @@
--- Images of slots: they tell the slots' state, and are whole.
+-- Images of slots: they describe the slots' state, and are whole.
 use Rattle.std.proofs.Common.{◌≡◌, ◌≢◌, ◌<◌, ◌+◌, ◌∙◌, ◌++◌, ◌∷◌, [], ℕ, zero, suc, true, false}
 use Rattle.std.proofs.Common.{inl, inr, List, Option, Some, None, IfNone, IfSome, is_some, option_map, if◌then◌else◌}
 use Rattle.std.proofs.Common.{add-one, ap, arith, eq-eqb, length, nat_eq, refl, slice_get, sym, take}
@@ -58,7 +58,7 @@ both_there P Q None p q = tt
 both_there P Q (Some x) p q = (p, q)
 
 module _ {T : Type 0} (Copies : T → T → Type 0) where
-  -- the images of a slot more
+  -- the images of another slot
   pub images_more : (slots : List (Entry T)) (images : List (SlotImage T)) (e : Entry T) (s : SlotImage T)
       → AreSlotImages Copies slots images → IsSlotImage Copies e s
       → AreSlotImages Copies (slots ++ e ∷ []) (images ++ s ∷ [])
@@ -103,7 +103,7 @@ module _ {T : Type 0} (Copies : T → T → Type 0) where
     | inr w ↦ absurd (omega arith)
   ]
 
-  -- ==== the state that they tell
+  -- ==== the state that they describe
 
   cell_copied : (k : Kept T) (c : CellImage T) → IsCellImage Copies k c
       → IsCellCopy Copies (cell_of k) (cell_of (kept_told c))
@@ -135,7 +135,7 @@ module _ {T : Type 0} (Copies : T → T → Type 0) where
   given_same start g None (Some s) is = absurd is
   given_same start g (Some e) None is = absurd is
 
-  -- an image of slots, with a store's number and next ticket, tells a copy of their state
+  -- an image of slots, with a store's number and next ticket, describes a copy of their state
   pub told_copy : (slots : List (Entry T)) (i : Image T) → AreSlotImages Copies slots i.slots.items
       → IsStateCopy Copies (with_records (state_of i.start i.peak slots) i.number map.empty i.next) (told i)
   told_copy slots i all = rw (← tells i) (record {
@@ -195,7 +195,7 @@ module _ {T : Type 0} (Copies : T → T → Type 0) where
     target_image (Live kind.Value (Lent w) l) c is shared = absurd is
     target_image (Live kind.Shared (Lent w) l) c is shared = absurd is
 
-    -- what stands under the last name of a slot
+    -- what is under the last name of a slot
     own_cell : (k : ℕ) (e : Entry T) → slice_get slots k ≡ Some e
         → map.get (cells_of slots) (record { slot = k; generation = e.generation }) ≡ cell_of e.kept
     own_cell k e there =
@@ -292,7 +292,7 @@ module _ {T : Type 0} (Copies : T → T → Type 0) where
   }
 
 module _ {T : Type 0} where
-  -- ==== an image with the values themselves tells the state itself
+  -- ==== an image with the values themselves describes the state itself
 
   same_copy : (c d : Option (Cell T)) → IsCellCopy (λ v w. w ≡ v) c d → d ≡ c
   same_copy None d is = is
@@ -355,7 +355,7 @@ module _ {T : Type 0} where
       | inr w ↦ absurd (omega arith)
     ]
 
-    -- as a search of the slots tells it
+    -- as a search of the slots finds it
     pub borrowed_at : (o : Option ℕ) → IfSome o (λ k. k < length slots)
         → IfSome o (λ k. IfSome (slice_get slots k) (λ e. is_some (write_refusal (content_in e.kept)) ≡ true))
         → IfSome o (λ k. (g : ℕ) × (is_some (write_refusal (content_of (map.get (cells_of slots)

@@ -43,7 +43,7 @@ module _ {T : Type 0} where
   shared_value g (saved.Shared v l) h is = refl
   shared_value g (saved.Reference s k l) h is = absurd (grind arith)
 
-  -- no borrow stands at a cell of an image
+  -- there is no borrow at a cell of an image
   untaken : (c : CellImage T) → tickets_in (cell_of (kept_told c)) ≡ []
   untaken saved.Empty = refl
   untaken (saved.Value v l) = refl

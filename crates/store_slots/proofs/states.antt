@@ -14,9 +14,9 @@ use Rattle.std.specs.FinSet as set
 use Rattle.store_rows.specs.declared.packed.PackedSlot.TheVariants as packed
 unfoldable pub use Counting.*
 
--- ==== what the box of a name reaches, as the slots tell it and as the state sees it
+-- ==== what the box of a name reaches, by the slots and by the state
 
--- whether a name has a target, as the store tells it
+-- whether a name has a target, by the store
 pub has_target : {A B : Type 0} (f : A → B) (o : Option A) {p : Option B} {b : Bool}
     → option_map f o ≡ p → is_some o ≡ b → is_some p ≡ b
 has_target f o same h = grind arith
@@ -38,7 +38,7 @@ module _ {T : Type 0} where
   pub shared_content : (o : Option (Cell T)) → is_shared o ≡ true → is_some (content_of o) ≡ true
   shared_content o h = grind arith
 
-  -- in linked cells something stands where a name leads, and what goes with a name
+  -- in linked cells there is something at what a name refers to, and what goes with a name
   module _ (S : State T) (linked : IsLinked S.cells) (n m : Name) where
     reached_there : Some m ≡ reached S n → is_some (content_at S m) ≡ true
     reached_there to = grind (arith, shared_content, linked.targets)
@@ -49,7 +49,7 @@ module _ {T : Type 0} where
 
   module _ {now : SlotsState T} {start peak spare : ℕ} (slots : List (Entry T))
       (view : record { state = state_of start peak slots; spare = spare } ≡ now) where
-    -- where the slots lead is what the state sees reached
+    -- what the slots lead to is what the state has
     pub reached_seen : (n : Name) {o : Option Name} → o ≡ leads_to (cell_under slots n) n
         → o ≡ reached now.state n
     reached_seen n to = rw (cell_seen slots view n) at to
@@ -59,7 +59,7 @@ module _ {T : Type 0} where
         → b ≡ d → is_unborrowed_value (map.get now.state.cells n) ≡ d
     unborrowed_told n is free = sym (rw (cell_seen slots view n) at is) ∙ free
 
-    -- such a value is reached by its own box, and ends by itself
+    -- such a value is reached by its own box, and ends alone
     pub free_told : (n : Name) → IsLinked now.state.cells → {b : Bool}
         → b ≡ is_unborrowed_value (cell_under slots n) → b ≡ true → EndsFree now.state n
     free_told n linked is free = free_ends now.state linked (unborrowed_told n is free)
@@ -78,7 +78,7 @@ module _ {T : Type 0} where
         let leads = reached_seen slots view n to in
         record { place = held_in view (reached_there now.state linked n m leads); so = sym leads }
 
-    -- and one where no borrow is
+    -- and one without borrows
     pub free_reached : {n m : Name} → Some m ≡ leads_to (cell_under slots n) n
         → has_no_borrow (content_reached now.state (reached now.state n)) ≡ true
         → IsSeenBy slots now.state n m
@@ -109,8 +109,8 @@ module _ {T : Type 0} where
       let shared = linked.targets n (name_of_cell led.0) in
       record { place = way.place; so = (way.so, grind arith) }
 
--- ==== what hinders the end of names, as the counts of references tell it, and the end of a list of
--- values without borrows
+-- ==== what hinders the end of names, by the counts of references, and the end of a list of values
+-- without borrows
 
 module _ {T : Type 0} (slots : List (Entry T)) (named : Name → Bool) where
   -- what hinders the end of a name, and of names
@@ -124,12 +124,12 @@ module _ {T : Type 0} (slots : List (Entry T)) (named : Name → Bool) where
   abbrev pub lives : Name → Bool
   lives m = is_shared (cell_under slots m) && named m
 
-  -- a name that reaches no borrowed value, or one that lives on, is hindered by nothing
+  -- a name that reaches no borrowed value, or one that stays live, is hindered by nothing
   free_own : (n : Name) (o : Option Name) → o ≡ borrowed_at slots n → IfSome o (λ m. lives m ≡ true)
       → own n ≡ None
   free_own n o reached spared = grind (arith, get_cells, and_parts)
 
-  -- one that reaches another is hindered by what stands there, whatever comes after
+  -- one that reaches another is hindered by the borrows there, whatever comes after
   ending_own : HasTargets (cells_of slots) → (n m : Name) → Some m ≡ borrowed_at slots n
       → lives m ≡ false → (rest : Option BorrowRefusal)
       → option_or (own n) rest ≡ refusal_of (cells_of slots) (Some m)
@@ -149,18 +149,18 @@ module _ {T : Type 0} (slots : List (Entry T)) (named : Name → Bool) where
         at_drop_more all names i (name_of_cell none) (omega (arith, length-map items name_of_cell))
         ∙ rw (get_or-map name_of_cell items i none) refl
 
-    -- where it reaches no borrowed value, or one that lives on, it is what comes after
+    -- if it reaches no borrowed value, or one that stays live, it is what comes after
     pub passed : (o : Option Name) → o ≡ borrowed_at slots name → IfSome o (λ m. lives m ≡ true)
         → all (drop (i + 1) names) ≡ all (drop i names)
     passed o reached spared = rw (rest_of, free_own name o reached spared) refl
 
-    -- and where it reaches one that goes, it is this
+    -- and if it reaches one that goes, it is this
     pub stopped : HasTargets (cells_of slots) → (m : Name) → Some m ≡ borrowed_at slots name
         → lives m ≡ false → all (drop i names) ≡ refusal_of (cells_of slots) (Some m)
     stopped targets m reached dies = rest_of ∙ ending_own targets name m reached dies _
 
 module _ {T : Type 0} where
-  -- whether a value lives on where names end, is told by how many of them refer to it
+  -- how many of the names that end refer to a value determines whether it stays live
   pub living : (slots : List (Entry T)) (names : List Name) → AreReferred (λ m. 0) slots
       → IsDistinct is_name names → (m : Name) (t : HasShared slots m)
       → nat_lt (refers_among slots names m) t.references
@@ -168,7 +168,7 @@ module _ {T : Type 0} where
   living slots names referred apart m t =
       grind (arith, references_of, get_cells, t.cell, t.shared, named_after)
 
-  -- the value that goes where one name ends
+  -- the value that goes when one name ends
   pub ending_alone : (slots : List (Entry T)) → HasTargets (cells_of slots)
       → AreReferred (λ m. 0) slots → (n : Name)
       → would_end (has_other_count slots 1) (cell_under slots n) n
@@ -183,7 +183,7 @@ pub record IsLive {T : Type 0} (slots : List (Entry T)) (n m : Name) : Type 0 wh
   pub leads : leads_to (map.get (cells_of slots) n) n ≡ Some m
 
 module _ {T : Type 0} {slots : List (Entry T)} where
-  -- what is refused is live
+  -- what fails is live
   pub refused_live : {m : Name} → is_some (refusal_of (cells_of slots) (Some m)) ≡ true
       → IsFound slots m
   refused_live {m} refused =
@@ -216,7 +216,7 @@ module _ {T : Type 0} where
     pub linked : IsLinked S.cells
     pub ends : close S names ≡ end
 
-  -- where none is left the end is reached
+  -- if none is left, the end is reached
   pub left_none : {S end : State T} → AreLeft S [] end → S ≡ end
   left_none {S} left = grind (arith, close_nothing)
 
@@ -269,7 +269,7 @@ module _ {T : Type 0} where
       (items : List CellName)
       (free : list_all (λ n. is_unborrowed_value (cell_under slots (name_of_cell n))) items ≡ true)
     where
-      -- the state sees such values as the slots tell them
+      -- the state has such values if the slots do
       pub unborrowed_seen : are_unborrowed now.state items ≡ true
       unborrowed_seen =
           (λ i. list_all (λ n. is_unborrowed_value
@@ -280,9 +280,9 @@ module _ {T : Type 0} where
           → hindrance_to now.state (list_map name_of_cell items) ≡ None
       unborrowed_free linked = grind (arith, state_is, hindrance_is, first_hindered, none_hindered)
 
--- ==== a cell more: in a free slot, or in a new one
+-- ==== another cell: in a free slot, or in a new one
 
--- one slot more is made
+-- another slot is made
 pub one_made : (r : Retirements) (made : ℕ) → r.retired ≤ made → count_of r (made + 1)
     ≡ record {
       usable = (count_of r made).usable + 1;
@@ -291,7 +291,7 @@ pub one_made : (r : Retirements) (made : ℕ) → r.retired ≤ made → count_o
 one_made r made few = grind arith
 
 module _ {T : Type 0} {p : SlotTable T} (s : IsSlotTable p) where
-  -- the state for which the slots stand
+  -- the state that the slots represent
   abbrev before : State T
   before = state_of p.start p.counts.peak p.slots
 
@@ -329,10 +329,10 @@ module _ {T : Type 0} {p : SlotTable T} (s : IsSlotTable p) where
     peak_stays : max p.counts.peak (many + 1) ≡ p.counts.peak
     peak_stays = grind (arith, taken_less, s.counted, s.few)
 
--- ---- a content more, without borrows, of which the target is shared
+-- ---- another content, without borrows, whose target is shared
 
--- slots after it was put into one, under this name, where the target doesn't count it yet; and once
--- that does, with how many they are then
+-- slots after it was put into one, under this name, while the target doesn't count it yet; and once that
+-- does, with how many they are then
 pub record IsPut {T : Type 0} (S : State T) (d : SlotData T) (l : Location) (q : SlotTable T)
     (n : Name) (size : ℕ) : Type 0 where
   pub fits : IsNew S n
@@ -409,7 +409,7 @@ module _ {T : Type 0} {p : SlotTable T} (s : IsSlotTable p) (r : AreReferred (λ
       (rw (own.1, own.2, own.3, live) (omega arith)) (omega arith) (omega arith) s.few
       (omega arith))
 
-  -- in a slot more
+  -- in another slot
   pub pushes : free S ≡ 0 → 0 < set.len p.free + (p.rooms - length p.slots)
       → IsPut S d l (record p { counts = raised s; slots = p.slots ++ entry d l p.start ∷ [] })
       (record { slot = length p.slots; generation = p.start }) (length p.slots + 1)
@@ -431,8 +431,7 @@ module _ {T : Type 0} {p : SlotTable T} (s : IsSlotTable p) (r : AreReferred (λ
       (sym (cond_same (nat_eq k (length p.slots)) false))) (rw (past, live) refl)
       (rw (past, live) (omega arith)) (omega arith) (omega arith) (omega arith) (omega arith))
 
--- ==== the rows of the slots: that they stand in the order of the machine's slots, and what reads
--- them back
+-- ==== the rows of the slots: that they are in the order of the machine's slots, and what reads them back
 
 module _ {A : Type 0} where
   -- ---- one slot after the other
@@ -557,7 +556,7 @@ module _ {A : Type 0} {p : SlotTable A} (s : IsSlotTable p) {S : State A}
       ∙ find_numbered 0 p.slots q q (omega arith))))
       ∙ map.entries-from_sorted nat_cmp (numbered 0 p.slots) (rising 0 p.slots)
 
-  -- the rows stand in the order of the machine's slots
+  -- the rows are in the order of the machine's slots
   pub rows_seen : (number : ℕ) → rows_from number 0 p.slots ≡ all_slot_rows number S
   rows_seen number = grind (arith, entries_are, rows_numbered)
 
@@ -570,7 +569,7 @@ module _ {A : Type 0} {p : SlotTable A} (s : IsSlotTable p) {S : State A}
       rw (← rows_seen number, ← view) (slots_read number 0 p.slots P
       ∙ rw (no_cells, none_given, cells_read p.slots, given_read p.slots, start) refl)
 
--- ==== one slot more is packed, in the place of one that was packed in an earlier state
+-- ==== another slot is packed, over one that was packed in an earlier state
 
 -- an element that is within a list
 some_at : {X : Type 0} (xs : List X) (k : ℕ) → k < length xs → (x : X) × (slice_get xs k ≡ Some x)
@@ -612,7 +611,7 @@ module _ {A : Type 0} (number k : ℕ) (es : List (Entry A)) (whole : List BaseR
         ) refl;
       }
 
-  -- those so far are packed, and the others are as they were
+  -- those so far are packed, and the others are unchanged
   pub packed_step : (old : List (PackedSlot × Location)) → ArePacked number (take k es) whole (take k slots)
       → k ≤ length slots → ((i : ℕ) → k ≤ i → slice_get slots i ≡ slice_get old i) → k < length es
       → IfSome (slice_get es k) (λ e. Packs number k e whole slots whole_after slots_after)
@@ -633,7 +632,7 @@ module _ {A : Type 0} (number k : ℕ) (es : List (Entry A)) (whole : List BaseR
 -- ---- a slot
 
 module _ {A : Type 0} where
-  -- one that is as it was is packed already, without a whole row
+  -- one that is unchanged is packed already, without a whole row
   pub stayed : (number k : ℕ) (es : List (Entry A)) (whole : List BaseRow)
       (slots : List (PackedSlot × Location)) (p : PackedSlot) → k < length es → k < length slots
       → IfSome (slice_get slots k) (λ e. p ≡ e.0)
@@ -704,7 +703,7 @@ module _ {A : Type 0} (slots : List (Entry A)) (S : State A) (are : cells_of slo
 -- ---- slots packed ahead
 
 module _ {X : Type 0} where
-  -- where one element is put into its place, or after the last one, each other is as it was
+  -- if one element is put into its place, or after the last one, each other is unchanged
   only_at : (k : ℕ) (xs ys : List X) (x : X) → k ≤ length xs → take (suc k) ys ≡ take k xs ++ x ∷ []
       → ((i : ℕ) → k < i → slice_get ys i ≡ slice_get xs i) → (i : ℕ)
       → (slice_get ys i ≡ slice_get xs i) ⊎ ((i ≡ k) × (slice_get ys i ≡ Some x))
@@ -715,7 +714,7 @@ module _ {X : Type 0} where
   only_at k xs ys x within here rest i = grind (arith, rest i, take-nil)
 
 module _ {A : Type 0} (es : List (Entry A)) where
-  -- a slot in few bytes tells of its cell, and so does one of which nothing is told
+  -- a slot in few bytes describes its cell, and so does one that describes nothing
   pub small_of : (slot : ℕ) (o : Option PackedSlot) (l : Location) → slot < length es
       → IfSome (slice_get es slot) (λ e. WasMadeIn e l)
       → IfSome o (λ p. IfSome (slice_get es slot)
@@ -732,7 +731,7 @@ module _ {A : Type 0} (es : List (Entry A)) where
       at e _ made small = tt
 
   module _ (old slots : List (PackedSlot × Location)) where
-    -- where one is put into its place, or after the last one
+    -- if one is put into its place, or after the last one
     pub renewed_by : {E : Type 0} (r : Result (Unit {0}) E) (k : ℕ) (p : PackedSlot × Location)
         → k ≤ length old → (e : Entry A) × (slice_get es k ≡ Some e) × IsOf e p
         → OnOk r (take (k + 1) slots ≡ take k old ++ p ∷ [])
@@ -749,7 +748,7 @@ module _ {A : Type 0} (es : List (Entry A)) where
 
 module _ {A : Type 0} {p : SlotTable A} (s : IsSlotTable p) (S : State A)
     (seen : state_of p.start p.counts.peak p.slots ≡ S) where
-  -- what tells of a slot's cell is so of the state, and so are renewed slots
+  -- what describes a slot's cell is true of the state, and so are renewed slots
   told_past : (slot g : ℕ) (e : Entry A) (l : Location) → slice_get p.slots slot ≡ Some e
       → (g ≡ e.generation) × WasMadeIn e l
       → WasMadeAt (plain S) (record { slot = slot; generation = g }) l

@@ -1,4 +1,4 @@
--- The slots of an image stand for the state that it tells.
+-- The slots of an image represent the state that it describes.
 use Rattle.std.proofs.Common.{◌≡◌, ◌+◌, ◌-◌, ◌++◌, ◌∷◌, [], ℕ, zero, suc, List, Some, None, Option, refl, subst, ap}
 use Rattle.std.proofs.Common.{map as list_map}
 use Rattle.std.specs.FinMap as map
@@ -47,7 +47,7 @@ module _ {T : Type 0} where
   unfolding cells_of given_of told
   tells i = rw (cells_same 0 i.slots.items, given_same i.start 0 i.slots.items) refl
 
-  -- so a whole image tells a sound state
+  -- so a whole image describes a sound state
   pub whole_sound : (i : Image T) → IsWhole i → IsSound (told i)
   whole_sound i w =
       subst IsSound (tells i)

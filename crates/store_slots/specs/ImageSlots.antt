@@ -53,7 +53,7 @@ module _ {T : Type 0} where
   IsWithin slots (Some (Ref m l)) = is_shared (cell_under slots m) ≡ true
   IsWithin slots c = Unit {0}
 
-  -- the same slots, but for their counts of references: they stand for the same state
+  -- the same slots, except for their counts of references: they represent the same state
   pub record AreRecounted (old new : List (Entry T)) : Type 0 where
     pub long : length new ≡ length old
     pub state : (start peak : ℕ) → state_of start peak new ≡ state_of start peak old
@@ -82,7 +82,7 @@ module _ {T : Type 0} (Copies : T → T → Type 0) where
   AreSlotImages _ _ = ⊥
 
 module _ {T : Type 0} where
-  -- no borrow stands at a slot's cell
+  -- there is no borrow at a slot's cell
   abbrev pub AreUnborrowed : List (Entry T) → Type 0
   AreUnborrowed slots =
       (k : ℕ) → IfSome (slice_get slots k) (λ e. write_refusal (content_in e.kept) ≡ None)

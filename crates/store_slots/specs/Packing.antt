@@ -10,13 +10,13 @@ use Rattle.store_rows.specs.declared.packed.PackedSlot.{PackedSlot}
 use Rattle.store_rows.specs.declared.packed.PackedSlot.TheVariants as packed
 use Rattle.store_slots.specs.SlotRows.{entry_rows, rows_from}
 
--- All slots are packed: their rows are told, and all whole ones are theirs.
+-- All slots are packed: the packed slots represent their rows, and all whole rows are theirs.
 pub record ArePacked {T : Type 0} (number : ℕ) (entries : List (Entry T)) (whole : List BaseRow)
     (slots : List (PackedSlot × Location)) : Type 0 where
   pub all : whole_of slots ≡ length whole
   pub rows : unpack_all number whole 0 slots ≡ rows_from number 0 entries
 
--- A slot is packed in few bytes, which tell its rows without a whole one.
+-- A slot is packed in few bytes, which represent its rows without a whole one.
 pub record IsSmall {T : Type 0} (slot : ℕ) (p : PackedSlot × Location) (e : Entry T) : Type 0 where
   pub none : whole_in p.0 ≡ 0
   pub rows : (number : ℕ) (whole : List BaseRow)
@@ -30,7 +30,7 @@ pub record IsPacked {T : Type 0} (number slot : ℕ) (e : Entry T) (whole whole_
   pub many : whole_in p.0 ≡ length more
   pub rows : unpack number more slot p ≡ entry_rows number slot e
 
--- One slot more is packed after those before it, and the slots behind it are as they were.
+-- Another slot is packed after those before it, and the slots after it are unchanged.
 pub record Packs {T : Type 0} (number slot : ℕ) (e : Entry T) (whole : List BaseRow)
     (slots : List (PackedSlot × Location)) (whole_after : List BaseRow)
     (slots_after : List (PackedSlot × Location)) : Type 0 where
@@ -43,7 +43,7 @@ pub record Packs {T : Type 0} (number slot : ℕ) (e : Entry T) (whole : List Ba
 abbrev pub WasMadeIn : {T : Type 0} → Entry T → Location → Type 0
 WasMadeIn e l = IfSome (location_of (cell_of e.kept)) (λ k. l ≡ k)
 
--- a slot as it was packed in an earlier state, and all of them
+-- a slot like it was packed in an earlier state, and all of them
 abbrev pub IsPastOf : {T : Type 0} → Entry T → PackedSlot × Location → Type 0
 IsPastOf e (packed.Value g, l) = g ≡ e.generation → WasMadeIn e l
 IsPastOf e (packed.Shared g, l) = g ≡ e.generation → WasMadeIn e l
@@ -53,13 +53,13 @@ abbrev pub ArePastOf : {T : Type 0} → List (Entry T) → List (PackedSlot × L
 ArePastOf entries slots = (slot : ℕ) → IfSome (slice_get entries slot)
     (λ e. IfSome (slice_get slots slot) (λ p. IsPastOf e p))
 
--- a packed slot tells of this slot's cell, if it tells of one
+-- a packed slot describes this slot's cell, if it describes one
 abbrev pub IsOf : {T : Type 0} → Entry T → PackedSlot × Location → Type 0
 IsOf e (packed.Value g, l) = (g ≡ e.generation) × WasMadeIn e l
 IsOf e (packed.Shared g, l) = (g ≡ e.generation) × WasMadeIn e l
 IsOf e p = Unit {0}
 
--- each packed slot is as it was before, or tells of the slot's cell
+-- each packed slot is like it was before, or describes the slot's cell
 abbrev pub AreRenewed : {T : Type 0} → List (Entry T) → List (PackedSlot × Location)
     → List (PackedSlot × Location) → Type 0
 AreRenewed {T} entries old slots = (slot : ℕ) (p : PackedSlot × Location) → slice_get slots slot ≡ Some p

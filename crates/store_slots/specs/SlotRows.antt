@@ -1,4 +1,4 @@
--- The rows of slots as they stand in a list.
+-- The rows of slots as they are in a list.
 use Rattle.std.specs.Prelude.{◌≡◌, ℕ, ◌+◌, List, [], ◌∷◌, ◌++◌}
 use Rattle.std.specs.FinMap as map
 use Rattle.std.specs.FinSet as set
@@ -26,7 +26,7 @@ module _ {T : Type 0} where
   abbrev pub all_slot_rows : ℕ → State T → List BaseRow
   all_slot_rows number S = slot_rows number S.cells (map.entries (slots_of S))
 
-  -- where no cell is yet, they are read as the state's cells and given names, if its generations
+  -- if there is no cell yet, they are read as the state's cells and issued names, if its generations
   -- begin at 1
   abbrev pub ReadSlots : ℕ → State T → Type 0
   ReadSlots number S = (P : Plain) → S.start ≡ 1 → P.cells ≡ map.empty → P.given ≡ set.empty

@@ -1,4 +1,4 @@
--- The state for which a list of slots stands, and what holds of every such list.
+-- The state that a list of slots represents, and what holds of every such list.
 use Rattle.std.specs.Prelude.{◌≡◌, ℕ, ◌+◌, ◌-◌, ◌≤◌, suc, zero, Bool, true, false, ◌&&◌, nat_eq}
 use Rattle.std.specs.Prelude.{nat_lt, not, if◌then◌else◌, length, List, [], ◌∷◌, ◌++◌}
 use Rattle.std.specs.Prelude.{Option, None, Some, IfSome, IsTrue, Result, Ok, Err, is_ok, slice_get}
@@ -32,24 +32,23 @@ use Rattle.store_parts.specs.declared.names.CellName.{CellName}
 use Rattle.store_slots.specs.declared.found.Found.{Found}
 use Rattle.store_slots.specs.declared.found.Found.TheVariants as found
 
--- The slots of a store: the state for which they stand, without owners and numbers, and how many
--- cells more take no memory.
+-- The slots of a store: the state that they represent, without owners and numbers, and how many more
+-- cells don't need an allocation.
 pub record SlotsState (T : Type 0) : Type 0 where
   pub state : State T
   pub spare : ℕ
 
--- How many slots are live or free, and the most that were at once.
+-- How many slots are live or free, and their peak number.
 pub record Count : Type 0 where
   pub usable : ℕ
   pub peak : ℕ
 
--- How many slots were retired, and the most that were live or free at once before the last of them
--- was.
+-- How many slots were retired, and the peak number of live or free ones before the last of them was.
 pub record Retirements : Type 0 where
   pub retired : ℕ
   pub before : ℕ
 
--- what follows for the slots, where so many were made
+-- what follows for the slots, if so many were made
 abbrev pub count_of : Retirements → ℕ → Count
 count_of r made =
     record { usable = made - r.retired; peak = max r.before (made - r.retired) }
@@ -85,18 +84,18 @@ module _ {T : Type 0} where
   unfoldable pub cells_of : List (Entry T) → NameMap (Cell T)
   cells_of slots = map.from_entries (live_from 0 slots)
 
-  -- the names that were given in the slots from the i-th on: each slot's generations from the
-  -- first one to that of its last cell
+  -- the names that were issued in the slots from the i-th on: each slot's generations from the first one
+  -- to that of its last cell
   abbrev pub given_from : ℕ → ℕ → List (Entry T) → List Name
   given_from start i [] = []
   given_from start i (e ∷ slots) =
       names_up i start (e.generation + 1 - start) ++ given_from start (i + 1) slots
 
-  -- the names that were given in the slots
+  -- the names that were issued in the slots
   unfoldable pub given_of : ℕ → List (Entry T) → Names
   given_of start slots = set.from_list (given_from start 0 slots)
 
-  -- the state for which slots stand
+  -- the state that slots represent
   abbrev pub state_of : ℕ → ℕ → List (Entry T) → State T
   state_of start peak slots =
       record {
@@ -123,7 +122,7 @@ module _ {T : Type 0} where
   abbrev pub change_content : State T → Name → (Content T → Content T) → State T
   change_content S n f = change_content_if S n f (content_at S n)
 
-  -- what a box of this name reaches, and the content that stands there
+  -- what a box of this name reaches, and the content there
   abbrev pub reached : State T → Name → Option Name
   reached S n = leads_to (map.get S.cells n) n
 
@@ -131,7 +130,7 @@ module _ {T : Type 0} where
   content_reached S None = None
   content_reached S (Some m) = content_at S m
 
-  -- how a read is refused of what was reached, if something was
+  -- how a read fails of what was reached, if something was
   abbrev pub read_refusal_of : NameMap (Cell T) → Option Name → Option BorrowRefusal
   read_refusal_of cells None = None
   read_refusal_of cells (Some m) = read_refusal (content_of (map.get cells m))
@@ -148,15 +147,15 @@ module _ {T : Type 0} where
       × (is_some (write_refusal (content_of (map.get cells (name_of_cell m)))) ≡ true)
   Finds cells r (found.Lent e) = read_refusal_of cells r ≡ Some (BeingWritten e.borrowed_mut_at)
 
-  -- how a read is refused of what a box reaches that was made at l, and how a write is
+  -- how a read of what a box that was made at l reaches fails, and how a write does
   abbrev pub refusal_to_read_at : State T → Name → Location → Option BorrowRefusal
   refusal_to_read_at S n l = refusal_at (reached S n) l (λ m. read_refusal (content_at S m))
 
   abbrev pub refusal_to_write_at : State T → Name → Location → Option BorrowRefusal
   refusal_to_write_at S n l = refusal_at (reached S n) l (λ m. write_refusal (content_at S m))
 
-  -- what is answered of a read: what the box reaches, which no writer has, and whether it is known to
-  -- have no borrow, or a refusal
+  -- the result of a read: what the box reaches, which no writer has, and whether it is known to have no
+  -- borrow, or an error
   abbrev pub IsReadable : State T → Name → Location → Result (CellName × Bool) BorrowError → Type 0
   IsReadable S n l (Ok r) =
       (reached S n ≡ Some (name_of_cell r.0))
@@ -164,7 +163,7 @@ module _ {T : Type 0} where
       × (r.1 ≡ true → write_refusal (content_at S (name_of_cell r.0)) ≡ None)
   IsReadable S n l (Err e) = refusal_to_read_at S n l ≡ Some (refusal_of_read_error e)
 
-  -- what is answered of a write: what the box reaches, at which no borrow stands, or a refusal
+  -- the result of a write: what the box reaches, that isn't borrowed, or an error
   abbrev pub IsWritable : State T → Name → Location → Result CellName (Refused BorrowMutError)
       → Type 0
   IsWritable S n l (Ok m) =
@@ -172,7 +171,7 @@ module _ {T : Type 0} where
       × (write_refusal (content_at S (name_of_cell m)) ≡ None)
   IsWritable S n l (Err e) = FoundBorrowed (refusal_to_write_at S n l) (Err e)
 
-  -- how a reference to it is refused: as a read is, and where what is reached isn't shared
+  -- how a reference to it fails: like a read, and if what is reached isn't shared
   abbrev pub shared_reached : State T → Option Name → Bool
   shared_reached S None = false
   shared_reached S (Some m) = is_shared (map.get S.cells m)
@@ -204,8 +203,8 @@ module _ {T : Type 0} where
     -- the slots that are live or free are counted, and the free ones
     pub counted : p.counts.usable ≡ how_many (λ e. is_live e.kept) p.slots + set.len p.free
     pub stocked : set.len p.free ≡ how_many is_spent p.slots
-    -- a slot is made only where none is free: so the live and the free ones are no more than the
-    -- peak, which is no more than there are slots
+    -- a slot is made only if none is free: so the live and the free ones are no more than the peak, which
+    -- is no more than there are slots
     pub few : p.counts.usable ≤ p.counts.peak
     pub bounded : p.counts.peak ≤ length p.slots
 
@@ -213,7 +212,7 @@ module _ {T : Type 0} where
   abbrev pub refers : Name → Entry T → Bool
   refers m e = refers_to m (cell_of e.kept)
 
-  -- a shared cell's count is right but for some
+  -- a shared cell's count is right except for some
   abbrev pub IsReferred : List (Entry T) → (Name → ℕ) → ℕ → Option (Entry T) → Type 0
   IsReferred slots less k None = Unit {0}
   IsReferred slots less k (Some e) =
@@ -224,7 +223,7 @@ module _ {T : Type 0} where
   pub record AreReferred (less : Name → ℕ) (slots : List (Entry T)) : Type 0 where
     pub each : (k : ℕ) → IsReferred slots less k (slice_get slots k)
 
-  -- the slots in which a name's slot counts one reference more, and one less
+  -- the slots in which a name's slot counts another reference, and one less
   abbrev pub count_more : List (Entry T) → Option Name → List (Entry T)
   count_more slots None = slots
   count_more slots (Some m) =
@@ -243,7 +242,7 @@ module _ {T : Type 0} where
   abbrev pub has_other_count : List (Entry T) → ℕ → Name → Bool
   has_other_count slots last m = has_other_count_in last (slice_get slots m.slot)
 
-  -- The value that goes where a name ends: its own, or its target, unless that is named still.
+  -- The value that goes when a name ends: its own, or its target, unless that is named still.
   abbrev pub would_end : (Name → Bool) → Option (Cell T) → Name → Option Name
   would_end named (Some (Value c l)) n = Some n
   would_end named (Some (Ref m l)) n = if named m then None else Some m
@@ -262,20 +261,20 @@ module _ {T : Type 0} where
   abbrev pub borrowed_at : List (Entry T) → Name → Option Name
   borrowed_at slots n = if_borrowed (cells_of slots) (leads_to (cell_under slots n) n)
 
-  -- a cell more, under a new name, for which there was room or memory
+  -- another cell, under a new name, for which there was room or memory
   pub record IsMade (s r : SlotsState T) (cell : Option (Cell T)) (n : Name) : Type 0 where
     pub fits : IsNew s.state n
     pub added : IfSome cell (λ c. r.state ≡ add_cell s.state n c)
     pub room : s.spare ≤ r.spare + 1
 
--- what is answered of the end of names: nothing hindered it and they have ended, or the first borrow
--- that does, and nothing has changed
+-- the result of the end of names: nothing hindered it and they have ended, or the first borrow that does,
+-- and nothing has changed
 abbrev pub HasEnded : {T : Type 0} → State T → State T → List Name
     → Result (Unit {0}) (Refused BorrowMutError) → Type 0
 HasEnded S R names (Ok u) = (hindrance_to S names ≡ None) × (R ≡ close S names)
 HasEnded S R names (Err e) = FoundBorrowed (hindrance_to S names) (Err e) × (R ≡ S)
 
--- a call that lets a reference name another value does and answers what the machine does
+-- a call that points a reference to another value does and returns what the machine does
 abbrev pub IsTurned : {T : Type 0} → State T → State T → Result (Unit {0}) (Refused BorrowMutError)
     → Outcome T → Type 0
 IsTurned S R result (Done, after) = (IsTrue (is_ok result)) × (R ≡ after)

@@ -1,4 +1,4 @@
-//! The borrows that block an end.
+//! The borrows that block a removal.
 
 ghost use Rattle.std.specs.Prelude.{◌≡◌, ◌&&◌, true, Some, IfSome, is_some, option_map};
 ghost use Rattle.std.specs.Prelude.{count_by, map as list_map};
@@ -19,8 +19,8 @@ use store_cells::entries::Entries;
 use store_cells::entry::Kind;
 use store_parts::names::CellName;
 
-/// The value that goes where a name ends: its own, or the target's, if nothing else refers to that.
-/// The caller knows the target.
+/// The value that is removed with a name: its own, or the target's, if nothing else refers to that. The
+/// caller knows the target.
 #[inline(always)]
 pub fn would_end<T: Drop>(
     entries: &Entries<T>,
@@ -54,8 +54,8 @@ pub fn are_unborrowed_values<T: Drop>(entries: &Entries<T>, names: &[CellName]) 
     names.iter().all(|name| entries.has_unborrowed_value(*name))
 }
 
-/// The borrows that block the end of the names of a list, at the first of them where some do.
-/// Nothing takes memory but a refusal's list of locations.
+/// The borrows that block the removal of the names of a list, at the first name that has any. Only an
+/// error's list of locations is allocated.
 #[inline(always)]
 pub fn find_blocking_borrow<T: Drop>(
     entries: &Entries<T>,
@@ -74,10 +74,10 @@ pub fn find_blocking_borrow<T: Drop>(
     }
 }
 
-/// The borrowed value that blocks the end of the names of a list: the first that a name reaches
-/// and that would go. Takes no memory. A borrowed value that lives on is asked about once where
-/// names one after another reach it; so the time goes with the list, and once more with the list
-/// where the names come to another such value.
+/// The borrowed value that blocks the removal of the names of a list: the first that a name refers to and
+/// that would be removed. Doesn't allocate. A borrowed value that stays live is checked once for
+/// consecutive names that refer to it: so the time is linear in the list, plus once more the list for
+/// each change to another such value.
 #[cold]
 #[inline(never)]
 pub fn find_blocking_value<T: Drop>(entries: &Entries<T>, names: &[CellName]) -> Option<CellName>
@@ -107,7 +107,7 @@ pub fn find_blocking_value<T: Drop>(entries: &Entries<T>, names: &[CellName]) ->
     None
 }
 
-// The borrowed value that a name reaches: its own, or the one that its reference names.
+// The borrowed value that a name refers to: its own, or its reference's target.
 #[inline(always)]
 fn borrowed_value<T: Drop>(entries: &Entries<T>, name: CellName) -> Option<CellName>
     requires { IsLinked (cells_of entries.now.slots) }
@@ -126,7 +126,7 @@ fn borrowed_value<T: Drop>(entries: &Entries<T>, name: CellName) -> Option<CellN
     Some(value)
 }
 
-// Whether a cell is a shared value that a reference beside those of a list names.
+// Whether a cell is a shared value with a reference other than those of a list.
 fn lives_on<T: Drop>(entries: &Entries<T>, names: &[CellName], value: CellName) -> bool
     requires referred { AreReferred (λ m. 0) entries.now.slots }
     requires apart { IsDistinct is_name (list_map name_of_cell names.now) }

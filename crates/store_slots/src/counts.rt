@@ -12,15 +12,15 @@ pub struct SlotCounts {
     pub slots: usize,
     /// Those that are free.
     pub free: usize,
-    /// Those that are never used again.
+    /// Those that are never reused.
     pub retired: usize,
-    /// The most cells that were live at once.
+    /// The peak number of live cells.
     pub peak_live: usize,
 }
 
-/// How many slots of a store were retired, and the most that were usable at once before the last
-/// of them was. A slot is usable while it is live or free. A slot more is only made where none is
-/// free, so the most usable ones are also the most cells that were live at once.
+/// How many slots of a store were retired, and the most that were usable at once before the last of them
+/// was. A slot is usable while it is live or free. Another slot is only made if none is free, so the most
+/// usable slots are also the peak number of live cells.
 #[derive(Drop)]
 pub struct Counts {
     retired: usize,
@@ -63,7 +63,7 @@ impl Counts {
         self.retired
     }
 
-    /// The most that were usable at once, where so many were made.
+    /// The most that were usable at once, if so many were made.
     #[inline(always)]
     pub fn peak(&self, made: usize) -> usize
         requires { self.now.retired ≤ made }
@@ -72,7 +72,7 @@ impl Counts {
         self.before.max(made - self.retired)
     }
 
-    /// One more of those that were made is retired.
+    /// Another one of those that were made is retired.
     #[inline(always)]
     pub fn retire_one(&mut self, made: usize)
         requires { self.old.retired < made }

@@ -10,21 +10,21 @@ use generational_core::AlreadyBorrowedMutError;
 use store_cells::entries::Entries;
 use store_parts::names::CellName;
 
-/// What a box reaches, and which borrow is there.
+/// What a box refers to, and its borrow.
 #[derive(Clone, Copy)]
 pub enum Found {
-    /// The box reaches nothing.
+    /// The box refers to nothing.
     Nothing,
     /// A value without borrows.
     Unborrowed(CellName),
     /// A value that has readers.
     Read(CellName),
-    /// A value that is lent, and where its writer began.
+    /// A value that is being written, and where its writer began.
     Lent(AlreadyBorrowedMutError),
 }
 
-// What a box of this name reaches, and which borrow is there. It is handed the entries alone: LLVM
-// takes it that whoever has the store may write all of it.
+// What a box of this name refers to, and its borrow. It takes only the entries: LLVM assumes that the
+// holder of the store may write all of it.
 #[cold]
 #[inline(never)]
 pub(crate) fn look<T: Drop>(entries: &Entries<T>, name: CellName) -> Found

@@ -1,8 +1,8 @@
 //! The slots of a store of generational boxes: cells under names, which slots are free, how many
-//! references name a cell, and which borrows block an end.
+//! references a cell has, and which borrows block a removal.
 //!
-//! It is a part of `generational_box`, which is what users take. All that it has is `pub` for the
-//! crates above it, and may change with them.
+//! It is an internal part of `generational_box`; users import that. Its items are `pub` for the crates
+//! that depend on it, and may change with them.
 #![tactic(auto)]
 
 pub mod blocking_borrow;

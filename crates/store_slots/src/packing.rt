@@ -15,9 +15,9 @@ use store_cells::entry::Kind;
 use store_parts::names::CellName;
 use store_rows::{PackedSlot, PackedSlots};
 
-/// Packs the rows of all slots, with ids of the store with this number, into the place of slots that
-/// were packed in an earlier state, and into a list of whole rows. A slot without whole rows that is as
-/// it was then isn't written.
+/// Packs the rows of all slots, with ids of the store with this number, over slots that were packed in an
+/// earlier state, and into a list of whole rows. A slot without whole rows that hasn't changed since
+/// isn't written.
 pub fn pack_slots<T: Drop>(
     entries: &Entries<T>,
     number: u64,
@@ -36,9 +36,9 @@ pub fn pack_slots<T: Drop>(
     Ok(())
 }
 
-/// Packs the slots from one on, up to another, ahead of the rest, into the place of slots that were
-/// packed in an earlier state. So they needn't be written when all are packed, unless they change until
-/// then. Of a slot without a small form nothing is told.
+/// Packs a range of slots ahead of the rest, over slots that were packed in an earlier state. So they
+/// needn't be written when all are packed, unless they change until then. A slot without a small form is
+/// skipped.
 pub fn pack_ahead<T: Drop>(
     entries: &Entries<T>,
     slots: &mut PackedSlots,
@@ -95,7 +95,7 @@ fn pack_slot<T: Drop>(
     slots.put(slot, packed, created_at)
 }
 
-// A slot, of which maybe whole rows are appended, and where its cell was made.
+// A packed slot, for which whole rows may be appended, and where its cell was made.
 fn packed_slot<T: Drop>(
     entries: &Entries<T>,
     number: u64,
@@ -112,15 +112,15 @@ fn packed_slot<T: Drop>(
     }
     let from = whole.len();
     push_slot(entries, number, slot, whole)?;
-    // no memory holds more rows
+    // more rows don't fit into memory
     let Ok(many) = u32::try_from(whole.len() - from) else {
         return Err(AllocError);
     };
     Ok((PackedSlot::Whole(many), created_at))
 }
 
-// Whether a slot is as it was when it was packed. Where its cell was made needn't be asked: a name's
-// cell stays where it was made.
+// Whether a slot is unchanged since it was packed. The location needn't be compared: a name's cell always
+// has the same.
 #[inline(always)]
 fn stays<T: Drop>(entries: &Entries<T>, slot: usize, past: PackedSlot) -> bool
     requires { slot < length entries.now.slots }

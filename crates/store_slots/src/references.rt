@@ -1,4 +1,4 @@
-//! What references lead to and name, and the counts of references at the slots of their targets.
+//! What references refer to, and the counts of references at the slots of their targets.
 
 ghost use Rattle.std.specs.Prelude.{◌≡◌, ◌<◌, IfSome, is_some, length, option_map, slice_get};
 ghost use Rattle.generational_core.specs.Keeping.{boxed_at};
@@ -20,7 +20,7 @@ pub(crate) fn is_boxed<T: Drop>(entries: &Entries<T>, name: CellName) -> bool
     }
 }
 
-// The slot of what a new reference names counts it.
+// Counts a new reference at the slot of its target.
 #[inline(always)]
 pub(crate) fn refer<T: Drop>(entries: &mut Entries<T>, target: Option<CellName>)
     requires within { IfSome target (λ m. m.slot < length entries.old.slots) }
@@ -35,7 +35,7 @@ pub(crate) fn refer<T: Drop>(entries: &mut Entries<T>, target: Option<CellName>)
     }
 }
 
-// The slot of the shared value that a reference names counts it no more.
+// No longer counts a reference at the slot of its target.
 #[inline(always)]
 pub(crate) fn forget<T: Drop>(entries: &mut Entries<T>, named: Option<CellName>)
     requires within { IfSome named (λ m. m.slot < length entries.old.slots) }

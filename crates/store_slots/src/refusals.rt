@@ -1,4 +1,4 @@
-//! The answers to calls of boxes that reach nothing.
+//! The errors of calls on boxes that refer to nothing.
 
 ghost use Rattle.std.specs.Prelude.{◌≡◌};
 ghost use Rattle.generational_errors.specs.declared.error.Refused.TheVariants as refused;
@@ -7,14 +7,14 @@ ghost use Rattle.generational_errors.specs.declared.error.BorrowMutError.TheVari
 
 use generational_core::{BorrowError, BorrowMutError, Location, Refused, ValueDroppedError};
 
-/// The answer to a read where nothing is reached, and the box or the value was made at a location.
+/// The error of a read of a box that refers to nothing; the box or the value was made at a location.
 pub fn dropped(created_at: Location) -> BorrowError
     ensures { result ≡ reads.Dropped (record { created_at = created_at }) }
 {
     BorrowError::Dropped(ValueDroppedError::new(created_at))
 }
 
-/// The answer to a write, an end or a new target.
+/// The error of a write, a removal or a change of a target.
 pub fn dropped_mut(created_at: Location) -> Refused<BorrowMutError>
     ensures { result ≡ refused.Borrow (writes.Dropped (record { created_at = created_at })) }
 {

@@ -72,9 +72,9 @@ use store_parts::names::CellName;
 use store_parts::pool::{SlotPool, grow_within};
 use store_rows::PackedSlots;
 
-/// The slots of a store. Contracts see the state of the abstract machine for which they stand,
-/// without a number, owners and tickets, and how many cells more take no memory. `P` chooses which
-/// free slot is taken.
+/// The slots of a store. Contracts model them as the state of the abstract machine that they represent,
+/// without a number, owners and tickets, and how many more cells don't need an allocation. `P` chooses
+/// which free slot is taken.
 #[derive(Drop)]
 pub struct Slots<T, P: SlotPool> {
     // the first generation of a slot
@@ -114,7 +114,7 @@ impl<T, P: SlotPool> Model for Slots<T, P> {
 }
 
 impl<T, P: SlotPool> Slots<T, P> {
-    /// No slot. Takes no memory.
+    /// No slot. Doesn't allocate.
     pub fn new(alloc: Global, start: u64) -> Self
         ensures state { result.state ≡ fresh 0 start 0 }
         ensures spare { result.spare ≡ 0 }
@@ -136,7 +136,7 @@ impl<T: Drop, P: SlotPool> Slots<T, P> {
         self.entries.len() == 0
     }
 
-    /// How many slots there are, of which kinds, and the most cells that were live at once.
+    /// How many slots there are, of which kinds, and the peak number of live cells.
     pub fn counts(&self) -> SlotCounts
         ensures slots { result.slots ≡ slots self.now.state }
         ensures free { result.free ≡ free self.now.state }
@@ -154,9 +154,9 @@ impl<T: Drop, P: SlotPool> Slots<T, P> {
         }
     }
 
-    /// Packs the rows of the slots, ascending, with ids of the store with this number, into the place
-    /// of those of an earlier state and into a list of whole rows. Takes time for each slot, and
-    /// memory where there are more than then.
+    /// Packs the rows of the slots, ascending, with ids of the store with this number, over those of an
+    /// earlier state and into a list of whole rows. Takes time for each slot, and allocates if there are
+    /// more than then.
     pub fn pack_rows(
         &self,
         number: u64,
@@ -212,7 +212,7 @@ impl<T: Drop, P: SlotPool> Slots<T, P> {
         self.entries.reference_to(name.slot)
     }
 
-    /// The value that a box of this name reaches, unless a writer has it.
+    /// The value that a box of this name refers to, unless a writer has it.
     #[inline(always)]
     pub fn peek(&self, name: CellName) -> Option<&T>
         requires { IsLinked self.now.state.cells }
@@ -225,7 +225,7 @@ impl<T: Drop, P: SlotPool> Slots<T, P> {
         }
     }
 
-    /// Whether a box of this name reaches a value.
+    /// Whether a box of this name refers to a value.
     #[inline(always)]
     pub fn is_live(&self, name: CellName) -> bool
         ensures { result ≡ is_some (reached self.now.state (name_of_cell name)) }
@@ -233,7 +233,7 @@ impl<T: Drop, P: SlotPool> Slots<T, P> {
         self.entries.reach(name).is_some()
     }
 
-    /// What a box of this name reaches, and which borrow is there.
+    /// What a box of this name refers to, and its borrow.
     #[inline(always)]
     pub fn look(&self, name: CellName) -> Found
         requires { IsLinked self.now.state.cells }
@@ -242,8 +242,7 @@ impl<T: Drop, P: SlotPool> Slots<T, P> {
         look(&self.entries, name)
     }
 
-    /// Whether no borrow stands in the way where the reference of this name is to name another
-    /// value.
+    /// Whether no borrow is in the way of pointing the reference of this name to another value.
     pub fn may_point(&self, name: CellName, new: CellName, shared: bool) -> bool
         requires linked { IsLinked self.now.state.cells }
         requires shared { shared
@@ -262,7 +261,7 @@ impl<T: Drop, P: SlotPool> Slots<T, P> {
         self.may_lose(name, Some(old))
     }
 
-    /// What the reference of this name names, if it is one.
+    /// The target of the reference of this name, if it is one.
     pub fn target(&self, name: CellName) -> Option<CellName>
         ensures { option_map name_of_cell result
             ≡ target_in (map.get self.now.state.cells (name_of_cell name)) }
@@ -270,9 +269,9 @@ impl<T: Drop, P: SlotPool> Slots<T, P> {
         self.entries.target(name)
     }
 
-    /// The value that a box of this name reaches, unless a writer has it, and whether it is known
-    /// to have no borrow. A value that isn't shared and has no borrow is asked for first. A refusal
-    /// tells where the box was made.
+    /// The value that a box of this name refers to, unless a writer has it, and whether it is known to
+    /// have no borrow. A value that isn't shared and has no borrow is checked for first. An error says
+    /// where the box was made.
     #[inline(always)]
     pub fn readable(
         &self,
@@ -288,8 +287,8 @@ impl<T: Drop, P: SlotPool> Slots<T, P> {
         self.find_readable(name, created_at)
     }
 
-    // What `readable` promises, by a look. Apart from it, so that the place of what the look finds is
-    // made only here.
+    // Does what `readable` promises, by a lookup. It is separate, so that the result of the lookup is
+    // only stored here.
     #[inline(always)]
     fn find_readable(
         &self,
@@ -307,8 +306,8 @@ impl<T: Drop, P: SlotPool> Slots<T, P> {
         }
     }
 
-    /// The value that a box of this name reaches, unless a writer has it, and whether it is shared.
-    /// A refusal tells where the box was made.
+    /// The value that a box of this name refers to, unless a writer has it, and whether it is shared. An
+    /// error says where the box was made.
     #[inline(always)]
     pub fn unlent(
         &self,
@@ -337,7 +336,7 @@ impl<T: Drop, P: SlotPool> Slots<T, P> {
         }
     }
 
-    /// The shared value that a box of this name reaches, unless a writer has it.
+    /// The shared value that a box of this name refers to, unless a writer has it.
     #[inline(always)]
     pub fn shared(&self, name: CellName, created_at: Location) -> Result<CellName, BorrowError>
         requires { IsLinked self.now.state.cells }
@@ -359,8 +358,8 @@ impl<T: Drop, P: SlotPool> Slots<T, P> {
         Err(dropped(created_at))
     }
 
-    /// The value that a box of this name reaches, unless a borrow stands there. A value that isn't
-    /// shared and has no borrow is asked for first. A refusal tells where the box was made.
+    /// The value that a box of this name refers to, unless it is borrowed. A value that isn't shared and
+    /// has no borrow is checked for first. An error says where the box was made.
     #[inline(always)]
     pub fn writable(&self, name: CellName, created_at: Location) -> BorrowMutResult<CellName>
         requires { IsLinked self.now.state.cells }
@@ -391,7 +390,7 @@ impl<T: Drop, P: SlotPool> Slots<T, P> {
         }
     }
 
-    /// The value of this name, where the reader stands.
+    /// The value of this name, if it has this reader.
     #[inline(always)]
     pub fn open(&self, name: CellName, ticket: u64) -> Option<&T>
         ensures { option_copied result
@@ -409,7 +408,7 @@ impl<T: Drop, P: SlotPool> Slots<T, P> {
         !self.entries.is_settled()
     }
 
-    /// The noted borrow, if there is one, goes to a list. Nothing that contracts see changes.
+    /// Moves the noted borrow, if there is one, to a list. Nothing that contracts model changes.
     #[inline(always)]
     pub fn list_noted(&mut self)
         ensures { self.new ≡ self.old }
@@ -417,8 +416,8 @@ impl<T: Drop, P: SlotPool> Slots<T, P> {
         self.entries.list_noted();
     }
 
-    /// Adds a reader to a value that isn't lent. Only a reader beside another may lack memory, and
-    /// then nothing changes. The caller may know that the value has no borrow.
+    /// Adds a reader to a value that isn't being written. It may fail to allocate only if the value has
+    /// another reader, and then nothing changes. The caller may know that the value has no borrow.
     #[inline(always)]
     pub fn begin_read(
         &mut self,
@@ -441,7 +440,7 @@ impl<T: Drop, P: SlotPool> Slots<T, P> {
         self.entries.begin_read(name, borrow, is_unborrowed)
     }
 
-    /// Takes a reader away. The answer is whether it stood.
+    /// Removes a reader. Returns whether there was one.
     #[inline(always)]
     pub fn release_read(&mut self, name: CellName, ticket: u64) -> bool
         ensures known { result ≡ has_reader (content_at self.old.state (name_of_cell name)) ticket }
@@ -451,7 +450,7 @@ impl<T: Drop, P: SlotPool> Slots<T, P> {
         self.entries.holds(name) && self.entries.release_read(name.slot, ticket)
     }
 
-    /// Lends a value without borrows to a writer.
+    /// Moves a value without borrows to a writer.
     #[inline(always)]
     pub fn begin_write(&mut self, name: CellName, writer: Borrow) -> T
         requires { has_no_borrow (content_at self.old.state (name_of_cell name)) ≡ true }
@@ -462,8 +461,7 @@ impl<T: Drop, P: SlotPool> Slots<T, P> {
         self.entries.begin_write(name, writer)
     }
 
-    /// Puts a writer's value back, or hands it back where the writer doesn't stand, which changes
-    /// nothing.
+    /// Puts a writer's value back, or returns it if there is no such writer, and changes nothing then.
     #[inline(always)]
     pub fn release_write(&mut self, name: CellName, ticket: u64, value: T) -> Result<(), T>
         ensures known { IsTrue (is_ok result) ↔
@@ -478,8 +476,8 @@ impl<T: Drop, P: SlotPool> Slots<T, P> {
         Err(value)
     }
 
-    /// Puts another value in the place of the one that a box of this name reaches, and at which no
-    /// borrow stands, and answers the old one.
+    /// Replaces the value that a box of this name refers to, and that isn't borrowed, and returns the old
+    /// one.
     #[inline(always)]
     pub fn replace(&mut self, name: CellName, value: T) -> T
         requires { has_no_borrow
@@ -495,8 +493,8 @@ impl<T: Drop, P: SlotPool> Slots<T, P> {
         self.entries.replace(reached.slot, value)
     }
 
-    /// Changes the value that a box of this name reaches, and at which no borrow stands, by a closure,
-    /// which is called once on it in its place, and answers what that answers.
+    /// Calls a closure once on the value that a box of this name refers to, mutably, if it isn't
+    /// borrowed, and returns the closure's result.
     #[inline(always)]
     pub fn change<R, F: FnOnce(&mut T) -> R>(&mut self, name: CellName, f: F) -> R
         requires free { has_no_borrow
@@ -516,7 +514,7 @@ impl<T: Drop, P: SlotPool> Slots<T, P> {
         self.entries.change(reached.slot, f)
     }
 
-    // For how many cells more there is room.
+    // For how many more cells there is room.
     #[inline(always)]
     fn spare(&self) -> usize
         ensures count { result ≡ self.now.spare }
@@ -525,7 +523,7 @@ impl<T: Drop, P: SlotPool> Slots<T, P> {
         self.pool.free() + (self.pool.room() - self.entries.len())
     }
 
-    // Makes room for one cell more at least. Refused only if memory runs out. No slot changes.
+    // Reserves room for at least another cell. Fails only if an allocation fails. No slot changes.
     #[cold]
     #[inline(never)]
     fn grow(&mut self) -> Result<(), StoreError>
@@ -539,7 +537,7 @@ impl<T: Drop, P: SlotPool> Slots<T, P> {
         grow_within(&mut self.pool, self.entries.room())
     }
 
-    // Makes room for a cell more, where there is none.
+    // Reserves room for another cell, if there is none.
     #[inline(always)]
     fn reserve_one(&mut self) -> Result<(), StoreError>
         ensures state { self.new.state ≡ self.old.state }
@@ -553,7 +551,7 @@ impl<T: Drop, P: SlotPool> Slots<T, P> {
         self.grow()
     }
 
-    /// Makes room for two cells more, where there isn't.
+    /// Reserves room for two more cells, if there isn't enough.
     pub fn reserve_two(&mut self) -> Result<(), StoreError>
         ensures state { self.new.state ≡ self.old.state }
         ensures ok { OnOk result (2 ≤ self.new.spare) }
@@ -570,8 +568,8 @@ impl<T: Drop, P: SlotPool> Slots<T, P> {
         Ok(())
     }
 
-    /// Makes room for this many cells more, where there isn't, and for no more than these. Refused
-    /// only if memory runs out. No slot changes.
+    /// Reserves exact room for this many more cells, if there isn't enough. Fails only if an allocation
+    /// fails. No slot changes.
     pub fn reserve(&mut self, more: usize) -> Result<(), StoreError>
         ensures state { self.new.state ≡ self.old.state }
         ensures ok { OnOk result (more ≤ self.new.spare) }
@@ -589,8 +587,8 @@ impl<T: Drop, P: SlotPool> Slots<T, P> {
         self.pool.grow(room)
     }
 
-    /// Makes a cell without borrows. What a reference names counts it from then on. A refusal hands
-    /// the content back, and changes nothing: there was no room for a cell, and no memory.
+    /// Makes a cell without borrows. A reference is counted at its target from then on. On an error the
+    /// content comes back, and nothing changes: there was no room for a cell, and an allocation failed.
     #[inline(always)]
     pub fn make(
         &mut self,
@@ -619,7 +617,7 @@ impl<T: Drop, P: SlotPool> Slots<T, P> {
         Ok(CellName { slot, generation })
     }
 
-    // Makes a cell in a new slot, where none is free and there is room for one.
+    // Makes a cell in a new slot, if none is free and there is room for one.
     #[inline(always)]
     fn extend(&mut self, content: StorageEntryData<T>, created_at: Location) -> CellName
         requires none { free self.old.state ≡ 0 }
@@ -641,9 +639,9 @@ impl<T: Drop, P: SlotPool> Slots<T, P> {
         name
     }
 
-    // Takes a cell away. Its slot is free from then on, unless its generation is the last. The caller
-    // knows the shared value that the cell names, if that is live, whose slot counts it no more; and
-    // it may know that no borrow stands at the cell.
+    // Removes a cell. Its slot is free from then on, unless its generation is the last. The caller knows
+    // the shared value that the cell refers to, if that is live, which no longer counts it; and it may
+    // know that the cell isn't borrowed.
     #[inline(always)]
     fn remove(&mut self, name: CellName, named: Option<CellName>, is_unborrowed: bool)
         requires there { IsSome (map.get self.old.state.cells (name_of_cell name)) }
@@ -663,8 +661,8 @@ impl<T: Drop, P: SlotPool> Slots<T, P> {
         }
     }
 
-    // The value that goes where a name ends: its own, or the one that it refers to as the last. The
-    // caller knows what it refers to.
+    // The value that is removed with a name: its own, or its target, if it is the last reference to that.
+    // The caller knows the target.
     #[inline(always)]
     fn would_end(&self, name: CellName, target: Option<CellName>) -> Option<CellName>
         requires linked { IsLinked self.now.state.cells }
@@ -677,7 +675,7 @@ impl<T: Drop, P: SlotPool> Slots<T, P> {
         would_end(&self.entries, name, target)
     }
 
-    /// Whether no borrow stands in the way of a name's end.
+    /// Whether no borrow is in the way of a name's removal.
     pub fn may_end(&self, name: CellName) -> bool
         requires { IsLinked self.now.state.cells }
         ensures { result ≡ is_none (hindrance_to self.now.state (name_of_cell name ∷ [])) }
@@ -686,7 +684,7 @@ impl<T: Drop, P: SlotPool> Slots<T, P> {
         self.may_lose(name, target)
     }
 
-    // Whether no borrow stands at the value that goes where a name ends.
+    // Whether the value that is removed with a name isn't borrowed.
     fn may_lose(&self, name: CellName, target: Option<CellName>) -> bool
         requires linked { IsLinked self.now.state.cells }
         requires target { option_map name_of_cell target
@@ -699,7 +697,7 @@ impl<T: Drop, P: SlotPool> Slots<T, P> {
         }
     }
 
-    /// Ends a name, unless a borrow stands in the way.
+    /// Removes a name, unless a borrow is in the way.
     #[inline(always)]
     pub fn end(&mut self, name: CellName) -> BorrowMutResult<()>
         requires { IsLinked self.old.state.cells }
@@ -715,8 +713,8 @@ impl<T: Drop, P: SlotPool> Slots<T, P> {
         self.end_refused(name)
     }
 
-    /// Ends a name and hands its value back, exactly where that isn't shared and has no borrow. The
-    /// value is lent for that, and the writer ends with the cell.
+    /// Removes a name and returns its value, exactly if that isn't shared and has no borrow. For that the
+    /// value is moved to a writer, which is removed with the cell.
     pub fn take_value(&mut self, name: CellName) -> Option<T>
         requires { IsLinked self.old.state.cells }
         ensures value { result
@@ -742,8 +740,8 @@ impl<T: Drop, P: SlotPool> Slots<T, P> {
         Some(value)
     }
 
-    // Ends a name of any cell, unless a borrow stands in the way. The answer is whether it ended: so
-    // no place is made for a refusal.
+    // Removes a name of any cell, unless a borrow is in the way. Returns whether it was removed: so no
+    // stack space is needed for an error.
     #[cold]
     #[inline(never)]
     fn end_slow(&mut self, name: CellName) -> bool
@@ -765,8 +763,8 @@ impl<T: Drop, P: SlotPool> Slots<T, P> {
         true
     }
 
-    // Hands on the borrows that block the end of a name. Apart from `end`, so that the refusal's place
-    // is made only here.
+    // Returns the borrows that block the removal of a name. It is separate from `end`, so that the
+    // error's stack space is used only here.
     #[inline(always)]
     fn end_refused(&self, name: CellName) -> BorrowMutResult<()>
         requires { IsLinked self.now.state.cells }
@@ -778,7 +776,7 @@ impl<T: Drop, P: SlotPool> Slots<T, P> {
         }
     }
 
-    // The borrows that block the end of a name.
+    // The borrows that block the removal of a name.
     #[cold]
     #[inline(never)]
     fn find_blocking_borrow(&self, name: CellName) -> BorrowMutResult<()>
@@ -792,7 +790,7 @@ impl<T: Drop, P: SlotPool> Slots<T, P> {
         }
     }
 
-    // Ends a name, whatever stands in the way.
+    // Removes a name, even if a borrow is in the way.
     #[inline(always)]
     fn close(&mut self, name: CellName)
         requires { IsLinked self.old.state.cells }
@@ -803,9 +801,9 @@ impl<T: Drop, P: SlotPool> Slots<T, P> {
         self.take_away(name, target, ending);
     }
 
-    // Takes the cell of a name away with the value that goes then. Where that is shared, its slot is
-    // free before the reference's, and what the reference named needn't be counted any more. The
-    // caller knows what the cell refers to, and which value goes.
+    // Removes the cell of a name with the value that goes with it. If that is shared, its slot is freed
+    // before the reference's, and the reference needn't be counted any more. The caller knows the cell's
+    // target, and which value goes.
     #[inline(always)]
     fn take_away(&mut self, name: CellName, target: Option<CellName>, ending: Option<CellName>)
         requires linked { IsLinked self.old.state.cells }
@@ -828,9 +826,8 @@ impl<T: Drop, P: SlotPool> Slots<T, P> {
         }
     }
 
-    /// Lets the reference of this name, whose box was made at a location, name another value, if
-    /// that is shared. The one that it named before goes if nothing refers to it then, unless a
-    /// borrow stands in the way.
+    /// Points the reference of this name, whose box was made at a location, to another value, if that is
+    /// shared. Its old target is removed if nothing refers to it then, unless a borrow is in the way.
     pub fn point(
         &mut self,
         name: CellName,
@@ -859,7 +856,7 @@ impl<T: Drop, P: SlotPool> Slots<T, P> {
         self.turn(name, old, new)
     }
 
-    // Lets a reference that names the old value name the new one, which is shared.
+    // Points a reference from its old target to the new one, which is shared.
     fn turn(&mut self, name: CellName, old: CellName, new: CellName) -> BorrowMutResult<()>
         requires linked { IsLinked self.old.state.cells }
         requires refers { target_in (map.get self.old.state.cells (name_of_cell name))
@@ -885,7 +882,7 @@ impl<T: Drop, P: SlotPool> Slots<T, P> {
         Ok(())
     }
 
-    // Lets a reference name another shared value.
+    // Points a reference to another shared value.
     fn redirect(&mut self, name: CellName, old: CellName, new: CellName)
         requires linked { IsLinked self.old.state.cells }
         requires refers { target_in (map.get self.old.state.cells (name_of_cell name))
@@ -902,7 +899,7 @@ impl<T: Drop, P: SlotPool> Slots<T, P> {
         refer(&mut self.entries, Some(new));
     }
 
-    /// Whether no borrow stands in the way of the end of a list of names. Takes no memory.
+    /// Whether no borrow is in the way of removing a list of names. Doesn't allocate.
     pub fn may_end_all(&self, names: &[CellName]) -> bool
         requires linked { IsLinked self.now.state.cells }
         requires apart { IsDistinct is_name (list_map name_of_cell names.now) }
@@ -912,8 +909,8 @@ impl<T: Drop, P: SlotPool> Slots<T, P> {
             || find_blocking_value(&self.entries, names).is_none()
     }
 
-    /// Ends the names of a list, from the first to the last, or none of them, where a borrow stands
-    /// in the way: then the first name that it hinders is told.
+    /// Removes the names of a list, from the first to the last, or none of them if a borrow is in the
+    /// way: then the error is that of the first name that is blocked.
     pub fn end_all(&mut self, names: &[CellName]) -> BorrowMutResult<()>
         requires linked { IsLinked self.old.state.cells }
         requires apart { IsDistinct is_name (list_map name_of_cell names.now) }
@@ -926,7 +923,7 @@ impl<T: Drop, P: SlotPool> Slots<T, P> {
         self.end_all_slow(names)
     }
 
-    // Takes values away that aren't shared and have no borrow.
+    // Removes values that aren't shared and have no borrow.
     #[inline(always)]
     fn remove_all(&mut self, names: &[CellName])
         requires linked { IsLinked self.old.state.cells }
@@ -940,7 +937,7 @@ impl<T: Drop, P: SlotPool> Slots<T, P> {
         }
     }
 
-    // Ends the names of any list, or none of them.
+    // Removes the names of any list, or none of them.
     #[cold]
     #[inline(never)]
     fn end_all_slow(&mut self, names: &[CellName]) -> BorrowMutResult<()>

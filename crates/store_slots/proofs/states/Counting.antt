@@ -6,9 +6,9 @@ use Rattle.std.specs.FinSet as set
 use Rattle.store_cells.specs.declared.entry.Kind.TheVariants as kind
 unfoldable pub use Changes.*
 
--- ==== how many references name a cell, also where some names end
+-- ==== how many references name a cell, even when some names end
 
--- a cell is named where some reference names it
+-- a cell is named if some reference names it
 pub named_count : {T : Type 0} (slots : List (Entry T)) (m : Name)
     → is_named (cells_of slots) m ≡ nat_lt 0 (how_many (refers m) slots)
 named_count slots m = both_ways _ _
@@ -40,7 +40,7 @@ apart_each n (q ∷ names) apart =
 abbrev pub refers_among : {T : Type 0} → List (Entry T) → List Name → Name → ℕ
 refers_among slots names m = count_by (λ n. refers_to m (cell_under slots n)) names
 
--- what is left of the slots where the cells of some names are taken away
+-- what is left of the slots when the cells of some names are removed
 pub record IsAway {T : Type 0} (slots : List (Entry T)) (names : List Name) : Type 0 where
   pub left : List (Entry T)
   pub cells : take_away (cells_of slots) names ≡ cells_of left
@@ -48,13 +48,13 @@ pub record IsAway {T : Type 0} (slots : List (Entry T)) (names : List Name) : Ty
       → how_many (refers m) left + refers_among slots names m ≡ how_many (refers m) slots
 
 module _ {T : Type 0} (slots : List (Entry T)) where
-  -- where nothing stands that goes, nothing goes
+  -- if there is nothing that goes, nothing goes
   same_away : (names : List Name) → take_away (cells_of slots) names ≡ cells_of slots
       → ((m : Name) → refers_among slots names m ≡ 0) → IsAway slots names
   same_away names same none =
       record { left = slots; cells = same; counts = λ m. omega (arith, none m) }
 
-  -- what is left where one name ends: the slot of a Value or a Ref is empty then
+  -- what is left when one name ends: the slot of a Value or a Ref is empty then
   pub first_away : (n : Name) → IsAway slots (n ∷ [])
   first_away n = by (cell_under slots n) refl
     where
@@ -115,12 +115,12 @@ all_away (n ∷ names) apart slots =
           omega (arith, one.counts m, rest.counts m);
     }
 
--- some are left where fewer went than there were
+-- some are left if fewer went than there were
 rest_left : (left gone all : ℕ) → left + gone ≡ all → nat_lt 0 left ≡ nat_lt gone all
 rest_left left gone all e = grind (arith, nat_tests)
 
 module _ {T : Type 0} (slots : List (Entry T)) where
-  -- a cell is named where names are taken away if not all that name it are among these
+  -- when names are removed, a cell is still named if not all that name it are among these
   pub named_after : (names : List Name) → IsDistinct is_name names → (m : Name)
       → is_named (take_away (cells_of slots) names) m
       ≡ nat_lt (refers_among slots names m) (how_many (refers m) slots)
@@ -128,7 +128,7 @@ module _ {T : Type 0} (slots : List (Entry T)) where
       let a = all_away names apart slots in
       rw (a.cells, named_count a.left m) (rest_left _ _ _ (a.counts m))
 
-  -- without one reference to it a cell is named where it had two
+  -- without one reference to it a cell is named if it had two
   pub named_without : (n m : Name) (l : Location) → cell_under slots n ≡ Some (Ref m l)
       → (0 < how_many (refers m) slots)
       × (is_named (map.remove (cells_of slots) n) m ≡ nat_lt 1 (how_many (refers m) slots))
@@ -153,7 +153,7 @@ pub has_shared : {T : Type 0} (slots : List (Entry T)) (n : Name)
 has_shared slots n h =
     let f = found slots n is_shared refl h in record { slot = f; shared = rw f.cell at h }
 
--- what it counts, but for some, is how many references name it
+-- what it counts, except for some, is how many references name it
 pub references_of : {T : Type 0} {slots : List (Entry T)} {less : Name → ℕ} → AreReferred less slots
     → {m : Name} (t : HasShared slots m) → t.references + less m ≡ how_many (refers m) slots
 references_of referred {m} t = (rw t.there at (referred.each m.slot)) t.shared
@@ -173,8 +173,7 @@ pub found_target : {T : Type 0} (slots : List (Entry T)) → HasTargets (cells_o
     → (n m : Name) → Some m ≡ target_in (cell_under slots n) → HasShared slots m
 found_target slots targets n m target = has_shared slots m (named_shared slots targets n m target)
 
--- ==== the counts of references where a cell comes or goes, and where a reference names another
--- value
+-- ==== the counts of references when a cell comes or goes, and when a reference names another value
 
 -- whether a target, if there is one, is this cell
 abbrev pub is_target : Option Name → Name → Bool
@@ -182,7 +181,7 @@ is_target None q = false
 is_target (Some m) q = is_name q m
 
 module _ {T : Type 0} where
-  -- ---- slots whose counts change stand for the same state, and what holds of them holds
+  -- ---- slots whose counts change represent the same state, and what holds of them holds
 
   pub record IsRecounted (slots after : List (Entry T)) : Type 0 where
     pub long : length after ≡ length slots
@@ -273,7 +272,7 @@ module _ {T : Type 0} where
   unborrowed_cell (slot.Reference m g) l free = (_, refl)
   unborrowed_cell _ l free = absurd free
 
-  -- a shared cell is there still where another slot is written
+  -- a shared cell is still there when another slot is written
   pub still_shared : {slots after : List (Entry T)} {i : ℕ} {t : Entry T}
       → IsWritten slots after i t
       → passes (λ e. is_shared (cell_of e.kept)) (slice_get slots i) ≡ false
@@ -285,7 +284,7 @@ module _ {T : Type 0} where
       let apart : m.slot ≢ i = λ z. let no = rw (← z, t.there) at plain in cc in
       rw (get_cells after m, w.at m.slot, ne_eqb m.slot i apart, ← get_cells slots m) shared
 
-  -- where it's written in a slot that had no cell, its target, if it has one, doesn't count it yet
+  -- when it's written in a slot that had no cell, its target, if it has one, doesn't count it yet
   pub uncounted_made : {slots after : List (Entry T)} {i g : ℕ} (d : SlotData T)
       (l : Location)
       → IsWritten slots after i (record { generation = g; kept = kept_data [] l d; references = 0 })
@@ -418,7 +417,7 @@ module _ {T : Type 0} {slots : List (Entry T)} {start peak spare : ℕ} {now : S
 -- ==== the end of one name, by the value that goes with it
 
 module _ {T : Type 0} where
-  -- what hinders the end of a list is told by the cells
+  -- the cells determine what hinders the end of a list
   pub hindrance_is : (S : State T) (names : List Name)
       → hindrance_to S names ≡ first_hindrance S.cells (cells_after S.cells names) names
   unfolding hindrance_to
@@ -429,7 +428,7 @@ module _ {T : Type 0} where
   without S None = S
   without S (Some m) = record S { cells = map.remove S.cells m }
 
-  -- a cell that no borrow hinders, and the shared value that it names: where it goes, an end is done
+  -- a cell that no borrow hinders, and the shared value that it names: if it goes, an end is done
   pub record Goes (S : State T) (n : Name) (target : Option Name) (closed : State T) : Type 0 where
     pub there : is_some (map.get S.cells n) ≡ true
     pub named : target ≡ live_target S.cells (map.get S.cells n)
@@ -454,7 +453,7 @@ module _ {T : Type 0} where
         let closed = close_one S.cells n linked _ ref.2 in
         record { there = grind arith; named = grind arith; alone = grind arith; closes = grind arith }
 
-    -- a value ends by itself, and what is neither a value nor a reference changes nothing
+    -- a value ends alone, and what is neither a value nor a reference changes nothing
     pub value_closes : is_some (target_in (map.get S.cells n)) ≡ false
         → without S d ≡ close S (n ∷ [])
     value_closes h = let ends = close_one S.cells n linked _ refl in grind arith
@@ -465,8 +464,8 @@ module _ {T : Type 0} where
   removed_again cells n c = same_cells _ _ (λ q.
       grind (arith, map.get-remove {X = Cell T} name_total, map.get-insert {X = Cell T} name_total))
 
-  -- a value of its own without borrows ends by itself, and nothing hinders that; it can be lent, and
-  -- then goes as it would have gone
+  -- a value of its own without borrows ends alone, and nothing hinders that; it can be lent, and then
+  -- goes as it would have gone
   pub record EndsFree (S : State T) (n : Name) : Type 0 where
     pub goes : Goes S n None (close S (n ∷ []))
     pub open goes use *
@@ -501,8 +500,8 @@ module _ {T : Type 0} where
             (rw cell refl, rw cell refl, rw (there, again, ends) refl);
       }
 
--- ==== what becomes of a reference's old target where it names another, and what is answered, as
--- the machine says it
+-- ==== what becomes of a reference's old target when it names another, and the call's result, like in the
+-- machine
 
 module _ {T : Type 0} where
   -- a reference that is to name another value
@@ -516,7 +515,7 @@ module _ {T : Type 0} where
       target_ending : d ≡ cond (is_named (map.remove S.cells n) old) None (Some old)
       target_ending = rw there at ending
 
-      -- the old target hinders it where it would go
+      -- the old target hinders it if it would go
       pub hinders : hindrance_at S.cells left old ≡ refusal_of S.cells d
       hinders = grind (arith, target_ending, turn_hindered)
 
@@ -539,7 +538,7 @@ module _ {T : Type 0} where
             ) (grind arith),
           )
 
--- ==== which calls no borrow hinders, as the machine answers them
+-- ==== which calls no borrow hinders, like in the machine
 
 module _ {T : Type 0} where
   -- what hinders the turn of a reference is what hinders its end

@@ -27,7 +27,7 @@ use store_images::{CellImage, Image, SlotImage};
 use store_parts::names::CellName;
 use store_parts::pool::SlotPool;
 
-/// Room for the slots of an image: all memory that they need. Contracts see for how many there is.
+/// Room for the slots of an image: all memory that they need. Contracts model it as their number.
 #[derive(Drop)]
 pub struct Room<T, P: SlotPool> {
     entries: Entries<T>,
@@ -94,7 +94,7 @@ impl<T: Drop, P: SlotPool> Room<T, P> {
     }
 }
 
-// Adds the slots of an image where there is none yet. Returns how many are retired.
+// Adds the slots of an image to an empty list. Returns how many are retired.
 fn push_all<T: Drop, P: SlotPool>(
     entries: &mut Entries<T>,
     pool: &mut P,
@@ -195,7 +195,7 @@ fn push_cell<T: Drop>(entries: &mut Entries<T>, generation: u64, cell: CellImage
     }
 }
 
-// Adds a slot without a cell: a cell is added, and ends.
+// Adds a slot without a cell: a cell is added, and removed.
 fn push_empty<T: Drop>(entries: &mut Entries<T>, generation: u64)
     requires { length entries.old.slots < entries.old.rooms }
     ensures pushed { entries.new.slots ≡ entries.old.slots
@@ -208,7 +208,7 @@ fn push_empty<T: Drop>(entries: &mut Entries<T>, generation: u64)
     entries.end(slot, true);
 }
 
-// Counts each reference at its target, where none is counted yet.
+// Counts each reference at its target, if none is counted yet.
 fn count_references<T: Drop>(entries: &mut Entries<T>)
     requires none { (k : ℕ) → IfSome (slice_get entries.old.slots k) (λ e. e.references ≡ 0) }
     requires targets { (k : ℕ) → IfSome (slice_get entries.old.slots k)
@@ -226,7 +226,7 @@ fn count_references<T: Drop>(entries: &mut Entries<T>)
 }
 
 impl<T: Drop, P: SlotPool> Slots<T, P> {
-    /// The slots of any store are bounded, whatever its number, owners and next ticket.
+    /// The slots of every store are bounded, for any number, owners and next ticket.
     pub fn are_bounded(&self)
         ensures { (number next : ℕ) (owners : Owners)
             → IsBounded (with_records self.now.state number owners next) }
@@ -235,7 +235,7 @@ impl<T: Drop, P: SlotPool> Slots<T, P> {
     }
 }
 
-/// A whole image tells a sound state.
+/// A whole image describes a sound state.
 pub fn whole_images_are_sound<T>(image: &Image<T>)
     requires { IsWhole image.now }
     ensures { IsSound (told image.now) }

@@ -35,8 +35,8 @@ impl<T: Drop, P: SlotPool> Slots<T, P> {
         borrowed_slot(&self.entries)
     }
 
-    /// The image of a store with this number and this next ticket, which has no owners. There is room
-    /// for each slot, and no borrow stands. Doesn't allocate.
+    /// The image of a store with this number and this next ticket, which has no owners. `images` has room
+    /// for each slot, and nothing is borrowed. Doesn't allocate.
     pub fn into_image(self, number: u64, next: u64, images: Vec<SlotImage<T>>) -> Image<T>
         requires linked { IsLinked self.state.cells }
         requires free { (n : Name) → write_refusal (content_at self.state n) ≡ None }
@@ -64,7 +64,7 @@ impl<T: Drop, P: SlotPool> Slots<T, P> {
         }
     }
 
-    /// Such an image with a copy of each value. Allocates for each slot, and what the copies take.
+    /// Such an image with a copy of each value. Allocates for each slot, and what the copies allocate.
     pub fn image(&self, alloc: Global, number: u64, next: u64) -> Result<Image<T>, AllocError>
     where
         T: Clone,

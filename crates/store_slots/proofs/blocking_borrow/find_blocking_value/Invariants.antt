@@ -2,7 +2,7 @@ use Rattle.store_slots.proofs.{all, cells_of, drop, IfSome, is_named, lives, nam
 use Rattle.std.proofs.Common.{map as list_map}
 use Rattle.store_slots.proofs.blocking_borrow.find_blocking_value.Given as goal
 
--- what hinders the rest is what hinders all, and what was spared lives on
+-- what hinders the rest is what hinders all, and what was spared stays live
 abbrev pub invariant-loop-name : goal.invariant-loop-name
 invariant-loop-name g l =
     let slots = l.entries.slots in

@@ -1,4 +1,4 @@
--- A slot that is as it was is packed already.
+-- A slot that is unchanged is packed already.
 use Rattle.store_slots.proofs.{arith, stayed}
 use Rattle.store_slots.proofs.packing.pack_slot.Goals as goal
 

@@ -3,7 +3,7 @@ use Rattle.std.proofs.Common.{length, slice_get}
 use Rattle.store_slots.specs.Packing.{ArePacked}
 use Rattle.store_slots.proofs.packing.pack_slots.Given as goal
 
--- the slots so far are packed, and the others are as they were
+-- the slots so far are packed, and the others are unchanged
 abbrev pub invariant-loop-slot : goal.invariant-loop-slot
 invariant-loop-slot g l = record {
   packed : ArePacked l.number (take l.slot l.entries.slots) l.whole.items (take l.slot l.slots);

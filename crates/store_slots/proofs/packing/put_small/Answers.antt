@@ -1,4 +1,4 @@
--- A slot that is put tells of its cell.
+-- A slot that is packed describes its cell.
 use Rattle.store_slots.proofs.{renewed_by, small_of}
 use Rattle.store_slots.proofs.packing.put_small.Goals as goal
 

@@ -1,12 +1,12 @@
--- The state for which slots stand, and what a write to a slot is in it.
+-- The state that slots represent, and what a write to a slot is in it.
 pub mod Common
 use Rattle.std.specs.FinMap as map
 use Rattle.std.specs.FinSet as set
 use Rattle.store_cells.specs.declared.entry.Kind.TheVariants as kind
 unfoldable pub use Common.*
 
--- ==== the state for which a store's slots stand: what is at a name, which names were given, and
--- how many slots are live, free and retired
+-- ==== the state that a store's slots represent: what is at a name, which names were issued, and how many
+-- slots are live, free and retired
 
 -- cells and names that are the same at each name
 pub same_cells : {T : Type 0} (a b : NameMap (Cell T))
@@ -49,7 +49,7 @@ module _ {T : Type 0} where
   get_cells slots n =
       grind (arith, map.get-from_entries {X = Cell T} name_total, find_at 0 slots n n.slot)
 
-  -- a slot has a live cell where the machine has one
+  -- a slot has a live cell if the machine has one
   pub live_cell : (k : Kept T) → is_some (cell_of k) ≡ is_live k
   live_cell k = grind arith
 
@@ -81,7 +81,7 @@ up_to : (start last g : ℕ)
     → (leb start g && ltb g (start + (last + 1 - start))) ≡ (leb start g && leb g last)
 up_to start last g = grind (arith, nat_tests)
 
--- whether a generation of a slot was given
+-- whether a generation of a slot was issued
 abbrev pub given_in : {T : Type 0} → ℕ → Option (Entry T) → ℕ → Bool
 given_in start None g = false
 given_in start (Some e) g = leb start g && leb g e.generation
@@ -174,7 +174,7 @@ module _ {T : Type 0} {p : SlotTable T} (s : IsSlotTable p) where
       parts [] = refl
       parts (e ∷ es) = grind (arith, parts es)
 
-  -- a new slot's first name, where no slot is free
+  -- a new slot's first name, if no slot is free
   pub new_first : free here ≡ 0
       → IsNew here (record { slot = length p.slots; generation = p.start })
   new_first none = record {
@@ -196,7 +196,7 @@ module _ {T : Type 0} {p : SlotTable T} (s : IsSlotTable p) where
     );
   }
 
-  -- ---- the state that contracts see
+  -- ---- the state as modelled in contracts
 
   module _ {S : State T} (view : here ≡ S) where
     pub slots_seen : length p.slots ≡ slots S
@@ -208,7 +208,7 @@ module _ {T : Type 0} {p : SlotTable T} (s : IsSlotTable p) where
     pub all_seen : length p.slots ≡ p.counts.usable + retired S
     all_seen = all_slots ∙ ap (λ X. p.counts.usable + retired X) view
 
-    -- a slot is made only where none is free
+    -- a slot is made only if none is free
     pub bound_seen : slots S ≤ S.peak + retired S
     bound_seen = grind (arith, s.few, all_seen, slots_seen)
 
@@ -253,7 +253,7 @@ module _ {T : Type 0} where
         at [] b g = refl
         at (e ∷ es) b g = grind (arith, nat_tests)
 
--- ==== what a write to a slot, or a new slot, is in the state for which the slots stand
+-- ==== what a write to a slot, or a new slot, is in the state that the slots represent
 
 -- ---- what is there, and what isn't
 
@@ -302,8 +302,8 @@ module _ {T : Type 0} {slots after : List (Entry T)} {i : ℕ} {t : Entry T}
     given_put more =
         grind (arith, nat_tests, same_names, get_given, contains-insert_name, name_test, w.at)
 
-  -- the counts of references are right after it, where they are for the slot that is written, and
-  -- for others as many go uncounted as before and references came
+  -- the counts of references are right after it, if they are for the slot that is written, and for others
+  -- as many go uncounted as before and references came
   pub referred : {less less' : Name → ℕ} → AreReferred less slots
       → ((q : Name) → q.slot ≢ i → less' q + bit (passes (refers q) (slice_get slots i))
       ≡ less q + bit (refers q t))
@@ -336,7 +336,7 @@ module _ {T : Type 0} {slots after : List (Entry T)} {i : ℕ} {t : Entry T}
 
 module _ {T : Type 0} {p : SlotTable T} (s : IsSlotTable p) {after : List (Entry T)} {i : ℕ}
     {t : Entry T} (w : IsWritten p.slots after i t) where
-  -- where the counts are right
+  -- if the counts are right
   pub slotted : (free : set.FinSet nat_cmp) (rooms : ℕ) (counts : Count)
       → ((k : ℕ) → set.contains free k ≡ cond (nat_eq k i) (is_spent t) (set.contains p.free k))
       → set.len free + bit (is_reusable (slice_get p.slots i)) ≡ set.len p.free + bit (is_spent t)
@@ -358,7 +358,7 @@ module _ {T : Type 0} {p : SlotTable T} (s : IsSlotTable p) {after : List (Entry
     bounded = bounded;
   }
 
-  -- where the slot is live, or free, as before
+  -- if the slot is live, or free, as before
   pub slotted_still : {e : Entry T} → slice_get p.slots i ≡ Some e
       → t.generation ≡ e.generation → is_live t.kept ≡ is_live e.kept
       → length after ≡ length p.slots → IsSlotTable (record p { slots = after })
@@ -388,7 +388,7 @@ pub record IsFound {T : Type 0} (slots : List (Entry T)) (n : Name) : Type 0 whe
   pub live : is_live kept ≡ true
   pub holds : content_of (map.get (cells_of slots) n) ≡ content_in kept
 
--- where it has a value or has lent one
+-- if it has a value or has lent one
 pub record IsHeld {T : Type 0} (slots : List (Entry T)) (n : Name) : Type 0 where
   pub kind : Kind
   pub content : Content T
@@ -572,7 +572,7 @@ invariant_changed r f h inv slots rooms =
       inv.3,
     )
 
--- ---- the state that contracts see
+-- ---- the state as modelled in contracts
 
 pub state_is : {T : Type 0} {S : State T} {spare : ℕ} {now : SlotsState T}
     → record { state = S; spare = spare } ≡ now → S ≡ now.state
@@ -599,12 +599,12 @@ module _ {T : Type 0} {now : SlotsState T} {start peak spare : ℕ} (slots : Lis
       → o ≡ target_in (map.get now.state.cells n)
   target_told n told = told ∙ ap target_in (cell_seen n)
 
-  -- a shared value that a cell names is live where the slots tell of it
+  -- a shared value that a cell names is live if the slots have it
   pub live_seen : (c : Option (Cell T))
       → live_target now.state.cells c ≡ shared_target slots (target_in c)
   live_seen a0 = grind (arith, cell_seen)
 
-  -- where the slots tell of no content the state sees none
+  -- if the slots have no content there, the state has none
   pub not_told : (n : Name) → false ≡ is_some (content_of (cell_under slots n))
       → content_at now.state n ≡ None
   not_told n h = let seen = cell_seen n in grind arith
@@ -625,7 +625,7 @@ module _ {T : Type 0} {now : SlotsState T} {start peak spare : ℕ} {slots : Lis
       let f = held slots n (rw (← view) at h) in
       record { held = f; seen = rw (← view, f.cell) (content_kept (Live f.kind f.content f.created)) }
 
-  -- a slot holds a content of which the slots tell
+  -- a slot holds a content that the slots have
   pub held_told : {n : Name} → true ≡ is_some (content_of (cell_under slots n))
       → IsSeen slots now.state n
   held_told {n} h = held_in (rw (cell_seen slots view n) at (sym h))
@@ -649,7 +649,7 @@ pub either : {A E : Type 0} (r : Result A E) {P Q X : Type 0} → OnOk r P → O
     → (Q → X) → X
 either r ok err f h = grind arith
 
--- what holds of both ways, where a refusal hands a value back
+-- what holds in both cases, if an error returns a value
 pub returned : {T U : Type 0} (v : T) (r : Result U T) {P Q X : Type 0} → OnOk r P
     → IfErr r (λ back. (back ≡ v) × Q) → (P → X) → (Q → X) → X
 returned v r ok err f h = grind arith

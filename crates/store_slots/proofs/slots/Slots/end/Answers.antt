@@ -1,4 +1,4 @@
--- The end of a name, unless a borrow stands in the way.
+-- The end of a name, unless a borrow is in the way.
 use Rattle.store_slots.proofs.{free_told, name_of_cell, ◌∙◌}
 use Rattle.store_slots.proofs.slots.Slots.end.Goals as goal
 

@@ -1,4 +1,4 @@
--- The end of a name, unless a borrow stands in the way.
+-- The end of a name, unless a borrow is in the way.
 use Rattle.store_slots.proofs.{ending_hinders, ending_in, name_of_cell, refl, sym, target_told, ◌∙◌}
 use Rattle.store_slots.proofs.slots.Slots.end_slow.Goals as goal
 use goal.{in-Some+else-not-is_unborrowed, in_default}

@@ -1,4 +1,4 @@
--- Whether a borrow stands in the way of an end.
+-- Whether a borrow is in the way of an end.
 use Rattle.store_slots.proofs.{target_told}
 use Rattle.store_slots.proofs.slots.Slots.may_end.Goals as goal
 

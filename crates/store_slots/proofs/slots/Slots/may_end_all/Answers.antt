@@ -1,4 +1,4 @@
--- Whether a borrow stands in the way of the end of a list of names.
+-- Whether a borrow is in the way of the end of a list of names.
 use Rattle.store_slots.proofs.{arith, hindrance_is, state_is, sym, true, unborrowed_free, ◌∙◌}
 use Rattle.store_slots.proofs.slots.Slots.may_end_all.Goals as goal
 

@@ -1,4 +1,4 @@
--- Whether a borrow stands at the value that goes with a name.
+-- Whether a borrow is at the value that goes with a name.
 use Rattle.store_slots.proofs.{ending_hinders, ending_in, name_of_cell, refl}
 use Rattle.store_slots.proofs.slots.Slots.may_lose.Goals as goal
 

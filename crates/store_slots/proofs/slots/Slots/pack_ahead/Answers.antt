@@ -1,4 +1,4 @@
--- Slots packed ahead tell of the state's cells.
+-- Slots packed ahead describe the state's cells.
 use Rattle.store_slots.proofs.{renewed_past, state_is}
 use Rattle.std.proofs.lemmas.Result.{on_ok_weaker}
 use Rattle.store_slots.proofs.slots.Slots.pack_ahead.Goals as goal

@@ -1,4 +1,4 @@
--- Values without borrows that are taken away one after the other.
+-- Values without borrows that are removed one after the other.
 use Rattle.store_slots.proofs.{at_drop_all, at_drop_more, CellName, free_first, free_rest, left_none, List}
 use Rattle.store_slots.proofs.slots.Slots.remove_all.Goals as goal
 

@@ -1,4 +1,4 @@
--- The end of a value of its own, which is lent for that and handed back.
+-- The end of a value of its own, which is lent for that and returned.
 use Rattle.store_slots.proofs.{arith, cell_seen, free_in, free_told, name_of_cell, ◌∙◌}
 use Rattle.store_slots.proofs.slots.Slots.take_value.Goals as goal
 

@@ -3,7 +3,7 @@ use Rattle.std.proofs.Common.{map as list_map}
 use Rattle.store_slots.specs.ImageSlots.{ArePooled, slot_told}
 use Rattle.store_slots.proofs.slots.loading.push_all.Given as goal
 
--- the slots so far stand there, and the others are still to be taken
+-- the slots so far are there, and the others are still to be taken
 abbrev pub invariant-loop-slot : goal.invariant-loop-slot
 invariant-loop-slot g l = record {
   slots : l.entries.slots ≡ list_map slot_told (take l.slot l.fn.slots.items);

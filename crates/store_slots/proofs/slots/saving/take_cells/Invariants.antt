@@ -2,7 +2,7 @@ use Rattle.std.proofs.Common.{◌≡◌, ◌≤◌, ℕ, length, slice_get, take
 use Rattle.store_slots.specs.ImageSlots.{AreSlotImages}
 use Rattle.store_slots.proofs.slots.saving.take_cells.Given as goal
 
--- the slots so far have images, and the others are as they were
+-- the slots so far have images, and the others are unchanged
 abbrev pub invariant-loop-slot : goal.invariant-loop-slot
 invariant-loop-slot g l = record {
   images : AreSlotImages (λ v w. w ≡ v) (take l.slot l.fn.entries.slots) l.images.items;
