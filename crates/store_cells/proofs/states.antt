@@ -28,8 +28,8 @@ module _ {T : Type 0} (c : Content T) where
   pub readable : read_refusal (Some c) ≡ None → is_some (value_of (Some c)) ≡ true
   readable free = grind arith
 
--- ==== at which indexes of the table the borrows of a store's slots stand, and what is left of that
--- where a slot is written
+-- ==== at which indexes of the table the borrows of a store's slots are, and what is left of that when a
+-- slot is written
 
 module _ {T : Type 0} where
   pub indexed : {es es' : List (StorageEntry T)} {i : ℕ} {e : StorageEntry T} → IsWritten es es' i e
@@ -54,7 +54,7 @@ module _ {T : Type 0} where
   no_index_test : (o : Option (StorageEntry T)) → index_in o ≡ no_index → passes has_index o ≡ false
   no_index_test o none = grind (arith, nat_tests)
 
-  -- a slot without borrows that is written where none stood
+  -- a slot without borrows that is written over one without borrows
   pub indexed_free : {t : Table} {es es' : List (StorageEntry T)} {i : ℕ} {e : StorageEntry T} → IsWritten es es' i e
       → AreIndexed t es → is_free (data_in e.content) ≡ true → length es ≤ length es'
       → index_in (slice_get es i) ≡ no_index → AreIndexed t es'
@@ -78,7 +78,7 @@ module _ {T : Type 0} where
       → r.noted ≡ noted.Nobody → AreNoted r lists es
   noted_none none nobody = rw none (record { noted = λ is. absurd (cc (ap is_noted nobody)); written = λ k. tt })
 
--- ==== the table of borrows where a slot is written, and what that leaves of the store
+-- ==== the table of borrows when a slot is written, and what that leaves of the store
 
 module _ {T : Type 0} {r : LastBorrow} {t : Table} {es : List (StorageEntry T)} {i : ℕ} {e : StorageEntry T}
     (a : IsSlot r t es i e) where
@@ -156,7 +156,7 @@ module _ {T : Type 0} {r : LastBorrow} {t : Table} {es : List (StorageEntry T)} 
     own_index : (k : ℕ) → k ≢ i → index_in (slice_get es k) ≢ x
     own_index k other same = grind (arith, nat_tests, a.base.indexed.apart k i, a.there)
 
-    -- another list stands there
+    -- another list is there
     pub list_step : {t' : Table} {left : List Borrow} → left ≢ [] → t' ≡ record t { lists = slice_set t.lists x left }
         → {e' : StorageEntry T} → index_of (data_in e'.content) ≡ x → Steps t t' es i e'
     list_step {left = left} left_some now {e'} at = rw now (
@@ -164,7 +164,7 @@ module _ {T : Type 0} {r : LastBorrow} {t : Table} {es : List (StorageEntry T)} 
         step (list_changed t _ x left refl) refl (omega arith) own_index (has_listed (data_in e'.content) (rw at some))
         (λ _. (at, list_used used left_some)) (rw (at, is) (omega arith)) (omega arith))
 
-    -- it is given back
+    -- it is freed
     pub close_step : {t' : Table} → IsClosed t t' x → {e' : StorageEntry T} → is_free (data_in e'.content) ≡ true
         → Steps t t' es i e'
     close_step c {e'} free =
@@ -173,14 +173,14 @@ module _ {T : Type 0} {r : LastBorrow} {t : Table} {es : List (StorageEntry T)} 
         step (closed c) c.rooms (omega arith) own_index (free_listed _ free) (λ z. absurd (z none))
         (rw (none, is, ne_eqb x no_index some) (omega (arith, c.same))) (omega (arith, c.same))
 
-  -- the slot's index is given back, if it has one
+  -- the slot's index is freed, if it has one
   pub give_step : {t' : Table} {x : ℕ} → index_of (data_in e.content) ≡ x → (x ≡ no_index → t' ≡ t)
       → (x ≢ no_index → IsClosed t t' x) → {e' : StorageEntry T} → is_free (data_in e'.content) ≡ true → Steps t t' es i e'
   give_step {x = x} is none some free = ⊎_elim
       (λ last. rw (none last) (same_step (free_none _ free ∙ sym (is ∙ last)) (free_listed _ free)))
       (λ index. close_step is index (some index) free) (cases_eq x no_index)
 
-  -- a reader is taken away from a value
+  -- a reader is removed from a value
   module _ {kd : Kind} {x : ℕ} {v : T} (is : data_in e.content ≡ slot.Read kd x v) where
     pub release_step : {t' : Table} (y : ℕ) (left : List Borrow) → Releases t t' x y left → {e' : StorageEntry T}
         → data_in e'.content ≡ unread_data (slot.Read kd y v) → Steps t t' es i e'
@@ -191,7 +191,7 @@ module _ {T : Type 0} {r : LastBorrow} {t : Table} {es : List (StorageEntry T)} 
         list_step (rw is refl) some (λ z. none_some b bs z) r.1
         (rw (e'_is, ne_eqb y no_index (λ z. some (sym r.0 ∙ z))) r.0)
 
-    -- what contracts see of its borrows afterwards
+    -- the model of its borrows afterwards
     pub release_seen : (r' : LastBorrow) (t' : Table) (y : ℕ) (left : List Borrow) → is_noted_at r' i ≡ false
         → Releases t t' x y left → (l : Location)
         → kept_data (borrows_of r' t'.lists i (index_of (unread_data (slot.Read kd y v)))) l (unread_data (slot.Read kd y v))
@@ -203,7 +203,7 @@ module _ {T : Type 0} {r : LastBorrow} {t : Table} {es : List (StorageEntry T)} 
 
 -- ---- the noted borrow is listed
 
--- the slot whose borrow is noted, where it is read
+-- the slot whose borrow is noted, if it is read
 pub noted_is : {T : Type 0} {r : LastBorrow} {t : Table} {es : List (StorageEntry T)} → IsListable r t es
     → is_noted r.noted ≡ true → {e : StorageEntry T} → e ≡ get_or es r.slot e
     → (is_noted_at r r.slot ≡ true) × IsSlot r t es r.slot e
@@ -253,7 +253,7 @@ module _ {T : Type 0} {r : LastBorrow} {t : Table} {es : List (StorageEntry T)} 
 module _ {T : Type 0} {r : LastBorrow} {t : Table} {es : List (StorageEntry T)} {ds : List EntryDetails}
     {now : EntryList T} {room x y i : ℕ} {e : StorageEntry T} {d : EntryDetails}
     (a : IsAt r t es ds now room x y i e d) where
-  -- a cell without borrows is written where none stood
+  -- a cell without borrows is written over one without borrows
   module _ (q : (is_noted_at r i ≡ false) × (is_free (data_in e.content) ≡ true)) (e' : StorageEntry T)
       (free : is_free (data_in e'.content) ≡ true) where
     wrote_free : (f : Entry T → Entry T) → entry_with [] e' d ≡ f (entry_with [] e d)
@@ -278,7 +278,7 @@ module _ {T : Type 0} {r : LastBorrow} {t : Table} {es : List (StorageEntry T)} 
       let own : (q : ℕ) × (g : ℕ) × (data_in e.content ≡ slot.Reference q g) = grind arith in
       wrote_free (quiet a (rw own.2 refl)) _ (rw is refl) _ (rw (is, own.2) refl)
 
-  -- a cell without borrows stands where none was
+  -- a cell without borrows is put where there was none
   pub refilled : IfSome (slice_get now.slots i) (λ e. e.kept ≡ Empty) → (g : ℕ) (k : StorageEntryData T) (l : Location)
       → IsUnborrowed (data_in k)
       → Writes r t (slice_set es i (record { generation = g; content = k }))
@@ -326,7 +326,7 @@ module _ {T : Type 0} {r : LastBorrow} {t : Table} {es : List (StorageEntry T)} 
       wrote_cell a (same_step a.at (rw (back, own) refl) (rw (back, own) tt)) (ends refl is.0) (rw (back, own) tt) _
       (rw (back, own, is.0) refl)
 
-  -- ---- where no borrow is noted
+  -- ---- if no borrow is noted
 
   module _ (nobody : is_noted r.noted ≡ false) where
     away : is_noted_at r i ≡ false
@@ -342,7 +342,7 @@ module _ {T : Type 0} {r : LastBorrow} {t : Table} {es : List (StorageEntry T)} 
         _
         (rw (same, release_seen a.at is r _ p _ away left d.created_at, is, ne_eqb q no_index (has_place a.at is)) refl)
 
-    -- where no reader is listed, none stands or ends
+    -- if no reader is listed, there is none, and none ends
     pub unread : NotRead (data_in e.content) → (n : ℕ)
         → IfSome (slice_get now.slots i) (λ e. false ≡ has_reader (content_in e.kept) n)
         × (entries_of r t.lists es ds ≡ change_entry now.slots i (λ e. record e { kept = without_reader_in n e.kept }))
@@ -423,7 +423,7 @@ module _ {T : Type 0} {r : LastBorrow} {t : Table} {es : List (StorageEntry T)} 
       → Reborrows a (record { noted = noted.Reader; slot = i; generation = g; borrow = b }) t (with_reader b)
   begun_alone nobody b free = begun nobody b (rw (lone a nobody g free).1.2 refl)
 
--- ---- a slot more, with a cell without borrows
+-- ---- another slot, with a cell without borrows
 
 module _ {T : Type 0} {r : LastBorrow} {t : Table} {es : List (StorageEntry T)} {ds : List EntryDetails}
     {now : EntryList T} {room x y : ℕ} (s : IsKept r t es ds now room x y) (e : StorageEntry T) (l : Location) where

@@ -26,13 +26,13 @@ pub record EntryList (T : Type 0) : Type 0 where
   pub rooms : ℕ
 
 module _ {T : Type 0} where
-  -- where the borrows of a slot's cell stand in the table
+  -- where the borrows of a slot's cell are in the table
   abbrev pub index_of : SlotData T → ℕ
   index_of (slot.Read k i v) = i
   index_of (slot.Lent k i) = i
   index_of _ = no_index
 
-  -- whose the value is, also one that is lent
+  -- whose the value is, even if it is lent
   abbrev pub kind_of : SlotData T → Option Kind
   kind_of (slot.Data k v) = Some k
   kind_of (slot.Read k i v) = Some k
@@ -74,7 +74,7 @@ module _ {T : Type 0} where
   read_data x (slot.Data k v) = slot.Read k x v
   read_data x d = d
 
-  -- a value without readers, where their index is none
+  -- a value without readers, if their index is none
   abbrev pub unread_data : SlotData T → SlotData T
   unread_data (slot.Read k i v) = if nat_eq i no_index then slot.Data k v else slot.Read k i v
   unread_data d = d
@@ -89,7 +89,7 @@ module _ {T : Type 0} where
   named_by (slot.Reference s g) = Some (record { slot = s; generation = g })
   named_by _ = None
 
-  -- what a box of this name reaches where its cell is such
+  -- what a box of this name reaches if its cell is such
   abbrev pub lead_of : SlotData T → Name → Option Name
   lead_of (slot.Data kind.Value v) n = Some n
   lead_of (slot.Read kind.Value i v) n = Some n
@@ -154,7 +154,7 @@ module _ {T : Type 0} where
 
 -- What holds of a store's slots and the table of their borrows.
 pub record AreIndexed {T : Type 0} (t : Table) (es : List (StorageEntry T)) : Type 0 where
-  -- borrows stand at each index of a slot, and no two slots have the same
+  -- borrows are at each index of a slot, and no two slots have the same
   pub used : (k : ℕ) → index_in (slice_get es k) ≢ no_index → IsUsed t (index_in (slice_get es k))
   pub apart : (j k : ℕ) → index_in (slice_get es j) ≢ no_index
       → index_in (slice_get es j) ≡ index_in (slice_get es k) → j ≡ k
@@ -172,7 +172,7 @@ pub record IsListable {T : Type 0} (r : LastBorrow) (t : Table) (es : List (Stor
     pub room : length es ≤ t.rooms
     pub small : length es < no_index
 
--- the noted borrow is listed, and contracts see no change
+-- the noted borrow is listed, and the model doesn't change
 pub record IsListed {T : Type 0} (r r' : LastBorrow) (t t' : Table)
     (es es' : List (StorageEntry T)) : Type 0 where
   pub slots : (ds : List EntryDetails) → length ds ≡ length es
@@ -182,14 +182,14 @@ pub record IsListed {T : Type 0} (r r' : LastBorrow) (t t' : Table)
   pub rooms : t'.rooms ≡ t.rooms
   pub same : length es' ≡ length es
 
--- a table where a reader is added to those at an index, if there is one
+-- a table in which a reader is added to those at an index, if there is one
 abbrev pub listed_beside : Borrow → ℕ → Table → Table
 listed_beside b x t =
     if nat_eq x no_index then t else record t {
       lists = slice_set t.lists x (list_at t.lists x ++ b ∷ []);
     }
 
--- there is room for this many slots, but for no index beyond the last
+-- there is room for this many slots, except for no index beyond the last
 pub record AreRoomy (room count capacity detailed borrowed : ℕ) : Type 0 where
   pub filled : count ≤ room
   pub entries : room ≤ capacity

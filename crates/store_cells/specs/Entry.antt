@@ -1,4 +1,4 @@
--- A slot as contracts see it: its generation, and its live cell.
+-- A slot as modelled in contracts: its generation, and its live cell.
 use Rattle.std.specs.Prelude.{◌≡◌, ℕ, Bool, true, false, not, nat_eq, if◌then◌else◌, List, []}
 use Rattle.std.specs.Prelude.{◌∷◌, ◌++◌, Option, Some, None, Result, Ok, Err, map as list_map}
 use Rattle.std.specs.Prelude.{is_none, is_some, slice_get, slice_set}
@@ -58,12 +58,12 @@ module _ {T : Type 0} where
   target_in (Some (Ref m l)) = Some m
   target_in _ = None
 
-  -- what stands at a generation of a slot
+  -- what is at a generation of a slot
   abbrev pub cell_in : Option (Entry T) → ℕ → Option (Cell T)
   cell_in None g = None
   cell_in (Some e) g = if nat_eq g e.generation then cell_of e.kept else None
 
-  -- what stands at a name
+  -- what is at a name
   abbrev pub cell_under : List (Entry T) → Name → Option (Cell T)
   cell_under slots n = cell_in (slice_get slots n.slot) n.generation
 
@@ -140,23 +140,23 @@ module _ {T : Type 0} where
   IsReadable generation (Some e) =
       (e.generation ≡ generation) × (is_some (value_of (content_in e.kept)) ≡ true)
 
-  -- the value, where the ticket is a reader's
+  -- the value, if the ticket is a reader's
   abbrev pub value_for : ℕ → Option (Content T) → Option T
   value_for t c = if has_reader c t then value_of c else None
 
--- the locations of these readers, unless their list found no memory
+-- the locations of these readers, unless their list can't be allocated
 abbrev pub FoundReaders : List Borrow → Refused BorrowMutError → Type 0
 FoundReaders readers (refused.Borrow e) =
     refusal_of_error e ≡ BeingRead (list_map (λ r. r.location) readers)
 FoundReaders readers (refused.Store OutOfMemory) = Unit {0}
 FoundReaders readers (refused.Store _) = ⊥
 
--- readers stand in the way
+-- readers are in the way
 abbrev pub IsBeingRead : Option BorrowRefusal → Type 0
 IsBeingRead (Some (BeingRead ls)) = Unit {0}
 IsBeingRead _ = ⊥
 
--- a call that meets this refusal, or none, is answered so, unless its list found no memory
+-- the result of a call with this error, or none, unless its list can't be allocated
 abbrev pub FoundBorrowed : Option BorrowRefusal → Result (Unit {0}) (Refused BorrowMutError) → Type 0
 FoundBorrowed refusal (Ok u) = refusal ≡ None
 FoundBorrowed refusal (Err (refused.Borrow e)) = refusal ≡ Some (refusal_of_error e)

@@ -23,7 +23,7 @@ abbrev pub is_writer : Noted → Bool
 is_writer noted.Writer = true
 is_writer _ = false
 
--- the note where no borrow is noted any more
+-- the note when no borrow is noted any more
 abbrev pub cleared : LastBorrow → LastBorrow
 cleared r = record r { noted = noted.Nobody }
 
@@ -35,8 +35,8 @@ is_noted_at r k = is_noted r.noted && nat_eq r.slot k
 abbrev pub noted_at : LastBorrow → ℕ → List Borrow
 noted_at r k = if is_noted_at r k then r.borrow ∷ [] else []
 
--- the borrows of the k-th slot's cell: those at its index in the table, or the noted one, where it
--- has no index
+-- the borrows of the k-th slot's cell: those at its index in the table, or the noted one, if it has no
+-- index
 abbrev pub borrows_of : LastBorrow → List (List Borrow) → ℕ → ℕ → List Borrow
 borrows_of r lists k i = if nat_eq i no_index then noted_at r k else list_at lists i
 
@@ -55,7 +55,7 @@ module _ {T : Type 0} where
   IsNoted r lists (Some e) =
       (e.generation ≡ r.generation) × (may_note r lists (data_in e.content) ≡ true)
 
-  -- where the k-th slot's value is lent without an index, its writer is noted
+  -- if the k-th slot's value is lent without an index, its writer is noted
   abbrev pub HasWriter : LastBorrow → ℕ → SlotData T → Type 0
   HasWriter r k (slot.Lent c i) = i ≡ no_index → is_noted_at r k ≡ true
   HasWriter r k _ = Unit {0}
@@ -67,7 +67,7 @@ module _ {T : Type 0} where
 -- What holds of a store's slots and the noted borrow.
 pub record AreNoted {T : Type 0} (r : LastBorrow) (lists : List (List Borrow))
     (es : List (StorageEntry T)) : Type 0 where
-  -- it stands at the cell that it names
+  -- it is at the cell that it names
   pub noted : is_noted r.noted ≡ true → IsNoted r lists (slice_get es r.slot)
   -- a value that is lent without an index has the noted writer
   pub written : (k : ℕ) → HasWriterAt r k (slice_get es k)

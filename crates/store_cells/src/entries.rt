@@ -1,4 +1,4 @@
-//! The slots of a store, with the borrows that stand at their cells.
+//! The slots of a store, with the borrows of their cells.
 #![tactic(auto, using(crate::proofs::states::Entries::entries_len))]
 
 ghost use Rattle.std.specs.Prelude.{◌≡◌, ◌≢◌, ◌+◌, ◌-◌, ◌<◌, ◌≤◌, ◌∷◌, ◌++◌, ◌↔◌, [], true, false};
@@ -52,14 +52,13 @@ use store_parts::room::reserve_room;
 use store_parts::table::{BorrowTable, NO_INDEX};
 use store_room::{halfway, push_more};
 
-/// The slots of a store. Contracts see each as its generation and its cell with the borrows that
-/// stand there, and for how many slots there is room.
+/// The slots of a store. Contracts model each as its generation and its cell with its borrows, and for
+/// how many slots there is room.
 ///
-/// What every call asks for stands together in `entries`. What is seldom asked of a cell stands
-/// apart, and so do borrows, in a table that stays as small as the most that stood at once. The
-/// borrow that began last is noted, until another begins. So a writer touches no list, and a reader
-/// of a value that nobody else reads touches neither a list nor its slot; a reader beside others is
-/// listed with them as well.
+/// What every call reads is together in `entries`. What is seldom read of a cell is stored separately,
+/// and so are borrows, in a table of the size of the most that were active at once. The borrow that began
+/// last is noted, until another begins. So a writer touches no list, and the only reader of a value
+/// touches neither a list nor its slot; several readers of a value are all listed.
 pub struct Entries<T> {
     alloc: Global,
     entries: Vec<StorageEntry<T>>,
@@ -90,8 +89,8 @@ impl<T> Model for Entries<T> {
         (vec_capacity e.details) e.borrows.rooms };
 }
 
-// In which order the buffers go decides how much of their memory glibc's malloc keeps for the next
-// store, and how much it gives back to the system: `docs/PERFORMANCE.md` tells of it.
+// The order in which the buffers are dropped decides how much of their memory glibc's malloc keeps for
+// the next store, and how much it returns to the system: see `docs/PERFORMANCE.md`.
 impl<T: Drop> Drop for Entries<T> {
     fn drop(self) {
         let Entries {
@@ -109,7 +108,7 @@ impl<T: Drop> Drop for Entries<T> {
 }
 
 impl<T> Entries<T> {
-    /// No slot. Takes no memory.
+    /// No slot. Doesn't allocate.
     pub fn new(alloc: Global) -> Entries<T>
         ensures { result ≡ record { slots = []; rooms = 0 } }
     {
@@ -139,7 +138,7 @@ impl<T> Entries<T> {
         self.room
     }
 
-    /// What a box of this name reaches.
+    /// What a box of this name refers to.
     #[inline(always)]
     pub fn reach(&self, name: CellName) -> Option<CellName>
         ensures { option_map name_of_cell result ≡ leads_to
@@ -151,7 +150,7 @@ impl<T> Entries<T> {
         }
     }
 
-    /// Whose the value of this name is, also one that is lent.
+    /// Whose the value of this name is, even if it is being written.
     #[inline(always)]
     pub fn kind(&self, name: CellName) -> Option<Kind>
         ensures { result ≡ kind_in (cell_under self.now.slots (name_of_cell name)) }
@@ -162,7 +161,7 @@ impl<T> Entries<T> {
         }
     }
 
-    /// What the reference of this name names.
+    /// The target of the reference of this name.
     #[inline(always)]
     pub fn target(&self, name: CellName) -> Option<CellName>
         ensures { option_map name_of_cell result
@@ -174,7 +173,7 @@ impl<T> Entries<T> {
         }
     }
 
-    /// Where the slot's cell was made, and how many references name it.
+    /// Where the slot's cell was made, and how many references it has.
     #[inline(always)]
     pub fn details(&self, slot: usize) -> EntryDetails
         requires { slot < length self.now.slots }
@@ -205,7 +204,7 @@ impl<T> Entries<T> {
         self.entries[slot].generation
     }
 
-    /// Whether the cell of this name is a value, also one that is lent.
+    /// Whether the cell of this name is a value, even one that is being written.
     #[inline(always)]
     pub fn holds(&self, name: CellName) -> bool
         ensures { result
@@ -233,7 +232,7 @@ impl<T> Entries<T> {
         }
     }
 
-    /// The writer that stands in the way of a read.
+    /// The writer that is in the way of a read.
     #[inline(always)]
     pub fn borrow_error(&self, slot: usize) -> Option<AlreadyBorrowedMutError>
         requires { slot < length self.now.slots }
@@ -249,7 +248,7 @@ impl<T> Entries<T> {
         }
     }
 
-    /// Whether no borrow stands at the cell.
+    /// Whether the cell isn't borrowed.
     #[inline(always)]
     pub fn is_unborrowed(&self, slot: usize) -> bool
         requires { slot < length self.now.slots }
@@ -267,7 +266,7 @@ impl<T> Entries<T> {
         }
     }
 
-    /// The borrows that stand in the way of a write or an end.
+    /// The borrows that are in the way of a write or a removal.
     #[inline(always)]
     pub fn borrow_mut_error(&self, slot: usize) -> BorrowMutResult<()>
         requires { slot < length self.now.slots }
@@ -339,7 +338,7 @@ impl<T> Entries<T> {
         }
     }
 
-    /// The value, where the reader stands.
+    /// The value, if it has this reader.
     #[inline(always)]
     pub fn open(&self, slot: usize, ticket: u64) -> Option<&T>
         requires { slot < length self.now.slots }
@@ -364,7 +363,7 @@ impl<T> Entries<T> {
         }
     }
 
-    // The value of a cell beside whose noted reader others are listed.
+    // The value of a cell that has listed readers in addition to the noted one.
     #[cold]
     #[inline(never)]
     fn peek_slow(&self, slot: usize) -> Option<&T>
@@ -377,9 +376,9 @@ impl<T> Entries<T> {
 }
 
 impl<T: Drop> Entries<T> {
-    /// Makes room for one slot more at least, and for so many that few growths pay for it, as far as
-    /// memory reaches. Refused only if memory runs out, or where no index of 32 bits is left for a
-    /// slot's borrows; the room is then unchanged.
+    /// Reserves room for at least another slot, and for so many that few calls grow, as far as
+    /// allocations succeed. Fails only if an allocation fails, or if the 32-bit indexes for slots'
+    /// borrows are used up; the room is then unchanged.
     #[cold]
     #[inline(never)]
     pub fn grow(&mut self) -> Result<(), StoreError>
@@ -395,8 +394,8 @@ impl<T: Drop> Entries<T> {
         self.grow_within(room)
     }
 
-    /// Makes room for this many slots in all, where there is less. Refused only if memory runs out,
-    /// or where no index of 32 bits is left for a slot's borrows; the room is then unchanged.
+    /// Reserves room for this many slots in all, if there is less. Fails only if an allocation fails, or
+    /// if the 32-bit indexes for slots' borrows are used up; the room is then unchanged.
     pub fn reserve(&mut self, room: usize) -> Result<(), StoreError>
     where
         T: Drop,
@@ -420,8 +419,8 @@ impl<T: Drop> Entries<T> {
         Ok(())
     }
 
-    // Makes room for this many slots in all. Where memory is refused it makes room for half of those
-    // that are more than before, then for a quarter and so on, and for one more at least.
+    // Reserves room for this many slots in all. If an allocation fails, it reserves half of the
+    // additional ones, then a quarter and so on, and at least one.
     fn grow_within(&mut self, room: usize) -> Result<(), StoreError>
     where
         T: Drop,
@@ -443,7 +442,7 @@ impl<T: Drop> Entries<T> {
         }
     }
 
-    // Gives back what the buffers have beyond the room for slots.
+    // Shrinks the buffers to the room for slots.
     fn give_back_room(&mut self)
         ensures { self.new ≡ self.old }
     {
@@ -452,8 +451,8 @@ impl<T: Drop> Entries<T> {
         self.borrows.give_back_room();
     }
 
-    // Makes room for this many slots in all. The lists of borrows come first: their buffer, mostly
-    // the largest, mostly has nothing to be moved. So few refusals come after slots were moved.
+    // Reserves room for this many slots in all. The lists of borrows come first: their buffer, mostly the
+    // largest, mostly has nothing to be moved. So few calls fail after slots were moved.
     fn reserve_all(&mut self, room: usize) -> Result<(), StoreError>
     where
         T: Drop,
@@ -472,7 +471,7 @@ impl<T: Drop> Entries<T> {
         Ok(())
     }
 
-    /// Lists the noted borrow, if there is one. Takes no memory.
+    /// Lists the noted borrow, if there is one. Doesn't allocate.
     #[inline(always)]
     pub fn list_noted(&mut self)
         ensures { self.new ≡ self.old }
@@ -480,8 +479,9 @@ impl<T: Drop> Entries<T> {
         list_noted(&mut self.entries, &mut self.borrows, &mut self.last);
     }
 
-    /// Adds a reader to a value that isn't lent. Refused only for a reader beside others, if memory
-    /// runs out; nothing changes then. `is_unborrowed` says that the caller knows of no borrow there.
+    /// Adds a reader to a value that isn't being written. Fails only if the value has other readers and
+    /// an allocation fails; nothing changes then. `is_unborrowed` says that the caller knows that there
+    /// is no borrow.
     #[inline(always)]
     pub fn begin_read(
         &mut self,
@@ -509,7 +509,7 @@ impl<T: Drop> Entries<T> {
         Ok(())
     }
 
-    /// Takes a reader away. The answer is whether it stood.
+    /// Removes a reader. Returns whether there was one.
     #[inline(always)]
     pub fn release_read(&mut self, slot: usize, ticket: u64) -> bool
         requires { slot < length self.old.slots }
@@ -526,7 +526,7 @@ impl<T: Drop> Entries<T> {
         self.release_listed(slot, ticket)
     }
 
-    // Takes a reader away that is listed, or that doesn't stand.
+    // Removes a reader that is listed, or that isn't there.
     #[cold]
     #[inline(never)]
     fn release_listed(&mut self, slot: usize, ticket: u64) -> bool
@@ -560,7 +560,7 @@ impl<T: Drop> Entries<T> {
         }
     }
 
-    /// Lends the value of a cell without borrows to a writer.
+    /// Moves the value of a cell without borrows to a writer.
     #[inline(always)]
     pub fn begin_write(&mut self, name: CellName, writer: Borrow) -> T
         requires free { IsAlone name.generation (slice_get self.old.slots name.slot) }
@@ -576,8 +576,7 @@ impl<T: Drop> Entries<T> {
         value
     }
 
-    /// Puts a writer's value back, or hands it back where the writer doesn't stand, which changes
-    /// nothing.
+    /// Puts a writer's value back, or returns it if there is no such writer, and changes nothing then.
     #[inline(always)]
     pub fn release_write(&mut self, slot: usize, ticket: u64, value: T) -> Result<(), T>
         requires { slot < length self.old.slots }
@@ -596,8 +595,7 @@ impl<T: Drop> Entries<T> {
         self.release_listed_writer(slot, ticket, value)
     }
 
-    // Puts the value of a writer back that is listed, or hands it back where the writer doesn't
-    // stand.
+    // Puts the value of a listed writer back, or returns it if there is no such writer.
     #[cold]
     #[inline(never)]
     fn release_listed_writer(&mut self, slot: usize, ticket: u64, value: T) -> Result<(), T>
@@ -625,7 +623,7 @@ impl<T: Drop> Entries<T> {
         }
     }
 
-    /// Puts another value in the place of that of a cell without borrows, and answers the old one.
+    /// Replaces the value of a cell without borrows, and returns the old one.
     #[inline(always)]
     pub fn replace(&mut self, slot: usize, value: T) -> T
         requires within { slot < length self.old.slots }
@@ -644,8 +642,8 @@ impl<T: Drop> Entries<T> {
         }
     }
 
-    /// Changes the value of a cell without borrows by a closure, which is called once on it in its
-    /// place, and answers what that answers.
+    /// Calls a closure once on the value of a cell without borrows, mutably, and returns the closure's
+    /// result.
     #[inline(always)]
     pub fn change<R, F: FnOnce(&mut T) -> R>(&mut self, slot: usize, f: F) -> R
         requires within { slot < length self.old.slots }
@@ -666,8 +664,8 @@ impl<T: Drop> Entries<T> {
         }
     }
 
-    /// Ends the slot's cell, with the borrows that stand there. `is_unborrowed` says that the caller
-    /// knows that none does.
+    /// Removes the slot's cell, with its borrows. `is_unborrowed` says that the caller knows that there
+    /// is none.
     #[inline(always)]
     pub fn end(&mut self, slot: usize, is_unborrowed: bool)
         requires within { slot < length self.old.slots }
@@ -687,8 +685,8 @@ impl<T: Drop> Entries<T> {
         give_back(&mut self.borrows, index);
     }
 
-    /// Puts a cell without borrows into a slot that has none, under the next generation, which is
-    /// answered. Nothing refers to it.
+    /// Puts a cell without borrows into a slot that has no cell, under the next generation, which is
+    /// returned. Nothing refers to it.
     #[inline(always)]
     pub fn refill(&mut self, slot: usize, content: StorageEntryData<T>, created_at: Location) -> u64
         requires within { slot < length self.old.slots }
@@ -710,7 +708,7 @@ impl<T: Drop> Entries<T> {
         generation
     }
 
-    /// Adds a slot with a cell without borrows, to which nothing refers. There is room for it.
+    /// Adds a slot with a cell without borrows, to which nothing refers. There must be room for it.
     #[inline(always)]
     pub fn push(&mut self, generation: u64, content: StorageEntryData<T>, created_at: Location)
         requires room { length self.old.slots < self.old.rooms }
@@ -731,7 +729,7 @@ impl<T: Drop> Entries<T> {
         });
     }
 
-    /// Lets the slot's reference name another cell.
+    /// Points the slot's reference to another cell.
     pub fn redirect(&mut self, slot: usize, target: usize)
         requires within { slot < length self.old.slots }
         requires target { target < length self.old.slots }
@@ -749,7 +747,7 @@ impl<T: Drop> Entries<T> {
         mem::forget(mem::replace(&mut self.entries[slot].content, reference));
     }
 
-    /// One reference more names the slot's cell.
+    /// Counts another reference to the slot's cell.
     #[inline(always)]
     pub fn count_up(&mut self, slot: usize)
         requires within { slot < length self.old.slots }
@@ -775,7 +773,7 @@ impl<T: Drop> Entries<T> {
     }
 }
 
-// Lists the noted borrow, if there is one. Takes no memory.
+// Lists the noted borrow, if there is one. Doesn't allocate.
 #[inline(always)]
 fn list_noted<T: Drop>(
     entries: &mut Vec<StorageEntry<T>>,
@@ -841,7 +839,7 @@ fn list_beside<T>(
     borrows.push(index, reader)
 }
 
-// The writer of a lent value: the one that is listed at its index, or the noted one.
+// The writer of a value that is being written: the one that is listed at its index, or the noted one.
 #[inline(always)]
 fn writer_at(borrows: &BorrowTable, last: &LastBorrow, index: u32) -> Borrow
     requires { index ≢ no_index → index < length borrows.now.lists }
@@ -854,7 +852,7 @@ fn writer_at(borrows: &BorrowTable, last: &LastBorrow, index: u32) -> Borrow
     borrows.first(index)
 }
 
-// Gives the index of a slot's borrows back, if there is one.
+// Frees the index of a slot's borrows, if there is one.
 #[inline(always)]
 fn give_back(borrows: &mut BorrowTable, index: u32)
     requires { index ≢ no_index → IsUsed borrows.old index }
@@ -866,7 +864,7 @@ fn give_back(borrows: &mut BorrowTable, index: u32)
     }
 }
 
-// The next larger number of slots for which room is made.
+// The next larger number of slots for which room is reserved.
 fn larger_room(room: usize) -> Result<usize, StoreError>
     ensures more { IfOk result (λ more. (room < more) × (more < no_index)) }
     ensures cause { IfErr result (λ error. error ≡ OutOfMemory) }
@@ -878,15 +876,15 @@ fn larger_room(room: usize) -> Result<usize, StoreError>
     Ok(most.min(room + more_room(room)))
 }
 
-// For so many slots there is room at first, then for more, and then for many.
+// The capacity in slots at first, then, and later.
 const FEW: usize = 4;
 
 const MORE: usize = 64;
 
 const MANY: usize = 1152;
 
-// By how many slots the room for so many grows: in great steps while they are few, so that a slot
-// is seldom moved, and then by as many again.
+// By how many slots the capacity grows: by large factors while it is small, so that a slot is seldom
+// moved, and then to twice as many.
 fn more_room(room: usize) -> usize
     ensures some { 0 < result }
     ensures most { result ≤ max room 1152 }
@@ -903,7 +901,7 @@ fn more_room(room: usize) -> usize
     room
 }
 
-// The answer to a write or an end where the readers at this index stand.
+// The error of a write or a removal because of the readers at this index.
 #[cold]
 #[inline(never)]
 fn readers_error(borrows: &BorrowTable, index: u32, alloc: Global) -> Refused<BorrowMutError>
@@ -918,7 +916,7 @@ fn readers_error(borrows: &BorrowTable, index: u32, alloc: Global) -> Refused<Bo
     }
 }
 
-// The answer to a write or an end where one reader stands.
+// The error of a write or a removal because of one reader.
 #[cold]
 #[inline(never)]
 fn reader_error(reader: Borrow, alloc: Global) -> Refused<BorrowMutError>
@@ -945,7 +943,7 @@ fn push_writer(
     push_more(rows, BaseRow::Writer(id, writer.ticket, writer.location))
 }
 
-// The answer to a write or an end where a writer stands.
+// The error of a write or a removal because of a writer.
 #[inline(always)]
 fn writer_error(writer: Borrow) -> Refused<BorrowMutError>
     ensures { result ≡ refused.Borrow (writes.AlreadyBorrowedMut

@@ -1,4 +1,4 @@
-//! What a slot keeps in one place: the generation of its last cell, and that cell.
+//! What a slot stores in one place: the generation of its last cell, and that cell.
 
 ghost use Rattle.std.specs.Prelude.{◌≡◌, ◌+◌, ◌<◌, IsSome, None, Some, is_some, nat_eq};
 ghost use Rattle.std.specs.Prelude.{option_map};
@@ -18,7 +18,7 @@ use std::mem;
 use store_parts::names::CellName;
 use store_parts::table::NO_INDEX;
 
-/// Whose a value is: a box's own, or shared by all references that name its cell.
+/// Whose a value is: a box's own, or shared by all references to its cell.
 #[derive(Clone, Copy, Drop)]
 pub enum Kind {
     Value,
@@ -32,21 +32,21 @@ pub struct StorageEntry<T> {
     pub content: StorageEntryData<T>,
 }
 
-/// What is seldom asked of a slot, and so stands apart: where its last cell was made, and how many
-/// live references name that.
+/// What is seldom read of a slot, and so is stored separately: where its last cell was made, and how many
+/// live references that has.
 #[derive(Clone, Copy)]
 pub struct EntryDetails {
     pub created_at: Location,
     pub references: usize,
 }
 
-/// A live cell: a value of a box's own, or a shared one; each of them with the index of its readers
-/// in the table of borrows; the index of its writer, while the value is lent, and whose it is; or a
+/// A live cell: a value of a box's own, or a shared one; each of them with the index of its readers in
+/// the table of borrows; the index of its writer, while the value is being written, and whose it is; or a
 /// reference, by its target's slot and generation. Or nothing.
 ///
-/// What a box's own value is asked for most has one variant, so that one comparison finds it; the
-/// values without listed readers come first, and those that can be read next, so that one more finds
-/// each of these.
+/// What is read most of a box's own value has one variant, so that one comparison finds it; the values
+/// without listed readers come first, and those that can be read next, so that one more finds each of
+/// these.
 #[derive(Drop)]
 pub enum StorageEntryData<T> {
     Data(T),
@@ -59,8 +59,8 @@ pub enum StorageEntryData<T> {
 }
 
 impl<T> StorageEntry<T> {
-    /// The cell that a box of this name reaches, if the slot's cell has the name: its own one, if
-    /// that is a value that isn't shared, or the target of a reference.
+    /// The cell that a box of this name refers to, if the slot's cell has the name: its own one, if that
+    /// is a value that isn't shared, or the target of a reference.
     #[inline(always)]
     pub fn reach(&self, name: CellName) -> Option<CellName>
         ensures { option_map name_of_cell result ≡ if nat_eq self.now.generation name.generation
@@ -69,7 +69,7 @@ impl<T> StorageEntry<T> {
         if self.generation != name.generation {
             return None;
         }
-        // One question after the other, since a match over all kinds goes through a table of jumps.
+        // One test after the other, since a match over all kinds compiles to a jump table.
         if let StorageEntryData::Data(_) = &self.content {
             return Some(name);
         }
@@ -88,7 +88,7 @@ impl<T> StorageEntry<T> {
         None
     }
 
-    /// Whose the slot's value is, also one that is lent, if the slot's cell has this generation.
+    /// Whose the slot's value is, even if it is being written, if the slot's cell has this generation.
     #[inline(always)]
     pub fn kind(&self, generation: u64) -> Option<Kind>
         ensures { result ≡ if nat_eq self.now.generation generation
@@ -130,7 +130,7 @@ impl<T> StorageEntry<T> {
         self.content.target()
     }
 
-    /// Where the borrows of the slot's cell stand in the table.
+    /// Where the borrows of the slot's cell are in the table.
     #[inline(always)]
     pub fn index(&self) -> u32
         ensures { result ≡ index_of (data_in self.now.content) }
@@ -143,8 +143,8 @@ impl<T> StorageEntry<T> {
         }
     }
 
-    /// Puts a cell into the slot, under the next generation, which is answered. The slot has none:
-    /// what stood there isn't dropped.
+    /// Puts a cell into the slot, under the next generation, which is returned. The slot must have no
+    /// cell: its old content isn't dropped.
     #[inline(always)]
     pub fn refill(&mut self, content: StorageEntryData<T>) -> u64
     where
@@ -160,7 +160,7 @@ impl<T> StorageEntry<T> {
 }
 
 impl<T> StorageEntryData<T> {
-    /// What the cell names, if it is a reference.
+    /// The cell's target, if it is a reference.
     #[inline(always)]
     pub fn target(&self) -> Option<CellName>
         ensures { option_map name_of_cell result ≡ named_by (data_in self.now) }
@@ -185,7 +185,8 @@ impl<T> StorageEntryData<T> {
         )
     }
 
-    /// Lends the value, which is there and at which no reader is listed. Its writer isn't listed.
+    /// Moves the value to a writer. There is a value, without listed readers, and the writer isn't
+    /// listed.
     #[inline(always)]
     pub fn lend(&mut self) -> T
     where
@@ -205,7 +206,7 @@ impl<T> StorageEntryData<T> {
         }
     }
 
-    /// Puts a value back where one is lent. Its writer is forgotten.
+    /// Puts a writer's value back. The writer is forgotten.
     #[inline(always)]
     pub fn put_back(&mut self, value: T)
     where
@@ -220,7 +221,7 @@ impl<T> StorageEntryData<T> {
         };
     }
 
-    /// Lets readers stand at a value where none stood, at an index of the table.
+    /// Gives a value without readers the index of its readers in the table.
     pub fn list(&mut self, index: u32)
     where
         T: Drop,
@@ -233,7 +234,7 @@ impl<T> StorageEntryData<T> {
         };
     }
 
-    /// Lets none stand at a value whose readers' index was given back.
+    /// Removes the index of a value's readers, which was freed.
     pub fn unlist(&mut self)
     where
         T: Drop,

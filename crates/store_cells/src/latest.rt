@@ -1,4 +1,4 @@
-//! The borrow that began last, if it is noted apart from the lists.
+//! The borrow that began last, if it is noted outside the lists.
 
 ghost use Rattle.std.specs.Prelude.{◌≡◌, ◌&&◌, if◌then◌else◌, nat_eq};
 ghost use Rattle.store_cells.specs.Latest.{cleared, is_noted, is_noted_at, is_reader};
@@ -42,7 +42,7 @@ impl LastBorrow {
         }
     }
 
-    /// Notes a borrow of a cell in the place of what was noted.
+    /// Notes a borrow of a cell, which replaces the noted one.
     #[inline(always)]
     pub fn note(&mut self, noted: Noted, name: CellName, borrow: Borrow)
         ensures { self.new ≡ record {
@@ -59,7 +59,7 @@ impl LastBorrow {
         self.noted = noted;
     }
 
-    /// Notes nothing more, if it is the slot's borrow that is noted.
+    /// Clears the note if it is of the slot's borrow.
     #[inline(always)]
     pub fn forget(&mut self, slot: usize)
         ensures { self.new ≡ if is_noted_at self.old slot then cleared self.old else self.old }

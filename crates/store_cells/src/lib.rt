@@ -1,8 +1,7 @@
-//! The entries of a store of generational boxes: what each slot keeps, with the borrows that stand
-//! there.
+//! The entries of a store of generational boxes: what each slot stores, with its borrows.
 //!
-//! It is a part of `generational_box`, which is what users take. All that it has is `pub` for the
-//! crates above it, and may change with them.
+//! It is an internal part of `generational_box`; users import that. Its items are `pub` for the crates
+//! that depend on it, and may change with them.
 #![tactic(auto)]
 
 pub mod entries;

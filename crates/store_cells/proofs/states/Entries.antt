@@ -105,7 +105,7 @@ module _ {t t' : Table} {x : ℕ} {list : List Borrow} (o : Opens t t' x list) w
     some = λ z. o.some (sym opened_list ∙ z);
   }
 
-  -- one index more is used, and none is added but where none was free
+  -- another index is used, and one is added only if none was free
   pub opened_count : set.len t'.free + length t.lists + 1 ≡ set.len t.free + length t'.lists
   opened_count = rw (o.lists, o.free, put_length, set.len-remove nat_cmp_total t.free x)
       (let vacant = o.vacant in let some = some_member t.free x in
@@ -125,7 +125,7 @@ same_each [] (y ∷ ys) same = cc (same 0)
 same_each (x ∷ xs) [] same = cc (same 0)
 same_each (x ∷ xs) (y ∷ ys) same = cc (same 0, same_each xs ys (λ k. same (suc k)))
 
--- ---- the slots as contracts see them
+-- ---- the slots as modelled in contracts
 
 module _ {T : Type 0} where
   -- a slot's entry and details together
@@ -162,7 +162,7 @@ module _ {T : Type 0} where
   SameBorrows r r' before after es i = (k : ℕ) → k ≢ i
       → borrows_of r' after k (index_in (slice_get es k)) ≡ borrows_of r before k (index_in (slice_get es k))
 
-  -- a slot that is written with its details, or a slot more
+  -- a slot that is written with its details, or another slot
   module _ (r r' : LastBorrow) (before after : List (List Borrow)) {es es' : List (StorageEntry T)}
       {ds ds' : List EntryDetails} {i : ℕ} {e : StorageEntry T} {d : EntryDetails} {seen : List (Entry T)}
       (w : IsWritten es es' i e) (v : IsWritten ds ds' i d)
@@ -207,7 +207,7 @@ abbrev pub Holds : {T : Type 0} → LastBorrow → Table → List (StorageEntry 
 Holds r t es ds room x y =
     AreIndexed t es × AreNoted r t.lists es × (length ds ≡ length es) × AreRoomy room (length es) x y t.rooms
 
--- and what contracts see
+-- and their model in contracts
 pub record IsKept {T : Type 0} (r : LastBorrow) (t : Table) (es : List (StorageEntry T)) (ds : List EntryDetails)
     (now : EntryList T) (room x y : ℕ) : Type 0 where
   pub view : record { slots = entries_of r t.lists es ds; rooms = room } ≡ now
@@ -224,7 +224,7 @@ pub record IsSlot {T : Type 0} (r : LastBorrow) (t : Table) (es : List (StorageE
   pub base : IsListable r t es
   pub there : slice_get es i ≡ Some e
 
--- a slot of a store with its details, and with what contracts see
+-- a slot of a store with its details, and with its model in contracts
 pub record IsAt {T : Type 0} (r : LastBorrow) (t : Table) (es : List (StorageEntry T)) (ds : List EntryDetails)
     (now : EntryList T) (room x y i : ℕ) (e : StorageEntry T) (d : EntryDetails) : Type 0 where
   pub at : IsSlot r t es i e
@@ -300,7 +300,7 @@ module _ {T : Type 0} {r : LastBorrow} {t : Table} {es : List (StorageEntry T)} 
       let e = noted_there r t.lists k (slice_get es r.slot) s.holds.1.noted on in
       let d = found_at (ap (slice_get es) (sym (noted_slot r k on)) ∙ e.1) in (e.0, d.0, d.1)
 
-  -- where the noted borrow is listed, that holds as before, and contracts see no change
+  -- when the noted borrow is listed, that holds as before, and the modelled state doesn't change
   pub listed : {r' : LastBorrow} {t' : Table} {es' : List (StorageEntry T)} {x' : ℕ} → IsListed r r' t t' es es' → x' ≡ x
       → IsKept r' t' es' ds now room x' y
   listed l capacity = record {
@@ -348,7 +348,7 @@ module _ {T : Type 0} {r : LastBorrow} {t : Table} {es : List (StorageEntry T)} 
         → kept_data standing l (data_in e.content) ≡ Live kd (Lent w) l
     lent_seen apart listed l = grind (arith, nat_tests, lent_apart, apart, listed)
 
-  -- borrows stand at an index, and where one is noted
+  -- borrows are at an index, if one is noted
   pub indexed_some : index_of (data_in e.content) ≢ no_index → standing ≢ []
   indexed_some some = rw (ne_eqb (index_of (data_in e.content)) no_index some) (used_here some).some
 
@@ -358,7 +358,7 @@ module _ {T : Type 0} {r : LastBorrow} {t : Table} {es : List (StorageEntry T)} 
   pub lent : (kd : Kind) (x : ℕ) → data_in e.content ≡ slot.Lent kd x → standing ≢ []
   lent kd x is = ⊎_elim (λ none. noted_some (lent_noted is none)) (λ some. indexed_some (rw is some)) (cases_eq x no_index)
 
-  -- what holds where it is noted
+  -- what holds if it is noted
   pub noted_here : is_noted_at r i ≡ true
       → (e.generation ≡ r.generation) × (may_note r t.lists (data_in e.content) ≡ true)
   noted_here on = grind (arith, nat_tests, noted_slot r i, a.there, a.base.noted.noted)
@@ -371,16 +371,16 @@ module _ {T : Type 0} {r : LastBorrow} {t : Table} {es : List (StorageEntry T)} 
   pub noted_index : is_noted_at r i ≡ true → {kd : Kind} {x : ℕ} → data_in e.content ≡ slot.Lent kd x → x ≡ no_index
   noted_index on is = let may = rw is at (noted_here on).1 in grind (arith, nat_tests)
 
-  -- where no borrow is noted, a writer is listed
+  -- if no borrow is noted, a writer is listed
   pub lent_listed : {kd : Kind} {x : ℕ} → data_in e.content ≡ slot.Lent kd x → is_noted r.noted ≡ false → x ≢ no_index
   lent_listed is nobody none = let on = lent_noted is none in grind arith
 
-  -- nothing stands in the way of a write where none is noted, listed or lent
+  -- nothing is in the way of a write if none is noted, listed or lent
   pub write_seen : (l : Location) → is_none (write_refusal (content_in (kept_data standing l (data_in e.content))))
       ≡ cond (is_noted_at r i) false (is_free (data_in e.content))
   write_seen l = grind (arith, noted_here, read_some, lent)
 
-  -- a value without listed readers that isn't lent, where one is noted
+  -- a value without listed readers that isn't lent, if one is noted
   pub noted_data : is_noted_at r i ≡ true → is_free (data_in e.content) ≡ true
       → (kd : Kind) × (v : T) × (data_in e.content ≡ slot.Data kd v)
   noted_data on free = let may = (noted_here on).1 in grind arith
@@ -391,7 +391,7 @@ module _ {T : Type 0} {r : LastBorrow} {t : Table} {es : List (StorageEntry T)} 
       ≡ value_for n (content_in (kept_data standing l (data_in e.content)))
   noted_opens on same l = grind (arith, nat_tests, noted_here, read_borrows)
 
-  -- other tickets don't, where no readers are listed
+  -- other tickets don't, if no readers are listed
   pub noted_else : (n : ℕ) → (is_reader r.noted && nat_eq r.slot i && nat_eq r.borrow.ticket n) ≡ false
       → NotRead (data_in e.content) → (l : Location) → value_for n (content_in (kept_data standing l (data_in e.content))) ≡ None
   noted_else n off none l = grind (arith, nat_tests, none, noted_here)
@@ -429,7 +429,7 @@ module _ {T : Type 0} {r r' : LastBorrow} {i : ℕ} {e' : StorageEntry T} {lists
 
   module _ {before : List (List Borrow)} {es es' : List (StorageEntry T)} (w : IsWritten es es' i e')
       (was : AreNoted r before es) (same : SameLists before lists es i) where
-    -- the note stands at its cell
+    -- the note is at its cell
     noted_fits : Notes r r' lists i e' → is_noted r'.noted ≡ true → IsNoted r' lists (slice_get es' r'.slot)
     noted_fits n on = grind (arith, nat_tests, w.at r'.slot, same r.slot, was.noted)
 
@@ -445,7 +445,7 @@ pub record Steps {T : Type 0} (t t' : Table) (es : List (StorageEntry T)) (i : �
   pub indexed : AreIndexed t' (slice_set es i e)
   pub rooms : t'.rooms ≡ t.rooms
 
--- what holds afterwards, and what contracts see
+-- what holds afterwards, and the model in contracts
 pub record Writes {T : Type 0} (r : LastBorrow) (t : Table) (es : List (StorageEntry T)) (ds : List EntryDetails)
     (room x y : ℕ) (now : List (Entry T)) : Type 0 where
   pub holds : Holds r t es ds room x y
@@ -460,7 +460,7 @@ module _ {T : Type 0} {r : LastBorrow} {t : Table} {es : List (StorageEntry T)} 
   pub seen : slice_get now.slots i ≡ Some (entry_of r t.lists i e d)
   seen = rw (← a.view) seen_own
 
-  -- another content stands in its cell, or other borrows, and what it keeps changes so
+  -- another content is in its cell, or other borrows, and what it keeps changes so
   abbrev pub Rewrites : LastBorrow → Table → StorageEntryData T → (Kept T → Kept T) → Type 0
   Rewrites r' t' k f = Writes r' t' (slice_set es i (record e { content = k })) ds room x y
       (change_entry now.slots i (λ e. record e { kept = f e.kept }))
@@ -505,12 +505,12 @@ module _ {T : Type 0} {r : LastBorrow} {t : Table} {es : List (StorageEntry T)} 
       at (entries_written r r t.lists t.lists (set_written es i e e a.at.there) (set_written ds i d' d a.made)
       (set_written _ i _ _ seen_own) (λ k other. refl)))
 
-  -- ---- what contracts see of the slot
+  -- ---- the slot as modelled in contracts
 
   pub says : (P : Entry T → Type 0) → ((d : EntryDetails) → P (entry_of r t.lists i e d)) → IfSome (slice_get now.slots i) P
   says P h = rw seen (h d)
 
-  -- nothing stands in the way of a write: no borrow is noted, listed or lent
+  -- nothing is in the way of a write: no borrow is noted, listed or lent
   pub quiet : write_refusal (content_in (entry_of r t.lists i e d).kept) ≡ None
       → (is_noted_at r i ≡ false) × (is_free (data_in e.content) ≡ true)
   quiet none = let seen = write_seen a.at d.created_at in grind arith
@@ -520,13 +520,13 @@ module _ {T : Type 0} {r : LastBorrow} {t : Table} {es : List (StorageEntry T)} 
       → (is_noted_at r i ≡ false) × ((kd : Kind) × (v : T) × (data_in e.content ≡ slot.Data kd v))
   alone free = let seen = write_seen a.at d.created_at in grind arith
 
-  -- readers stand in the way
+  -- readers are in the way
   pub hindered : {bs : List Borrow} → standing a.at ≡ bs → bs ≢ [] → is_lent_data (data_in e.content) ≡ false
       → is_some (kind_of (data_in e.content)) ≡ true → (q : Refused BorrowMutError) → FoundReaders bs q
       → FoundBorrowed (write_refusal (content_in (entry_of r t.lists i e d).kept)) (Err q)
   hindered is some here value q readers = grind arith
 
-  -- a borrow with an index stands in the way
+  -- a borrow with an index is in the way
   pub stopped : index_of (data_in e.content) ≢ no_index
       → is_some (write_refusal (content_in (entry_of r t.lists i e d).kept)) ≡ true
   stopped some = grind (arith, write_seen a.at d.created_at, free_none (data_in e.content))
@@ -550,7 +550,7 @@ module _ {T : Type 0} {r : LastBorrow} {t : Table} {es : List (StorageEntry T)} 
   pub noted_seen : is_noted_at r i ≡ true → is_some (content_of (cell_in (slice_get now.slots i) r.generation)) ≡ true
   noted_seen on = rw seen (grind (arith, nat_tests, noted_here a.at on, lent a.at))
 
-  -- no borrow stands where none is noted, listed or lent
+  -- there is no borrow if none is noted, listed or lent
   module _ (away : is_noted_at r i ≡ false) (free : is_free (data_in e.content) ≡ true) where
     pub unhindered : write_refusal (content_in (entry_of r t.lists i e d).kept) ≡ None
     unhindered = let seen = write_seen a.at d.created_at in grind arith
@@ -583,7 +583,7 @@ module _ {T : Type 0} {d : StorageEntryData T} where
         → is_free (data_in d) ≡ true
     no_borrow own shared = grind (arith, own, shared, lent)
 
-    -- where none is lent, no writer stands
+    -- if none is lent, there is no writer
     pub no_refusal : (bs : List Borrow) (l : Location) → None ≡ read_refusal (content_in (kept_data bs l (data_in d)))
     no_refusal bs l = grind (arith, lent)
 
@@ -594,7 +594,7 @@ module _ {T : Type 0} {d : StorageEntryData T} where
     pub no_data : {kd : Kind} {v : T} → data_in d ≡ slot.Data kd v → ⊥
     no_data is = grind (arith, own, shared)
 
-    -- where no value is, none is seen
+    -- if there is no value, none is seen
     pub no_value : ((x : ℕ) (v : T) → d ≡ content.Read x v → ⊥) → ((x : ℕ) (v : T) → d ≡ content.SharedRead x v → ⊥)
         → (bs : List Borrow) (l : Location) → None ≡ value_of (content_in (kept_data bs l (data_in d)))
     no_value read shared_read bs l = grind (arith, own, shared, read, shared_read)

@@ -1,4 +1,4 @@
--- A reader that begins is noted, and listed first beside others.
+-- A reader that begins is noted, and listed first if there are others.
 use Rattle.store_cells.proofs.{arith, begun, begun_alone, err_then, found, found_there, kept, listed}
 use Rattle.store_cells.proofs.{listed_below, many, readable_within, seen, stopped, used_here}
 use Rattle.store_cells.proofs.entries.Entries.begin_read.Goals as goal

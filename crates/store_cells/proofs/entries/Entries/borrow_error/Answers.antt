@@ -1,4 +1,4 @@
--- The writer that stands in the way of a read.
+-- The writer that is in the way of a read.
 use Rattle.store_cells.proofs.{ap, data_in, found, kept, lent_seen, lent_used, no_refusal, refl, seen}
 use Rattle.store_cells.proofs.entries.Entries.borrow_error.Goals as goal
 

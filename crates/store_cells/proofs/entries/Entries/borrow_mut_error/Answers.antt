@@ -1,4 +1,4 @@
--- The borrows that stand in the way of a write or an end.
+-- The borrows that are in the way of a write or an end.
 use Rattle.store_cells.proofs.{ap, data_in, found, hindered, index_form, kept, lent_seen, lent_used, no_borrow}
 use Rattle.store_cells.proofs.{none_some, noted_data, read_borrows, refl, seen, sym, unhindered, used_at, [], ◌∙◌}
 use Rattle.store_cells.proofs.{◌∷◌}

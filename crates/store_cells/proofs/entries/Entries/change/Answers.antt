@@ -1,4 +1,4 @@
--- A value without borrows is changed in its place: its index and the table stay.
+-- A value without borrows is changed in place: its index and the table stay.
 use Rattle.store_cells.proofs.{alone, found, free_holds, free_view, kept, no_data, refl, says, seen}
 use Rattle.store_cells.proofs.entries.Entries.change.Goals as goal
 use goal.{in-Data, in-Shared}

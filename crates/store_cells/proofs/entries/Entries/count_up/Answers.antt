@@ -1,4 +1,4 @@
--- One reference more names a slot's cell.
+-- Another reference names a slot's cell.
 use Rattle.store_cells.proofs.{arith, base, found_details, kept, many, refl, seen, wrote_details, ◌+◌}
 use Rattle.store_cells.proofs.entries.Entries.count_up.Goals as goal
 

@@ -1,4 +1,4 @@
--- A cell's end, with the borrows that stand there.
+-- A cell's removal, with its borrows.
 use Rattle.store_cells.proofs.{ended, found, free_holds, free_view, kept, quiet, refl, seen, sym, used_x}
 use Rattle.store_cells.proofs.entries.Entries.end.Goals as goal
 

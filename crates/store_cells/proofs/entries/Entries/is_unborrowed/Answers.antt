@@ -1,4 +1,4 @@
--- Whether no borrow stands at a cell.
+-- Whether there is no borrow at a cell.
 use Rattle.store_cells.proofs.{found, found_there, kept, no_borrow, refl, seen, write_seen}
 use Rattle.store_cells.proofs.entries.Entries.is_unborrowed.Goals as goal
 

@@ -1,4 +1,4 @@
--- The value, where the reader stands.
+-- The value, if it has this reader.
 use Rattle.store_cells.proofs.{data_form, eq-eqb, found, kept, no_read, noted_else, noted_opens, read_borrows}
 use Rattle.store_cells.proofs.{read_form, reads_at, refl, seen, sym, used_at, ◌∙◌}
 use Rattle.store_cells.proofs.entries.Entries.open.Goals as goal

@@ -1,4 +1,4 @@
--- A slot more, with a cell without borrows.
+-- Another slot, with a cell without borrows.
 use Rattle.store_cells.proofs.{arith, kept, pushed}
 use Rattle.store_cells.proofs.entries.Entries.push.Goals as goal
 

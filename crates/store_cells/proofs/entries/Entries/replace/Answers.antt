@@ -1,4 +1,4 @@
--- Another value in the place of one without borrows: its index and the table stay.
+-- A value without borrows is replaced: its index and the table stay.
 use Rattle.store_cells.proofs.{alone, found, free_holds, free_view, kept, no_data, refl, says, seen}
 use Rattle.store_cells.proofs.entries.Entries.replace.Goals as goal
 use goal.{in-Data, in-Shared}
