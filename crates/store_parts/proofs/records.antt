@@ -10,9 +10,9 @@ use Rattle.std.specs.FinMap as map
 use Rattle.std.specs.FinSet as set
 unfoldable pub use lists.*
 
--- ==== owners' records in few bytes: a place more, and what doesn't rest on the room for names
+-- ==== owners' records in few bytes: another place, and what doesn't rest on the room for names
 
--- ---- a place more
+-- ---- another place
 
 names_more : (places : List (Option PackedRecord)) (p : Option PackedRecord)
     → names_of (places ++ p ∷ []) ≡ names_of places + packed_names p
@@ -92,9 +92,9 @@ no_owners =
     nil_from_length (map.entries map.empty)
     (sym (map.len-entries map.empty) ∙ map.len-empty nat_cmp Ownership)
 
--- ==== the map for which places of records stand, and what is written to them
+-- ==== the map that places of records represent, and what is written to them
 
--- ---- what stands under a key
+-- ---- what is under a key
 
 -- the first record under a key
 abbrev find_in : ℕ → List Place → Option Ownership
@@ -120,7 +120,7 @@ find_same [] (y ∷ ys) q same = rw (same 0) (find_same [] ys q (λ i. same (suc
 find_same (x ∷ xs) [] q same = rw (← same 0) (find_same xs [] q (λ i. same (suc i)))
 find_same (x ∷ xs) (y ∷ ys) q same = rw (same 0, find_same xs ys q (λ i. same (suc i))) refl
 
--- a record that alone stands under its key
+-- a record that alone is under its key
 find_at : (xs : List Place) (q i : ℕ) → ((j : ℕ) → HasRecord q (slice_get xs j) → j ≡ i)
     → find_in q xs ≡ record_at q (slice_get xs i)
 find_at [] q i alone = refl
@@ -167,7 +167,7 @@ pub record Leaves (v : set.FinSet nat_cmp) (rooms : ℕ) (ys : List Place) (S : 
 
 module _ {vacant : set.FinSet nat_cmp} {rooms : ℕ} {xs : List Place}
     (placed : ArePlaced vacant rooms xs) where
-  -- a write to a place, where before and after no other key stands, nor this one at another
+  -- a write to a place which has no other key before and after, and whose key is at no other place
   writes : {ys : List Place} {k i : ℕ} {x : Place} {left : set.FinSet nat_cmp}
       (v : Option Ownership)
       → IsWritten xs ys i x → record_in k x ≡ v
@@ -301,7 +301,7 @@ no_places rooms = record {
   };
 }
 
--- where all places are vacant the map is empty, and elsewhere it isn't
+-- if all places are vacant, the map is empty, and otherwise it isn't
 pub owners_vacant : (xs : List Place) → ((i : ℕ) → i < length xs → slice_get xs i ≡ Some None)
     → owners_of xs ≡ map.empty
 owners_vacant xs vacant = map.same_map nat_cmp_total map.nat_cmp-IsAntisymmetric _ _ (λ q.
@@ -329,7 +329,7 @@ pub vacant_through : (xs : List Place) (n : ℕ) (x : Place)
     → is_some x ≡ false → (i : ℕ) → i < n + 1 → slice_get xs i ≡ Some None
 vacant_through xs n x before there vacant i within = grind (arith, before i)
 
--- a record stands under its key
+-- a record is under its key
 pub held_record : (P : KeyedOwnership → Type 0) (o : Option Place) → IsFilledWith P o
     → HasRecord (key_at o) o
 held_record P (Some (Some r)) held = rw (eq-eqb r.key r.key refl) refl
@@ -349,7 +349,7 @@ module _ (number : ℕ) (o : OwnerName) (is : o.store ≡ number) (xs : List Pla
     record_found x read =
         rw (read_there placed o.key i has x read, eq-eqb o.store number is, get_there placed o.key i has)
 
--- a name more on the list of an owner for which there is room at a place
+-- another name on the list of an owner for which there is room at a place
 pub listed_owners : {vacant : set.FinSet nat_cmp} {rooms : ℕ} {xs : List Place}
     → ArePlaced vacant rooms xs → (o : Option OwnerName) (i : ℕ) (n : Name)
     → IsReserved (record { owners = owners_of xs; places = xs }) o (Some i)

@@ -1,4 +1,4 @@
--- What is said of the borrows that stand at a cell.
+-- What is said of the borrows that are at a cell.
 use Rattle.std.specs.Prelude.{◌≡◌, ◌≢◌, ◌<◌, ◌≤◌, ℕ, true, false, not, nat_eq}
 use Rattle.std.specs.Prelude.{List, [], ◌∷◌, length}
 use Rattle.std.specs.List.{list_any, filter}
@@ -17,7 +17,7 @@ abbrev pub borrows_in : OneOrSeveral → List Borrow
 borrows_in (One b) = b ∷ []
 borrows_in (Several queue) = queue.value
 
--- in a queue two borrows stand at least
+-- in a queue two borrows are at least
 abbrev pub IsFilled : OneOrSeveral → Type 0
 IsFilled (One b) = Unit {0}
 IsFilled (Several queue) = 2 ≤ length queue.value

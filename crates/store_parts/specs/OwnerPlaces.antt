@@ -1,4 +1,4 @@
--- The places at which a store keeps the records of owners, and the map for which they stand.
+-- The places at which a store keeps the records of owners, and the map that they represent.
 use Rattle.std.specs.Prelude.{◌≡◌, ◌≤◌, ◌<◌, ℕ, Bool, true, false, nat_eq, if◌then◌else◌, is_some}
 use Rattle.std.specs.Prelude.{IsSomeAnd, Option, None, Some, List, [], ◌∷◌, length, slice_get, slice_set}
 use Rattle.std.specs.Ordering.{nat_cmp}
@@ -9,7 +9,7 @@ use Rattle.generational_core.specs.Machine.{OwnerName}
 use Rattle.generational_core.specs.Rows.{record_rows}
 use Rattle.generational_core.specs.State.{Ownership, Owners}
 
--- a record with the key under which it stands, and for how many names its list has room
+-- a record with its key, and for how many names its list has room
 pub record KeyedOwnership : Type 0 where
   pub key : ℕ
   pub ownership : Ownership
@@ -26,7 +26,7 @@ with_rooms rooms r = record r { rooms = rooms }
 abbrev pub Place : Type 0
 Place = Option KeyedOwnership
 
--- the records that stand at places, with their keys
+-- the records that are at places, with their keys
 abbrev pub keyed_ownerships : List Place → List (ℕ × Ownership)
 keyed_ownerships [] = []
 keyed_ownerships (None ∷ places) = keyed_ownerships places
@@ -36,7 +36,7 @@ keyed_ownerships (Some r ∷ places) = (r.key, r.ownership) ∷ keyed_ownerships
 unfoldable pub owners_of : List Place → Owners
 owners_of places = map.from_entries (keyed_ownerships places)
 
--- the record at a place, if it stands there under this key
+-- the record at a place, if it is there under this key
 abbrev pub record_in : ℕ → Place → Option Ownership
 record_in key None = None
 record_in key (Some r) = if nat_eq key r.key then Some r.ownership else None
@@ -48,12 +48,12 @@ record_at key (Some place) = record_in key place
 abbrev pub HasRecord : ℕ → Option Place → Type 0
 HasRecord key place = is_some (record_at key place) ≡ true
 
--- no key stands at two places
+-- no key is at two places
 pub record HasDistinctKeys (places : List Place) : Type 0 where
   pub one : (key i j : ℕ) → HasRecord key (slice_get places i) → HasRecord key (slice_get places j)
       → i ≡ j
 
--- the place at which the record under a key stands, if there is one
+-- the place of the record under a key, if there is one
 abbrev pub IsPlaceOf : List Place → ℕ → Option ℕ → Type 0
 IsPlaceOf places key None = (i : ℕ) → record_at key (slice_get places i) ≡ None
 IsPlaceOf places key (Some i) = HasRecord key (slice_get places i)
@@ -83,7 +83,7 @@ IsFilledWith P place = IsSomeAnd place (λ kept. IsSomeAnd kept P)
 abbrev pub IsFilled : Option Place → Type 0
 IsFilled place = IsFilledWith (λ r. Unit {0}) place
 
--- a place with a record that has room for a name more on its list
+-- a place with a record that has room for another name on its list
 abbrev pub HasRoom : Option Place → Type 0
 HasRoom place = IsFilledWith (λ r. length r.ownership.names < r.rooms) place
 
@@ -108,13 +108,12 @@ change_record places i f = change_record_if places i f (slice_get places i)
 abbrev pub change_place : List Place → ℕ → (Ownership → Ownership) → List Place
 change_place places i f = change_record places i (with_ownership f)
 
--- the records of owners under their keys, and the places at which they stand
+-- the records of owners under their keys, and their places
 pub record Records : Type 0 where
   pub owners : Owners
   pub places : List Place
 
--- Room was made for a name more on the owner's list, if there is an owner: its record stands at the
--- place.
+-- Room was made for another name on the owner's list, if there is an owner: its record is at the place.
 abbrev pub IsReserved : Records → Option OwnerName → Option ℕ → Type 0
 IsReserved r None place = place ≡ None
 IsReserved r (Some o) None = ⊥

@@ -1,4 +1,4 @@
--- Places of owners' records in few bytes, and the places for which these stand.
+-- Places of owners' records in few bytes, and the places that these represent.
 use Rattle.std.specs.Prelude.{ℕ, ◌+◌, Option, None, Some, List, [], ◌∷◌, drop, map as list_map, take}
 use Rattle.store_parts.specs.CellNames.{name_of_cell}
 use Rattle.store_parts.specs.OwnerPlaces.{Place, with_rooms}
@@ -22,7 +22,7 @@ abbrev pub names_of : List (Option PackedRecord) → ℕ
 names_of [] = 0
 names_of (p ∷ places) = names_in p + names_of places
 
--- the place for which a packed one stands, and those of several, where these are the next names
+-- the place that a packed one represents, and those of several, if these are the next names
 abbrev pub unpack_place : List CellName → Option PackedRecord → Place
 unpack_place names None = None
 unpack_place names (Some r) = Some (record {

@@ -5,7 +5,7 @@ use Rattle.std.specs.List.{filter, AllPairs}
 use Rattle.generational_core.specs.declared.borrow.Borrow.{Borrow}
 use Rattle.store_parts.specs.declared.queue.Place.{Place}
 
--- the borrows that stand, in order
+-- the active borrows, in order
 abbrev pub standing_at : List Place → List Borrow
 standing_at ps = map (λ p. p.borrow) (filter (λ p. p.stands) ps)
 
@@ -21,7 +21,7 @@ StandsAt i ps = (d : Place) → i < length ps → (slice_index_or ps i d).stands
 abbrev pub HasTicketAt : ℕ → List Place → ℕ → Type 0
 HasTicketAt t ps i = (d : Place) → (slice_index_or ps i d).borrow.ticket ≡ t
 
--- the ticket's own borrow stands at an index
+-- the ticket's own borrow is at an index
 abbrev pub IsOwnPlace : ℕ → List Place → ℕ → Type 0
 IsOwnPlace t ps i = (i < length ps) × HasTicketAt t ps i × StandsAt i ps
 

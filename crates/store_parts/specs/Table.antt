@@ -21,14 +21,14 @@ abbrev pub put_list : List (List Borrow) → ℕ → List Borrow → List (List 
 put_list lists index list =
     if nat_eq index (length lists) then lists ++ list ∷ [] else slice_set lists index list
 
--- the index isn't in use: it was given back, or none was and it is the one after the last
+-- the index isn't in use: it was freed, or none was and it is the one after the last
 abbrev pub IsVacant : Table → ℕ → Type 0
 IsVacant t index =
     ((set.contains t.free index ≡ true) × (index < length t.lists))
     ⊎ ((t.free ≡ set.empty) × (index ≡ length t.lists))
 
--- an index that was given back has a list, and there is room for each list and for its index among
--- the free ones
+-- an index that was freed has a list, and there is room for each list and for its index among the free
+-- ones
 pub record IsTable (lists : List (List Borrow)) (free : set.FinSet nat_cmp) (rooms capacity : ℕ)
     : Type 0 where
   pub within : (index : ℕ) → set.contains free index ≡ true → index < length lists
@@ -39,20 +39,20 @@ pub record IsTable (lists : List (List Borrow)) (free : set.FinSet nat_cmp) (roo
 abbrev pub no_index : ℕ
 no_index = 4294967295
 
--- borrows stand at an index of the table
+-- borrows are at an index of the table
 pub record IsUsed (t : Table) (i : ℕ) : Type 0 where
   pub within : i < length t.lists
   pub used : set.contains t.free i ≡ false
   pub some : list_at t.lists i ≢ []
 
--- an index that is free again, and the lists at the others as they were
+-- an index that is free again, and the lists at the others unchanged
 pub record IsClosed (t t' : Table) (x : ℕ) : Type 0 where
   pub others : (q : ℕ) → q ≢ x → list_at t'.lists q ≡ list_at t.lists q
   pub same : length t'.lists ≡ length t.lists
   pub rooms : t'.rooms ≡ t.rooms
   pub freed : t'.free ≡ set.insert t.free x
 
--- where no borrow is left the index is given back, and else the others stay there
+-- if no borrow is left, the index is freed, and else the others stay there
 abbrev pub Releases : Table → Table → ℕ → ℕ → List Borrow → Type 0
 Releases t t' x y [] = (y ≡ no_index) × IsClosed t t' x
 Releases t t' x y left = (y ≡ x) × (t' ≡ record t { lists = slice_set t.lists x left })

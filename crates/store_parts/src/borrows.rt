@@ -1,4 +1,4 @@
-//! The borrows that stand at one cell.
+//! The borrows of one cell.
 
 ghost use Rattle.std.specs.Prelude.{◌≡◌, ◌∷◌, ◌++◌, [], IfOk, OnOk, OnErr, map, nat_eq};
 ghost use Rattle.std.specs.Prelude.{slice_get, Some};
@@ -13,11 +13,11 @@ use std::alloc::{AllocError, Global};
 use std::marker::Model;
 use store_room::push_more;
 
-/// The borrows that stand at one cell, one at least, in the order in which they began: so their
-/// tickets ascend. Contracts see them as that list.
+/// The borrows of one cell, at least one, in the order in which they began: so their tickets ascend.
+/// Contracts model them as that list.
 ///
-/// One borrow stands in place, so that a cell's first borrow takes no memory. Where there are more,
-/// all stand in a queue apart. Once one borrow is left, the queue's memory is given back.
+/// One borrow is stored in place, so that a cell's first borrow doesn't allocate. If there are more, all
+/// are in a separate queue. Once one borrow remains, the queue's memory is freed.
 #[derive(Drop)]
 pub struct Borrows {
     standing: OneOrSeveral,
@@ -30,8 +30,7 @@ enum OneOrSeveral {
     Several(Box<Queue>),
 }
 
-/// What became of a borrow that was to be taken away: there was none, there are others beside it,
-/// or it was the last.
+/// What became of a borrow that was to be removed: there was none, there are others, or it was the last.
 #[derive(Drop)]
 pub enum Removal {
     None,
@@ -52,7 +51,7 @@ impl Model for Borrows {
 }
 
 impl Borrows {
-    /// One borrow. Takes no memory.
+    /// One borrow. Doesn't allocate.
     #[inline(always)]
     pub fn new(borrow: Borrow) -> Borrows
         ensures { result ≡ borrow ∷ [] }
@@ -103,7 +102,7 @@ impl Borrows {
         }
     }
 
-    /// Takes the ticket's own borrow away, unless it is the last: that is told, and left.
+    /// Removes the ticket's borrow, unless it is the last one: then the result says so, and it stays.
     #[inline(always)]
     pub fn remove(&mut self, ticket: u64) -> Removal
         ensures { IsRemoval ticket self.old self.new result }
@@ -143,7 +142,7 @@ impl Borrows {
         }
     }
 
-    /// Appends a row for each borrow in order, as for readers of the value with this id.
+    /// Appends a row for each borrow in order, as a reader of the value with this id.
     pub fn push_readers(
         &self,
         id: GenerationalBoxId,

@@ -1,4 +1,4 @@
-//! Slots in a list whose links stand in a vector.
+//! Slots in a list whose links are in a vector.
 
 ghost use Rattle.std.specs.Prelude.{◌≡◌, ◌+◌, ◌<◌, ◌∷◌, ◌++◌, [], false, true, IfSome, IfErr};
 ghost use Rattle.std.specs.Prelude.{OnOk, OnErr, drop, length, max, slice_get, ◌-◌, ◌≤◌};
@@ -11,13 +11,13 @@ use generational_core::StoreError;
 use std::alloc::{AllocError, Global};
 use std::marker::Model;
 
-/// Slots without repetition, in an order that whoever puts them in chooses. There is room for as
-/// many as have a link. Contracts see the slots, the first one first, and the room.
+/// Slots without repetition, in an order that the caller chooses by where it puts them. There is room for
+/// as many as have a link. Contracts model it as the slots, the first one first, and the room.
 #[derive(Drop)]
 pub struct FreeList {
-    // where a slot is in the list and isn't its last, its link is the next slot
+    // if a slot is in the list and isn't its last, its link is the next slot
     links: Vec<u32>,
-    // where the list isn't empty, its first slot
+    // if the list isn't empty, its first slot
     first: usize,
     count: usize,
 }
@@ -38,7 +38,7 @@ impl Model for FreeList {
 }
 
 impl FreeList {
-    /// No slot and no room. Takes no memory.
+    /// No slot and no room. Doesn't allocate.
     pub fn new(alloc: Global) -> FreeList
         ensures slots { result.slots ≡ [] }
         ensures rooms { result.rooms ≡ 0 }
@@ -50,8 +50,8 @@ impl FreeList {
         }
     }
 
-    /// Makes room for this many slots in all, where there is less. Refused only if memory
-    /// runs out, with nothing changed.
+    /// Reserves room for this many slots in all, if there is less. Fails only if an allocation fails,
+    /// with nothing changed.
     #[cold]
     #[inline(never)]
     pub fn grow(&mut self, room: usize) -> Result<(), StoreError>
@@ -72,7 +72,7 @@ impl FreeList {
         }
     }
 
-    /// Takes the first slot out. Takes no memory.
+    /// Removes and returns the first slot. Doesn't allocate.
     #[inline(always)]
     pub fn take(&mut self) -> Option<usize>
         ensures first { result ≡ slice_get self.old.slots 0 }
@@ -93,8 +93,8 @@ impl FreeList {
         Some(slot)
     }
 
-    /// Puts a slot in before the others. Takes no memory. Where there are none, its link means
-    /// nothing and isn't written: most often the slot is the next that is taken.
+    /// Puts a slot before the others. Doesn't allocate. If there are no others, its link has no meaning
+    /// and isn't written: most often the slot is the next that is taken.
     #[inline(always)]
     pub fn put_first(&mut self, slot: usize)
         requires room { slot < self.old.rooms }
@@ -110,7 +110,7 @@ impl FreeList {
         }
     }
 
-    /// Puts a slot in behind the others, of which one that is named is the last. Takes no memory.
+    /// Puts a slot after the others; the caller passes the last of them. Doesn't allocate.
     #[inline(always)]
     pub fn put_last(&mut self, slot: usize, last: usize)
         requires room { slot < self.old.rooms }
@@ -145,8 +145,8 @@ impl FreeList {
     }
 }
 
-// Makes so many links of these: the new ones lead past the last slot. No more room is asked for
-// than they take.
+// Extends the links to this many: the new ones point past the last slot. Allocates exactly what they
+// need.
 fn extend(links: &mut Vec<u32>, room: usize) -> Result<(), AllocError>
     requires more { vec_len links.old ≤ room }
     requires few { room ≤ 4294967295 }

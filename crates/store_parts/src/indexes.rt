@@ -11,9 +11,9 @@ use generational_core::StoreError;
 use std::alloc::Global;
 use std::marker::Model;
 
-/// Indexes without repetition, of which the one that was put last is taken first. Room is reserved
-/// for many at once, and not touched before it is used. Contracts see the indexes, the last one
-/// first, and the room.
+/// Indexes without repetition; the one that was put last is taken first. Room is reserved for many at
+/// once, and not touched before it is used. Contracts model it as the indexes, the last one first, and
+/// the room.
 #[derive(Drop)]
 pub struct FreeIndexes {
     indexes: Vec<u32>,
@@ -33,7 +33,7 @@ impl Model for FreeIndexes {
 }
 
 impl FreeIndexes {
-    /// No index and no room. Takes no memory.
+    /// No index and no room. Doesn't allocate.
     #[inline(always)]
     pub fn new(alloc: Global) -> FreeIndexes
         ensures empty { members_of result ≡ set.empty }
@@ -45,8 +45,8 @@ impl FreeIndexes {
         }
     }
 
-    /// Makes room for this many indexes in all. Refused only if memory runs out: then no index
-    /// is taken out.
+    /// Reserves room for this many indexes in all. Fails only if an allocation fails: then no index is
+    /// removed.
     pub fn reserve(&mut self, alloc: Global, room: usize) -> Result<(), StoreError>
         ensures indexes { self.new.slots ≡ self.old.slots }
         ensures rooms { self.old.rooms ≤ self.new.rooms }
@@ -68,7 +68,7 @@ impl FreeIndexes {
         self.room
     }
 
-    /// Takes an index out: None exactly where there is none. Takes no memory.
+    /// Removes and returns an index: None exactly if there is none. Doesn't allocate.
     #[inline(always)]
     pub fn take(&mut self) -> Option<u32>
         ensures rooms { self.new.rooms ≡ self.old.rooms }
@@ -82,7 +82,7 @@ impl FreeIndexes {
         Some(index)
     }
 
-    /// Puts an index in that isn't there, and for which there is room. Takes no memory.
+    /// Adds an index that isn't there. There must be room for it. Doesn't allocate.
     #[inline(always)]
     pub fn put(&mut self, index: u32)
         requires room { index < self.old.rooms }

@@ -1,9 +1,8 @@
-//! The containers of a store of generational boxes, none of which knows a store: borrows that
-//! stand at one cell and a table of their lists, pools of free slots and indexes, and the records
-//! of owners.
+//! The containers of a store of generational boxes, none of which knows a store: the borrows of one cell
+//! and a table of their lists, pools of free slots and indexes, and the records of owners.
 //!
-//! It is a part of `generational_box`, which is what users take. All that it has is `pub` for the
-//! crates above it, and may change with them.
+//! It is an internal part of `generational_box`; users import that. Its items are `pub` for the crates
+//! that depend on it, and may change with them.
 #![tactic(auto)]
 
 pub mod borrows;

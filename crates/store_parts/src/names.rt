@@ -7,7 +7,7 @@ ghost use Rattle.store_parts.specs.CellNames.{name_of_cell};
 use generational_core::GenerationalBoxId;
 use generational_core::parts::id_at;
 
-/// The name of a cell of the store that keeps it.
+/// The name of a cell, without its store's number.
 #[derive(Clone, Copy, PartialEq)]
 pub struct CellName {
     pub slot: usize,

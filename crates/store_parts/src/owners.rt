@@ -1,4 +1,4 @@
-//! The records that a store keeps of owners.
+//! A store's records of owners.
 
 ghost use Rattle.std.specs.Prelude.{◌≡◌, ℕ, ◌<◌, ◌↔◌, [], true};
 ghost use Rattle.std.specs.Prelude.{Option, Some, None, IfSome, IfNone, IsTrue, IfErr, IfOk};
@@ -30,8 +30,8 @@ use std::alloc::{AllocError, Global};
 use std::marker::Model;
 use store_room::reserve_more;
 
-/// An owner's record: its boxes in order of insertion, and how many owner values are held.
-/// Contracts see it with its key.
+/// An owner's record: its boxes in order of insertion, and its number of owner values. Contracts model it
+/// with its key.
 #[derive(Drop)]
 pub struct OwnerRecord {
     key: u64,
@@ -54,7 +54,7 @@ impl Model for OwnerRecord {
 }
 
 impl OwnerRecord {
-    // A record without boxes, for one owner value. Takes no memory.
+    // A record without boxes, for one owner value. Doesn't allocate.
     fn new(alloc: Global, key: u64) -> OwnerRecord
         ensures key { result.key ≡ key }
         ensures held { result.ownership ≡ record { names = []; count = 1 } }
@@ -66,7 +66,7 @@ impl OwnerRecord {
         }
     }
 
-    // The key under which it stands.
+    // Its key.
     #[inline(always)]
     fn key(&self) -> u64
         ensures { result ≡ self.now.key }
@@ -74,7 +74,7 @@ impl OwnerRecord {
         self.key
     }
 
-    /// How many owner values it stands for.
+    /// Its number of owner values.
     #[inline(always)]
     pub fn count(&self) -> u64
         ensures { result ≡ self.now.ownership.count }
@@ -89,7 +89,7 @@ impl OwnerRecord {
         self.boxes.as_slice()
     }
 
-    // Makes room for a box more on the list.
+    // Reserves room for another box on the list.
     #[inline(always)]
     fn reserve(&mut self) -> Result<(), AllocError>
         ensures same { self.new ≡ with_rooms self.new.rooms self.old }
@@ -98,7 +98,7 @@ impl OwnerRecord {
         reserve_more(&mut self.boxes, 1)
     }
 
-    // Puts a box at the end of the list, where there is room.
+    // Puts a box at the end of the list, which must have room.
     #[inline(always)]
     fn list(&mut self, name: CellName)
         requires { length self.old.ownership.names < self.old.rooms }
@@ -107,7 +107,7 @@ impl OwnerRecord {
         self.boxes.push_reserved(name);
     }
 
-    // One owner value more.
+    // Counts another owner value.
     fn count_up(&mut self)
         requires { self.old.ownership.count < 18446744073709551615 }
         ensures { self.new ≡ with_ownership one_more self.old }
@@ -124,12 +124,11 @@ impl OwnerRecord {
     }
 }
 
-/// The records of a store's owners. Contracts see them as a map by their keys.
+/// The records of a store's owners. Contracts model them as a map by their keys.
 ///
-/// Each stands at a place of its own until it is taken away, and an owner carries that place as a
-/// hint. So an owner of this very store is looked up in one step. Only one that another store gave
-/// is searched for at all places: another store of the same number, since the number is asked
-/// first.
+/// Each stays at its index until it is removed, and an owner carries that index as a hint. So an owner of
+/// this very store is looked up in one step. All indexes are searched only for an owner that another
+/// store with the same number made, since the number is compared first.
 #[derive(Drop)]
 pub struct OwnerRecords {
     places: Vec<Option<OwnerRecord>>,
@@ -153,7 +152,7 @@ impl Model for OwnerRecords {
 }
 
 impl OwnerRecords {
-    /// No records. Takes no memory.
+    /// No records. Doesn't allocate.
     pub fn new(alloc: Global) -> OwnerRecords
         ensures { result.owners ≡ map.empty }
     {
@@ -163,7 +162,7 @@ impl OwnerRecords {
         }
     }
 
-    /// Whether there is no record. Asks all places.
+    /// Whether there is no record. Checks all indexes.
     pub fn is_empty(&self) -> bool
         ensures { IsTrue result ↔ (self.now.owners ≡ map.empty) }
     {
@@ -193,8 +192,8 @@ impl OwnerRecords {
         }
     }
 
-    /// The record of an owner's id, if it is of a store with this number and these records. An id
-    /// has no hint of its record's place, so all places are asked.
+    /// The record of an owner's id, if it is of a store with this number and these records. An id has no
+    /// hint of its record's index, so all are searched.
     pub fn find_id(&self, number: u64, id: OwnerId) -> Option<&OwnerRecord>
         ensures { option_map (λ r. r.ownership) (option_copied result) ≡
             record_of number self.now.owners (owner_of id) }
@@ -215,7 +214,7 @@ impl OwnerRecords {
         self.find(number, owner).is_some()
     }
 
-    /// Whether a call that goes by this owner, or by none, may go on.
+    /// Whether a call with this owner, or without one, may go on.
     #[inline(always)]
     pub fn permits(&self, number: u64, owner: Option<&Owner>) -> bool
         ensures { result ≡ permits number self.now.owners (option_copied owner.entry) }
@@ -226,8 +225,8 @@ impl OwnerRecords {
         }
     }
 
-    /// Makes room for a box more on the owner's list, if there is an owner. The answer is where its
-    /// record stands. No record changes.
+    /// Reserves room for another box on the owner's list, if there is an owner. Returns the index of its
+    /// record. No record changes.
     #[inline(always)]
     pub fn reserve(
         &mut self,
@@ -247,7 +246,7 @@ impl OwnerRecords {
         }
     }
 
-    // Makes room for a name in the list of an owner, and answers the owner's place.
+    // Reserves room for a name in the list of an owner, and returns the index of its record.
     fn reserve_for(&mut self, number: u64, owner: &Owner) -> Result<Option<usize>, StoreError>
         ensures same { self.new.owners ≡ self.old.owners }
         ensures known { OnOk result (knows number self.old.owners owner.now ≡ true) }
@@ -266,8 +265,8 @@ impl OwnerRecords {
         Ok(Some(place))
     }
 
-    /// Puts a box at the end of the list of the record at a place, where there is room for it, if a
-    /// place is given.
+    /// Puts a box at the end of the list of the record at an index, which must have room for it, if an
+    /// index is passed.
     #[inline(always)]
     pub fn list(&mut self, place: Option<usize>, name: CellName)
         requires { IfSome place (λ i. HasRoom (slice_get self.old.places i)) }
@@ -279,8 +278,8 @@ impl OwnerRecords {
         }
     }
 
-    /// Adds a record for one owner value under a key that has none. The answer is its place. If
-    /// memory runs out no record changes.
+    /// Adds a record for one owner value under a key that has none, and returns its index. If an
+    /// allocation fails, no record changes.
     pub fn add(&mut self, alloc: Global, key: u64) -> Result<usize, AllocError>
         requires { map.get self.old.owners key ≡ None }
         ensures ok { OnOk result (self.new.owners ≡ map.insert self.old.owners key
@@ -307,7 +306,7 @@ impl OwnerRecords {
         }
     }
 
-    /// Takes the record at a place away, with its list. Takes no memory.
+    /// Removes the record at an index, with its list. Doesn't allocate.
     pub fn remove(&mut self, place: usize)
         requires { IsFilled (slice_get self.old.places place) }
         ensures { self.new.owners
@@ -317,7 +316,7 @@ impl OwnerRecords {
         self.vacant.put(place);
     }
 
-    /// One owner value more of the record at a place.
+    /// Counts another owner value of the record at an index.
     pub fn count_up(&mut self, place: usize)
         requires { IsFilledWith (λ r. r.ownership.count < 18446744073709551615)
             (slice_get self.old.places place) }
@@ -337,7 +336,7 @@ impl OwnerRecords {
     }
 }
 
-// The place of the owner's record: the one that the owner's hint names, or another.
+// The index of the owner's record: the owner's hint, or another.
 #[inline(always)]
 fn find_place(places: &Vec<Option<OwnerRecord>>, owner: &Owner) -> Option<usize>
     ensures found { IfSome result (λ place.
@@ -352,7 +351,7 @@ fn find_place(places: &Vec<Option<OwnerRecord>>, owner: &Owner) -> Option<usize>
     search_place(places, key)
 }
 
-// The place of the record under a key. Asks all places.
+// The index of the record under a key. Searches all.
 #[cold]
 #[inline(never)]
 fn search_place(places: &Vec<Option<OwnerRecord>>, key: u64) -> Option<usize>
@@ -368,7 +367,7 @@ fn search_place(places: &Vec<Option<OwnerRecord>>, key: u64) -> Option<usize>
     None
 }
 
-// Whether the record under a key stands at a place.
+// Whether the record under a key is at an index.
 #[inline(always)]
 fn has_record(places: &Vec<Option<OwnerRecord>>, place: usize, key: u64) -> bool
     ensures { result ≡ is_some (record_at key (slice_get places.now.items place)) }
@@ -379,7 +378,7 @@ fn has_record(places: &Vec<Option<OwnerRecord>>, place: usize, key: u64) -> bool
     }
 }
 
-// Whether no record stands at any place.
+// Whether there is no record at any index.
 fn are_vacant(places: &[Option<OwnerRecord>]) -> bool
     ensures { IsTrue result ↔ (owners_of places.now ≡ map.empty) }
 {
@@ -391,7 +390,7 @@ fn are_vacant(places: &[Option<OwnerRecord>]) -> bool
     true
 }
 
-// Makes room for a box more on the list of the record at a place.
+// Reserves room for another box on the list of the record at an index.
 #[inline(always)]
 fn reserve_at(places: &mut Vec<Option<OwnerRecord>>, place: usize) -> Result<(), AllocError>
     requires { IsFilled (slice_get places.old.items place) }
@@ -405,7 +404,7 @@ fn reserve_at(places: &mut Vec<Option<OwnerRecord>>, place: usize) -> Result<(),
     }
 }
 
-// Puts a box at the end of the list of the record at a place, where there is room.
+// Puts a box at the end of the list of the record at an index, which must have room.
 #[inline(always)]
 fn list_at(places: &mut Vec<Option<OwnerRecord>>, place: usize, name: CellName)
     requires { HasRoom (slice_get places.old.items place) }
@@ -418,7 +417,7 @@ fn list_at(places: &mut Vec<Option<OwnerRecord>>, place: usize, name: CellName)
     }
 }
 
-// One owner value more of the record at a place.
+// Counts another owner value of the record at an index.
 fn count_up_at(places: &mut Vec<Option<OwnerRecord>>, place: usize)
     requires { IsFilledWith (λ r. r.ownership.count < 18446744073709551615)
         (slice_get places.old.items place) }

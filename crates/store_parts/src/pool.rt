@@ -22,20 +22,20 @@ pub trait SlotPool: Drop {
     /// For how many slots there is room.
     ghost rooms: { Self → ℕ };
 
-    /// A pool without slots and without room. Takes no memory.
+    /// A pool without slots and without room. Doesn't allocate.
     fn new(alloc: Global) -> Self
         ensures empty { members result ≡ set.empty }
         ensures rooms { rooms result ≡ 0 };
 
-    /// Makes room for this many slots in all, where there is less. The only refusal is
-    /// `OutOfMemory`, and it changes nothing.
+    /// Reserves room for this many slots in all, if there is less. The only error is `OutOfMemory`, which
+    /// changes nothing.
     fn grow(&mut self, room: usize) -> Result<(), StoreError>
         ensures same { members self.new ≡ members self.old }
         ensures ok { OnOk result (rooms self.new ≡ max (rooms self.old) room) }
         ensures err { OnErr result (rooms self.new ≡ rooms self.old) }
         ensures cause { IfErr result (λ error. error ≡ OutOfMemory) };
 
-    /// Takes a slot out: None exactly where there is none. Takes no memory.
+    /// Removes and returns a slot: None exactly if there is none. Doesn't allocate.
     fn take(&mut self) -> Option<usize>
         ensures rooms { rooms self.new ≡ rooms self.old }
         ensures member { IfSome result (λ slot. set.contains (members self.old) slot ≡ true) }
@@ -44,7 +44,7 @@ pub trait SlotPool: Drop {
         ensures none { IfNone result (members self.old ≡ set.empty) }
         ensures unchanged { IfNone result (members self.new ≡ members self.old) };
 
-    /// Puts a slot in that isn't there, and for which room was made. Takes no memory.
+    /// Adds a slot that isn't there. There must be room for it. Doesn't allocate.
     fn put(&mut self, slot: usize)
         requires room { slot < rooms self.old }
         requires absent { set.contains (members self.old) slot ≡ false }
@@ -60,8 +60,7 @@ pub trait SlotPool: Drop {
         ensures { result ≡ set.len (members self.now) };
 }
 
-/// Takes the slot that was put last. Contracts see it as the slots, the last one first, and the
-/// room.
+/// Takes the slot that was put last. Contracts model it as the slots, the last one first, and the room.
 #[derive(Drop)]
 pub struct LastFirst {
     list: FreeList,
@@ -130,8 +129,7 @@ impl SlotPool for LastFirst {
     }
 }
 
-/// Takes the slot that was put first of those that are there. Contracts see it as the slots, the
-/// first one first, and the room.
+/// Takes the slot that was put first. Contracts model it as the slots, the first one first, and the room.
 #[derive(Drop)]
 pub struct OldestFirst {
     list: FreeList,
@@ -207,7 +205,7 @@ impl SlotPool for OldestFirst {
     }
 }
 
-/// Makes room for one more slot, and for its number among the free ones. If memory runs out no
+/// Reserves room for another slot, and for its number among the free ones. If an allocation fails, no
 /// slot changes.
 #[inline(always)]
 pub fn make_room<T, P: SlotPool>(slots: &mut Vec<T>, pool: &mut P) -> Result<(), StoreError>
@@ -224,7 +222,7 @@ pub fn make_room<T, P: SlotPool>(slots: &mut Vec<T>, pool: &mut P) -> Result<(),
     grow(slots, pool)
 }
 
-// Makes room for one element more at least, where there is none.
+// Reserves room for at least another element, if there is none.
 #[cold]
 #[inline(never)]
 fn grow<T, P: SlotPool>(slots: &mut Vec<T>, pool: &mut P) -> Result<(), StoreError>
@@ -241,9 +239,9 @@ fn grow<T, P: SlotPool>(slots: &mut Vec<T>, pool: &mut P) -> Result<(), StoreErr
     grow_within(pool, slots.capacity())
 }
 
-/// Makes room for this many slots in all. Where memory is refused it makes room for half of those
-/// that are more than before, then for a quarter and so on, and for one more at least. The only
-/// refusal is `OutOfMemory`, and it changes nothing.
+/// Reserves room for this many slots in all. If an allocation fails, it reserves half of the additional
+/// ones, then a quarter and so on, and at least one. The only error is `OutOfMemory`, which changes
+/// nothing.
 pub fn grow_within<P: SlotPool>(pool: &mut P, room: usize) -> Result<(), StoreError>
     ensures same { P.members pool.new ≡ P.members pool.old }
     ensures ok { OnOk result (min room (P.rooms pool.old + 1) ≤ P.rooms pool.new) }

@@ -1,4 +1,4 @@
-//! Several borrows in order, of which one ends in the midst without a move of the others.
+//! Several borrows in order; one in the middle ends without moving the others.
 
 ghost use Rattle.std.specs.Prelude.{◌≡◌, ◌≢◌, ◌<◌, ◌≤◌, ◌+◌, ◌-◌, ◌∷◌, ◌++◌, [], length, map};
 ghost use Rattle.std.specs.Prelude.{IfOk, OnOk, OnErr, IfSome, Some, is_some, slice_get};
@@ -16,13 +16,13 @@ use std::collections::VecDeque;
 use std::marker::Model;
 use store_room::push_more;
 
-/// Several borrows in the order in which they began: so their tickets ascend. Contracts see them as
+/// Several borrows in the order in which they began: so their tickets ascend. Contracts model them as
 /// that list.
 ///
-/// The one with a ticket is found by binary search. The first and the last are taken away. One in
-/// the midst only stands no more: its place is dead, and stays until it comes first or last, or
-/// until more places are dead than live. Then the living move together. So a borrow's end takes no
-/// memory, and on average over the calls the time of the search.
+/// The one with a ticket is found by binary search. The first and the last are removed. One in the middle
+/// is only marked dead, and stays until it comes first or last, or until more entries are dead than live.
+/// Then the live ones move together. So the end of a borrow doesn't allocate, and takes amortised the
+/// time of the search.
 #[derive(Drop)]
 pub struct Queue {
     // the first and the last place live
@@ -31,7 +31,7 @@ pub struct Queue {
     live: usize,
 }
 
-/// A borrow, and whether it stands.
+/// A borrow, and whether it is active.
 #[derive(Clone, Copy, Drop)]
 struct Place {
     borrow: Borrow,
@@ -78,8 +78,7 @@ impl Queue {
         self.places[0].borrow
     }
 
-    /// Adds a borrow at the end. If memory runs out, as it can only where no place is dead, nothing
-    /// changes.
+    /// Adds a borrow at the end. An allocation can fail only if no entry is dead; nothing changes then.
     pub fn push(&mut self, borrow: Borrow) -> Result<(), AllocError>
         requires { AreBelow borrow.ticket self.old }
         ensures ok { OnOk result (self.new ≡ self.old ++ borrow ∷ []) }
@@ -98,7 +97,7 @@ impl Queue {
         find(&self.places, ticket).is_some()
     }
 
-    /// Takes the ticket's own borrow away. The answer is whether there was one. Takes no memory.
+    /// Removes the ticket's borrow. Returns whether there was one. Doesn't allocate.
     #[cold]
     #[inline(never)]
     pub fn remove(&mut self, ticket: u64) -> bool
@@ -126,7 +125,7 @@ impl Queue {
         locations_of(&self.places, self.live, alloc)
     }
 
-    /// Appends a row for each borrow in order, as for readers of the value with this id.
+    /// Appends a row for each borrow in order, as a reader of the value with this id.
     pub fn push_readers(
         &self,
         id: GenerationalBoxId,
@@ -139,7 +138,7 @@ impl Queue {
 }
 
 impl Place {
-    // The place of a borrow that begins.
+    // The entry of a borrow that begins.
     fn new(borrow: Borrow) -> Place
         ensures { result ≡ record { borrow = borrow; stands = true } }
     {
@@ -157,8 +156,8 @@ pub fn reader_row(id: GenerationalBoxId, borrow: &Borrow) -> BaseRow
     BaseRow::Reader(id, borrow.ticket, borrow.location)
 }
 
-// Makes room for one borrow more: mostly for as many again as there are places. Where memory is
-// refused, the dead places are taken away first.
+// Reserves room for another borrow: mostly it doubles the entries. If an allocation fails, the dead
+// entries are removed first.
 fn make_room(places: &mut VecDeque<Place>) -> Result<(), AllocError>
     ensures ok { OnOk result (deque_len places.new < deque_capacity places.new) }
     ensures kept { AreKept places.old.items places.new.items }
@@ -171,7 +170,7 @@ fn make_room(places: &mut VecDeque<Place>) -> Result<(), AllocError>
     reserve_beside(places, beside)
 }
 
-// Makes room for one borrow more, and for so many beside it, or for half of those and so on.
+// Reserves room for another borrow, and for so many in addition, or for half of those and so on.
 #[cold]
 #[inline(never)]
 fn reserve_beside(places: &mut VecDeque<Place>, beside: usize) -> Result<(), AllocError>
@@ -187,7 +186,7 @@ fn reserve_beside(places: &mut VecDeque<Place>, beside: usize) -> Result<(), All
     reserve_beside(places, beside / 2)
 }
 
-// Where the ticket's own borrow stands.
+// The index of the ticket's borrow.
 fn find(places: &VecDeque<Place>, ticket: u64) -> Option<usize>
     requires { TicketsAscend places.now.items }
     ensures known { is_some result
@@ -200,7 +199,7 @@ fn find(places: &VecDeque<Place>, ticket: u64) -> Option<usize>
     }
 }
 
-// Takes the dead places away that come first.
+// Removes the dead entries that come first.
 fn drop_dead_before(places: &mut VecDeque<Place>)
     requires { TicketsAscend places.old.items }
     ensures same { standing_at places.new.items ≡ standing_at places.old.items }
@@ -215,7 +214,7 @@ fn drop_dead_before(places: &mut VecDeque<Place>)
     }
 }
 
-// Takes the dead places away that come last.
+// Removes the dead entries that come last.
 fn drop_dead_behind(places: &mut VecDeque<Place>)
     requires ascend { TicketsAscend places.old.items }
     requires first { StandsAt 0 places.old.items }
@@ -232,14 +231,14 @@ fn drop_dead_behind(places: &mut VecDeque<Place>)
     }
 }
 
-// Takes all dead places away.
+// Removes all dead entries.
 fn drop_dead(places: &mut VecDeque<Place>)
     ensures { places.new.items ≡ filter (λ p. p.stands) places.old.items }
 {
     places.retain(|place| place.stands);
 }
 
-// Where the borrows that stand began, in order; there are so many.
+// Where the active borrows began, in order; there are so many.
 fn locations_of(
     places: &VecDeque<Place>,
     live: usize,
@@ -249,7 +248,7 @@ fn locations_of(
         (λ found. found.items ≡ map (λ b. b.location) (standing_at places.now.items)) }
 {
     let mut locations = Vec::new(alloc);
-    // where the whole length is refused, the list grows as it fills
+    // if the whole length can't be allocated, the list grows as it fills
     let _whole = locations.reserve_exact(live);
     for place in places.iter() {
         if place.stands {
@@ -259,7 +258,7 @@ fn locations_of(
     Ok(locations)
 }
 
-// Appends a row for each borrow that stands, in order.
+// Appends a row for each active borrow, in order.
 fn push_all(
     places: &VecDeque<Place>,
     id: GenerationalBoxId,

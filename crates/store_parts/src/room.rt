@@ -1,4 +1,4 @@
-//! Room in buffers.
+//! Capacity of buffers.
 
 ghost use Rattle.std.specs.Prelude.{◌≡◌, ◌≤◌, [], IfErr, IfOk, OnOk, vec_capacity};
 ghost use Rattle.generational_errors.specs.declared.error.StoreError.TheVariants.{OutOfMemory};
@@ -20,7 +20,7 @@ pub fn reserve_room<X: Drop>(
     if room <= items.capacity() {
         return Ok(());
     }
-    // a buffer where nothing stands isn't copied
+    // an empty buffer isn't copied
     if items.is_empty() {
         match Vec::with_capacity(alloc, room) {
             Ok(larger) => *items = larger,

@@ -20,13 +20,12 @@ use std::marker::Model;
 /// The index of a cell without borrows.
 pub const NO_INDEX: u32 = u32::MAX;
 
-/// The standing borrows of a store: at each index those of one cell. An index that was given back
-/// is used again.
+/// The active borrows of a store: at each index those of one cell. A freed index is reused.
 #[derive(Drop)]
 pub struct BorrowTable {
     alloc: Global,
     lists: Vec<Borrows>,
-    // the indexes that were given back
+    // the indexes that were freed
     free: FreeIndexes,
 }
 
@@ -52,7 +51,7 @@ impl Model for BorrowTable {
 }
 
 impl BorrowTable {
-    /// No list. Takes no memory.
+    /// No list. Doesn't allocate.
     #[inline(always)]
     pub fn new(alloc: Global) -> BorrowTable
         ensures lists { result.lists ≡ [] }
@@ -66,8 +65,8 @@ impl BorrowTable {
         }
     }
 
-    /// Makes the buffer of the lists large enough for this many, without counting them as room. The
-    /// only refusal is that memory runs out.
+    /// Makes the buffer of the lists large enough for this many, without counting them as room. Fails
+    /// only if an allocation fails.
     pub fn reserve(&mut self, room: usize) -> Result<(), StoreError>
         ensures same { self.new ≡ self.old }
         ensures cause { IfErr result (λ error. error ≡ OutOfMemory) }
@@ -75,14 +74,14 @@ impl BorrowTable {
         reserve_room(&mut self.lists, self.alloc, room)
     }
 
-    /// Gives back what the buffer of the lists has beyond the room.
+    /// Shrinks the buffer of the lists to the room.
     pub fn give_back_room(&mut self)
         ensures { self.new ≡ self.old }
     {
         self.lists.shrink_to(self.free.room());
     }
 
-    /// Makes room for this many lists. Refused only if memory runs out, with all lists unchanged.
+    /// Reserves room for this many lists. Fails only if an allocation fails, with all lists unchanged.
     pub fn grow(&mut self, room: usize) -> Result<(), StoreError>
         ensures lists { self.new.lists ≡ self.old.lists }
         ensures free { self.new.free ≡ self.old.free }
@@ -94,7 +93,7 @@ impl BorrowTable {
         self.free.reserve(self.alloc, room)
     }
 
-    /// Begins a list with one borrow, at an index that wasn't in use. Takes no memory.
+    /// Starts a list with one borrow, at an index that wasn't in use. Doesn't allocate.
     #[inline(always)]
     pub fn open(&mut self, borrow: Borrow) -> u32
         requires room { self.old.free ≡ set.empty → length self.old.lists < self.old.rooms }
@@ -118,7 +117,7 @@ impl BorrowTable {
         }
     }
 
-    /// Gives an index back. What stands there is forgotten.
+    /// Frees an index. Its list has no meaning from then on.
     #[cold]
     #[inline(never)]
     pub fn close(&mut self, index: u32)
@@ -156,7 +155,7 @@ impl BorrowTable {
         self.lists[index as usize].contains(ticket)
     }
 
-    /// Adds a borrow at the end of a list. If memory runs out the lists are unchanged.
+    /// Adds a borrow at the end of a list. If an allocation fails, the lists are unchanged.
     #[inline(always)]
     pub fn push(&mut self, index: u32, borrow: Borrow) -> Result<(), AllocError>
         requires within { index < length self.old.lists }
@@ -170,8 +169,8 @@ impl BorrowTable {
         self.lists[index as usize].push(self.alloc, borrow)
     }
 
-    /// Takes the ticket's own borrow out of a list, and gives the index back with the last one. The
-    /// answer is whether there was one, and the index where the others stand.
+    /// Removes the ticket's borrow from a list, and frees the index with the last one. Returns whether
+    /// there was one, and the index of the others.
     #[inline(always)]
     pub fn release(&mut self, index: &mut u32, ticket: u64) -> bool
         requires { IsUsed self.old index.old }

@@ -14,12 +14,12 @@ number_test a b = grind (arith, nat_tests)
 pub cond_same : {A : Type 0} (b : Bool) (x : A) → cond b x x ≡ x
 cond_same b x = grind arith
 
--- one where a test is passed
+-- one if a test is passed
 abbrev pub bit : Bool → ℕ
 bit b = cond b 1 0
 
 module _ {A : Type 0} where
-  -- whether something stands there that passes
+  -- whether there is something that passes
   abbrev pub passes : (A → Bool) → Option A → Bool
   passes p None = false
   passes p (Some x) = p x
@@ -59,7 +59,7 @@ module _ {A : Type 0} where
   count_all [] = refl
   count_all (x ∷ xs) = omega (arith, count_all xs)
 
-  -- what passes is counted, and what is counted stands somewhere
+  -- what passes is counted, and what is counted is somewhere
   pub many_some : (p : A → Bool) (xs : List A) (k : ℕ) (x : A)
       → slice_get xs k ≡ Some x → p x ≡ true → 0 < how_many p xs
   many_some p [] k x at passed = absurd cc
@@ -80,7 +80,7 @@ module _ {A : Type 0} where
   many_within p [] = omega arith
   many_within p (x ∷ xs) = grind (arith, many_within p xs)
 
-  -- fewer pass than there are, where one doesn't
+  -- fewer pass than there are, if one doesn't
   pub fewer_within : (p : A → Bool) (xs : List A) (i : ℕ) (x : A)
       → slice_get xs i ≡ Some x → p x ≡ false → how_many p xs < length xs
   fewer_within p [] i x there fails = absurd cc
@@ -126,7 +126,7 @@ pub contains-remove_at : (s : set.FinSet nat_cmp) (i k : ℕ)
 contains-remove_at s i k =
     rw (set.contains-remove nat_cmp_total s i k, number_test k i) (grind arith)
 
--- what is true of one slot, where it is so already
+-- what is true of one slot, if it is so already
 pub contains_own : (s : set.FinSet nat_cmp) (i : ℕ) {b : Bool} → set.contains s i ≡ b → (k : ℕ)
     → set.contains s k ≡ cond (nat_eq k i) b (set.contains s k)
 contains_own s i own k = grind (arith, nat_tests)
@@ -195,7 +195,7 @@ pub pool_empty : (rooms : ℕ) → IsPool [] rooms
 unfolding IsDistinct
 pool_empty rooms = record { distinct = tt; below = λ q h. absurd (false≢true h) }
 
--- the same with a slot more at the end
+-- the same with another slot at the end
 pub pool_push : {xs : List ℕ} {rooms slot : ℕ} → IsPool xs rooms → slot < rooms
     → set.contains (members xs) slot ≡ false → IsPool (xs ++ slot ∷ []) rooms
 pool_push {xs} {rooms} {slot} p room absent = record {
@@ -214,7 +214,7 @@ pub first_within : (links : List ℕ) (first n : ℕ) → 0 < n
 first_within links first zero some p = absurd (omega arith)
 first_within links first (suc n) some p = p.below first (rw (eq-eqb first first refl) refl)
 
--- where there are others, what is read of its link is their first
+-- if there are others, what is read of its link is their first
 pub chain_read : (links : List ℕ) (first n x : ℕ) → 0 < n
     → IsPool (chain links first n) (length links) → (1 < n → x ≡ get_or links first x)
     → chain links first n ≡ first ∷ chain links x (n - 1)
@@ -225,7 +225,7 @@ chain_read links first (suc (suc n)) x some p at =
     let read = at (omega arith) in
     rw (e, get_or_read links first x (first_within links first (suc (suc n)) some p) read 0) refl
 
--- where the links of its slots are the same, it is the same
+-- if the links of its slots are the same, it is the same
 chain_same : (links others : List ℕ) (first n : ℕ)
     → ((q : ℕ) → holds (chain links first n) q ≡ true → get_or others q 0 ≡ get_or links q 0)
     → chain others first n ≡ chain links first n
@@ -282,7 +282,7 @@ pub chain_length : (links : List ℕ) (first n : ℕ) → length (chain links fi
 chain_length links first zero = refl
 chain_length links first (suc n) = ap suc (chain_length links (get_or links first 0) n)
 
--- where a slot more is in it, there is one link more than were
+-- if another slot is in it, there is one more link
 pub chain_room : (links : List ℕ) (first n slot : ℕ) → IsPool (chain links first n) (length links)
     → slot < length links → set.contains (members (chain links first n)) slot ≡ false
     → n < length links
@@ -298,7 +298,7 @@ last_within links first (suc n) last some p ends =
     let there = last_there first (chain links (get_or links first 0) n) in
     p.below last (sym (ap (holds (chain links first (suc n))) ends) ∙ there)
 
--- links that were added, where memory was found, change no slot of the list
+-- links that were added, if the allocation succeeded, change no slot of the list
 pub resized : (ok : Bool) (n : ℕ) (links more after : List ℕ) (first count : ℕ)
     → after ≡ (if ok then take n links ++ more else links) → length links ≤ n
     → IsPool (chain links first count) (length links)
@@ -349,7 +349,7 @@ module _ {lists : List (List Borrow)} {free : set.FinSet nat_cmp} {rooms capacit
   }
 
   module _ (i : ℕ) where
-    -- an index that was given back is in use again
+    -- an index that was freed is in use again
     pub table_opened : (list : List Borrow)
         → IsTable (slice_set lists i list) (set.remove free i) rooms capacity
     table_opened list = let long = length-set lists i list in record {
@@ -359,7 +359,7 @@ module _ {lists : List (List Borrow)} {free : set.FinSet nat_cmp} {rooms capacit
       fits = t.fits;
     }
 
-    -- an index is given back
+    -- an index is freed
     pub table_closed : i < length lists → IsTable lists (set.insert free i) rooms capacity
     table_closed low = record {
       within = λ k member.
@@ -368,8 +368,8 @@ module _ {lists : List (List Borrow)} {free : set.FinSet nat_cmp} {rooms capacit
       fits = t.fits;
     }
 
--- ==== places of borrows whose tickets ascend: what a binary search finds in them, and what stands
--- there after a push, after a release, and where dead places are taken away
+-- ==== places of borrows whose tickets ascend: what a binary search finds in them, and what is there
+-- after a push, after a release, and after dead places are removed
 
 abbrev has : ℕ → Borrow → Bool
 has t b = nat_eq b.ticket t
@@ -406,7 +406,7 @@ none_apart t (p ∷ ps) apart =
     let rest = none_apart t ps (λ k d within. apart (suc k) d (omega arith)) in
     grind (arith, nat_tests, apart 0 p)
 
--- where no borrow has the ticket, all are left
+-- if no borrow has the ticket, all are left
 pub none_left : (t : ℕ) (bs : List Borrow) → list_any (has t) bs ≡ false → without t bs ≡ bs
 none_left t [] none = refl
 none_left t (b ∷ bs) none = grind (arith, none_left t bs)
@@ -414,7 +414,7 @@ none_left t (b ∷ bs) none = grind (arith, none_left t bs)
 all_left : (t : ℕ) (ps : List QueuePlace) → IsApart t ps → without t (standing_at ps) ≡ standing_at ps
 all_left t ps apart = none_left t _ (none_apart t ps apart)
 
--- a ticket's borrow stands exactly where its place lives
+-- a ticket's borrow is active exactly if its place is live
 pub stands_there : (t : ℕ) (ps : List QueuePlace) (i : ℕ) (d : QueuePlace) → TicketsAscend ps → i < length ps
     → HasTicketAt t ps i → list_any (has t) (standing_at ps) ≡ (get_or ps i d).stands
 stands_there t [] i d up within own = absurd (omega arith)
@@ -424,7 +424,7 @@ stands_there t (p ∷ ps) (suc i) d up within own =
     let rest = stands_there t ps i d (tail_ascends p ps up) in
     grind (arith, nat_tests, own p, rest, first_below p ps up i p)
 
--- what a binary search by ticket answers, where each call of its closure gives a ticket
+-- what a binary search by ticket returns, if each call of its closure returns a ticket
 module _ {F : Type 0} {g : Mut F (Bor QueuePlace × Unit {0}) ℕ} {f : F} (t : ℕ) (ps : List QueuePlace)
     (up : TicketsAscend ps)
     (calls : (f : F) (p : Bor QueuePlace × Unit {0}) (r : ℕ) (f' : F) → Called g f p r f'
@@ -464,7 +464,7 @@ module _ (t : ℕ) (b : Borrow) where
       let rest = dies ps i (tail_ascends p ps up) (omega (arith, own.0), own.1, λ d within. own.2 d (omega arith)) in
       grind (arith, nat_tests, own.0, own.1 p, first_below p ps up i p)
 
--- a place more at the end
+-- another place at the end
 pub standing_pushed : (ps : List QueuePlace) (p : QueuePlace)
     → standing_at (ps ++ p ∷ []) ≡ standing_at ps ++ standing_at (p ∷ [])
 standing_pushed [] p = refl
@@ -486,7 +486,7 @@ pub standing_within : (ps : List QueuePlace) → length (standing_at ps) ≤ len
 standing_within [] = omega arith
 standing_within (p ∷ ps) = let rest = standing_within ps in grind arith
 
--- the last place lives, so a ticket above all that stand is above all
+-- the last place is live, so a ticket above all active ones is above all
 above_last : (ps : List QueuePlace) (n : ℕ) → IsQueue ps n → (t : ℕ) → AreBelow t (standing_at ps)
     → (k : ℕ) (d : QueuePlace) → k < length ps → (get_or ps k d).borrow.ticket < t
 above_last ps n q t below k d within =
@@ -531,7 +531,7 @@ pub two_queue : (a b : Borrow) → AreBelow b.ticket (a ∷ []) → IsQueue (liv
 two_queue a b below =
     pushed (live a ∷ []) 1 b (pushed [] 0 a none_queue (λ t h. absurd (false≢true h))) below
 
--- the dead places are taken away
+-- the dead places are removed
 pub kept_queue : (ps : List QueuePlace) (n : ℕ) → TicketsAscend ps → n ≡ length (standing_at ps)
     → IsQueue (kept ps) n
 kept_queue ps n up count = record {
@@ -549,7 +549,7 @@ roomy ps qs n q = ⊎_elim
     (λ same. rw same (q, refl))
     (λ fewer. rw fewer (kept_queue ps n q.ascend q.count, standing_kept ps))
 
--- a dead place is taken away at the end
+-- a dead place is removed at the end
 pub popped : (before after : List QueuePlace) (end : Option QueuePlace) (p : QueuePlace)
     → before ≡ after ++ option_to_list end → end ≡ Some p → p.stands ≡ false
     → TicketsAscend before → StandsAt 0 before

@@ -16,8 +16,8 @@ use std::alloc::{AllocError, Global};
 use std::marker::Model;
 use store_room::push_more;
 
-/// The records of owners, place by place, in few bytes. Contracts see the places, without room for
-/// more names.
+/// The records of owners, index by index, in few bytes. Contracts model them as the records at their
+/// indexes, without room for more names.
 #[derive(Drop)]
 pub struct PackedOwners {
     places: Vec<Option<PackedRecord>>,
@@ -25,7 +25,7 @@ pub struct PackedOwners {
     names: Vec<CellName>,
 }
 
-/// An owner's record: its list has so many of the next names.
+/// An owner's record, with how many of the next names are on its list.
 #[derive(Clone, Copy)]
 pub struct PackedRecord {
     pub key: u64,
@@ -62,7 +62,7 @@ impl OwnerRecords {
         Ok(PackedOwners { places, names })
     }
 
-    /// How many places there are, and how many names are on all lists.
+    /// How many indexes there are, and how many names are on all lists.
     pub fn counts(&self) -> (usize, usize) {
         let mut names = 0usize;
         for place in 0..self.places.len() {
@@ -75,7 +75,7 @@ impl OwnerRecords {
 }
 
 impl PackedOwners {
-    /// No places. Takes no memory.
+    /// No places. Doesn't allocate.
     pub fn new(alloc: Global) -> PackedOwners
         ensures { result ≡ [] }
     {
@@ -85,7 +85,7 @@ impl PackedOwners {
         }
     }
 
-    /// No places, with room for so many and for so many names, and some more of each, whose memory is
+    /// No records, with room for so many and for so many names, and some more of each. Their memory is
     /// touched.
     pub fn with_room(alloc: Global, places: usize, names: usize) -> Result<PackedOwners, AllocError>
         ensures { IfOk result (λ packed. packed ≡ []) }
@@ -100,7 +100,7 @@ impl PackedOwners {
         })
     }
 
-    /// Whether so many places and names can stand in the memory that these take.
+    /// Whether the capacity is enough for so many records and names.
     pub fn has_room(&self, places: usize, names: usize) -> bool {
         places <= self.places.capacity() && names <= self.names.capacity()
     }
@@ -158,7 +158,7 @@ fn push_place(
     names.extend_from_slice(record.boxes.as_slice())
 }
 
-// The place for which a packed one stands, where these are the next names, and the names after its own.
+// The record that a packed one represents, if these are the next names, and the names after its own.
 fn unpack_place<'a>(
     alloc: Global,
     names: &'a [CellName],

@@ -1,7 +1,7 @@
 use Rattle.store_parts.proofs.{standing_at, StandsAt, TicketsAscend, ◌≡◌}
 use Rattle.store_parts.proofs.queue.drop_dead_behind.Given as goal
 
--- what stands is what stood, and the first lives
+-- the active borrows are the same, and the first lives
 abbrev pub invariant-loop-place : goal.invariant-loop-place
 invariant-loop-place l =
     (standing_at l.places.items ≡ standing_at l.fn.places.items)

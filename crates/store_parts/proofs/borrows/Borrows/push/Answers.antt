@@ -1,4 +1,4 @@
--- A borrow more at the end.
+-- Another borrow at the end.
 use Rattle.store_parts.proofs.borrows.Borrows.push.Goals as goal
 
 pub of_two-requires : goal.of_two-requires

@@ -1,4 +1,4 @@
--- The ticket's own borrow is taken away, where another stands.
+-- The ticket's borrow is removed, if there is another.
 use Rattle.generational_core.specs.declared.borrow.Borrow.{Borrow}
 use Rattle.std.proofs.Common.{ap, length, List, sym, [], ◌∙◌, ◌∷◌, ◌≡◌}
 use Rattle.store_parts.proofs.borrows.Borrows.remove.Goals.{in-One-1, in-Several-1}

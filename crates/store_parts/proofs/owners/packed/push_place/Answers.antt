@@ -1,4 +1,4 @@
--- A place more stands for what was packed, with its own names after the others'.
+-- Another place represents what was packed, with its own names after the others'.
 use Rattle.store_parts.proofs.{append-nil, length, None, on_ok_if, packed_more, packed_place, refl}
 use Rattle.store_parts.proofs.{Some, [], ◌++◌, ◌∙◌, ◌∷◌, ◌≡◌}
 use Rattle.std.proofs.Common.{ap, sym, OnOk}

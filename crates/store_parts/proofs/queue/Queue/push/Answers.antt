@@ -1,10 +1,10 @@
--- A borrow more at the end.
+-- Another borrow at the end.
 use Rattle.store_parts.proofs.{arith, Err, IsQueue, Ok, pushed, Result, roomy}
 use Rattle.store_parts.proofs.{standing_at, standing_pushed, standing_within, OnErr, ◌≡◌}
 use Rattle.store_parts.proofs.queue.Queue.push.Goals as goal
 use Rattle.store_parts.proofs.queue.Queue.push.Goals.{After-make_room}
 
--- what is so is so where there is an error
+-- what holds, holds if there is an error
 on_err : {T E P : Type 0} (r : Result T E) → P → OnErr r P
 on_err (Ok x) p = tt
 on_err (Err e) p = p

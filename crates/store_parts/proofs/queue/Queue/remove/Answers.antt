@@ -1,4 +1,4 @@
--- The ticket's own borrow is taken away.
+-- The ticket's borrow is removed.
 use Rattle.store_parts.proofs.{arith, kept_queue, Left, left, none_left, standing_kept, sym, ◌∙◌}
 use Rattle.store_parts.proofs.queue.Queue.remove.Goals as goal
 use Rattle.store_parts.proofs.queue.Queue.remove.Goals.{After-drop_dead_behind}

@@ -1,4 +1,4 @@
--- An index where no borrow is left is free again.
+-- An index without borrows is free again.
 use Rattle.store_parts.proofs.{length-set, table_closed, table_same}
 use Rattle.store_parts.proofs.table.BorrowTable.release.Goals as goal
 
