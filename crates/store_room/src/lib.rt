@@ -1,4 +1,4 @@
-//! Room for more elements, also where memory doesn't reach for as much as is asked for at first.
+//! Reserving capacity, with smaller requests if an allocation fails.
 #![tactic(auto)]
 
 ghost use Rattle.std.specs.Prelude.{◌≡◌, ◌+◌, ◌<◌, ◌≤◌, ◌++◌, ◌∷◌, [], IfSome, OnOk, OnErr};
@@ -6,10 +6,9 @@ ghost use Rattle.std.specs.Prelude.{vec_len, vec_capacity};
 
 use std::alloc::AllocError;
 
-/// Makes room for so many elements more, as `reserve` does: mostly for as many again as there are,
-/// so that few calls pay for it. Where memory is refused it asks for half of the room beyond what
-/// the call needs, then for a quarter and so on, and at last for what it needs alone. Refused
-/// only if memory runs out, with nothing changed.
+/// Reserves capacity for this many more elements, like `reserve`: mostly it doubles the length, so that
+/// few calls allocate. If an allocation fails, it requests half of what exceeds the need, then a quarter
+/// and so on, and at last only what is needed. Fails only if that fails, with nothing changed.
 #[inline(always)]
 pub fn reserve_more<X>(items: &mut Vec<X>, more: usize) -> Result<(), AllocError>
     ensures items { items.new.items ≡ items.old.items }
@@ -24,7 +23,7 @@ pub fn reserve_more<X>(items: &mut Vec<X>, more: usize) -> Result<(), AllocError
     reserve_beside(items, more, beside)
 }
 
-// Makes room for so many elements more and for so many beside these, or for fewer beside them.
+// Reserves capacity for this many more elements, and for so many in addition, or for fewer in addition.
 #[cold]
 #[inline(never)]
 fn reserve_beside<X>(items: &mut Vec<X>, more: usize, beside: usize) -> Result<(), AllocError>
@@ -42,7 +41,7 @@ fn reserve_beside<X>(items: &mut Vec<X>, more: usize, beside: usize) -> Result<(
     reserve_beside(items, more, beside / 2)
 }
 
-/// Appends an element, for which room is made so. If memory runs out no element changes.
+/// Appends an element, and reserves capacity for it as above. If that fails, no element changes.
 #[inline(always)]
 pub fn push_more<X: Copy>(items: &mut Vec<X>, item: X) -> Result<(), AllocError>
     ensures ok { OnOk result (items.new.items ≡ items.old.items ++ item ∷ []) }
@@ -53,7 +52,7 @@ pub fn push_more<X: Copy>(items: &mut Vec<X>, item: X) -> Result<(), AllocError>
     Ok(())
 }
 
-/// The room that adds half of what the asked room adds to this one: None where that is nothing.
+/// The capacity that adds half of what the requested one adds to this one: None if that is nothing.
 pub fn halfway(room: usize, asked: usize) -> Option<usize>
     ensures { IfSome result (λ less. (room < less) × (less < asked)) }
 {
