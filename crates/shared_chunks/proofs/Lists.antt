@@ -9,7 +9,7 @@ use Rattle.std.proofs.lemmas.List.{append-nil, append_assoc}
 use Rattle.shared_chunks.specs.Listed.{AreLarge, joined}
 
 module _ {X : Type 0} where
-  -- one chunk more
+  -- with another chunk
   pub joined_snoc : (chunks : List (Vec X)) (chunk : Vec X)
       → joined (chunks ++ chunk ∷ []) ≡ joined chunks ++ vec_items chunk
   joined_snoc [] chunk = append-nil (vec_items chunk)
@@ -17,7 +17,7 @@ module _ {X : Type 0} where
       ap (λ xs. vec_items c ++ xs) (joined_snoc cs chunk)
       ∙ sym (append_assoc (vec_items c) (joined cs) (vec_items chunk))
 
-  -- the items of the first chunks and of one more
+  -- the items of the first chunks and of another one
   pub joined_take : (chunks : List (Vec X)) (i : ℕ) (d : Vec X) → i < length chunks
       → joined (take (i + 1) chunks) ≡ joined (take i chunks) ++ vec_items (get_or chunks i d)
   joined_take chunks i d h =
@@ -25,7 +25,7 @@ module _ {X : Type 0} where
       ap (λ k. joined (take k chunks)) next
       ∙ (ap joined (take-suc chunks i d h) ∙ joined_snoc (take i chunks) (get_or chunks i d))
 
-  -- how many items full chunks have with one chunk more
+  -- how many items full chunks have with another chunk
   pub joined_len : (full more : List (Vec X)) (last : Vec X) (n : ℕ) → more ≡ full ++ last ∷ []
       → n ≡ length (joined full) → n + length (vec_items last) ≡ length (joined more)
   joined_len full more last n is_more had =
@@ -33,7 +33,7 @@ module _ {X : Type 0} where
       let both = length-append (joined full) (vec_items last) in
       omega arith
 
-  -- one large chunk more
+  -- another large chunk
   pub large_snoc : (chunks : List (Vec X)) (chunk : Vec X) → AreLarge chunks → 1024 ≤ vec_capacity chunk
       → AreLarge (chunks ++ chunk ∷ [])
   large_snoc [] chunk l h = (h, tt)

@@ -1,4 +1,4 @@
--- A list in chunks, as contracts see it.
+-- A list in chunks, as in contracts.
 use Rattle.std.specs.Prelude.{ℕ, ◌≤◌, List, [], ◌∷◌, ◌++◌, vec_capacity}
 use Rattle.std.specs.Global.{Vec}
 use Rattle.std.specs.Vec.{vec_items}

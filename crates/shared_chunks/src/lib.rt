@@ -1,8 +1,8 @@
-//! A list that grows in chunks: what stands in it is never moved.
+//! A list that grows in chunks: its items are never moved.
 //!
-//! [`Chunks`] is for lists that are appended to, copied as a whole and emptied as a whole, as a
-//! history is. Growing asks for one chunk and copies no item, and an item for which there is room
-//! is appended without memory.
+//! [`Chunks`] is for lists that are appended to, copied as a whole and emptied as a whole, as a history
+//! is. Growing allocates one chunk and copies no item, and appending an item for which there is room
+//! doesn't allocate.
 #![tactic(auto)]
 
 mod list;

@@ -9,24 +9,23 @@ use std::marker::Model;
 use std::mem;
 use store_room::reserve_more;
 
-// How many items a chunk has at first, and at most, unless room for more is asked for at once.
+// The smallest and the largest chunk, in items, unless room for more is requested at once.
 const LEAST: usize = 16;
 
 const MOST: usize = 1024;
 
-// How many chunks that are emptied are kept for later at most.
+// The most emptied chunks that are kept for later.
 const FREE: usize = 128;
 
-/// A list in chunks. Contracts see its items, and for how many more there is room.
+/// A list in chunks. Contracts model it as its items, and for how many more there is room.
 ///
-/// The items stand in chunks that are full, and after these in the last one. Behind it there may be
-/// a spare one, which is empty: when the last chunk is full, the spare one takes its place. Each
-/// chunk has twice the room of the one before, up to 1024 items; of items with 8 bytes that is
-/// less than what the C library gets from the system block by block. Up to 128 chunks of that
-/// size that `empty` frees are kept, and become spare ones again.
+/// The items are in chunks that are full, and after these in the last one. There may be an empty spare
+/// one, which becomes the last one when that is full. Each chunk has twice the room of the one before, up
+/// to 1024 items; of items with 8 bytes that is less than what the C library gets from the system block
+/// by block. Up to 128 chunks of that size that `empty` frees are kept, and reused as spare ones.
 #[derive(Drop)]
 pub struct Chunks<X> {
-    // what each append writes stands together
+    // the fields that each append writes are adjacent
     last: Vec<X>,
     spare: Vec<X>,
     full: Vec<Vec<X>>,
@@ -56,7 +55,7 @@ impl<X> Model for Chunks<X> {
 }
 
 impl<X: Copy> Chunks<X> {
-    /// A list of nothing. Takes no memory.
+    /// A list of nothing. Doesn't allocate.
     pub fn new(alloc: Global) -> Self
         ensures { result ≡ record { items = []; room = 0 } }
     {
@@ -70,9 +69,9 @@ impl<X: Copy> Chunks<X> {
         }
     }
 
-    /// Makes room for so many items more. Where there isn't that room yet, it mostly makes twice as
-    /// much as is needed, so that few calls ask for memory. What is refused changes nothing, and
-    /// memory is refused only if there is none for what is needed alone.
+    /// Reserves room for this many more items. If there isn't enough yet, it mostly reserves twice as
+    /// much as is needed, so that few calls allocate. Fails only if the needed room alone can't be
+    /// allocated, and changes nothing then.
     #[inline(always)]
     pub fn reserve(&mut self, more: usize) -> Result<(), AllocError>
         ensures items { self.new.items ≡ self.old.items }
@@ -86,8 +85,8 @@ impl<X: Copy> Chunks<X> {
         self.grow(more)
     }
 
-    // Makes room for so many items more, which the last chunk doesn't have: a larger spare chunk, if
-    // that is needed, which is a free one if there is one that is large enough.
+    // Reserves room for this many more items, which the last chunk doesn't have: with a larger spare
+    // chunk if that is needed, a free one if there is one that is large enough.
     #[cold]
     #[inline(never)]
     fn grow(&mut self, more: usize) -> Result<(), AllocError>
@@ -116,7 +115,7 @@ impl<X: Copy> Chunks<X> {
         Ok(())
     }
 
-    /// Appends an item, for which there is room. Takes no memory, moves no item, and is O(1).
+    /// Appends an item, for which there is room. Doesn't allocate, moves no item, and is O(1).
     #[tactic(auto, using(crate::proofs::Lists::joined_snoc))]
     #[inline(always)]
     pub fn push(&mut self, item: X)
@@ -134,14 +133,14 @@ impl<X: Copy> Chunks<X> {
         self.last.push_reserved(item);
     }
 
-    /// How many items there are. Takes no memory, and is O(1).
+    /// How many items there are. Doesn't allocate, and is O(1).
     pub fn len(&self) -> usize
         ensures { result ≡ length self.now.items }
     {
         self.full_len + self.last.len()
     }
 
-    /// For how many items more there is room. Takes no memory, and is O(1).
+    /// For how many items more there is room. Doesn't allocate, and is O(1).
     pub fn room(&self) -> usize
         ensures { result ≡ self.now.room }
     {
@@ -161,9 +160,9 @@ impl<X: Copy> Chunks<X> {
         Ok(all)
     }
 
-    /// Takes all items away, and keeps the room and up to 128 of the full chunks for later. The other
-    /// ones are answered, so that who holds a lock can let them go when it is open. The full chunks
-    /// to come stand in `anew`, which is empty and has room for one.
+    /// Removes all items, and keeps the room and up to 128 of the full chunks for later. Returns the
+    /// others, so that the holder of a lock can drop them after releasing it. Later full chunks are
+    /// stored in `anew`, which is empty and has room for one.
     pub fn empty(&mut self, anew: Vec<Vec<X>>) -> Vec<Vec<X>>
         requires none { anew.items ≡ [] }
         requires room { 0 < vec_capacity anew }
@@ -178,7 +177,7 @@ impl<X: Copy> Chunks<X> {
     }
 }
 
-// A chunk among the free ones, with this much room at least and at most, emptied.
+// A chunk among the free ones whose room is within these bounds, emptied.
 fn take_free<X: Copy>(free: &mut Vec<Vec<X>>, least: usize, most: usize) -> Option<Vec<X>>
     ensures items { IfSome result (λ chunk. chunk.items ≡ []) }
     ensures least { IfSome result (λ chunk. least ≤ vec_capacity chunk) }
@@ -193,7 +192,7 @@ fn take_free<X: Copy>(free: &mut Vec<Vec<X>>, least: usize, most: usize) -> Opti
     }
 }
 
-// Puts the largest chunks to the free ones, as long as these aren't too many and memory isn't refused. Where
+// Moves the largest chunks to the free ones, as long as these aren't too many and no allocation fails. If
 // all free chunks were of the largest size, or larger, they still are.
 #[tactic(auto, using(crate::proofs::Lists::large_snoc))]
 fn keep_free<X: Copy>(free: &mut Vec<Vec<X>>, chunks: &mut Vec<Vec<X>>)
@@ -210,8 +209,8 @@ fn keep_free<X: Copy>(free: &mut Vec<Vec<X>>, chunks: &mut Vec<Vec<X>>)
     }
 }
 
-// An empty chunk with room for as many items as are needed, and for so many beside these; or where
-// memory is refused for half as many beside these, for a quarter and so on.
+// An empty chunk with room for as many items as are needed, and for so many in addition; or, if that
+// can't be allocated, for half as many in addition, for a quarter and so on.
 fn new_chunk<X>(alloc: Global, needed: usize, beside: usize) -> Result<Vec<X>, AllocError>
     requires { needed + beside < 2 ^ 64 }
     ensures items { IfOk result (λ chunk. chunk.items ≡ []) }
@@ -227,7 +226,7 @@ fn new_chunk<X>(alloc: Global, needed: usize, beside: usize) -> Result<Vec<X>, A
     new_chunk(alloc, needed, beside / 2)
 }
 
-// Puts the last chunk, which is full, to those that are, and the spare one in its place.
+// Moves the last chunk, which is full, to the full ones; the spare one becomes the last.
 #[cold]
 #[inline(never)]
 fn turn<X: Copy>(alloc: Global, full: &mut Vec<Vec<X>>, last: &mut Vec<X>, spare: &mut Vec<X>)
