@@ -44,7 +44,7 @@ pub extends_own : (a b : Option Location) (x y : Location) → a ≡ Some x → 
 extends_own a None x y is same = record { more = y ∷ []; is = rw is refl }
 extends_own a (Some z) x y is same = record { more = []; is = rw (is, same) refl }
 
--- ==== decoding, one item more, and where the tables grow
+-- ==== decoding another item, and when the tables grow
 
 -- a table is another one with more at the end of each list
 pub record Grows (t u : Tables) : Type 0 where
@@ -87,7 +87,7 @@ pub own_at : (fs : List FarStep) (i : ℕ) (d : FarStep) → i < length fs → A
 own_at (f ∷ fs) (suc i) d h o = own_at fs i d (omega arith) o.1
 own_at fs i d h o = grind arith
 
--- one item more, or some
+-- another item, or some
 module _ (number : ℕ) (t : Tables) where
   decode_both : (r : Reached) (xs ys : List Short) → decode number t r (xs ++ ys)
       ≡ decode number t r xs ++ decode number t (reached_by number t r xs) ys
@@ -130,7 +130,7 @@ module _ (number : ℕ) (t : Tables) (r : Reached) (xs : List Short) where
       → reached_by number t r (xs ++ name_items all) ≡ naming_all (reached_by number t r xs) all
   names_reached all = grind (arith, reached_both, name_is)
 
--- where the tables grow
+-- when the tables grow
 plain_stays : (number : ℕ) (places more : List Location) (r : Reached) (x : Short) → IsPlain (length places) x
     → plain_step number (places ++ more) r x ≡ plain_step number places r x
 plain_stays number places more r x h = grind (arith, get_or_append_left)
@@ -158,7 +158,7 @@ appends_one : (before longer : List Step) (o : Option Step) (step : Step)
 appends_one before longer None step is same = cc
 appends_one before longer (Some s) step is same = record { last = s; is = is; same = search rules }
 
--- names, and then one item more, after which the tables may be longer
+-- names, and then another item, after which the tables may be longer
 module _ (number : ℕ) (start : Reached) {t u : Tables} {xs ys more : List Short} {r now : Reached} (x : Short)
     (names : IsNaming xs ys r now) (grows : Grows t u) (is_more : more ≡ ys ++ x ∷ [])
     (within : AreWithin t xs) (is_r : r ≡ reached_by number t start xs) where
@@ -188,7 +188,7 @@ module _ (number : ℕ) (start : Reached) {t u : Tables} {xs ys more : List Shor
 
 -- ==== what a step is kept as
 
--- an item that stands for a step by itself does so over more locations
+-- an item that alone represents a step does so over more locations
 pub stands_wider : (number : ℕ) (places wider : List Location) (r : Reached) (step : Step) (x : Short)
     → Extends places wider → StandsFor number places r step x → StandsFor number wider r step x
 stands_wider number places wider r step x table stands =
@@ -218,7 +218,7 @@ module _ (t : Tables) {wider : List Location} (table : Extends t.places wider) w
     is = rw (table.is, a.long_is, a.far_is) refl;
   }
 
--- an item that isn't kept elsewhere stands by itself
+-- an item that isn't stored elsewhere represents its step alone
 pub stands_by_itself : (number : ℕ) (t : Tables) (r : Reached) (x : Short)
     → ((high low : ℕ) → x ≡ short.Long high low → ⊥) → ((high low : ℕ) → x ≡ short.Far high low → ⊥)
     → step_at number t r x ≡ plain_step number t.places r x
@@ -226,7 +226,7 @@ stands_by_itself number t r (short.Long high low) long far = absurd (long high l
 stands_by_itself number t r (short.Far high low) long far = absurd (far high low refl)
 stands_by_itself number t r x long far = grind arith
 
--- an item that stands for a step by itself stands for it in any tables with these locations
+-- an item that alone represents a step represents it in any tables with these locations
 module _ (number : ℕ) (t : Tables) {r : Reached} {step : Step} {x : Short}
     (stands : StandsFor number t.places r step x) where
   pub plain_within : IsWithin t x

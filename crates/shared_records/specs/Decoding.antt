@@ -1,4 +1,4 @@
--- The steps for which short ones stand.
+-- The steps that short ones represent.
 use Rattle.std.specs.Prelude.{◌≡◌, ℕ, ◌+◌, ◌-◌, ◌*◌, ◌<◌, ◌/◌, ◌%◌, ◌^◌, List, [], ◌∷◌, ◌++◌, length, slice_index_or, Option, Some, None, IfSome, option_map, option_to_list}
 use Rattle.generational_errors.specs.declared.error.Location.{Location}
 use Rattle.generational_core.specs.declared.boxes.GenerationalBoxId.{GenerationalBoxId}
@@ -20,7 +20,7 @@ use Rattle.shared_records.specs.declared.step.StepReply.TheVariants as reply
 use Rattle.shared_records.specs.Kinds.{step_of}
 use Rattle.shared_records.specs.Letters.{lettered, lettered_step}
 
--- no location and no step: what stands past the end of a table
+-- no location and no step: what is past the end of a table
 abbrev pub nowhere : Location
 nowhere = record { file = record { ref_ptr = (0, 0); now = [] }; line = 0; column = 0 }
 
@@ -47,7 +47,7 @@ next_after next (reply.Writer t) = (t + 1) % 2 ^ 64
 next_after next (reply.Owner o) = (next + 1) % 2 ^ 64
 next_after next _ = next
 
--- the name that a short one stands for, and its item, which has the slot in two parts
+-- the name that a short one represents, and its item, which has the slot in two parts
 abbrev pub full : ShortName → Name
 full n = record { slot = n.slot; generation = n.generation }
 
@@ -100,8 +100,8 @@ abbrev pub AreOwn : List FarStep → Type 0
 AreOwn [] = Unit {0}
 AreOwn (f ∷ fs) = IsPlain 2 f.short × AreOwn fs
 
--- what decoding has come to at first, where this is the next ticket; after a cell is named; after an
--- item, which may be a name; and after a step, if it is one
+-- the initial state of decoding, with this next ticket; after a cell is named; after an item, which may
+-- be a name; and after a step, if it is one
 abbrev pub no_name : ShortName
 no_name = record { slot = 0; generation = 0 }
 
@@ -128,9 +128,9 @@ module _ (number : ℕ) where
     abbrev pub box_at : ℕ → ShortName → GenerationalPointer
     box_at a n = box_of number (full n) (place_at places a)
 
-    -- The step for which an item stands by itself, and none for a name. A borrow that begins and a new
-    -- owner have the next ticket, and any other ticket and key are told by how much they are less.
-    -- A box is of the cell that was named last; of two cells, one is that which was named before.
+    -- The step that an item alone represents, and none for a name. A borrow that begins and a new owner
+    -- have the next ticket, and any other ticket and key are stored as the difference to it. A box is of
+    -- the cell that was named last; of two cells, one is that which was named before.
     abbrev pub plain_step : Reached → Short → Option Step
     plain_step r (short.Leak w a) =
         Some (step_of w (call.Leak (place_at places a)) (reply.Made (box_at a r.last)))
@@ -166,7 +166,7 @@ module _ (number : ℕ) where
     plain_step r x = None
 
   module _ (t : Tables) where
-    -- the step for which an item stands
+    -- the step that an item represents
     abbrev pub step_at : Reached → Short → Option Step
     step_at r (short.Long high low) =
         Some (slice_index_or t.long (high * 4294967296 + low) no_step)
@@ -178,7 +178,7 @@ module _ (number : ℕ) where
     abbrev pub after : Reached → Short → Reached
     after r x = advanced (named r x) (step_at r x)
 
-    -- the steps for which these stand in order, and what decoding has come to after them
+    -- the steps for which these are in order, and what decoding has come to after them
     abbrev pub decode : Reached → List Short → List Step
     decode r [] = []
     decode r (x ∷ xs) = option_to_list (step_at r x) ++ decode (after r x) xs
@@ -214,15 +214,15 @@ pub record AreNamed (number : ℕ) (r : Reached) (before last : Option Generatio
   pub before_is : IfSome before (λ id. id ≡ id_of number (full r.before))
   pub last_is : IfSome last (λ id. id ≡ id_of number (full r.last))
 
--- an item stands by itself for this step, by letters, where decoding has come to this
+-- an item alone represents this step, by letters, in this state of decoding
 pub record StandsFor (number : ℕ) (places : List Location) (r : Reached) (step : Step) (x : Short)
     : Type 0 where
   pub within : IsPlain (length places) x
   pub same : option_map lettered_step (plain_step number places r x) ≡ Some (lettered_step step)
   pub goes_on : advanced (named r x) (plain_step number places r x) ≡ advanced r (Some step)
 
--- a step is kept apart, with a table of its own or whole, where decoding has come to this: what is kept so
--- goes on, and the item stands for the step, by letters, whatever locations have numbers
+-- a step is stored separately, with its own table or whole, in this state of decoding: what is kept so
+-- goes on, and the item represents the step, by letters, whatever locations have numbers
 pub record IsApart (number : ℕ) (r : Reached) (step : Step) (long longer : List Step) (far farther : List FarStep)
     (x : Short) : Type 0 where
   pub more_long : List Step

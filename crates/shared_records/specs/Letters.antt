@@ -1,4 +1,4 @@
--- Steps by the letters of their locations, wherever the texts stand in memory.
+-- Steps by the letters of their locations, even if the texts are elsewhere in memory.
 use Rattle.std.specs.Prelude.{◌≡◌, List, [], ◌∷◌, ◌++◌}
 use Rattle.generational_errors.specs.declared.error.Location.{Location}
 use Rattle.generational_core.specs.declared.boxes.GenerationalPointer.{GenerationalPointer}
@@ -52,7 +52,7 @@ lettered l = record l { file = record l.file { ref_ptr = (0, 0) } }
 abbrev pub lettered_step : Step → Step
 lettered_step = place_step lettered
 
--- a list is another one and a step more, which is this one by the letters of its locations
+-- a list is another one and another step, which is this one by the letters of its locations
 pub record Appends (before : List Step) (step : Step) (after : List Step) : Type 0 where
   pub last : Step
   pub is : after ≡ before ++ last ∷ []

@@ -1,4 +1,4 @@
--- A list of steps, as contracts see it.
+-- A list of steps as modelled in contracts.
 use Rattle.std.specs.Prelude.{ℕ, List}
 use Rattle.shared_records.specs.declared.step.Step.{Step}
 

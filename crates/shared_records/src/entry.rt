@@ -1,4 +1,4 @@
-//! What a list of steps is told of a call and its reply.
+//! Calls with their replies, as they are passed to a list of steps.
 
 ghost use Rattle.std.specs.Prelude.{◌≡◌, IfSome, None, Option, Some};
 ghost use Rattle.generational_core.specs.declared.boxes.GenerationalBoxId.{GenerationalBoxId};
@@ -19,27 +19,26 @@ use crate::shorten::{
 use crate::step::StepReply;
 use generational_core::{GenerationalBoxId, GenerationalPointer, Location, OwnerId, StepCall};
 
-/// A call with its reply, in whatever form the caller has them. The calls that are made most have a
-/// type each, so that no call is put together and taken apart again on its way into the list.
+/// A call with its reply, in the form that the caller has. Each frequent call has its own type, so that
+/// no `StepCall` is built and destructured on its way into the list.
 pub trait Entry: Copy {
     ghost as_call: { Self → StepCall };
 
     ghost as_reply: { Self → StepReply };
 
-    /// The cells of its boxes: the one that its item takes to be named last, and the one before it.
+    /// The cells of its boxes: the one that its item expects to be named last, and the one before it.
     ghost last: { Self → Option GenerationalBoxId };
 
     ghost before: { Self → Option GenerationalBoxId };
 
-    /// What names the step's cells before its item; None where one isn't of the store, a number doesn't
+    /// The names of the step's cells before its item; None if one isn't of the store, a number doesn't
     /// fit, or the step has no short form.
     fn names(self, taken: Taken) -> Option<Names>
         ensures short { IfSome result AreShort }
         ensures named { IfSome result (λ names. AreNamed taken.number
             (naming_all taken.reached names) (Self.before self) (Self.last self)) };
 
-    /// The step in 8 bytes, where its cells are named; None where it has no such form or a number doesn't
-    /// fit.
+    /// The step in 8 bytes, if its cells are named; None if it has no such form or a number doesn't fit.
     fn form<P: LocationTable>(self, taken: Taken, places: &mut P) -> Option<Short>
         requires { AreNamed taken.number taken.reached (Self.before self) (Self.last self) }
         ensures extends { Extends (P.locations places.old) (P.locations places.new) }
@@ -204,7 +203,7 @@ impl Entry for ReadBegun {
     }
 }
 
-/// A read was told of the box's own location, since its value is gone.
+/// A read failed with the box's own location, since its value was removed.
 #[derive(Clone, Copy)]
 pub struct ReadDropped {
     pub asked: GenerationalPointer,
@@ -279,7 +278,7 @@ impl Entry for WriteBegun {
     }
 }
 
-/// A box was ended.
+/// A box was removed.
 #[derive(Clone, Copy)]
 pub struct BoxEnded {
     pub asked: GenerationalPointer,
@@ -480,7 +479,7 @@ impl Entry for ReferenceMade {
     }
 }
 
-/// An owner was given.
+/// An owner was made.
 #[derive(Clone, Copy)]
 pub struct OwnerMade {
     pub owner: OwnerId,

@@ -1,8 +1,8 @@
-//! The steps of a shared store, and how its history keeps them.
+//! The steps of a shared store, and how its history stores them.
 //!
-//! A [`Step`] is a worker, its call and the reply, without values. A [`StepList`] keeps most steps in
-//! 8 bytes, with a number for each location and with names for cells, and any other whole. It is a part of
-//! `generational_sync`, which exports what users need.
+//! A [`Step`] is a worker, its call and the reply, without values. A [`StepList`] stores most steps in 8
+//! bytes, with a number for each location and with names for cells, and any other whole. It is an
+//! internal part of `generational_sync`, which exports what users need.
 #![tactic(auto)]
 
 mod entry;

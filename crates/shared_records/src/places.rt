@@ -10,7 +10,7 @@ use location_list::LocationList;
 use std::alloc::{AllocError, Global};
 use std::marker::Model;
 
-/// A table of locations, by whose numbers a step is kept.
+/// A table of locations; a step is stored with their numbers.
 pub trait LocationTable {
     ghost locations: { Self → List Location };
 
@@ -21,8 +21,8 @@ pub trait LocationTable {
         ensures found { IfSome result (λ i. IsAt (Self.locations self.new) i at) };
 }
 
-/// Locations, each with its number from 0 to 65535. Contracts see them in order. A location that is
-/// there by its letters isn't put there again.
+/// Locations, each with its number from 0 to 65535. Contracts model it as the list in order. A location
+/// with the same letters, line and column isn't added again.
 #[derive(Drop)]
 pub struct Places {
     list: LocationList<65535>,
@@ -38,7 +38,7 @@ impl Model for Places {
 }
 
 impl Places {
-    /// No locations. Takes no memory.
+    /// No locations. Doesn't allocate.
     pub fn new(alloc: Global) -> Places
         ensures { result ≡ [] }
     {
@@ -65,7 +65,7 @@ impl Places {
 impl LocationTable for Places {
     ghost locations = { λ p. p };
 
-    // None if memory is refused, or if there are 65536 locations.
+    // None if an allocation fails, or if there are 65536 locations.
     #[tactic(auto, using(crate::proofs::Decodes::found_place))]
     #[inline(always)]
     fn find_or_add(&mut self, at: Location) -> Option<u16> {
@@ -76,7 +76,7 @@ impl LocationTable for Places {
     }
 }
 
-/// Two locations at most: a step's own table. Contracts see them in order.
+/// At most two locations: a step's own table. Contracts model it as the list in order.
 #[derive(Drop)]
 pub struct OwnPlaces {
     pub first: Option<Location>,
@@ -112,8 +112,8 @@ impl LocationTable for OwnPlaces {
     }
 }
 
-/// Whether two locations are the same by their letters, as `==` says. The numbers are looked at
-/// first, without a call.
+/// Whether two locations are the same by their letters, as `==` says. The numbers are compared first,
+/// without a call.
 #[inline(always)]
 pub(crate) fn is_same(one: Location, other: Location) -> bool
     ensures { result ≡ same_location one other }

@@ -1,4 +1,4 @@
-//! Steps in 8 bytes, and the steps for which they stand.
+//! Steps in 8 bytes, and the steps that they represent.
 
 ghost use Rattle.std.specs.Prelude.{◌≡◌, ◌<◌, ◌++◌, OnOk, length, option_to_list};
 ghost use Rattle.shared_records.specs.Decoding.{AreOwn, AreWithin, IsPlain, IsWithin, advanced, box_at};
@@ -13,14 +13,14 @@ use generational_core::{GenerationalPointer, Location, OwnerId, StepCall};
 use std::alloc::AllocError;
 use std::mem::size_of;
 
-/// A step: its worker, and its locations by their numbers. The cells of its boxes are named by what
-/// stands before it. The ticket of a borrow that begins, and the key of a new owner, isn't kept: it is
-/// the next ticket; another ticket is kept as by how much it is less than that. Every box is of the
-/// store whose history it is.
+/// A step: its worker, and its locations by their numbers. The items before it name the cells of its
+/// boxes. The ticket of a borrow that begins, and the key of a new owner, isn't stored: it is the next
+/// ticket; another ticket is stored as the difference to that. Every box is of the store whose history it
+/// is.
 #[derive(Clone, Copy)]
 pub enum Short {
-    /// No step, but the name of a cell for what comes next: the slot in two parts, of which the first
-    /// counts 65536 each, and the generation. The cell that was named before it is kept too.
+    /// No step, but the name of a cell for what comes next: the slot in two parts, of which the first is
+    /// multiplied by 65536, and the generation. The cell that was named before it is remembered too.
     Name(u8, u16, u32),
     /// Any step that has no other form: the one with this number among the long ones, in two parts, of
     /// which the first counts 2^32 each.
@@ -41,7 +41,7 @@ pub enum Short {
     /// A reference of the named cell was made by a box of the one before: worker, where that box was
     /// made, where the reference was.
     LeakReference(u16, u16, u16),
-    /// An owner was given: worker.
+    /// An owner was made: worker.
     Owner(u32),
     /// An owner was released: worker, by how much its key is less than the next ticket.
     ReleaseOwner(u16, u32),
@@ -49,11 +49,11 @@ pub enum Short {
     Read(u16, u16, u16),
     /// A write began: the same.
     Write(u16, u16, u16),
-    /// A read was told where the box was made, which reached nothing: the same.
+    /// A read failed with where the box was made, since that referred to nothing: the same.
     ReadDropped(u16, u16, u16),
     /// A value was set: worker, where the box was made.
     Set(u16, u16),
-    /// A box was ended: the same.
+    /// A box was removed: the same.
     End(u16, u16),
     /// A box of the named cell was pointed at one of the cell before: worker, where the one was made,
     /// where the other was.
@@ -64,8 +64,8 @@ pub enum Short {
     ReleaseWrite(u16, u32),
 }
 
-/// A step with a table of its own, for locations that have no number: the short one that it is over
-/// these two locations.
+/// A step with its own table, for locations that have no number: the short one that it is over these two
+/// locations.
 #[derive(Clone, Copy)]
 pub struct FarStep {
     pub short: Short,
@@ -92,7 +92,7 @@ impl ShortName {
     }
 }
 
-/// What decoding has come to: the next ticket, the cell that was named last, and the one before it.
+/// The state of decoding: the next ticket, the cell that was named last, and the one before it.
 #[derive(Clone, Copy)]
 pub struct Reached {
     pub next: u64,
@@ -101,7 +101,7 @@ pub struct Reached {
 }
 
 impl Reached {
-    /// What decoding has come to at first, where this is the next ticket.
+    /// The initial state of decoding, with this next ticket.
     pub fn first(next: u64) -> Reached
         ensures { result ≡ reached_first next }
     {
@@ -116,7 +116,7 @@ impl Reached {
         }
     }
 
-    /// What decoding comes to after this name.
+    /// The state of decoding after this name.
     #[inline(always)]
     pub fn naming(self, name: ShortName) -> Reached
         ensures { result ≡ naming self name }
@@ -128,7 +128,7 @@ impl Reached {
         }
     }
 
-    /// What decoding comes to after a step with this reply.
+    /// The state of decoding after a step with this reply.
     #[inline(always)]
     pub fn after(self, reply: StepReply) -> Reached
         ensures { result ≡ record self { next = next_after self.next reply } }
@@ -141,7 +141,7 @@ impl Reached {
     }
 }
 
-// What an item takes of memory, and a step with a table of its own.
+// The size of an item, and of a step with its own table.
 const _: () = prove!(size_of::<Short>() == 8);
 
 const _: () = prove!(size_of::<FarStep>() == 56);
@@ -158,7 +158,7 @@ pub(crate) fn step(worker: u32, call: StepCall, reply: StepReply) -> Step
     }
 }
 
-/// The step for which an item stands, where decoding has come so far; None for a name.
+/// The step that an item represents, in this state of decoding; None for a name.
 pub fn step_at(
     number: u64,
     places: &[Location],
@@ -182,7 +182,7 @@ pub fn step_at(
     }
 }
 
-// The step for which an item stands that isn't kept elsewhere; None else.
+// The step that an item represents if the step isn't stored elsewhere; None otherwise.
 fn plain_step(number: u64, places: &[Location], reached: Reached, short: Short) -> Option<Step>
     requires { IsPlain (length places.now) short }
     ensures { result ≡ plain_step number places.now reached short }
@@ -304,7 +304,7 @@ fn next_after(next: u64, reply: StepReply) -> u64
     }
 }
 
-// What decoding comes to after an item, and after the step for which it stands, if it does.
+// The state of decoding after an item, and after the step that it represents, if any.
 fn go_on(reached: Reached, short: Short, step: Option<Step>) -> Reached
     ensures { result ≡ advanced (named reached short) step }
 {
@@ -331,7 +331,7 @@ fn push_some(all: &mut Vec<Step>, step: Option<Step>) -> Result<(), AllocError>
     Ok(())
 }
 
-/// Appends the steps for which items stand in order, where decoding begins at `start`.
+/// Appends the steps that items represent, in order; decoding begins at `start`.
 pub fn decode_all(
     all: &mut Vec<Step>,
     number: u64,

@@ -1,4 +1,4 @@
-//! How steps are kept in 8 bytes.
+//! How steps are stored in 8 bytes.
 
 ghost use Rattle.std.specs.Prelude.{◌≡◌, ◌-◌, ◌<◌, IfSome, None, Some};
 ghost use Rattle.std.specs.Bool.{OnTrue};
@@ -14,7 +14,7 @@ use crate::places::{LocationTable, OwnPlaces, is_same};
 use crate::short::{FarStep, Reached, Short, ShortName};
 use generational_core::{GenerationalBoxId, GenerationalPointer, Location, OwnerId};
 
-/// Where a step is taken: the store's number, what decoding comes to before it, and the worker.
+/// Where a step is taken: the store's number, the state of decoding before it, and the worker.
 #[derive(Clone, Copy)]
 pub struct Taken {
     pub number: u64,
@@ -22,7 +22,7 @@ pub struct Taken {
     pub worker: u32,
 }
 
-/// The names that stand before a step's item, in order.
+/// The names before a step's item, in order.
 #[derive(Clone, Copy)]
 pub enum Names {
     None,
@@ -30,8 +30,7 @@ pub enum Names {
     Two(ShortName, ShortName),
 }
 
-/// A step with a table of locations of its own, if it has a form then, and what stands before it names
-/// its cells.
+/// A step with its own table of locations, if it has a form then, and the names of its cells before it.
 #[cold]
 #[inline(never)]
 pub fn far_form<E: Entry>(taken: Taken, entry: E) -> Option<FarStep>
@@ -54,7 +53,7 @@ pub fn far_form<E: Entry>(taken: Taken, entry: E) -> Option<FarStep>
     })
 }
 
-// The name of a cell of the store, where its numbers fit.
+// The name of a cell of the store, if its numbers fit.
 #[inline(always)]
 fn short_name(taken: Taken, id: GenerationalBoxId) -> Option<ShortName>
     ensures { IfSome result (λ n. (id ≡ id_of taken.number (full n)) × (n.slot < 16777216)) }
@@ -79,7 +78,7 @@ fn is_last(taken: Taken, id: GenerationalBoxId) -> bool
         && id.store == taken.number
 }
 
-/// What names the cell with this id as the last one, where it fits. Mostly it is that already.
+/// The name that makes the cell with this id the last one, if it fits. Mostly it is that already.
 #[inline(always)]
 pub fn name_one(taken: Taken, id: GenerationalBoxId) -> Option<Names>
     ensures short { IfSome result AreShort }
@@ -92,7 +91,7 @@ pub fn name_one(taken: Taken, id: GenerationalBoxId) -> Option<Names>
     Some(Names::One(short_name(taken, id)?))
 }
 
-/// What names two cells, one as the last and one as that before it, where they fit.
+/// The names that make two cells the last one and the one before it, if they fit.
 #[inline(always)]
 pub fn name_two(taken: Taken, before: GenerationalBoxId, last: GenerationalBoxId) -> Option<Names>
     ensures short { IfSome result AreShort }
@@ -106,7 +105,7 @@ pub fn name_two(taken: Taken, before: GenerationalBoxId, last: GenerationalBoxId
     Some(Names::Two(short_name(taken, before)?, second))
 }
 
-/// The worker's number, where it fits.
+/// The worker's number, if it fits.
 #[inline(always)]
 pub fn worker_of(taken: Taken) -> Option<u16>
     ensures { IfSome result (λ worker. worker ≡ taken.worker) }
@@ -293,7 +292,7 @@ pub fn point_to<P: LocationTable>(
     Some(Short::PointTo(worker, made, target))
 }
 
-/// Whether a ticket is the one that decoding gives next.
+/// Whether a ticket is the next one of decoding.
 #[inline(always)]
 pub fn is_next(taken: Taken, ticket: u64) -> bool
     ensures { OnTrue result (ticket ≡ taken.reached.next) }
@@ -301,7 +300,7 @@ pub fn is_next(taken: Taken, ticket: u64) -> bool
     ticket == taken.reached.next
 }
 
-/// By how much a ticket or an owner's key is less than the next ticket, where that fits.
+/// By how much a ticket or an owner's key is less than the next ticket, if that fits.
 #[inline(always)]
 pub fn back_to(taken: Taken, ticket: u64) -> Option<u32>
     ensures { IfSome result (λ back. ticket ≡ taken.reached.next - back) }
@@ -322,7 +321,7 @@ fn find_two<P: LocationTable>(places: &mut P, one: Location, two: Location) -> O
     Some((first, second))
 }
 
-// By how much the key of an owner of the store is less than the next ticket, where that fits.
+// By how much the key of an owner of the store is less than the next ticket, if that fits.
 #[inline(always)]
 fn back_to_owner(taken: Taken, owner: OwnerId) -> Option<u16>
     ensures { IfSome result (λ back. owner ≡ owner_id taken.number (taken.reached.next - back)) }

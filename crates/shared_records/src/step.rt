@@ -7,14 +7,14 @@ use generational_core::{
     GenerationalBoxId, GenerationalPointer, Location, OwnerId, StepCall, StoreError,
 };
 
-/// What a step was answered.
+/// The reply of a step.
 #[derive(Clone, Copy, Debug, PartialEq)]
 pub enum StepReply {
     /// A box was made.
     Made(GenerationalPointer),
     /// A shared value was made, whose cell has this id, and the box of its first reference.
     MadeShared(GenerationalBoxId, GenerationalPointer),
-    /// An owner was given.
+    /// An owner was made.
     Owner(OwnerId),
     /// A read began, with this ticket.
     Reader(u64),
@@ -22,20 +22,20 @@ pub enum StepReply {
     Writer(u64),
     /// The call was carried out.
     Done,
-    /// The call was refused as `Dropped`, with this location: the asked box's own, which reaches no
-    /// value, or none that is shared where a reference is made. Of `point_to` it may also be that
-    /// of the other box, or of the value which the other reaches.
+    /// The call failed with `Dropped`, with this location: the box's own, which refers to no value, or to
+    /// none that is shared if a reference is made. For `point_to` it may also be that of the other box,
+    /// or of the value that the other refers to.
     Dropped(Location),
-    /// The store refused the call. `OutOfMemory` never stands here: such a call is no step.
+    /// The call failed with an error of the store. It is never `OutOfMemory`: such a call is no step.
     Store(StoreError),
 }
 
-/// One step of a shared store: which worker asked, what it asked, and what it was answered.
+/// One step of a shared store: the worker, its call, and the reply.
 #[derive(Clone, Copy, Debug, PartialEq)]
 pub struct Step {
     /// The worker's number, from 0.
     pub worker: usize,
-    /// The call, without a value that was handed in.
+    /// The call, without a value that was passed in.
     pub call: StepCall,
     /// The reply.
     pub reply: StepReply,
@@ -44,19 +44,19 @@ pub struct Step {
 /// The kind of a step, by its reply.
 #[derive(Clone, Copy, Debug, PartialEq, Eq)]
 pub enum Kind {
-    /// A box or an owner was given.
+    /// A box or an owner was made.
     Made,
-    /// A guard was given.
+    /// A borrow began.
     Lent,
-    /// A value was set, a box was ended or pointed elsewhere, or a guard or an owner was released.
-    /// The end of a box that reached nothing counts too.
+    /// A value was set, a box was removed or pointed elsewhere, or a guard or an owner was released. The
+    /// removal of a box that referred to nothing counts too.
     Changed,
-    /// `Dropped`, or the store refused the call for another reason than memory.
+    /// `Dropped`, or an error of the store other than `OutOfMemory`.
     Refused,
 }
 
 impl StepReply {
-    /// The kind of a step that was answered so. Takes no memory.
+    /// The kind of a step with this reply. Doesn't allocate.
     #[inline(always)]
     pub fn kind(&self) -> Kind
         ensures { result ≡ step_kind self.now }
@@ -71,7 +71,7 @@ impl StepReply {
 }
 
 impl Step {
-    /// The step's kind. Takes no memory.
+    /// The step's kind. Doesn't allocate.
     pub fn kind(&self) -> Kind
         ensures { result ≡ step_kind self.now.reply }
     {

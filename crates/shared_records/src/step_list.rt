@@ -21,24 +21,24 @@ use std::alloc::{AllocError, Global};
 use std::marker::Model;
 use std::mem;
 
-// With how many locations at most the next history begins: half of those that can be numbered.
+// The most locations with which the next history begins: half of those that can be numbered.
 const MANY_PLACES: usize = 32768;
 
-// How many long steps there are at most, and far ones: as many as their items can number.
+// The most long steps, and the most far ones: as many as their items can number.
 const MOST_LONG: usize = 281474976710656;
 
 /// Steps of the store with this number, in 8 bytes each if they have a short form, with 8 more for a
-/// cell's name, in 64 if such a form lacks a location's number alone, and in 216 else. Contracts see the
-/// steps, and for how many more there is room.
+/// cell's name, in 64 if such a form lacks only a location's number, and in 216 otherwise. Contracts
+/// model it as the steps, and for how many more there is room.
 ///
-/// A location's text is kept once: a step comes back with the same letters, which may stand
-/// elsewhere in memory.
+/// A location's text is stored once: a step comes back with the same letters, which may be elsewhere in
+/// memory.
 #[derive(Drop)]
 pub struct StepList<const NUMBER: u64> {
     // for how many more steps there is room
     room: usize,
-    // what decoding comes to after the last step; what an append writes stands together up to here,
-    // and at the beginning of the short steps
+    // the state of decoding after the last step; the fields that an append writes are adjacent up to
+    // here, and at the beginning of the short steps
     reached: Reached,
     short: Chunks<Short>,
     // the next ticket at the first step
@@ -74,7 +74,7 @@ impl<const NUMBER: u64> Model for StepList<NUMBER> {
 }
 
 impl<const NUMBER: u64> StepList<NUMBER> {
-    /// A list of no steps. Takes no memory.
+    /// A list of no steps. Doesn't allocate.
     pub fn new(alloc: Global) -> Self
         ensures { result ≡ record { steps = []; room = 0 } }
     {
@@ -90,8 +90,8 @@ impl<const NUMBER: u64> StepList<NUMBER> {
         }
     }
 
-    /// Does nothing: there is never room for more steps than long ones can be numbered. A caller's proof
-    /// cites it.
+    /// Does nothing. Its contract says that there is never room for more steps than long ones can be
+    /// numbered. A caller's proof cites it.
     #[inline(always)]
     pub fn room_is_bounded(&self)
         ensures { self.now.room ≤ 2 ^ 48 }
@@ -99,7 +99,7 @@ impl<const NUMBER: u64> StepList<NUMBER> {
         let _ = &self.room;
     }
 
-    /// Makes room for so many steps more.
+    /// Reserves room for this many more steps.
     #[inline(always)]
     pub fn reserve(&mut self, more: usize) -> Result<(), AllocError>
         ensures steps { self.new.steps ≡ self.old.steps }
@@ -112,8 +112,8 @@ impl<const NUMBER: u64> StepList<NUMBER> {
         self.grow(more)
     }
 
-    // Makes room for so many steps more, for which there wasn't yet: three items, a long step and a far one
-    // for each. A longer list has room for more of these, so that it is seldom looked at.
+    // Reserves room for this many more steps, if there isn't enough: three items, a long step and a far
+    // one for each. A longer list reserves more of these, so that this is seldom called.
     #[cold]
     #[inline(never)]
     fn grow(&mut self, more: usize) -> Result<(), AllocError>
@@ -142,8 +142,8 @@ impl<const NUMBER: u64> StepList<NUMBER> {
         Ok(())
     }
 
-    /// Appends a worker's step, for which there is room. Allocates only for a location that isn't kept yet; if
-    /// memory runs out there, the step is kept in more bytes.
+    /// Appends a worker's step, for which there is room. Allocates only for a location that isn't stored
+    /// yet; if that fails, the step is stored in more bytes.
     #[tactic(auto, using(crate::proofs::Decodes::decode_length))]
     #[inline(always)]
     pub fn append<E: Entry>(&mut self, worker: u32, entry: E)
@@ -191,9 +191,9 @@ impl<const NUMBER: u64> StepList<NUMBER> {
         Ok(all)
     }
 
-    /// Takes all steps away, where `next` is the next ticket, and keeps the room, and the locations
-    /// unless there are more than 32,768. What is kept no more is returned, so that who holds a lock can
-    /// drop it when it is open. If memory is refused nothing changes.
+    /// Removes all steps, where `next` is the next ticket, and keeps the room, and the locations unless
+    /// there are more than 32,768. Returns what is no longer needed, so that the holder of a lock can
+    /// drop it after releasing it. If an allocation fails, nothing changes.
     pub fn empty(&mut self, next: u64) -> Result<OldSteps, AllocError>
         ensures steps { OnOk result (self.new.steps ≡ []) }
         ensures room { OnOk result (self.old.room ≤ self.new.room) }
@@ -217,7 +217,7 @@ impl<const NUMBER: u64> StepList<NUMBER> {
     }
 }
 
-/// Steps that are kept no more.
+/// Steps that are no longer needed.
 #[derive(Drop)]
 pub struct OldSteps {
     short: Vec<Vec<Short>>,
@@ -226,7 +226,7 @@ pub struct OldSteps {
     places: Places,
 }
 
-// Takes the locations away if there are many, and returns them.
+// Removes the locations if there are many, and returns them.
 fn forget_many(places: &mut Places, alloc: Global) -> Places
     ensures few { length places.old ≤ 32768 → places.new ≡ places.old }
     ensures many { 32768 < length places.old → places.new ≡ [] }
@@ -240,8 +240,8 @@ fn forget_many(places: &mut Places, alloc: Global) -> Places
     }
 }
 
-// Appends a worker's step to the items, where decoding begins at `start` and has come to `reached`.
-// That is written in place, so that a step which leaves it as it is doesn't write it.
+// Appends a worker's step to the items; decoding begins at `start` and has come to `reached`. That is
+// changed in place, so that a step which leaves it unchanged doesn't write it.
 #[inline(always)]
 fn keep<const NUMBER: u64, E: Entry>(
     worker: u32,
@@ -319,9 +319,9 @@ fn shortened<const NUMBER: u64, E: Entry>(
     entry.form(taken, places)
 }
 
-// Appends a step that has no short form: with a table of its own, if it has a form then, or whole. It is a
-// function of its own that is inlined, so that what is handed to the other is put into memory here, and
-// not where a short step is kept.
+// Appends a step that has no short form: with its own table, if it has a form then, or whole. It is a
+// separate function that is inlined, so that the other function's arguments are written to memory here,
+// and not where a short step is stored.
 #[inline(always)]
 fn keep_apart<const NUMBER: u64, E: Entry>(
     worker: u32,
@@ -390,7 +390,7 @@ fn push_apart<E: Entry>(
     }
 }
 
-// Appends the names that stand before a step.
+// Appends the names before a step.
 #[inline(always)]
 fn name_cells(names: Names, reached: &mut Reached, list: &mut Chunks<Short>)
     requires short { AreShort names }
@@ -409,8 +409,8 @@ fn name_cells(names: Names, reached: &mut Reached, list: &mut Chunks<Short>)
     }
 }
 
-// Appends two names. It isn't inlined always, since what a step's form is inlined into would be too large
-// to be inlined itself.
+// Appends two names. It isn't `inline(always)`, since the function into which a step's form is inlined
+// would be too large to be inlined itself.
 #[inline]
 fn name_two_cells(
     first: ShortName,
@@ -429,7 +429,7 @@ fn name_two_cells(
     *reached = reached.naming(first).naming(second);
 }
 
-// Decoding comes past the step.
+// Moves decoding past the step.
 #[inline(always)]
 fn advance<E: Entry>(reached: &mut Reached, entry: E)
     ensures { reached.new ≡ record reached.old { next = next_after reached.old.next (E.as_reply entry) } }
