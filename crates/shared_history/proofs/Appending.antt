@@ -1,4 +1,4 @@
--- A step more, by the letters of its locations, is one more of its kind; and of which kinds steps are.
+-- Another step, by the letters of its locations, is another of its kind; and of which kinds steps are.
 use Rattle.std.proofs.Common.{◌≡◌, ℕ, ◌+◌, ◌≤◌, List, [], ◌∷◌, refl, cond, length}
 use Rattle.std.proofs.Common.{arith}
 use Rattle.std.proofs.lemmas.List.Sums.{count_by-le-length, sum_by-append, sum_by-cons}

@@ -22,7 +22,7 @@ pub record BaseState : Type 0 where
   pub refused : ℕ
   pub rows : List BaseRow
 
--- the state that it tells
+-- the state that it describes
 abbrev pub plain_of : BaseState → Plain
 plain_of base = told_by base.number base.next base.peak base.rows
 
@@ -53,7 +53,7 @@ new_base number = record {
 abbrev pub IsCounted : Counts → BaseState → List Step → Type 0
 IsCounted c base steps = (kind : Kind) → trimmed_of kind base + count kind steps ≡ counted kind c
 
--- a base counts all of these steps as trimmed, beside those of the base before it
+-- a base counts all of these steps as trimmed, in addition to those of the previous base
 abbrev pub Trims : BaseState → List Step → BaseState → Type 0
 Trims before steps after =
     (kind : Kind) → trimmed_of kind after ≡ trimmed_of kind before + count kind steps

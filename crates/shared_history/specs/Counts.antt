@@ -13,7 +13,7 @@ pub record Counts : Type 0 where
   pub changed : ℕ
   pub refused : ℕ
 
--- one more step of this kind
+-- another step of this kind
 abbrev pub raised : Kind → Counts → Counts
 raised Made c = record c { made = c.made + 1 }
 raised Lent c = record c { lent = c.lent + 1 }

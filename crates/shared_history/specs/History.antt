@@ -38,18 +38,18 @@ fits P n =
     || (map.contains_key (slots_of P) n.slot
     && (is_free P n.slot && nat_eq n.generation ((last_name P n.slot).generation + 1)))
 
--- whether a name was never given, and fits
+-- whether a name was never issued, and fits
 abbrev pub is_new : Plain → Name → Bool
 is_new P n = not (set.contains P.given n) && fits P n
 
--- the names that a recorded reply gives
+-- the names in a recorded reply
 abbrev pub names_of_reply : StepReply → NewNames
 names_of_reply (reply.Made b) = record { first = name_of b; second = name_of b }
 names_of_reply (reply.MadeShared id b) = record { first = name_in id; second = name_of b }
 names_of_reply _ = no_names
 
--- whether the names that a making takes are new; that of a shared value's reference is new beside
--- its cell's
+-- whether the names that a making takes are new; that of a shared value's reference is new next to its
+-- cell's
 abbrev pub are_new : Plain → Action (Unit {0}) → NewNames → Bool
 are_new P (Make o v l) f = is_new P f.first
 are_new P (MakeShared o v l) f =
@@ -79,7 +79,7 @@ writer_cell P t = first_name (λ n. has_writer (content_at P n) t) (map.keys P.c
 abbrev pub guard_at : Plain → ℕ → Name → Guard
 guard_at P t n = record { store = P.number; cell = n; ticket = t }
 
--- what a recorded call asks of the machine; a release names its guard by the ticket alone
+-- the machine's call of a recorded call; a release identifies its guard by the ticket alone
 abbrev pub action_of : Plain → StepCall → Option (Action (Unit {0}))
 action_of P (call.Leak l) = Some (Make None tt l)
 action_of P (call.LeakRc l) = Some (MakeShared None tt l)
@@ -100,8 +100,8 @@ action_of P (call.ReleaseWrite t) =
     option_map (λ n. ReleaseWriter (guard_at P t n) tt) (writer_cell P t)
 action_of P (call.ReleaseOwner o) = Some (ReleaseOwner (owner_of o))
 
--- whether a call that the machine answers so was lawfully recorded with this reply: no borrow
--- stood in its way, a name that it gave was new, and the reply is the machine's
+-- whether a call with this answer of the machine was lawfully recorded with this reply: no borrow was in
+-- its way, a name that it issued was new, and the reply is the machine's
 abbrev pub is_lawful : Plain → StepCall → Action (Unit {0}) → StepReply → Option StepReply → Bool
 is_lawful P c a r given = is_ready P c && (gives_new P a r && is_recorded given r)
 
@@ -112,7 +112,7 @@ step_by P c r (Some a) =
     let out : Outcome (Unit {0}) = limit_tickets P (act P a (names_of_reply r)) in
     if is_lawful P c a r (recorded_reply out.1 a out.0) then Some out.1 else None
 
--- what a recorded step makes of a state without values; none where it isn't lawful
+-- what a recorded step makes of a state without values; none if it isn't lawful
 unfoldable pub plain_step : Plain → StepCall → StepReply → Option Plain
 plain_step P c r = step_by P c r (action_of P c)
 
@@ -122,11 +122,11 @@ replay_on [] P = P
 replay_on (x ∷ xs) None = None
 replay_on (x ∷ xs) (Some P) = replay_on xs (plain_step P x.call x.reply)
 
--- what a history makes of the state from which it starts; none where a step isn't lawful
+-- what a history makes of the state from which it starts; none if a step isn't lawful
 abbrev pub replay_from : Plain → List Step → Option Plain
 replay_from P steps = replay_on steps (Some P)
 
--- the names that a call's recorded reply gives were never given before, and fit
+-- the names that a call's recorded reply gives were never issued before, and fit
 abbrev pub GivesNew : Plain → Action (Unit {0}) → StepReply → Type 0
 GivesNew P a (reply.Made b) = AreNew P a (names_of_reply (reply.Made b))
 GivesNew P a (reply.MadeShared id b) = AreNew P a (names_of_reply (reply.MadeShared id b))
@@ -134,17 +134,17 @@ GivesNew P a _ = Unit {0}
 
 -- A recorded step as the machine takes it, from one state to another.
 pub record IsTaken (P : Plain) (c : StepCall) (r : StepReply) (Q : Plain) : Type 0 where
-  -- what the recorded call asks of the machine
+  -- the machine's call
   pub action : Action (Unit {0})
   pub asked : action_of P c ≡ Some action
-  -- no borrow stood in its way
+  -- no borrow was in its way
   pub ready : is_ready P c ≡ true
-  -- the machine answers it so, and goes on to the other state
+  -- the machine has this answer, and goes on to the other state
   pub answer : Answer (Unit {0})
   pub met : Meets P action answer Q
   -- the recorded reply is this answer
   pub replied : is_recorded (recorded_reply Q action answer) r ≡ true
-  -- and names that it gives were new
+  -- and names that it issues were new
   pub named : GivesNew P action r
 
 -- a history led over a recorded step: to a state before it, by it to another, and on from there

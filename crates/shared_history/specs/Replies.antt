@@ -38,9 +38,8 @@ module _ {T : Type 0} where
   made_reply (Refer o c) R b = Some (reply.Made b)
   made_reply _ R b = None
 
-  -- How the answer of the machine to a call is recorded, after which its state is R. An answer that
-  -- tells of a borrow or of lack of memory isn't recorded, and neither is the release of a guard
-  -- that the store doesn't know.
+  -- How the answer of the machine to a call is recorded, after which its state is R. An error of a borrow
+  -- or of memory isn't recorded, and neither is the release of a guard that the store doesn't know.
   abbrev pub recorded_reply : State T → Action T → Answer T → Option StepReply
   recorded_reply R call (Made b) = made_reply call R b
   recorded_reply R call (Owned o) = Some (reply.Owner (id_of_owner o))
@@ -54,7 +53,7 @@ module _ {T : Type 0} where
   recorded_reply R call (Refused UnknownOwner) = Some (reply.Store UnknownOwner)
   recorded_reply R call _ = None
 
--- the history after a call of this worker: one step more, if its reply is recorded
+-- the history after a call of this worker: another step, if its reply is recorded
 abbrev pub Records : List Step → ℕ → StepCall → Option StepReply → List Step → Type 0
 Records steps worker call None after = after ≡ steps
 Records steps worker call (Some r) after = Appends steps (step_of worker call r) after
@@ -78,7 +77,7 @@ abbrev pub raised_by : Option Kind → Counts → Counts
 raised_by None c = c
 raised_by (Some k) c = raised k c
 
--- whether two refusals of the store are the same
+-- whether two errors of the store are the same
 abbrev pub same_error : StoreError → StoreError → Bool
 same_error OutOfMemory OutOfMemory = true
 same_error NumbersExhausted NumbersExhausted = true
@@ -113,7 +112,7 @@ abbrev pub is_recorded : Option StepReply → StepReply → Bool
 is_recorded None r = false
 is_recorded (Some s) r = same_reply s r
 
--- what the setting of a value answers that took the place of this old one
+-- what a set returns that replaced this old value
 abbrev pub set_answer : {T U : Type 0} → T → Result U (T × IsRefused BorrowMutError) → Answer T
 set_answer old (Ok u) = Old old
 set_answer old (Err e) = end_refused e.1

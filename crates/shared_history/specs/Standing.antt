@@ -1,4 +1,4 @@
--- How many borrows stand in a state.
+-- How many borrows are in a state.
 use Rattle.std.specs.Prelude.{ℕ, ◌+◌, Bool, true, false, List, [], ◌∷◌, Some, length}
 use Rattle.std.specs.FinMap as map
 use Rattle.generational_core.specs.Names.{Name}
@@ -10,7 +10,7 @@ use Rattle.generational_core.specs.Machine.Action.{ReleaseReader, ReleaseWriter}
 use Rattle.shared_records.specs.declared.step.StepReply.{StepReply}
 use Rattle.shared_records.specs.declared.step.StepReply.TheVariants as reply
 
--- how many borrows a recorded reply gives
+-- how many borrows a recorded reply begins
 abbrev pub lent_by : StepReply → ℕ
 lent_by (reply.Reader t) = 1
 lent_by (reply.Writer t) = 1
@@ -36,7 +36,7 @@ module _ {T : Type 0} where
   abbrev pub borrows : State T → ℕ
   borrows S = borrows_in (map.entries S.cells)
 
-  -- whether an answer is one that leaves all as it was
+  -- whether an answer is one that leaves all unchanged
   abbrev pub leaves : Answer T → Bool
   leaves (BorrowRefused t) = true
   leaves (Refused e) = true

@@ -7,12 +7,12 @@ use generational_core::BaseRow;
 use shared_records::Kind;
 use std::marker::Model;
 
-/// Where a kept history begins: the state of the store at its last checkpoint, without values, and
-/// how many steps of each kind were trimmed until then. A new store's base has no rows, and all its
-/// numbers but the store's own are 0.
+/// Where a stored history begins: the state of the store at its last checkpoint, without values, and how
+/// many steps of each kind were trimmed until then. A new store's base has no rows, and all its numbers
+/// except the store's own are 0.
 ///
-/// The rows, the store's number, the next ticket and the peak are read back as that state: the
-/// definition is `plain_of` in this crate's `specs/Bases.antt`.
+/// The rows, the store's number, the next ticket and the peak determine that state: the definition is
+/// `plain_of` in this crate's `specs/Bases.antt`.
 #[derive(Debug, Drop)]
 pub struct Base {
     number: u64,
@@ -82,21 +82,21 @@ impl Base {
         }
     }
 
-    /// The store's number. Takes no memory.
+    /// The store's number. Doesn't allocate.
     pub fn number(&self) -> u64
         ensures { result ≡ self.now.number }
     {
         self.number
     }
 
-    /// The next ticket, of a borrow or as an owner's key. Takes no memory.
+    /// The next ticket, of a borrow or as an owner's key. Doesn't allocate.
     pub fn next(&self) -> u64
         ensures { result ≡ self.now.next }
     {
         self.next
     }
 
-    /// How many steps were ever trimmed: of all kinds together. Takes no memory.
+    /// How many steps were ever trimmed: of all kinds together. Doesn't allocate.
     pub fn trimmed(&self) -> u64
         ensures { result ≡ all_trimmed self.now }
     {
@@ -104,21 +104,21 @@ impl Base {
         kinds.made + kinds.lent + kinds.changed + kinds.refused
     }
 
-    /// The most cells that were live at once. Takes no memory.
+    /// The peak number of live cells. Doesn't allocate.
     pub fn peak(&self) -> usize
         ensures { result ≡ self.now.peak }
     {
         self.peak
     }
 
-    /// The rows, in the order in which a storage's `rows` gives them. Takes no memory.
+    /// The rows, in the order of a storage's `rows`. Doesn't allocate.
     pub fn rows(&self) -> &[BaseRow]
         ensures { result.now ≡ self.now.rows }
     {
         self.rows.as_slice()
     }
 
-    /// How many steps of a kind were trimmed. Takes no memory.
+    /// How many steps of a kind were trimmed. Doesn't allocate.
     pub fn count(&self, kind: Kind) -> u64
         ensures { result ≡ trimmed_of kind self.now }
     {

@@ -1,4 +1,4 @@
-//! The base of a history as a store keeps it.
+//! The base of a history as a store stores it.
 
 ghost use Rattle.std.specs.Prelude.{◌≡◌, ◌+◌, ◌<◌, ◌^◌, IfOk};
 ghost use Rattle.shared_history.specs.Bases.{all_trimmed, new_base, trimmed_of};
@@ -9,7 +9,7 @@ use std::alloc::{AllocError, Global};
 use std::marker::Model;
 use store_rows::PackedRows;
 
-/// A base whose rows are packed. Contracts see it as the [`Base`] that an audit answers.
+/// A base whose rows are packed. Contracts model it as the [`Base`] that an audit returns.
 #[derive(Drop)]
 pub struct KeptBase {
     number: u64,
@@ -41,7 +41,7 @@ impl Model for KeptBase {
 }
 
 impl KeptBase {
-    // The base of a new store with this number. Takes no memory.
+    // The base of a new store with this number. Doesn't allocate.
     pub fn new(alloc: Global, number: u64) -> KeptBase
         ensures { result ≡ new_base number }
     {

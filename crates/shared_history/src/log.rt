@@ -20,13 +20,13 @@ use std::mem;
 use std::sync::ledger::Book;
 use store_rows::{PackedRows, RowCounts};
 
-/// A base and the steps from there in order, room for a release of each borrow that stands, and for
-/// each kind how many steps there are and a book. Contracts see the base, the steps and the room.
+/// A base and the steps from there in order, room for a release of each active borrow, and for each kind
+/// how many steps there are and a book. Contracts model it as the base, the steps and the room.
 ///
 /// The steps are those of the store with this number.
 #[derive(Drop)]
 pub struct Log<const NUMBER: u64, M: Count, L: Count, C: Count, R: Count> {
-    // what each step writes stands together up to the beginning of the history
+    // the fields that each step writes are adjacent up to the beginning of the history
     standing: usize,
     made_steps: u64,
     lent_steps: u64,
@@ -108,7 +108,7 @@ impl<const NUMBER: u64, M: Count, L: Count, C: Count, R: Count> Log<NUMBER, M, L
         }
     }
 
-    // Makes room for so many steps beside the releases of the borrows that stand.
+    // Reserves room for this many steps in addition to the releases of the active borrows.
     #[inline(always)]
     pub fn reserve(&mut self, steps: usize) -> Result<(), AllocError>
         requires { steps ≤ 2 }
@@ -155,7 +155,7 @@ impl<const NUMBER: u64, M: Count, L: Count, C: Count, R: Count> Log<NUMBER, M, L
         }
     }
 
-    // Appends the step of the tally's worker. Where it begins a borrow, that stands from then on.
+    // Appends the step of the tally's worker. If it begins a borrow, that is active from then on.
     #[inline(always)]
     pub fn settle<E: Entry>(&mut self, entry: E, tally: &mut Tally<M, L, C, R>)
         requires room { 1 < self.old.room }
@@ -171,8 +171,9 @@ impl<const NUMBER: u64, M: Count, L: Count, C: Count, R: Count> Log<NUMBER, M, L
         }
     }
 
-    // Appends the step of a borrow's end, and counts it, where one stands. It has room since the borrow
-    // began. It is looked at here whether one stands, which is cheaper than to have each caller show it.
+    // Appends the step of a borrow's end, and counts it, if there is an active borrow. It has room since
+    // the borrow began. Whether there is one is checked here, which is cheaper than a proof by each
+    // caller.
     #[inline(always)]
     pub fn settle_end<E: Entry>(&mut self, entry: E, tally: &mut Tally<M, L, C, R>)
         ensures bases { self.new.bases ≡ self.old.bases }
@@ -190,7 +191,7 @@ impl<const NUMBER: u64, M: Count, L: Count, C: Count, R: Count> Log<NUMBER, M, L
         self.append(entry, tally);
     }
 
-    // One borrow more stands, for whose release there is room.
+    // Counts another active borrow, for whose release there is room.
     #[inline(always)]
     fn borrow_begins(&mut self)
         requires room { 0 < self.old.room }
@@ -202,8 +203,8 @@ impl<const NUMBER: u64, M: Count, L: Count, C: Count, R: Count> Log<NUMBER, M, L
         self.standing += 1;
     }
 
-    // How many steps of each kind are trimmed where the history begins anew. None where they would
-    // be too many together.
+    // How many steps of each kind are trimmed when the history begins again. None if they would be too
+    // many together.
     #[tactic(auto, using(crate::proofs::Appending::all_kinds))]
     pub fn trimmed_steps(&self) -> Option<TrimmedSteps>
         ensures counts { IfSome result (λ t. t ≡ counts_of self.now.bases.base self.now.steps) }
@@ -225,13 +226,13 @@ impl<const NUMBER: u64, M: Count, L: Count, C: Count, R: Count> Log<NUMBER, M, L
         })
     }
 
-    // Where the log takes its memory.
+    // The log's allocator.
     pub fn alloc(&self) -> Global {
         self.alloc
     }
 
-    // For how many rows room is wanted before these are packed: for twice as many slots, since more may
-    // come meanwhile. None where there is room for half as many more.
+    // For how many rows room must be reserved before these are packed: for twice as many slots, since
+    // more may be added meanwhile. None if there is room for half as many more.
     pub fn wanted_rows(&self, now: RowCounts) -> Option<RowCounts> {
         let mut counts = now;
         counts.whole = self.base.whole_rows();
@@ -243,7 +244,7 @@ impl<const NUMBER: u64, M: Count, L: Count, C: Count, R: Count> Log<NUMBER, M, L
         Some(counts)
     }
 
-    // The rows of the base before the last, of which none are left.
+    // Takes the rows of the base before the last, and leaves none.
     pub fn take_past(&mut self) -> PackedRows
         ensures past { result ≡ self.old.bases.past }
         ensures left { self.new ≡ record self.old {
@@ -257,7 +258,7 @@ impl<const NUMBER: u64, M: Count, L: Count, C: Count, R: Count> Log<NUMBER, M, L
         self.replace_past(none)
     }
 
-    // Puts rows into the place of those of the base before the last, and answers these.
+    // Replaces the rows of the base before the last, and returns the old ones.
     pub fn replace_past(&mut self, rows: PackedRows) -> PackedRows
         ensures past { result ≡ self.old.bases.past }
         ensures put { self.new ≡ record self.old {
@@ -270,9 +271,9 @@ impl<const NUMBER: u64, M: Count, L: Count, C: Count, R: Count> Log<NUMBER, M, L
         mem::replace(&mut self.past, rows)
     }
 
-    // Lets the history begin anew at a base that counts all steps so far as trimmed. What is kept no
-    // more is answered, so that who holds a lock can let it go when it is open. If memory
-    // runs out nothing changes.
+    // Begins the history again at a base that counts all steps so far as trimmed. Returns what is no
+    // longer needed, so that the holder of a lock can drop it after releasing it. If an allocation fails,
+    // nothing changes.
     pub fn rebase(&mut self, base: KeptBase) -> Result<Outdated, AllocError>
         requires { Trims self.old.bases.base self.old.steps base }
         ensures bases { OnOk result
@@ -340,7 +341,7 @@ fn begins_borrow<E: Entry>(entry: E) -> bool
     matches!(entry.reply(), StepReply::Reader(_) | StepReply::Writer(_))
 }
 
-/// Steps and rows that are kept no more.
+/// Steps and rows that are no longer needed.
 #[derive(Drop)]
 pub struct Outdated {
     steps: OldSteps,

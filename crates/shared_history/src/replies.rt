@@ -1,4 +1,4 @@
-//! How the answers of the sequential store are recorded.
+//! How the results of the sequential store are recorded.
 
 ghost use Rattle.std.specs.Prelude.{◌≡◌, IfSome};
 ghost use Rattle.generational_core.specs.Answers.{back_answer, end_refused, owner_answer};
@@ -12,7 +12,7 @@ ghost use Rattle.shared_records.specs.declared.step.StepReply.TheVariants as rep
 use generational_core::{BorrowError, BorrowMutError, Owner, Refused, StoreError};
 use shared_records::StepReply;
 
-/// How a refusal of the store is recorded.
+/// How an error of the store is recorded.
 pub fn store_reply<T>(error: StoreError) -> Option<StepReply>
     ensures reply { (R : State T) (call : Action T) → result ≡ recorded_reply R call (refuses error) }
 {
@@ -22,7 +22,7 @@ pub fn store_reply<T>(error: StoreError) -> Option<StepReply>
     }
 }
 
-/// How the refusal of a read is recorded.
+/// How the error of a read is recorded.
 pub fn read_refusal<T>(refused: &Refused<BorrowError>) -> Option<StepReply>
     ensures reply { (R : State T) (call : Action T)
         → result ≡ recorded_reply R call (read_refused refused.now) }
@@ -36,7 +36,7 @@ pub fn read_refusal<T>(refused: &Refused<BorrowError>) -> Option<StepReply>
     }
 }
 
-/// How the refusal of a write or an end is recorded.
+/// How the error of a write or a removal is recorded.
 pub fn end_refusal<T>(refused: &Refused<BorrowMutError>) -> Option<StepReply>
     ensures reply { (R : State T) (call : Action T)
         → result ≡ recorded_reply R call (end_refused refused.now) }
@@ -50,7 +50,7 @@ pub fn end_refusal<T>(refused: &Refused<BorrowMutError>) -> Option<StepReply>
     }
 }
 
-/// How the answer of a making of an owner is recorded.
+/// How the result of a making of an owner is recorded.
 pub fn owner_reply<T>(made: &Result<Owner, StoreError>) -> Option<StepReply>
     ensures reply { (R : State T) (call : Action T)
         → result ≡ recorded_reply R call (owner_answer made.now) }

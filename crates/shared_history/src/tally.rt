@@ -22,7 +22,7 @@ impl Count for Brand {
     ghost workers = { 0 };
 }
 
-/// Says that the ledger has a part for each worker. No field beside it may name the ledger's parts.
+/// Says that the ledger has a part for each worker. No other field may refer to the ledger's parts.
 #[derive(Drop)]
 pub struct Parted<M: Count> {
     marker: PhantomData<M>,
@@ -38,7 +38,7 @@ impl<M: Count> Parted<M> {
         }
     }
 
-    // Shows it.
+    // Proves it.
     pub fn shown(&self)
         ensures { M.parts ≡ M.workers }
     {
@@ -46,12 +46,11 @@ impl<M: Count> Parted<M> {
     }
 }
 
-/// What a worker has counted: for each kind, how many steps it took. Contracts alone see the
-/// numbers.
+/// What a worker has counted: for each kind, how many steps it took. Only contracts know the numbers.
 ///
-/// `M`, `L`, `C` and `R` are the ledgers of the kinds made, lent, changed and refused. With them
-/// they name the store: no tally of another store has their types. A tally that is let go is lost,
-/// and without it no tally is whole.
+/// `M`, `L`, `C` and `R` are the ledgers of the kinds made, lent, changed and refused. They also identify
+/// the store: no tally of another store has their types. A tally that is dropped is lost, and without it
+/// no tally is whole.
 #[derive(Drop)]
 pub struct Tally<M: Count, L: Count, C: Count, R: Count> {
     worker: u32,
@@ -90,7 +89,7 @@ impl<M: Count, L: Count, C: Count, R: Count> Model for Tally<M, L, C, R> {
 }
 
 impl<M: Count, L: Count, C: Count, R: Count> Tally<M, L, C, R> {
-    /// The worker's number, from 0. Takes no memory.
+    /// The worker's number, from 0. Doesn't allocate.
     pub fn worker(&self) -> usize
         ensures { result ≡ self.now.worker }
     {
@@ -105,17 +104,17 @@ impl<M: Count, L: Count, C: Count, R: Count> Tally<M, L, C, R> {
         self.worker
     }
 
-    /// Whether the tallies of all workers are merged in it. Takes no memory.
+    /// Whether the tallies of all workers are merged in it. Doesn't allocate.
     pub fn is_whole(&self) -> bool
         ensures { IsTrue result ↔ (self.now.parts ≡ M.workers) }
     {
         self.parts == self.workers
     }
 
-    /// Adds another tally's counts and parts. The worker stays. Takes no memory.
+    /// Adds another tally's counts and parts. The worker stays. Doesn't allocate.
     ///
-    /// The other one comes back, and nothing changes, where both together would have more parts
-    /// than the store has workers. No two tallies of one store do.
+    /// The other one comes back, and nothing changes, if both together would have more parts than the
+    /// store has workers. No two tallies of one store do.
     pub fn merge(&mut self, other: Tally<M, L, C, R>) -> Result<(), Tally<M, L, C, R>>
         ensures { MatchResult result
             (λ _. self.new ≡ merged self.old other)
@@ -147,8 +146,8 @@ impl<M: Count, L: Count, C: Count, R: Count> Tally<M, L, C, R> {
     }
 }
 
-// Cuts the whole shares into a tally for each worker. A worker's number takes 32 bits where steps
-// are kept, so more workers are refused.
+// Cuts the whole shares into a tally for each worker. A worker's number has 32 bits in stored steps, so
+// the call fails for more workers.
 pub fn tallies<M: Count, L: Count, C: Count, R: Count>(
     alloc: Global,
     workers: usize,
