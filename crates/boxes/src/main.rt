@@ -1,8 +1,8 @@
-//! `boxes` reads a script of calls over boxes from standard input, a command a line, and prints one
-//! reply a line. `boxes fuzz SEED COUNT` draws a list of calls, and compares how two stores answer it.
+//! `boxes` reads a script of calls over boxes from standard input, a command a line, and prints one reply
+//! a line. `boxes fuzz SEED COUNT` draws a list of calls, and compares the replies of two stores.
 //!
-//! The commands, the replies, the statuses and what the list's one line says are on the page
-//! `docs/script.md` at the repository's root.
+//! `docs/script.md` at the repository's root describes the commands, the replies, the statuses and the
+//! output of `fuzz`.
 #![tactic(auto)]
 
 use boxes_script::{Fault, boxes_run, report};
@@ -29,7 +29,7 @@ fn run<R: Env + AllocGlobal, I: Read, O: Write, E: Write>(
     }
 }
 
-// The words after the program's name. One that is not UTF-8 is none that the program knows.
+// The words after the program's name. One that is not UTF-8 is unknown to the program.
 fn words<R: Env + AllocGlobal>(rt: &R) -> Result<Vec<String>, Fault> {
     match env::args(rt) {
         Ok(words) => words.skip(1).collect(rt.alloc()).map_err(|_| Fault::Memory),
