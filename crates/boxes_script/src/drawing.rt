@@ -6,19 +6,19 @@ use std::alloc::{AllocError, Global};
 /// How many words a call is drawn from.
 pub(crate) const WORDS: usize = 8;
 
-/// How many of the latest places of a kind are named.
+/// How many of the latest places of a kind are used.
 const LATEST: usize = 16;
 
 /// The values of the calls.
 const VALUES: [&str; 5] = ["", "a", "bc", "def", "three words here"];
 
-/// Draws a list of calls, each from eight words. Which calls it has depends on the words, and on
-/// the boxes of other stores that may be named.
+/// Draws a list of calls, each from eight words. The calls depend on the words, and on the boxes of other
+/// stores that may be used.
 ///
-/// Every kind of call can occur. Most places that are named gave a box, an owner or a guard, if
-/// memory doesn't refuse it: perhaps one that is stale, or spent, or a reader where a writer is
-/// asked for. Some were named by an earlier end or release, so most of them are stale or spent.
-/// Some may have given anything, and some lie past the end.
+/// Every kind of call can occur. Most places in calls hold a box, an owner or a guard, if no allocation
+/// failed: perhaps one that is stale, or consumed, or a reader instead of a writer. Some were in an
+/// earlier removal or release, so most of them are stale or consumed. Some may hold anything, and some
+/// are past the end.
 pub fn fuzz_calls(
     alloc: Global,
     words: &[u32],
@@ -40,11 +40,11 @@ struct Drawing<'a> {
     // the call that is being drawn, and its next word
     place: usize,
     next: usize,
-    // the calls so far that may have given a box, an owner and a guard
+    // the calls so far that may have returned a box, an owner and a guard
     boxes: Vec<usize>,
     owners: Vec<usize>,
     guards: Vec<usize>,
-    // the boxes that a call was to end, and the owners and guards that one was to spend
+    // the boxes that a call was to remove, and the owners and guards that one was to consume
     ended: Vec<usize>,
     spent_owners: Vec<usize>,
     spent_guards: Vec<usize>,
@@ -139,7 +139,7 @@ impl<'a> Drawing<'a> {
         })
     }
 
-    // A borrow, another value, or a borrow's end.
+    // A borrow, a `set` or a `replace`, or a borrow's end.
     fn borrow(&mut self, location: Location) -> Result<Call<String>, AllocError> {
         let kind = self.below(12);
         if kind < 6 {
@@ -163,7 +163,7 @@ impl<'a> Drawing<'a> {
         Ok(Call::Release(guard))
     }
 
-    // An end, or a turn that may end a value.
+    // A removal, or a `point_to`, which may drop a value.
     fn end(&mut self) -> Result<Call<String>, AllocError> {
         let kind = self.below(8);
         if kind < 2 {
@@ -203,7 +203,7 @@ impl<'a> Drawing<'a> {
         String::from_str(self.alloc, value.unwrap_or(""))
     }
 
-    // A box: seldom a foreign one, or that of any place, or one that a call was to end.
+    // A box: rarely a foreign one, or that of any place, or one that a call was to remove.
     fn box_at(&mut self) -> BoxAt<String> {
         let word = self.word();
         let rest = word / 16;
@@ -236,8 +236,8 @@ fn of<X: Copy>(items: &[X], word: u32) -> Option<X> {
     items.get(index).copied()
 }
 
-// One of the latest of these places that a word picks. Where there is none, any place: as often one
-// past the end as an earlier one.
+// One of the latest of these places, picked by a word. If there is none, any place: as often one past the
+// end as an earlier one.
 fn picked(places: &[usize], place: usize, word: u32) -> usize {
     let back = (word as usize).checked_rem(places.len().min(LATEST));
     if let Some(found) = places.iter().rev().nth(back.unwrap_or(0)) {
@@ -251,7 +251,7 @@ fn picked(places: &[usize], place: usize, word: u32) -> usize {
     }
 }
 
-// Which places a word means: seldom those that were spent, or none of its kind.
+// Which places a word means: rarely those that were consumed, or none of its kind.
 fn held<'a>(places: &'a [usize], spent: &'a [usize], word: u32) -> &'a [usize] {
     match word % 16 {
         0 => &[],

@@ -6,7 +6,7 @@ use thiserror::Error;
 /// Why a run ends before the end of its input. Its text is what standard error gets.
 #[derive(Clone, Copy, Debug, PartialEq, Eq, Error)]
 pub enum Fault {
-    /// There are arguments, and they are none that the program knows.
+    /// There are arguments, and the program doesn't know them.
     #[error("boxes: usage: boxes or boxes fuzz SEED COUNT")]
     Usage,
     /// A script has a line past the limit.
@@ -18,13 +18,13 @@ pub enum Fault {
     /// A write failed.
     #[error("boxes: output failed")]
     Output,
-    /// Memory was refused for a buffer, a line, its value or the table of lines.
+    /// A buffer, a line, its value or the table of lines couldn't be allocated.
     #[error("boxes: out of memory")]
     Memory,
 }
 
 impl Fault {
-    /// The exit status of a run that ends so.
+    /// The exit status of a run that ends with this fault.
     pub fn status(self) -> u8
         ensures { 0 < result }
     {

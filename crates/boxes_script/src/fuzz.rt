@@ -15,27 +15,27 @@ use std::alloc::{AllocError, Global};
 /// The number of both stores.
 const NUMBER: u64 = 1;
 
-/// Where the second store begins: a slot has two generations, and is never used again.
+/// Where the second store begins: a slot has two generations, and is never reused after these.
 const NEAR_THE_END: Numbers = Numbers {
     generation: u64::MAX - 1,
     ticket: 0,
 };
 
-/// How many boxes there are of each of the stores that stand beside.
+/// How many boxes there are of each of the other stores.
 const STRANGERS: u32 = 4;
 
-/// Two stores for one list of calls: one takes the slot that was freed last, the other the slot that
-/// has been free for the longest.
+/// Two stores for one list of calls: one reuses the slot that was freed last, the other the slot that has
+/// been free for the longest.
 #[derive(Drop)]
 pub struct Pair {
-    /// The store that answers first.
+    /// The store that runs first.
     pub one: Store<String, LastFirst>,
     /// The store whose replies are compared with those.
     pub other: Store<String, OldestFirst>,
 }
 
-/// The two stores over which the program runs its list. Both have the number 1; the one begins at
-/// the first generation, the other at the last but one. Takes no memory.
+/// The two stores over which the program runs its list. Both have the number 1; the first begins at the
+/// first generation, the second at the last but one. Doesn't allocate.
 pub fn fuzz_pair(alloc: Global) -> Pair
     ensures one { result.one.state ≡ fresh 1 1 0 }
     ensures other { result.other.state ≡ fresh 1 (2 ^ 64 - 2) 0 }
@@ -46,8 +46,8 @@ pub fn fuzz_pair(alloc: Global) -> Pair
     }
 }
 
-/// The list of this many calls that the program draws from a seed. It may name four boxes of a store
-/// of the number 2, and four of a store of the number 1, which is that of the pair.
+/// The list of this many calls that the program draws from a seed. It may use four boxes of a store with
+/// the number 2, and four of a store with the number 1, which is that of the pair.
 pub fn fuzz_list(alloc: Global, seed: u64, count: usize) -> Result<Vec<Call<String>>, AllocError> {
     let words = fuzz_words(alloc, seed, count.saturating_mul(WORDS)).map_err(|_| AllocError)?;
     let mut strangers = Vec::new(alloc);
@@ -66,7 +66,7 @@ fn add_strangers(
     add_boxes(alloc, store, boxes)
 }
 
-// Adds boxes of a store that goes.
+// Adds boxes of a store that is dropped.
 fn add_boxes<S: Storage<String> + Drop>(
     alloc: Global,
     mut store: S,
@@ -81,8 +81,8 @@ fn add_boxes<S: Storage<String> + Drop>(
     Ok(())
 }
 
-/// Compares how two stores in which nothing was made answer the list of this many calls that is drawn
-/// from a seed, as `compare_stores` does.
+/// Compares the replies of two fresh stores to the list of this many calls that is drawn from a seed,
+/// like `compare_stores`.
 pub(crate) fn compare_drawn<S: Storage<String> + Drop, R: Storage<String> + Drop>(
     alloc: Global,
     seed: u64,
@@ -98,9 +98,9 @@ pub(crate) fn compare_drawn<S: Storage<String> + Drop, R: Storage<String> + Drop
     compare_stores(alloc, (one, calls), (other, again))
 }
 
-/// Compares how two stores in which nothing was made answer their lists of calls. Where a store has
-/// more slots after a call than the most cells that were live at once and the retired slots, it
-/// differs from the other at the place of that call.
+/// Compares the replies of two fresh stores to their lists of calls. If a store has more slots after a
+/// call than the peak number of live cells plus the retired slots, it differs from the other at the place
+/// of that call.
 pub fn compare_stores<S: Storage<String> + Drop, R: Storage<String> + Drop>(
     alloc: Global,
     one: (S, Vec<Call<String>>),
@@ -115,7 +115,7 @@ pub fn compare_stores<S: Storage<String> + Drop, R: Storage<String> + Drop>(
     Ok(verdict.or_breach(ones.breach).or_breach(others.breach))
 }
 
-/// How a store answers a list of calls.
+/// The replies of a store to a list of calls.
 #[derive(Drop)]
 struct Answers {
     replies: Vec<Reply<String>>,
@@ -124,7 +124,7 @@ struct Answers {
 }
 
 impl Answers {
-    // How a store in which nothing was made answers the calls.
+    // The replies of a fresh store to the calls.
     fn of<S: Storage<String> + Drop>(
         alloc: Global,
         store: S,
@@ -143,7 +143,7 @@ impl Answers {
         Ok(answers)
     }
 
-    // Answers the calls in order. One whose place finds no memory is the last.
+    // Runs the calls in order. One whose place can't be allocated is the last.
     fn add<S: Storage<String>>(
         &mut self,
         session: &mut Session<String, S>,
@@ -157,7 +157,7 @@ impl Answers {
         Ok(())
     }
 
-    // Answers a call, and tells whether its place found memory.
+    // Runs a call, and returns whether its place was allocated.
     fn answer<S: Storage<String>>(
         &mut self,
         session: &mut Session<String, S>,

@@ -1,8 +1,8 @@
 //! Scripts of calls over boxes: their commands, their replies, and whole runs of them.
 //!
-//! The program `boxes` runs one script over its standard streams; its page says what the commands
-//! are. A [`Script`] answers a line at a time, over any store of texts. `boxes fuzz` draws a list of
-//! calls, [`fuzz_list`], and compares how two stores answer it, [`fuzz_pair`].
+//! The program `boxes` runs one script over its standard streams; its page says what the commands are. A
+//! [`Script`] runs a line at a time, over any store of texts. `boxes fuzz` draws a list of calls,
+//! [`fuzz_list`], and compares the replies of two stores, [`fuzz_pair`].
 #![tactic(auto)]
 
 mod drawing;

@@ -22,7 +22,7 @@ impl<R: Read + Drop> Lines<R> {
         })
     }
 
-    /// Whether a byte is left. Once the input has ended, it is not read again.
+    /// Whether there is another byte. Once the input has ended, it is not read again.
     pub fn has_more(&mut self) -> Result<bool, Fault> {
         if self.has_ended {
             return Ok(false);
@@ -40,7 +40,7 @@ impl<R: Read + Drop> Lines<R> {
         Err(Fault::Input)
     }
 
-    /// Whether nothing that was read is left, so that what is asked next reads on.
+    /// Whether everything that was read was returned, so that the next call reads again.
     pub fn is_drained(&self) -> bool {
         self.input.buffer().is_empty()
     }
@@ -60,7 +60,7 @@ impl<R: Read + Drop> Lines<R> {
         Err(Fault::Input)
     }
 
-    // What stands after the last line end.
+    // What follows the last line end.
     fn last_line(&self) -> Option<&[u8]> {
         if self.line.is_empty() {
             None

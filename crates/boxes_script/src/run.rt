@@ -15,20 +15,20 @@ use std::io::{BufWriter, Read, Write};
 /// The most calls of a drawn list.
 const MOST_CALLS: usize = 100_000;
 
-/// Runs the program: without words the script that `input` gives, with a reply a line on `output`;
-/// with the words `fuzz SEED COUNT` a list of COUNT calls that is drawn from SEED, over two stores,
-/// with one line on `output`: `same`, `differs at N` or `refused at N`. SEED is a decimal number of
-/// 64 bits and COUNT one up to 100000, both without sign or leading zeros.
+/// Runs the program: without words the script on `input`, with a reply a line on `output`; with the words
+/// `fuzz SEED COUNT` a list of COUNT calls that is drawn from SEED, over two stores, with one line on
+/// `output`: `same`, `differs at N` or `refused at N`. SEED is a decimal number of 64 bits and COUNT one
+/// up to 100000, both without sign or leading zeros.
 ///
-/// `words` are the words after the program's name. The answer is the exit status: 0 at the end of
-/// the input, and where the stores answered the same; 4 where they differed. Else a fault ended the
-/// run, and its text stands on `faults`; a write to `faults` that fails changes no status.
+/// `words` are the words after the program's name. Returns the exit status: 0 at the end of the input, or
+/// if the stores' replies are the same; 4 if they differ. Otherwise a fault ended the run, and its text
+/// is written to `faults`; a write to `faults` that fails changes no status.
 ///
-/// Faults of a script are found in this order: the words, the memory of the buffers, and then for
-/// each line the limit, at the line's first byte, what reading it meets, its memory, and the
-/// writing of its reply. The replies to all lines before a fault were written, unless writing is
-/// what failed. Those of a drawn list are found in this order: the words, the memory of its lists,
-/// the writing of its line, and then memory that a call was refused.
+/// Faults of a script are found in this order: the words, the memory of the buffers, and then for each
+/// line the limit, at the line's first byte, errors of reading it, its memory, and the writing of its
+/// reply. The replies to all lines before a fault were written, unless writing failed. Those of a drawn
+/// list are found in this order: the words, the memory of its lists, the writing of its line, and then a
+/// call that failed to allocate.
 pub fn boxes_run<R: Read, W: Write, E: Write>(
     alloc: Global,
     words: &[String],
@@ -43,7 +43,7 @@ pub fn boxes_run<R: Read, W: Write, E: Write>(
     fuzz_run(alloc, words, fuzz_pair(alloc), output, faults)
 }
 
-/// Runs the program over another pair of stores, where there are words: `boxes_run` takes those of
+/// Runs the program over another pair of stores, if there are words: `boxes_run` uses those of
 /// `fuzz_pair`.
 pub fn fuzz_run<W: Write, E: Write>(
     alloc: Global,
@@ -68,14 +68,14 @@ fn status_of<E: Write>(ended: Result<u8, Fault>, faults: &mut E) -> u8 {
     }
 }
 
-/// Writes a fault's text. The answer is the exit status.
+/// Writes a fault's text. Returns the exit status.
 pub fn report<E: Write>(fault: Fault, faults: &mut E) -> u8 {
     let _ = writeln!(faults, "{fault}");
     let _ = faults.flush();
     fault.status()
 }
 
-// Runs the script over a store in which nothing was made.
+// Runs the script over a fresh store.
 fn run<S: Storage<String> + Drop, R: Read, W: Write>(
     alloc: Global,
     store: S,
@@ -139,7 +139,7 @@ fn decimal(word: &str) -> Option<u64> {
     word.parse::<u64>().ok()
 }
 
-// Answers the lines up to the input's end or the first fault.
+// Runs the lines up to the input's end or the first fault.
 fn answer_lines<S: Storage<String>, R: Read + Drop, W: Write>(
     script: &mut Script<S>,
     lines: &mut Lines<R>,
@@ -150,7 +150,7 @@ fn answer_lines<S: Storage<String>, R: Read + Drop, W: Write>(
             return Ok(());
         };
         script.answer(number, line, replies)?;
-        // Whoever gives a line at a time is answered before the next is read.
+        // A caller that writes a line at a time gets its reply before the next line is read.
         if lines.is_drained() {
             replies.flush().map_err(|_| Fault::Output)?;
         }

@@ -11,7 +11,7 @@ use std::io;
 use std::io::Write;
 use store_room::reserve_more;
 
-/// What a command asks of the session. Its lines have become places.
+/// What a command does in the session. Its lines have become places.
 #[derive(Drop)]
 enum Request {
     Call(Call<String>),
@@ -79,7 +79,7 @@ impl Places {
         }
     }
 
-    // What a line asks of the session, if it has the form of a command.
+    // What a line does in the session, if it has the form of a command.
     fn request(&self, line: &[u8], location: Location) -> Result<Option<Request>, AllocError> {
         let Ok(text) = str::from_utf8(line) else {
             return Ok(None);
@@ -90,7 +90,7 @@ impl Places {
         }
     }
 
-    // What a line of several words asks.
+    // What a line of several words does.
     fn of_words(
         &self,
         word: &str,
@@ -107,7 +107,7 @@ impl Places {
         }
     }
 
-    // What `leak` and `leak_rc` ask, with a value.
+    // What `leak` and `leak_rc` do, with a value.
     fn of_value(
         &self,
         word: &str,
@@ -121,7 +121,7 @@ impl Places {
         })))
     }
 
-    // What `insert`, `insert_rc`, `replace` and `set` ask, with the number of a line and a value.
+    // What `insert`, `insert_rc`, `replace` and `set` do, with the number of a line and a value.
     fn of_line_and_value(
         &self,
         word: &str,
@@ -141,7 +141,7 @@ impl Places {
         })))
     }
 
-    // What `insert_reference`, `point_to` and `ptr_eq` ask, with the numbers of two lines.
+    // What `insert_reference`, `point_to` and `ptr_eq` do, with the numbers of two lines.
     fn of_lines(&self, word: &str, rest: &str) -> Option<Request> {
         let (one, other) = two_lines(rest)?;
         let (one, other) = (self.at(one).place, BoxAt::Place(self.at(other).place));
@@ -152,7 +152,7 @@ impl Places {
         }))
     }
 
-    // What any other word asks, with the number of a line.
+    // What any other word does, with the number of a line.
     fn of_line(&self, word: &str, rest: &str, location: Location) -> Option<Request> {
         let Given { place, is_owner } = self.at(line_number(rest)?);
         Some(Request::Call(match word {
@@ -174,7 +174,7 @@ impl Places {
     }
 }
 
-// What a line of one word asks.
+// What a line of one word does.
 fn of_word(word: &str) -> Option<Request> {
     match word {
         "owner" => Some(Request::Call(Call::Owner)),
@@ -183,17 +183,16 @@ fn of_word(word: &str) -> Option<Request> {
     }
 }
 
-/// A script that is being answered, over a store of texts.
+/// A script that is running, over a store of texts.
 ///
-/// It must be spent by `finish`.
+/// It must be consumed by `finish`.
 pub struct Script<S: Storage<String>> {
     session: Session<String, S>,
     places: Places,
 }
 
 impl<S: Storage<String>> Script<S> {
-    /// A script of which no line is answered yet, over a store in which nothing stands (`is_fresh`
-    /// is the test). Takes no memory.
+    /// A script without lines yet, over a fresh store (see `is_fresh`). Doesn't allocate.
     pub fn new(alloc: Global, store: S) -> Script<S>
         requires { IsFresh (S.state store) }
     {
@@ -203,9 +202,9 @@ impl<S: Storage<String>> Script<S> {
         }
     }
 
-    /// Answers the next line, whose number is `number`. Lines count from 1 on.
+    /// Runs the next line, whose number is `number`. Lines count from 1 on.
     ///
-    /// Memory for the line is found before its call is made.
+    /// Memory for the line is allocated before its call is made.
     pub fn answer<W: Write>(
         &mut self,
         number: u32,
@@ -219,7 +218,7 @@ impl<S: Storage<String>> Script<S> {
         self.carry_out(asked, output).map_err(|_| Fault::Output)
     }
 
-    // Carries out what a line asks, and writes the reply.
+    // Runs a line's request, and writes the reply.
     fn carry_out<W: Write>(&mut self, asked: Option<Request>, output: &mut W) -> io::Result<()>
         requires { self.old.places.given < vec_len self.old.places.by_line }
     {
@@ -234,8 +233,8 @@ impl<S: Storage<String>> Script<S> {
         }
     }
 
-    /// Makes a call on the next line, which may be one that no command says, and answers its
-    /// reply. The only fault is `Memory`: then no call was made.
+    /// Makes a call on the next line, which may be one that no command has, and returns its reply. The
+    /// only fault is `Memory`: then no call was made.
     pub fn call_next(&mut self, call: Call<String>) -> Result<Reply<String>, Fault> {
         self.places.add_line().map_err(|_| Fault::Memory)?;
         self.call(call).ok_or(Fault::Memory)
@@ -251,7 +250,7 @@ impl<S: Storage<String>> Script<S> {
         &self.session
     }
 
-    // Makes a call. One that finds no memory gives the line no place.
+    // Makes a call. If its place can't be allocated, the line gets none.
     fn call(&mut self, call: Call<String>) -> Option<Reply<String>>
         requires { self.old.places.given < vec_len self.old.places.by_line }
     {
@@ -260,7 +259,7 @@ impl<S: Storage<String>> Script<S> {
         Some(reply)
     }
 
-    // Writes the value that the guard at a place lends.
+    // Writes the value of the guard at a place.
     fn view<W: Write>(&self, place: usize, output: &mut W) -> io::Result<()> {
         match self.session.view(place) {
             Some(value) => write_shown(output, "value ", value),
@@ -268,7 +267,7 @@ impl<S: Storage<String>> Script<S> {
         }
     }
 
-    // Writes how many slots there are, and how they stand.
+    // Writes how many slots there are, and of which kinds.
     fn stats<W: Write>(&self, output: &mut W) -> io::Result<()> {
         let store = self.session.store();
         writeln!(
@@ -281,7 +280,7 @@ impl<S: Storage<String>> Script<S> {
         )
     }
 
-    /// The store, after the session has ended: its guards are released and its owners leaked.
+    /// Ends the session, which releases its guards and leaks its owners, and returns the store.
     pub fn finish(self) -> S {
         let Script { session, places: _ } = self;
         session.finish()
@@ -300,7 +299,7 @@ fn two_lines(rest: &str) -> Option<(u32, u32)> {
     Some((line_number(one)?, line_number(other)?))
 }
 
-/// Writes the reply to a call, as a script does.
+/// Writes the reply to a call, like a script.
 pub fn write_reply<W: Write>(output: &mut W, reply: Reply<String>) -> io::Result<()> {
     match reply {
         Reply::Box(made) => writeln!(output, "box {made:?}"),
@@ -320,7 +319,7 @@ pub fn write_reply<W: Write>(output: &mut W, reply: Reply<String>) -> io::Result
     }
 }
 
-// Writes a word and what is shown as one line.
+// Writes a word and a printed value as one line.
 fn write_shown<W: Write>(output: &mut W, word: &str, shown: &impl Display) -> io::Result<()> {
     writeln!(output, "{word}{shown}")
 }

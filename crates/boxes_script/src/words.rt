@@ -11,8 +11,8 @@ use rand_core::utils::NextWord;
 use rand_pcg::Pcg32;
 use std::alloc::Global;
 
-/// The first `n` words that the generator `Pcg32::new(seed, 54)` gives by `next_word`. The only
-/// refusal is `OutOfMemory`.
+/// The first `n` words that `next_word` of the generator `Pcg32::new(seed, 54)` returns. The only error
+/// is `OutOfMemory`.
 pub fn fuzz_words(alloc: Global, seed: u64, n: usize) -> Result<Vec<u32>, StoreError>
     ensures words { IfOk result (λ words. words.items
         ≡ first_words pcg32 n (started 64 multiplier_64 seed (increment_of 64 54))) }

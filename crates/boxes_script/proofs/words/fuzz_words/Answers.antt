@@ -5,7 +5,7 @@ use Rattle.rand_pcg.specs.Lcg.{Lcg}
 use Rattle.rand_pcg.specs.Pcg.{pcg32}
 use Rattle.boxes_script.proofs.words.fuzz_words.Goals as goal
 
--- the next word is the first of those that are left
+-- the next word is the first of the rest
 word_taken : (n k x : ℕ) (s t : Lcg) (xs ws : List ℕ) → k < n → (x, t) ≡ pcg32 s
     → xs ++ first_words pcg32 (n - k) s ≡ ws
     → (xs ++ x ∷ []) ++ first_words pcg32 (n - (k + 1)) t ≡ ws
