@@ -1,4 +1,4 @@
--- Places, and sessions that answer alike.
+-- Places, and sessions with the same replies.
 use Rattle.boxes_parts.specs.Told.{AreSameAt, AreSameBelow, LacksAt, plain, told}
 use Rattle.generational_errors.specs.Texts.{same_location, same_locations}
 use Rattle.generational_errors.specs.declared.error.Location.{Location}
@@ -52,7 +52,7 @@ turned_none : {A B : Type 0} (f : A → B) (xs : List A) (i : ℕ)
 turned_none f xs i none = grind (arith, slice_get-map f xs i, slice_get_cases xs i)
 
 module _ {Z : Type 0} where
-  -- memory refused the call at a place exactly where its reply tells so, and never past the end
+  -- the call at a place failed to allocate exactly if its reply says so, and never past the end
   pub lacks_at : (zs : List (Reply (String Z))) (i : ℕ) (z : Reply (String Z))
       → slice_get zs i ≡ Some z → LacksAt zs i → refusal_in (as_reply z) ≡ Some OutOfMemory
   lacks_at zs i z there lacks =
@@ -87,7 +87,7 @@ module _ {Z : Type 0} (xs ys : List (Reply (String Z))) where
   all_same n below xs_end ys_end i =
       ⊎_elim (below i) (λ past. same_past i (omega arith) (omega arith)) (cases_lt i n)
 
-  -- where the lists have different lengths, the shorter one ends at a place that the longer one has
+  -- if the lists have different lengths, the shorter one ends at a place that the longer one has
   pub ends_differ : (n : ℕ) → n ≡ min (length xs) (length ys) → length xs ≢ length ys
       → slice_get (list_map told xs) n ≢ slice_get (list_map told ys) n
   ends_differ n shorter lengths same = grind (
@@ -98,7 +98,7 @@ module _ {Z : Type 0} (xs ys : List (Reply (String Z))) where
     turned_past told ys n,
   )
 
-  -- and where memory refused a call there, the other list has ended
+  -- and if a call there failed to allocate, the other list has ended
   pub other_ends : (n : ℕ) → n ≡ min (length xs) (length ys) → length xs ≢ length ys
       → LacksAt xs n → slice_get ys n ≡ None
   other_ends n shorter lengths lacks = grind (arith, slice_get_past ys n, lacks_within xs n)

@@ -1,4 +1,4 @@
--- What replies tell, ids and numbers of slots aside, and how two lists of them compare.
+-- What replies say, ids and numbers of slots aside, and how two lists of them compare.
 use Rattle.std.specs.Prelude.{◌≡◌, ◌≢◌, ◌⊎◌, ◌<◌, ℕ, List, Option, None, Some, min, option_map}
 use Rattle.std.specs.Prelude.{String, string_bytes, nat_lt, if◌then◌else◌, map as list_map}
 use Rattle.std.specs.Prelude.{slice_get}
@@ -17,7 +17,7 @@ use Rattle.generational_sessions.specs.Session.SessionReply.{Unready, NoSuch}
 use Rattle.boxes_parts.specs.declared.verdict.Verdict.{Verdict}
 use Rattle.boxes_parts.specs.declared.verdict.Verdict.TheVariants as verdict
 
--- a location with its file's name as a text alone, wherever the text stands in memory
+-- a location with its file's name as plain text
 abbrev pub plain : Location → Location
 plain l = record l { file = record l.file { ref_ptr = (0, 0) } }
 
@@ -46,15 +46,15 @@ module _ {T U : Type 0} (f : T → U) where
   plain_reply (NoSuch back) = NoSuch (option_map f back)
 
 module _ {Z : Type 0} where
-  -- what a reply tells: ids and numbers of slots are set aside, and texts are their bytes
+  -- what a reply says: ids and numbers of slots are ignored, and texts are their bytes
   abbrev pub told : Reply (String Z) → SessionReply (List ℕ)
   told x = plain_reply string_bytes (erase (as_reply x))
 
-  -- memory refused the call at a place
+  -- the call at a place failed to allocate
   abbrev pub LacksAt : List (Reply (String Z)) → ℕ → Type 0
   LacksAt xs i = slice_get (list_map (λ x. refusal_in (as_reply x)) xs) i ≡ Some (Some OutOfMemory)
 
-  -- at a place both lists tell the same, and memory refused neither call
+  -- at a place both lists say the same, and neither call failed to allocate
   pub record AreSameAt (xs ys : List (Reply (String Z))) (i : ℕ) : Type 0 where
     pub same : slice_get (list_map told xs) i ≡ slice_get (list_map told ys) i
     pub one : LacksAt xs i → ⊥
@@ -71,7 +71,7 @@ module _ {Z : Type 0} where
       × (LacksAt xs n → slice_get ys n ≡ None) × (LacksAt ys n → slice_get xs n ≡ None)
   Compares xs ys (verdict.Refused n) = AreSameBelow xs ys n × (LacksAt xs n ⊎ LacksAt ys n)
 
--- the verdict where a store breaks the bound on slots, first at a place
+-- the verdict if a store breaks the bound on slots, first at a place
 abbrev pub with_breach : Verdict → Option ℕ → Verdict
 with_breach v None = v
 with_breach verdict.Same (Some n) = verdict.Differs n

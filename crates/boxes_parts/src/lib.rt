@@ -1,6 +1,6 @@
-//! What the program needs beside sessions: the numbers by which lines of a script name earlier
-//! ones; and whether two stores agree: how two lists of replies to the same calls compare, ids and numbers of
-//! slots aside, and whether a store keeps the bound on its slots.
+//! What the program needs in addition to sessions: the numbers by which lines of a script refer to
+//! earlier ones; and whether two stores agree: how two lists of replies to the same calls compare, ids
+//! and numbers of slots aside, and whether a store keeps the bound on its slots.
 #![tactic(auto)]
 
 mod bound;

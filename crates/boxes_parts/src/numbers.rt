@@ -1,4 +1,4 @@
-//! The numbers by which the lines of a script name earlier ones.
+//! The numbers by which the lines of a script refer to earlier ones.
 #![tactic(auto)]
 
 ghost use Rattle.std.specs.Prelude.{◌≡◌, ◌↔◌, ℕ, ◌<◌, ◌≤◌, Some, IsTrue, slice_index};
@@ -7,8 +7,8 @@ ghost use Rattle.std.specs.Fmt.{decimal};
 /// The most lines of a script.
 pub const MOST_LINES: u32 = 1_000_000;
 
-/// The number of a line: decimal, from 1 to the limit, without sign or leading zeros. None for any
-/// other word. Takes no memory.
+/// The number of a line: decimal, from 1 to the limit, without sign or leading zeros. None for any other
+/// word. Doesn't allocate.
 pub fn line_number(word: &str) -> Option<u32>
     ensures { (number : ℕ) → (result ≡ Some number) ↔
         ((0 < number) × (number ≤ MOST_LINES) × (word.now ≡ decimal number)) }
@@ -28,7 +28,7 @@ pub fn line_number(word: &str) -> Option<u32>
     }
 }
 
-// Whether the first byte is above that of '0', as no sign is.
+// Whether the first byte is greater than that of '0', which no sign is.
 fn begins_above_zero(word: &str) -> bool
     ensures { IsTrue result ↔ (48 < slice_index word.now 0) }
 {

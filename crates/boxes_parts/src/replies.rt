@@ -10,7 +10,7 @@ ghost use Rattle.boxes_parts.specs.Told.{told, plain, plain_refusal};
 use generational_core::{BorrowMutError, Location, StoreError};
 use generational_sessions::Reply;
 
-/// Whether memory refused a call. Takes no memory.
+/// Whether a call failed to allocate. Doesn't allocate.
 pub fn is_lacking(reply: &Reply<String>) -> bool
     ensures { IsTrue result ↔ (refusal_in (as_reply reply.now) ≡ Some OutOfMemory) }
 {
@@ -20,8 +20,8 @@ pub fn is_lacking(reply: &Reply<String>) -> bool
     )
 }
 
-/// Whether two replies tell the same, ids and numbers of slots aside: both are of one kind, with
-/// the same locations, flags, texts and errors. Takes no memory.
+/// Whether two replies say the same, ids and numbers of slots aside: both are of one kind, with the same
+/// locations, flags, texts and errors. Doesn't allocate.
 pub fn is_same(one: &Reply<String>, other: &Reply<String>) -> bool
     ensures { IsTrue result ↔ (told one.now ≡ told other.now) }
 {

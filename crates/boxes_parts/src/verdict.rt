@@ -15,7 +15,7 @@ pub enum Verdict {
     Same,
     /// The replies differ at this place, and at none before it.
     Differs(usize),
-    /// Memory refused a call at this place. The replies before it are the same.
+    /// A call at this place failed to allocate. The replies before it are the same.
     Refused(usize),
 }
 
@@ -30,9 +30,8 @@ impl Display for Verdict {
 }
 
 impl Verdict {
-    /// The verdict where a store also breaks the bound on slots, first at this place. It is that
-    /// the stores differ there, unless it is told of an earlier place, or that memory refused a
-    /// call at the same one.
+    /// The verdict if a store also breaks the bound on slots, first at this place: the stores differ
+    /// there, unless the verdict is about an earlier place, or a call failed to allocate at the same one.
     pub fn or_breach(self, breach: Option<usize>) -> Verdict
         ensures { result ≡ with_breach self breach }
     {
@@ -47,9 +46,9 @@ impl Verdict {
     }
 }
 
-/// Compares two lists of replies, from the first place on. Takes no memory.
+/// Compares two lists of replies, from the first place on. Doesn't allocate.
 ///
-/// At a place where memory refused a call of either list the verdict is `Refused`, also where the
+/// At a place where a call of either list failed to allocate, the verdict is `Refused`, even if the
 /// replies differ. A list that ends before the other differs from it at its end.
 pub fn compare(ones: &[Reply<String>], others: &[Reply<String>]) -> Verdict
     ensures { Compares ones.now others.now result }

@@ -1,6 +1,6 @@
 use Rattle.boxes_parts.specs.Told.{AreSameBelow}
 use Rattle.boxes_parts.proofs.verdict.compare.Given as goal
 
--- the replies so far are the same, and memory refused none of the calls
+-- the replies so far are the same, and none of the calls failed to allocate
 abbrev pub invariant-loop-place : goal.invariant-loop-place
 invariant-loop-place l = AreSameBelow l.ones l.others l.place
