@@ -4,7 +4,7 @@ use Rattle.reactive.specs.Plans.{Plan, Give, Stop, Ask}
 use Rattle.sheet.specs.declared.formula.Formula.{Formula}
 use Rattle.sheet.specs.declared.formula.Formula.TheVariants as formula
 
--- a number, where it isn't too large
+-- a number, if it isn't too large
 abbrev pub give_small : ℕ → Plan ℕ
 give_small n = if nat_lt n (2 ^ 64) then Give n else Stop
 

@@ -4,7 +4,7 @@ ghost use Rattle.sheet.specs.Formulas.{plan_of};
 
 use reactive::{Key, Reads, Rule};
 
-/// What a node computes: nothing where a sum or a product is too large.
+/// What a node computes: nothing if a sum or a product is too large.
 #[derive(Clone, Copy)]
 pub enum Formula {
     Blank,

@@ -1,5 +1,5 @@
 //! A spreadsheet read from standard input: `A1 = 3`, `B1 = A1 + A2 * 2`, `C1 = sum A1 A9`, `show B1`,
-//! `watch B1`, `clear A1`. After each line it tells which watched cells show something else.
+//! `watch B1`, `clear A1`. After each line it prints which watched cells have changed.
 #![tactic(auto)]
 
 mod formula;

@@ -39,7 +39,7 @@ impl<S: Storage<Node<u64, Formula>>> Sheet<Reactive<u64, Formula, S>> {
         }
     }
 
-    /// Carries out a line, and tells of each watched cell that shows something else.
+    /// Runs a line, and prints each watched cell that has changed.
     pub fn carry_out(&mut self, rt: &impl Print, line: &str) -> Result<()> {
         match (line.split_once('='), line.split_once(' ')) {
             (Some((name, formula)), _) => self.put(name.trim(), Some(formula.trim()))?,
@@ -63,7 +63,7 @@ impl<S: Storage<Node<u64, Formula>>> Sheet<Reactive<u64, Formula, S>> {
         Ok(())
     }
 
-    // Tells what a cell shows, or why it shows nothing.
+    // Prints a cell's value, or why it has none.
     fn tell(&self, rt: &impl Print, verb: &str, told: &Told<u64>) -> io::Result<()> {
         let name = self.name_of(told.key);
         let (at, why) = match told.answer {
@@ -97,7 +97,7 @@ impl<S: Storage<Node<u64, Formula>>> Sheet<Reactive<u64, Formula, S>> {
         Ok(key)
     }
 
-    // Gives a cell a formula, or none: then it is blank.
+    // Sets a cell's formula, or none: then it is blank.
     fn put(&mut self, name: &str, formula: Option<&str>) -> Result<()> {
         let key = self.cell(name)?;
         let rule = self.rule(formula);
@@ -105,7 +105,7 @@ impl<S: Storage<Node<u64, Formula>>> Sheet<Reactive<u64, Formula, S>> {
             self.graph.set_rule(key, *rule)?;
             mem::swap(&mut cell.parts, &mut self.parts);
         }
-        // the parts of the old formula, or of one that was refused
+        // the parts of the old formula, or of one that failed
         self.graph.end_all(&self.parts)?;
         self.parts.clear();
         rule.map(|_| ())
@@ -141,7 +141,7 @@ impl<S: Storage<Node<u64, Formula>>> Sheet<Reactive<u64, Formula, S>> {
         Ok(sum)
     }
 
-    // A number is a source, and any other word names a cell.
+    // A number is a source, and any other word is a cell's name.
     fn operand(&mut self, word: &str) -> Result<Key> {
         let Ok(number) = word.parse() else {
             return self.cell(word);
@@ -152,7 +152,7 @@ impl<S: Storage<Node<u64, Formula>>> Sheet<Reactive<u64, Formula, S>> {
         Ok(key)
     }
 
-    // The node of a part: that which it shows, or a memo of its own.
+    // The node of a part: the one that it refers to, or a new memo.
     fn node(&mut self, part: Formula) -> Result<Key> {
         if let Formula::Same(key) = part {
             return Ok(key);
@@ -164,7 +164,7 @@ impl<S: Storage<Node<u64, Formula>>> Sheet<Reactive<u64, Formula, S>> {
     }
 }
 
-// The sum of a column's cells from one to another, as of `A1 A9`.
+// The sum of a column's cells from one to another, for example `A1 A9`.
 fn range_of(alloc: Global, words: &str) -> Result<String> {
     let (first, last) = words.split_once(' ').unwrap_or(("", ""));
     let ((column, from), (other, to)) = (row_of(first)?, row_of(last)?);
@@ -176,7 +176,7 @@ fn range_of(alloc: Global, words: &str) -> Result<String> {
     Ok(sum)
 }
 
-// The column and the row of a cell's name, as of A12.
+// The column and the row of a cell's name, for example A12.
 fn row_of(name: &str) -> Result<(char, u16)> {
     let mut letters = name.chars();
     match (letters.next(), letters.as_str().parse()) {
