@@ -5,14 +5,14 @@ unfoldable pub use Common.*
 
 -- ==== a shared value with two references, and what more callers share
 
--- what follows where there is a value, and where there is none
+-- what follows if there is a value, and if there is none
 pub either : {A N Q : Type 0} {P : A → Type 0} (r : Option A) → IfSome r P → IfNone r N
     → ((a : A) → P a → Q) → (N → Q) → Q
 either None some none given missing = missing none
 either (Some a) some none given missing = given a some
 
 module _ {T : Type 0} where
-  -- a writer's guard is given back in its own store
+  -- a writer's guard is released to its own store
   pub release_lost : {S R Q : State T} (b : GenerationalPointer) (l : Location) (w now : WriteGuard T)
       (v back : T) → Meets S (Write b l) (Writes w.guard w.value) R
       → Meets R (ReleaseWriter now.guard now.value) (Back back) Q → now ≡ record w { value = v } → ⊥
@@ -52,7 +52,7 @@ module _ {T : Type 0} where
         next = referred_next _ _ made ∙ (shares v l _ step).next;
       }
 
--- ==== what a caller sees of a table, part by part
+-- ==== what a caller knows of a table, part by part
 
 pub same_table : {T : Type 0} {rows shown : List (Option T)} (next next' : ℕ) → rows ≡ shown
     → next ≡ next' → ◌≡◌ {A = TableState T} (record { rows = rows; looks = last_ticket - next })

@@ -1,4 +1,4 @@
-//! What can be asked of a store before a call, and what its references name.
+//! What can be checked before a call, and what references refer to.
 
 ghost use Rattle.std.specs.Prelude.{◌≡◌, ◌+◌, IfErr, IfOk, IfSome, OnErr, OnOk, Some, true, ◌||◌};
 ghost use Rattle.generational_core.specs.Answers.{pointer_of};
@@ -19,8 +19,8 @@ use generational_box::{
 };
 use std::alloc::Global;
 
-/// Releases an owner value, if no borrow stands in the way. Where one does, or where the store
-/// doesn't know the owner, the owner comes back and nothing changes.
+/// Releases an owner value, if no borrow is in the way. If one is, or if the store doesn't know the
+/// owner, the owner comes back and nothing changes.
 pub fn release_if_free<S: Storage<u64>>(store: &mut S, owner: Owner) -> Result<(), Owner>
     ensures back { IfErr result (λ o. o ≡ owner) }
     ensures left { OnErr result (S.state store.new ≡ S.state store.old) }
@@ -44,7 +44,7 @@ pub fn is_release_ready<S: Storage<u64>>(store: &S, owner: &Owner) -> bool
     store.ready(&StepCall::ReleaseOwner(owner.id()))
 }
 
-/// Whether two boxes are references that name one shared value.
+/// Whether two boxes are references to one shared value.
 pub fn are_aliases<S: Storage<u64>>(
     store: &S,
     one: GenerationalBox<u64>,
@@ -60,7 +60,7 @@ pub fn are_aliases<S: Storage<u64>>(
         && store.target(one.pointer()) == store.target(other.pointer())
 }
 
-/// The value of a box of which only the id was kept: what the box itself shows, if it is shown.
+/// The value of a box of which only the id was stored: what `peek` of the box itself returns.
 pub fn look_by_id<S: Storage<u64>>(store: &S, id: GenerationalBoxId) -> Option<u64>
     ensures { IfSome result (λ value. (kept : GenerationalPointer) → kept.id ≡ id
         → value_in (S.state store.now) kept ≡ Some value) }
@@ -87,7 +87,7 @@ pub fn slots_without_cells<S: Storage<u64>>(store: &S) -> usize
     store.slots() - store.len()
 }
 
-/// A new store with the memory for so many values. None of them is there yet.
+/// Creates a store with capacity for this many values, without values.
 pub fn store_for(
     alloc: Global,
     number: u64,

@@ -4,7 +4,7 @@ ghost use Rattle.std.specs.Prelude.{◌≡◌};
 
 use generational_box::GenerationalBox;
 
-/// The clone of a box, which is never refused: it is the same box.
+/// The clone of a box, which never fails: it is the same box.
 pub fn clone_of<T>(given: &GenerationalBox<T>) -> GenerationalBox<T>
     ensures { result ≡ given.now }
 {

@@ -1,4 +1,4 @@
-//! Values that are set, read and written where nothing is in the way.
+//! Values that are set, read and written if nothing is in the way.
 
 ghost use Rattle.std.specs.Prelude.{◌≡◌, ◌≢◌, ◌+◌, ◌<◌, ◌^◌, IfNone, IfSome, OnSome, IfOk, IfErr};
 ghost use Rattle.std.specs.Prelude.{IsTrue, IsFalse, is_some, Some, None, if◌then◌else◌};
@@ -16,11 +16,11 @@ ghost use Rattle.generational_sessions.specs.PlainStores.{IsPlain};
 
 use generational_box::{GenerationalBox, Location, Storage, StoreError};
 
-/// Sets a value that nobody borrows. Whether it was set: it isn't where the value has ended or is
-/// borrowed, and then nothing changes. Never refused otherwise.
+/// Sets a value, and returns whether it was set: it isn't if the value was dropped or is borrowed, and
+/// then nothing changes. Never fails otherwise.
 pub fn set_value<S: Storage<u64>>(store: &mut S, target: GenerationalBox<u64>, value: u64) -> bool
     ensures free { result ≡ can_write (S.state store.old) (pointer_of target) }
-    // Each box that reaches the same sees the value, and the others are left as they were.
+    // Each box of the same cell sees the value, and the others are unchanged.
     ensures set { IsTrue result → (b : GenerationalPointer) →
         reach (S.state store.old) b ≡ reach (S.state store.old) (pointer_of target) →
         value_in (S.state store.new) b ≡ Some value }
@@ -36,14 +36,14 @@ pub fn set_value<S: Storage<u64>>(store: &mut S, target: GenerationalBox<u64>, v
     true
 }
 
-/// Counts a value up in its place, where nobody borrows it, and answers the count before. None where
-/// the value has ended or is borrowed, and then nothing changes. Never refused otherwise.
+/// Counts a value up in place, if it isn't borrowed, and returns the count before. None if the value was
+/// dropped or is borrowed, and then nothing changes. Never fails otherwise.
 pub fn count_up<S: Storage<u64>>(store: &mut S, counter: GenerationalBox<u64>) -> Option<u64>
     requires { IfSome (value_in (S.state store.old) (pointer_of counter)) (λ n. n + 1 < 2 ^ 64) }
     ensures free { is_some result ≡ can_write (S.state store.old) (pointer_of counter) }
     ensures before { IfSome result (λ n.
         value_in (S.state store.old) (pointer_of counter) ≡ Some n) }
-    // Each box that reaches the same sees the new count, and the others are left as they were.
+    // Each box of the same cell sees the new count, and the others are unchanged.
     ensures counted { IfSome result (λ n. (b : GenerationalPointer) →
         reach (S.state store.old) b ≡ reach (S.state store.old) (pointer_of counter) →
         value_in (S.state store.new) b ≡ Some (n + 1)) }
@@ -59,8 +59,7 @@ pub fn count_up<S: Storage<u64>>(store: &mut S, counter: GenerationalBox<u64>) -
     })
 }
 
-/// Sets the value of a box of a store without references, where each box of another name keeps its
-/// value.
+/// Sets the value of a box of a store without references. Each box of another name keeps its value.
 pub fn set_plain<S: Storage<u64>>(store: &mut S, given: GenerationalBox<u64>, value: u64) -> bool
     requires { IsPlain (S.state store.old) }
     ensures plain { IsPlain (S.state store.new) }
@@ -74,8 +73,8 @@ pub fn set_plain<S: Storage<u64>>(store: &mut S, given: GenerationalBox<u64>, va
     false
 }
 
-/// The value that a box sees, read where no writer has it. None where one has it, and where the
-/// value has ended. Every box is left as it was, whatever the answer.
+/// Reads the value that a box sees, if no writer has it. None if one has it, or if the value was dropped.
+/// Every box is unchanged in each case.
 pub fn read_free<S: Storage<u64>>(
     store: &mut S,
     target: GenerationalBox<u64>,
@@ -83,7 +82,7 @@ pub fn read_free<S: Storage<u64>>(
 ) -> Result<Option<u64>, StoreError>
     ensures seen { IfOk result (λ seen. seen ≡ value_in (S.state store.old) (pointer_of target)) }
     ensures left { (b : GenerationalPointer) → IsUnchanged (S.state store.old) b (S.state store.new) }
-    // It is refused as the read is: for lack of a ticket, or of memory.
+    // It fails like the read: for lack of a ticket, or of memory.
     ensures refused { IfErr result (λ cause. Meets (S.state store.old)
         (Read (pointer_of target) here) (Refused cause) (S.state store.new)) }
 {
@@ -96,8 +95,8 @@ pub fn read_free<S: Storage<u64>>(
     Ok(seen)
 }
 
-/// Sets a value and reads it back: it is the same value. None where it wasn't set. A refusal is that
-/// of the read; boxes that reach something else are left, whatever the answer.
+/// Sets a value and reads it back: it is the same value. None if it wasn't set. An error is that of the
+/// read. Boxes of other cells are unchanged in each case.
 pub fn set_and_read<S: Storage<u64>>(
     store: &mut S,
     target: GenerationalBox<u64>,
@@ -116,8 +115,8 @@ pub fn set_and_read<S: Storage<u64>>(
     read_free(store, target, here)
 }
 
-/// Writes a value that nobody borrows, and answers the old one, which the box saw. None where the
-/// value has ended or is borrowed, and then nothing changes.
+/// Writes a value that isn't borrowed, and returns the old one, which the box saw. None if the value was
+/// dropped or is borrowed, and then nothing changes.
 pub fn exchange<S: Storage<u64>>(
     store: &mut S,
     target: GenerationalBox<u64>,
@@ -130,7 +129,7 @@ pub fn exchange<S: Storage<u64>>(
     ensures set { IfOk result (λ old. OnSome old
         (IsSet (S.state store.old) (pointer_of target) value (S.state store.new))) }
     ensures unchanged { IfOk result (λ old. IfNone old (S.state store.new ≡ S.state store.old)) }
-    // It is refused only where all tickets were given, and the state is as it was then.
+    // It fails only if all tickets were issued, and the state is unchanged then.
     ensures refused { IfErr result (λ cause. (cause ≡ NumbersExhausted)
         × ((S.state store.old).next ≡ last_ticket) × (S.state store.new ≡ S.state store.old)) }
 {

@@ -11,8 +11,8 @@ use generational_box::{
 };
 use std::alloc::Global;
 
-/// Saves a store and loads it again: the same state. If it can't be saved, it is returned as it is;
-/// if memory runs out in the load, its image is, which can be loaded later.
+/// Saves a store and loads it again: the same state. If it can't be saved, it is returned unchanged; if
+/// an allocation fails in the load, its image is returned, which can be loaded later.
 pub fn load_again<T: Drop, P: SlotPool>(
     alloc: Global,
     store: Store<T, P>,
@@ -31,7 +31,7 @@ pub fn load_again<T: Drop, P: SlotPool>(
     }
 }
 
-/// A store beside another one, with the same state: each value is its clone, and that is equal.
+/// A copy of a store, with the same state: each value is a clone, which is equal.
 pub fn copy_of<P: SlotPool>(alloc: Global, store: &Store<u64, P>) -> Option<Store<u64, P>>
     ensures { IfSome result (λ copy. copy.state ≡ store.now.state) }
 {
@@ -44,7 +44,7 @@ pub fn copy_of<P: SlotPool>(alloc: Global, store: &Store<u64, P>) -> Option<Stor
     }
 }
 
-/// Loads an image that is known to be whole. Only memory may lack.
+/// Loads an image that is known to be whole. Only an allocation may fail.
 pub fn load_whole<T: Drop, P: SlotPool>(
     alloc: Global,
     image: Image<T>,

@@ -19,7 +19,7 @@ pub enum Entry {
     Flag(bool),
 }
 
-/// The opposite of a flag. A number stays as it is.
+/// The opposite of a flag. A number is unchanged.
 fn opposite(given: Entry) -> Entry
     ensures flag { (on : Bool) → given ≡ entry.Flag on → result ≡ entry.Flag (not on) }
     ensures number { (n : ℕ) → given ≡ entry.Number n → result ≡ given }
@@ -30,8 +30,8 @@ fn opposite(given: Entry) -> Entry
     }
 }
 
-/// Turns a flag to its opposite, and leaves a number as it is. Refused as a write is, and then
-/// nothing changes.
+/// Turns a flag to its opposite, and leaves a number unchanged. Fails like a write, and then nothing
+/// changes.
 pub fn toggle<S: Storage<Entry>>(
     store: &mut S,
     target: GenerationalBox<Entry>,

@@ -1,5 +1,4 @@
-//! What calls leave as it was: other boxes, guards, owners, and the whole store where a call is
-//! refused.
+//! What calls leave unchanged: other boxes, guards, owners, and the whole store if a call fails.
 
 ghost use Rattle.std.specs.Prelude.{◌≡◌, ◌≢◌, IfErr, IfNone, IfOk, IfSome, IsFalse, IsTrue, OnErr, OnOk};
 ghost use Rattle.std.specs.Prelude.{Some, is_some};
@@ -18,8 +17,8 @@ use generational_box::{
     BorrowMutResult, BorrowResult, GenerationalBox, Location, Owner, Refusal, Storage,
 };
 
-/// Ends a value. It has ended for good then, or the end is refused and the store's state is as it
-/// was. A box of another name is left in either case.
+/// Removes a value. Its name is never live again, or the removal fails and the store's state is
+/// unchanged. A box of another name is unchanged in either case.
 pub fn end_value<S: Storage<u64>>(
     store: &mut S,
     target: GenerationalBox<u64>,
@@ -34,7 +33,7 @@ pub fn end_value<S: Storage<u64>>(
     target.manually_drop(store)
 }
 
-/// Moves a value out of the store, and its box ends. None where the value is shared, borrowed or gone,
+/// Moves a value out of the store, which removes its box. None if the value is shared, borrowed or gone,
 /// and then nothing changes. A box of another name is unchanged in either case.
 pub fn move_out<S: Storage<String>>(
     store: &mut S,
@@ -51,7 +50,7 @@ pub fn move_out<S: Storage<String>>(
     target.take(store)
 }
 
-/// Lets a reference lead to where another box leads, and so see what that saw. Where that is refused
+/// Points a reference to what another box refers to, so that it sees what the other saw. If that fails,
 /// nothing changes.
 pub fn follow<S: Storage<u64>>(
     store: &mut S,
@@ -65,8 +64,8 @@ pub fn follow<S: Storage<u64>>(
     reference.point_to(store, other)
 }
 
-/// Reads a value while another is ended, as far as that can be: it is what the box saw. Refused as
-/// the read is, and then nothing changes. Boxes that don't have the other's name see what they saw.
+/// Reads a value while another is removed, if that can be: it is what the box saw. Fails like the read,
+/// and then nothing changes. Boxes that don't have the other's name see the same value.
 pub fn read_across_end<S: Storage<u64>>(
     store: &mut S,
     target: GenerationalBox<u64>,
@@ -89,8 +88,8 @@ pub fn read_across_end<S: Storage<u64>>(
     }
 }
 
-/// Writes a value. Whether it was written: then nothing changes but the value and a ticket, and else
-/// nothing does. A guard's release in its own store is never refused.
+/// Writes a value, and returns whether it was written: then only the value and the next ticket change,
+/// and otherwise nothing. A guard's release in its own store never fails.
 pub fn put_value<S: Storage<u64>>(
     store: &mut S,
     target: GenerationalBox<u64>,
@@ -119,7 +118,7 @@ pub fn sees_value<S: Storage<u64>>(store: &S, target: GenerationalBox<u64>) -> b
     target.can_read(store)
 }
 
-/// Ends a value of a store in which no borrow stands. Never refused.
+/// Removes a value of a store without borrows. Never fails.
 pub fn end_unborrowed<S: Storage<u64>>(store: &mut S, target: GenerationalBox<u64>)
     requires { HasNoBorrows (S.state store.old) }
     ensures { HasNoBorrows (S.state store.new) }
@@ -130,8 +129,8 @@ pub fn end_unborrowed<S: Storage<u64>>(store: &mut S, target: GenerationalBox<u6
     }
 }
 
-/// Keeps a shared value by an owner. Where that is refused the value comes back, and nothing
-/// changes. Every other owner keeps its list.
+/// Stores a shared value by an owner. If that fails, the value comes back, and nothing changes. Every
+/// other owner keeps its list.
 pub fn share_by<S: Storage<u64>>(
     store: &mut S,
     owner: &Owner,

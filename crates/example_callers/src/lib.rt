@@ -1,4 +1,4 @@
-//! Small callers of the boxes' crates, which show that their contracts say what a caller needs.
+//! Small callers of the boxes' crates, which prove that their contracts say what a caller needs.
 #![tactic(auto)]
 
 pub mod asking;

@@ -18,8 +18,8 @@ use generational_box::{
     BorrowMutError, GenerationalBox, Location, Owner, Refusal, Refused, Storage, StoreError,
 };
 
-/// Keeps a value by an owner, and releases the owner. The answer is the box, whose value has ended
-/// for good; every other box is left as it was. Where it is refused every box is, and none is made.
+/// Stores a value by an owner, and releases the owner. Returns the box, whose name is never live again;
+/// every other box is unchanged. If it fails, every box is, and none is made.
 pub fn end_owned<S: Storage<u64>>(
     store: &mut S,
     value: u64,
@@ -32,7 +32,7 @@ pub fn end_owned<S: Storage<u64>>(
         IsUnchanged (S.state store.old) b (S.state store.new)) }
     ensures left { OnErr result ((b : GenerationalPointer) →
         IsUnchanged (S.state store.old) b (S.state store.new)) }
-    // It is refused only for lack of memory, or of a ticket.
+    // It fails only if an allocation fails, or if the tickets are used up.
     ensures cause { IfErr result (λ cause. Lacks (S.state store.old) cause) }
 {
     let owner = store.owner()?;
@@ -50,8 +50,8 @@ pub fn end_owned<S: Storage<u64>>(
     }
 }
 
-/// Releases an owner beside another one. The boxes in the other's list are left as they were, whatever
-/// the answer, which is that of the release.
+/// Releases an owner, given another one. Returns the result of the release. The boxes in the other's list
+/// are unchanged in each case.
 pub fn release_beside<S: Storage<u64>>(
     store: &mut S,
     first: Owner,

@@ -21,9 +21,8 @@ ghost use Rattle.example_callers.specs.Sessions.{session_over};
 use generational_box::{BoxAt, Call, Location, Reply, Session, Storage};
 use std::alloc::{AllocError, Global};
 
-/// Answers a call, and then a read of the box at a place. The call comes back where its own place
-/// finds no memory, and then nothing changes; there is no reply to the read where the second place
-/// finds none.
+/// Runs a call, and then a read of the box at a place. The call comes back if its own place can't be
+/// allocated, and then nothing changes; there is no reply to the read if the second place can't be.
 pub fn read_later<S: Storage<u64>>(
     session: &mut Session<u64, S>,
     call: Call<u64>,
@@ -35,7 +34,7 @@ pub fn read_later<S: Storage<u64>>(
         × IfSome replies.1 (λ read. SessionStep between
         (TryRead (Place place) here) (as_reply read) session.new)
         × IfNone replies.1 (session.new ≡ between)) }
-    // A box whose name had ended before is told so, with its own location.
+    // A read of a box whose name had ended before fails with its own location.
     ensures ended { IfOk result (λ replies. (b : GenerationalPointer) →
         at_place session.old.table place ≡ Boxed b → IsEnded session.old.state (name_of b) →
         IfSome replies.1 (λ read. as_reply read ≡ Error (Dropped b.created_at))) }
@@ -47,9 +46,8 @@ pub fn read_later<S: Storage<u64>>(
     Ok((reply, read))
 }
 
-/// Reads and writes a box of an earlier place, by one list of calls. Refused for lack of memory
-/// alone, as its error says, and then nothing changes. If the box's name has ended, both are
-/// answered so, with the box's own location.
+/// Reads and writes a box of an earlier place, by one list of calls. Fails only if an allocation fails,
+/// and then nothing changes. If the box's name has ended, both calls fail with the box's own location.
 pub fn ask_for_ended<S: Storage<u64>>(
     alloc: Global,
     session: &mut Session<u64, S>,
@@ -74,9 +72,8 @@ pub fn ask_for_ended<S: Storage<u64>>(
     }
 }
 
-/// Answers a call, and says whether it was carried out, with a reply that refuses nothing. If it
-/// wasn't, the store's state is as it was. The call comes back where its place finds no memory, and
-/// then nothing changes.
+/// Runs a call, and returns whether it succeeded. If it didn't, the store's state is unchanged. The call
+/// comes back if its place can't be allocated, and then nothing changes.
 pub fn carries_out<S: Storage<u64>>(
     session: &mut Session<u64, S>,
     call: Call<u64>,
@@ -92,7 +89,7 @@ pub fn carries_out<S: Storage<u64>>(
     Ok(!is_refusal(&reply))
 }
 
-/// Whether a reply refuses its call.
+/// Whether a reply is an error.
 pub fn is_refusal(reply: &Reply<u64>) -> bool
     ensures { result ≡ refuses (as_reply reply.now) }
 {
@@ -103,8 +100,8 @@ pub fn is_refusal(reply: &Reply<u64>) -> bool
     }
 }
 
-/// The replies to calls in a session over a store in which nothing was made. None where the session
-/// finds no memory: then no call was made.
+/// The replies to calls in a session over a fresh store. None if the session fails to allocate: then no
+/// call was made.
 pub fn replies_over<S: Storage<u64> + Drop>(
     alloc: Global,
     store: S,
@@ -113,7 +110,7 @@ pub fn replies_over<S: Storage<u64> + Drop>(
     requires { IsFresh (S.state store) }
     ensures run { IfSome result (λ replies. (after : SessionState ℕ)
         × Run (session_over (S.state store)) calls.items (as_replies replies.items) after) }
-    // Ids aside they are those of a machine without slots, where the same calls are refused.
+    // Ids aside they are those of a machine without slots in which the same calls fail.
     ensures same { IfSome result (λ replies.
         let list = as_replies replies.items in
         let empty = empty_session (S.state store).number in
@@ -126,8 +123,7 @@ pub fn replies_over<S: Storage<u64> + Drop>(
     replies
 }
 
-/// The replies to the same calls over two stores of one number. None where a session finds no
-/// memory.
+/// The replies to the same calls over two stores of one number. None if a session fails to allocate.
 pub fn replies_over_both<S: Storage<u64> + Drop, R: Storage<u64> + Drop>(
     alloc: Global,
     first: S,
@@ -143,8 +139,7 @@ pub fn replies_over_both<S: Storage<u64> + Drop, R: Storage<u64> + Drop>(
         × Run (session_over (S.state first)) calls.items (as_replies both.0.items) after) }
     ensures run_again { IfSome result (λ both. (after : SessionState ℕ)
         × Run (session_over (R.state second)) again.items (as_replies both.1.items) after) }
-    // Where the same calls were refused for lack of memory or of numbers, all replies are the same,
-    // ids aside.
+    // If the same calls failed for memory or for numbers, all replies are the same, ids aside.
     ensures same { IfSome result (λ both.
         let list = as_replies both.0.items in
         let list_again = as_replies both.1.items in

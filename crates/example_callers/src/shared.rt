@@ -10,8 +10,8 @@ ghost use Rattle.generational_sessions.specs.Lacking.{IsShortage};
 use crate::values::{read_value, write_value};
 use generational_box::{BorrowMutResult, GenerationalBox, Location, Refused, Storage};
 
-/// Writes a shared value through its first reference, and reads it through its second: it is what
-/// was written. Each box that the store gave before is left as it was, whatever the answer.
+/// Writes a shared value through its first reference, and reads it through its second: it is what was
+/// written. Each box that the store issued before is unchanged in each case.
 pub fn written_through<S: Storage<u64>>(
     store: &mut S,
     value: u64,
@@ -21,8 +21,8 @@ pub fn written_through<S: Storage<u64>>(
     ensures written { IfOk result (λ seen. seen ≡ next) }
     ensures others { (b : GenerationalPointer) → IsGiven (S.state store.old) (name_of b) →
         IsUnchanged (S.state store.old) b (S.state store.new) }
-    // It is refused only where fewer than three slots are free, so that memory may lack, or where
-    // fewer than two tickets are left.
+    // It fails only if fewer than three slots are free, so that it has to allocate, or if fewer than two
+    // tickets remain.
     ensures short { IfErr result (IsShortage (S.state store.old) 3 2) }
 {
     let first = match GenerationalBox::leak_rc(store, value, here) {
@@ -35,15 +35,14 @@ pub fn written_through<S: Storage<u64>>(
     Ok(seen)
 }
 
-/// Ends the first reference to a shared value, and reads the value through the second: it has
-/// outlived the first, and is the same value. Each box that the store gave before is left as it was,
-/// whatever the answer.
+/// Removes the first reference to a shared value, and reads the value through the second: it has outlived
+/// the first, and is the same value. Each box that the store issued before is unchanged in each case.
 pub fn outlived<S: Storage<u64>>(store: &mut S, value: u64, here: Location) -> BorrowMutResult<u64>
     ensures same { IfOk result (λ seen. seen ≡ value) }
     ensures others { (b : GenerationalPointer) → IsGiven (S.state store.old) (name_of b) →
         IsUnchanged (S.state store.old) b (S.state store.new) }
-    // It is refused only where fewer than three slots are free, so that memory may lack, or where
-    // no ticket is left.
+    // It fails only if fewer than three slots are free, so that it has to allocate, or if the tickets are
+    // used up.
     ensures short { IfErr result (IsShortage (S.state store.old) 3 1) }
 {
     let first = match GenerationalBox::leak_rc(store, value, here) {

@@ -6,7 +6,7 @@ ghost use Rattle.generational_box.specs.Pools.{members_of};
 
 use generational_box::{LastFirst, SlotPool};
 
-/// Puts a slot into the pool and takes one out: it is the same slot, and the pool is as it was.
+/// Puts a slot into the pool and takes one out: it is the same slot, and the pool is unchanged.
 pub fn put_and_take(pool: &mut LastFirst, slot: usize) -> Option<usize>
     requires room { slot < pool.old.rooms }
     requires absent { set.contains (members_of pool.old) slot ≡ false }

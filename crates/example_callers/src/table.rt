@@ -1,4 +1,4 @@
-//! A table of one's own, over a store of boxes.
+//! A user's own table, over a store of boxes.
 
 ghost use Rattle.std.specs.Prelude.{◌≡◌, ◌≤◌, ◌+◌, ◌-◌, [], ◌∷◌, ◌++◌, length, None, Some, is_some};
 ghost use Rattle.std.specs.Prelude.{IfOk, OnOk, IfErr, OnErr, slice_index_or, slice_set};
@@ -10,8 +10,8 @@ use generational_box::{GenerationalBox, Location, Refusal, Storage, StoreError};
 use std::alloc::Global;
 use std::marker::Model;
 
-/// Values in numbered rows, which a store keeps. A caller sees the list of the rows, where each shows
-/// its value, or none once it was removed; and how many more values can surely be looked at.
+/// Values in numbered rows, in a store. Contracts model it as the list of the rows, each with its value,
+/// or none once it was removed; and how many more values can surely be read.
 #[derive(Drop)]
 pub struct Table<T, S: Storage<T>> {
     store: S,
@@ -46,9 +46,11 @@ impl<T, S: Storage<T>> Table<T, S> {
         }
     }
 
-    /// Keeps a value in a row of its own, at the end. The answer is the row's number.
+    /// Stores a value in a new row at the end, and returns the row's number.
     ///
-    /// Refused by `OutOfMemory` alone: the value comes back, and the table stays as it was.
+    /// # Errors
+    ///
+    /// `OutOfMemory` only: the value comes back, and the table is unchanged.
     pub fn insert(&mut self, value: T, here: Location) -> Result<usize, Refusal<T>>
         ensures row { IfOk result (λ row. row ≡ length self.old.rows) }
         ensures ok { OnOk result
@@ -67,10 +69,12 @@ impl<T, S: Storage<T>> Table<T, S> {
         Ok(row)
     }
 
-    /// A copy of a row's value. None where the row is empty or was never given. The rows stay as
-    /// they were, whatever the answer, and a look is used up at most.
+    /// A copy of a row's value. None if the row is empty or was never issued. The rows are unchanged in
+    /// each case, and at most one look is used.
     ///
-    /// Refused by `NumbersExhausted` alone, where no look is left; the table stays as it was then.
+    /// # Errors
+    ///
+    /// `NumbersExhausted` only, if the looks are used up; the table is unchanged then.
     pub fn get(&mut self, row: usize, here: Location) -> Result<Option<T>, StoreError>
     where
         T: Copy,
@@ -92,8 +96,8 @@ impl<T, S: Storage<T>> Table<T, S> {
         Ok(seen)
     }
 
-    /// Ends a row's value, and empties the row. Answers whether it had a value. Never refused: no
-    /// borrow outlives a call of the table.
+    /// Drops a row's value, and empties the row. Returns whether it had a value. Never fails: no borrow
+    /// outlives a call of the table.
     pub fn remove(&mut self, row: usize) -> bool
         ensures had { result ≡ is_some (slice_index_or self.old.rows row None) }
         ensures removed { self.new ≡ record self.old { rows = slice_set self.old.rows row None } }

@@ -1,4 +1,4 @@
-//! A value by itself: kept, read and written.
+//! A single value: stored, read and written.
 
 ghost use Rattle.std.specs.Prelude.{◌≡◌, ◌≢◌, IfOk, IfErr, OnOk, OnErr, Some, unwrap_or};
 ghost use Rattle.generational_core.specs.declared.boxes.GenerationalPointer.{GenerationalPointer};
@@ -16,8 +16,7 @@ use generational_box::{
     BorrowMutResult, BorrowResult, GenerationalBox, Location, Refused, Storage,
 };
 
-/// Keeps a value in a store, and reads it: it is the same value. Each box that the store gave before
-/// is unchanged, whatever the answer.
+/// Stores a value, and reads it: it is the same value. Every earlier box is unchanged in each case.
 pub fn there_and_back<S: Storage<u64>>(
     store: &mut S,
     value: u64,
@@ -26,7 +25,7 @@ pub fn there_and_back<S: Storage<u64>>(
     ensures same { IfOk result (λ seen. seen ≡ value) }
     ensures others { (b : GenerationalPointer) → IsGiven (S.state store.old) (name_of b) →
         IsUnchanged (S.state store.old) b (S.state store.new) }
-    // It is refused only where no slot is free, so that memory may lack, or where no ticket is left.
+    // It fails only if no slot is free, so that it has to allocate, or if the tickets are used up.
     ensures short { IfErr result (IsShortage (S.state store.old) 1 1) }
 {
     let made = match GenerationalBox::leak(store, value, here) {
@@ -42,7 +41,7 @@ pub fn there_and_back<S: Storage<u64>>(
     Ok(kept)
 }
 
-/// The value that a box sees, read. Every box is left as it was, whatever the answer.
+/// Reads the value that a box sees. Every box is unchanged in each case.
 pub fn read_value<S: Storage<u64>>(
     store: &mut S,
     target: GenerationalBox<u64>,
@@ -51,7 +50,7 @@ pub fn read_value<S: Storage<u64>>(
     ensures seen { IfOk result (λ seen.
         value_in (S.state store.old) (pointer_of target) ≡ Some seen) }
     ensures left { (b : GenerationalPointer) → IsUnchanged (S.state store.old) b (S.state store.new) }
-    // It is refused as the read is.
+    // It fails like the read.
     ensures refused { IfErr result (λ refusal. Meets (S.state store.old)
         (Read (pointer_of target) here) (read_refused refusal) (S.state store.new)) }
 {
@@ -71,7 +70,7 @@ pub fn write_value<S: Storage<u64>>(
     value: u64,
     here: Location,
 ) -> BorrowMutResult<()>
-    // Each box that reaches the same sees the value, and the others are left, whatever the answer.
+    // Each box of the same cell sees the value, and the others are unchanged in each case.
     ensures written { OnOk result ((b : GenerationalPointer) →
         reach (S.state store.old) b ≡ reach (S.state store.old) (pointer_of target) →
         value_in (S.state store.new) b ≡ Some value) }
@@ -81,7 +80,7 @@ pub fn write_value<S: Storage<u64>>(
     // Nothing else changes but a ticket, which is used up.
     ensures set { OnOk result (
         IsSet (S.state store.old) (pointer_of target) value (S.state store.new)) }
-    // It is refused as the write is, and the state is as it was then.
+    // It fails like the write, and the state is unchanged then.
     ensures refused { IfErr result (λ refusal. Meets (S.state store.old)
         (Write (pointer_of target) here) (end_refused refusal) (S.state store.new)) }
     ensures unchanged { OnErr result (S.state store.new ≡ S.state store.old) }
@@ -94,8 +93,8 @@ pub fn write_value<S: Storage<u64>>(
     }
 }
 
-/// Writes a value and reads it back: it is the same value. Refused as the write is, and as the read
-/// after it; boxes that reach something else are left, whatever the answer.
+/// Writes a value and reads it back: it is the same value. Fails like the write, and like the read after
+/// it. Boxes of other cells are unchanged in each case.
 pub fn written_value<S: Storage<u64>>(
     store: &mut S,
     target: GenerationalBox<u64>,
@@ -112,9 +111,9 @@ pub fn written_value<S: Storage<u64>>(
     Ok(seen)
 }
 
-/// Puts a value in the place of the one that a box sees, and reads it back. The answer is the old
-/// value and the one that was read: what the box saw, and the one that was handed in. Refused as the
-/// write is, and as the read after it; boxes that reach something else are left, whatever the answer.
+/// Replaces the value that a box sees, and reads the new one back. Returns the old value and the one that
+/// was read: what the box saw, and the one that was passed in. Fails like the write, and like the read
+/// after it. Boxes of other cells are unchanged in each case.
 pub fn replaced_value<S: Storage<u64>>(
     store: &mut S,
     target: GenerationalBox<u64>,
@@ -138,7 +137,7 @@ pub fn replaced_value<S: Storage<u64>>(
     Ok((old, seen))
 }
 
-/// What a box shows, looked at in passing, or another number where it shows nothing.
+/// What `peek` of a box returns, or another number if that is None.
 pub fn shown_or<S: Storage<u64>>(store: &S, target: GenerationalBox<u64>, other: u64) -> u64
     ensures { result ≡ unwrap_or (value_in (S.state store.now) (pointer_of target)) other }
 {

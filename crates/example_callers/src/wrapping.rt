@@ -1,4 +1,4 @@
-//! A box, and an owner, in structs of one's own.
+//! A box, and an owner, in a user's own structs.
 
 ghost use Rattle.std.specs.Prelude.{◌≡◌, IfOk, OnErr, Some};
 ghost use Rattle.generational_core.specs.Answers.{pointer_of};
@@ -9,19 +9,19 @@ ghost use Rattle.generational_sessions.specs.Wrapping.{wrapped_answer, wrapped_o
 
 use generational_box::{GenerationalBox, Location, Owner, Refusal, Storage, StoreError};
 
-/// A number that a store keeps.
+/// A number in a store.
 #[derive(Clone, Copy)]
 pub struct Counter {
     raw: GenerationalBox<u64>,
 }
 
-/// An owner of such numbers. It has no `Drop`: its owner must be spent.
+/// An owner of such numbers. It has no `Drop`: its owner must be consumed.
 pub struct Group {
     owner: Owner,
 }
 
 impl Group {
-    /// A group without numbers. Refused as a new owner is.
+    /// A group without numbers. Fails like a new owner.
     pub fn new<S: Storage<u64>>(store: &mut S) -> Result<Group, StoreError>
         ensures { Meets (S.state store.old) NewOwner (wrapped_owner_answer (λ g. g.owner) result)
             (S.state store.new) }
@@ -30,7 +30,7 @@ impl Group {
         Ok(Group { owner })
     }
 
-    /// A number of the group, at this count. Where it is refused nothing changes.
+    /// A number of the group, at this count. If it fails, nothing changes.
     pub fn count_from<S: Storage<u64>>(
         &self,
         store: &mut S,
@@ -47,7 +47,7 @@ impl Group {
         Ok(Counter { raw })
     }
 
-    /// The group's owner, which must be spent.
+    /// The group's owner, which must be consumed.
     pub fn into_owner(self) -> Owner
         ensures { result ≡ self.owner }
     {

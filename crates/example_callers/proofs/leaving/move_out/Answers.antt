@@ -3,7 +3,7 @@ use Rattle.example_callers.proofs.{either, ended, IfSome, leaves, left_still, No
 use Rattle.example_callers.proofs.{refl, seen_reached, Some, sym, taken_seen, ◌∙◌, ◌≡◌}
 use Rattle.example_callers.proofs.leaving.move_out.Goals as goal
 
--- what follows of the value that was given, if one was
+-- what follows of the value that was returned, if one was
 each : {A : Type 0} {P : A → Type 0} (r : Option A) → ((a : A) → r ≡ Some a → P a) → IfSome r P
 each None all = tt
 each (Some a) all = all a refl

@@ -14,13 +14,13 @@ abbrev one_owner : List Name → Ownership
 one_owner names = record { names = names; count = 1 }
 
 module _ {T : Type 0} where
-  -- boxes of one name may be written alike, where they reach something
+  -- boxes of one name may be written alike, if they reach something
   same_free : (S : State T) (a b : GenerationalPointer) (m : Name)
       → can_write S a ≡ true → name_of a ≡ name_of b → reach S b ≡ Some m → can_write S b ≡ true
   unfolding reach refusal_to_write
   same_free S a b m free same to = grind arith
 
-  -- after a making by a new owner, refused or not, nothing that the owner lists is borrowed
+  -- after a making by a new owner, even one that failed, nothing that the owner lists is borrowed
   record Lists (S : State T) (o : OwnerName) : Type 0 where
     names : List Name
     held : ownership S o ≡ Some (one_owner names)
