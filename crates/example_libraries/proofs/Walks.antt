@@ -2,7 +2,7 @@
 pub mod Common
 unfoldable pub use Common.*
 
--- a row's key stands beside a value
+-- a row's key is paired with a value
 pub stands_with : {E V : Type 0} (pairs : List (E × V)) (row : ℕ) (e : E)
     → slice_get (map (λ p. p.0) pairs) row ≡ Some e → (v : V) × (slice_get pairs row ≡ Some (e, v))
 stands_with [] row e is = absurd (none-some e is)
@@ -57,7 +57,7 @@ module _ {T : Type 0} (t : TreeState T) where
   last_above n [] all = refl
   last_above n (up ∷ ups) all = (up, all.0, last_above up ups all.1)
 
-  -- a node that a list has is of one that stands there
+  -- a node that a list has is one of those there
   stands : (n : Node T) (xs : List (Node T)) → 0 < times n xs
       → (k : ℕ) × (x : Node T) × (slice_get xs k ≡ Some x) × (is_same x n ≡ true)
   stands n [] lt = absurd (omega (arith, lt))

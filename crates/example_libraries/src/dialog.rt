@@ -9,7 +9,7 @@ pub fn main(rt: HostRuntime) -> Result<()> {
     visit(&rt, &mut store)
 }
 
-// Begins the scope of a page, lends it, and ends it with its signals.
+// Creates the scope of a page, passes a reference to it, and ends it with its signals.
 fn visit<R: Print, S: Storage<u64>>(rt: &R, store: &mut S) -> Result<()> {
     let page = Scope::new(store)?;
     let key = page.id().key;
@@ -23,7 +23,7 @@ fn visit<R: Print, S: Storage<u64>>(rt: &R, store: &mut S) -> Result<()> {
     Ok(())
 }
 
-// A dialog has a scope of its own, which ends first.
+// A dialog has its own scope, which ends first.
 fn show<R: Print, S: Storage<u64>>(rt: &R, store: &mut S, page: &Scope) -> Result<Signal<u64>> {
     let dialog = Scope::new(store)?;
     let kept = count(store, page, &dialog);
@@ -44,7 +44,7 @@ fn tell<R: Print, S: Storage<u64>>(rt: &R, store: &S, kept: Signal<u64>) -> Resu
     Ok(())
 }
 
-// Counts in a signal of the dialog, and answers an alias of it that the page keeps.
+// Counts in a signal of the dialog, and returns an alias of it that the page keeps.
 fn count<S: Storage<u64>>(store: &mut S, page: &Scope, dialog: &Scope) -> Result<Signal<u64>> {
     let here = Location::new("dialog.rt", 49, 16);
     let clicks = dialog.signal(store, 6, here)?;

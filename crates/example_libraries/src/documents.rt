@@ -1,4 +1,4 @@
-//! Documents in which one part stands in several places.
+//! Documents in which one part is in several places.
 
 ghost use Rattle.std.specs.Prelude.{◌≡◌, ◌≢◌, ◌<◌, ◌∷◌, None, Some, IfErr, IsErr, IsOk, OnOk, false, is_some, true};
 ghost use Rattle.document_tree.specs.Documents.{Place, content_of, created_at, is_site, part_in, shown_in, with_children, Leaves, WasMade};
@@ -10,8 +10,8 @@ ghost use Rattle.handles.specs.Handles.{IsOther};
 use document_tree::{Document, Place, PlaceError, Stale};
 use generational_box::{Location, Refusal, Storage};
 
-/// Gives a heading a new part, at each page that lists it, and ends the part that it showed where no
-/// other place leads there. Every other place shows what it showed, whatever the answer.
+/// Gives a heading a new part, at each page that lists it, and drops its old part if no other place
+/// refers to it. Every other place is unchanged in each case.
 pub fn change_heading<S: Storage<u32>>(
     document: &mut Document<u64, S>,
     heading: Place,
@@ -66,7 +66,7 @@ pub fn behead_page<S: Storage<u32>>(
     document.take_child(page, 0)
 }
 
-/// Ends a heading where it still stands, and answers whether it did. It shows nothing then.
+/// Removes a heading, and returns whether it was there. It is stale then.
 pub fn closed<S: Storage<u32>>(document: &mut Document<u64, S>, heading: Place) -> bool
     ensures stood { result ≡ is_some (shown_in document.old heading) }
     ensures gone { shown_in document.new heading ≡ None }

@@ -31,7 +31,7 @@ pub fn told_after<S: Storage<u64>>(
     table.get(first).copied()
 }
 
-/// The greatest element of the live entities, or 0 where none is live.
+/// The greatest element of the live entities, or 0 if none is live.
 pub fn greatest<S: Storage<u64>>(table: &EntityTable<u64, S>) -> u64
     ensures { (e : Entity ℕ) (v : ℕ) → element_in table.now e ≡ Some v → v ≤ result }
 {
@@ -78,7 +78,7 @@ pub fn within_limits<E: Storage<u64>>(
     true
 }
 
-/// Adds to an entity's element in its place, and answers what it is then.
+/// Adds to an entity's element in place, and returns the sum.
 pub fn grown<S: Storage<u64>>(
     table: &mut EntityTable<u64, S>,
     entity: Entity<u64>,
@@ -98,7 +98,7 @@ pub fn grown<S: Storage<u64>>(
     })
 }
 
-/// Counts an entity's component up in its place, and answers the count before.
+/// Counts an entity's component up in place, and returns the count before.
 pub fn raised(counts: &mut ComponentTable<u64, u64>, entity: Entity<u64>) -> Option<u64>
     ensures before { IfSome result (λ n. component_in counts.old entity ≡ Some n) }
     ensures had { is_some result ≡ is_some (component_in counts.old entity) }
@@ -112,8 +112,8 @@ pub fn raised(counts: &mut ComponentTable<u64, u64>, entity: Entity<u64>) -> Opt
     })
 }
 
-/// Despawns an entity, and ends the components of all that are gone, its own too. Those of live ones
-/// stay, whatever the answer.
+/// Despawns an entity, and drops the components of all that are gone, its own too. Those of live ones
+/// stay in each case.
 pub fn despawned_bare<E: Storage<u64>>(
     table: &mut EntityTable<u64, E>,
     names: &mut ComponentTable<u64, u64>,
@@ -128,8 +128,8 @@ pub fn despawned_bare<E: Storage<u64>>(
     ended
 }
 
-/// Takes an entity out of a table with its element, and looks at it once more: that is refused, and the
-/// answer is the element that it showed.
+/// Removes an entity with its element from a table, and reads it again: that fails. Returns the element
+/// that it had.
 pub fn taken_out<S: Storage<u64>>(
     table: &mut EntityTable<u64, S>,
     entity: Entity<u64>,
@@ -154,7 +154,7 @@ pub fn handed_over(coats: &mut ComponentTable<u64, u64>, from: Entity<u64>, to: 
     }
 }
 
-/// Ends the entities that are left, and answers whether there was one.
+/// Despawns the remaining entities, and returns whether there was one.
 pub fn swept_out<S: Storage<u64>>(table: &mut EntityTable<u64, S>) -> bool
     ensures none { IsFalse result → (e : Entity ℕ) → element_in table.old e ≡ None }
     ensures gone { (e : Entity ℕ) → element_in table.new e ≡ None }

@@ -24,7 +24,7 @@ pub fn element_or_text<S: Storage<u64>>(
     Ok(*table.get(entity)?)
 }
 
-/// Logs an id in, keeps a value in its session, and looks at it: it is the same value.
+/// Logs an id in, stores a value in its session, and reads it: it is the same value.
 pub fn first_visit<S: Storage<u64>>(
     table: &mut SessionTable<u64, u64, u64, S>,
     id: u64,
@@ -39,7 +39,7 @@ pub fn first_visit<S: Storage<u64>>(
     Ok(*table.get(entry)?)
 }
 
-/// Moves a node below another, and lists a place below another, as far as neither is refused.
+/// Moves a node below another, and lists a place below another, unless one of them fails.
 pub fn moved_and_listed<N: Storage<u64>, P: Storage<u32>>(
     tree: &mut SceneTree<u64, N>,
     nodes: (Node<u64>, Node<u64>),
@@ -62,8 +62,8 @@ pub fn set_signal<T: Drop, S: Storage<T>>(
     Ok(())
 }
 
-/// Spawns an entity and replaces its element. The values needn't print: what a call hands back goes with
-/// the error.
+/// Spawns an entity and replaces its element. The values needn't print: what comes back is part of the
+/// error.
 pub fn replaced<T: Drop, S: Storage<T>>(
     table: &mut EntityTable<T, S>,
     element: T,

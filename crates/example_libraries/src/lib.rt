@@ -1,5 +1,5 @@
-//! Small callers of the libraries above the boxes, which show that their contracts say what a caller
-//! needs; and the programs with which the pages begin, each with a `main` of its own.
+//! Small callers of the libraries built on boxes, which prove that their contracts say what a caller
+//! needs; and the programs with which the pages begin, each with its own `main`.
 #![tactic(auto)]
 
 pub mod actors;

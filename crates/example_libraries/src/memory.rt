@@ -1,13 +1,13 @@
-//! When memory runs out: a refused insertion hands its value back, and the store goes on.
+//! When memory runs out: an insertion that fails returns its value, and the store can be used on.
 
 use anyhow::Result;
 use generational_box::{GenerationalBox, Location, Refusal, Storage, UnsyncStorage};
 
 pub fn main(rt: HostRuntime) -> Result<()> {
     let mut store = UnsyncStorage::<u64>::new(rt.alloc(), 1);
-    // Room for a thousand values is asked for before the work begins.
+    // Room for a thousand values is reserved before the work begins.
     store.reserve(1000)?;
-    // No store has room for so many: it is refused, and nothing changes.
+    // No store has room for so many: it fails, and nothing changes.
     if let Err(cause) = store.reserve(usize::MAX) {
         println!(rt; "{cause}")?;
     }

@@ -57,8 +57,8 @@ impl Rule<u64> for Formula {
     }
 }
 
-/// Sets a source, and asks for a memo of it: where both calls answer, the answer is what the memo's rule
-/// makes of what was set.
+/// Sets a source, and gets a memo of it: if both calls succeed, the result is what the memo's rule makes
+/// of what was set.
 pub fn odd_after_set<S: Storage<Node<u64, Formula>>>(
     graph: &mut Reactive<u64, Formula, S>,
     source: Key,
@@ -131,7 +131,7 @@ pub fn unaffected_still<S: Storage<Node<u64, Formula>>>(
     }
 }
 
-/// Sets a source that lives, which isn't refused.
+/// Sets a live source, which succeeds.
 pub fn set_live<S: Storage<Node<u64, Formula>>>(
     graph: &mut Reactive<u64, Formula, S>,
     source: Key,
@@ -148,7 +148,7 @@ pub fn set_live<S: Storage<Node<u64, Formula>>>(
     }
 }
 
-/// Asks for two memos of one plan: where both answer, they answer the same.
+/// Gets two memos of one plan: if both calls succeed, the values are the same.
 pub fn shown_by_both<S: Storage<Node<u64, Formula>>>(
     graph: &mut Reactive<u64, Formula, S>,
     one: Key,
@@ -168,7 +168,7 @@ pub fn shown_by_both<S: Storage<Node<u64, Formula>>>(
     }
 }
 
-/// Watches a node, and flushes: where that is Ok, one thing is told, which is what the node means.
+/// Watches a node, and flushes: if that succeeds, it reports one thing, what the node means.
 pub fn told_at_first<S: Storage<Node<u64, Formula>>>(
     graph: &mut Reactive<u64, Formula, S>,
     key: Key,
@@ -190,7 +190,7 @@ pub fn told_at_first<S: Storage<Node<u64, Formula>>>(
     }
 }
 
-/// What a node means, looked at in its place: nothing is copied for it.
+/// What a node means, read in place: nothing is copied for it.
 pub fn seen_in_place<S: Storage<Node<u64, Formula>>>(
     graph: &mut Reactive<u64, Formula, S>,
     key: Key,

@@ -1,4 +1,4 @@
-//! Memos of texts and of lists, whose rules take memory.
+//! Memos of texts and of lists, whose rules allocate.
 
 ghost use Rattle.std.specs.Prelude.{◌≡◌, ◌≢◌, ℕ, List, [], ◌∷◌, ◌++◌, length, IfOk};
 ghost use Rattle.reactive.specs.Graphs.{plans_in};
@@ -52,7 +52,7 @@ impl Rule<Text> for Phrase {
 /// What a memo computes of lists of numbers.
 #[derive(Drop)]
 pub enum Row {
-    /// A list and a number more.
+    /// A list and another number.
     Longer(Key, u64),
     /// The lengths of two lists, which are looked at where they are.
     Lengths(Key, Key, Global),

@@ -1,4 +1,4 @@
-//! Proving your own code: what is taken out of a stock, and that every other item stays.
+//! Proving your own code: what is removed from a stock, and that every other item stays.
 
 ghost use Rattle.std.specs.Prelude.{◌≡◌, ◌↔◌, ℕ, All, None, Some, IfOk, IsErr, IsTrue, OnErr};
 ghost use Rattle.entity_table.specs.Tables.{Entity, element_in};
@@ -12,7 +12,7 @@ pub fn main(rt: HostRuntime) -> anyhow::Result<()> {
     sell(&rt, &mut EntityTable::new(rt.alloc(), store))
 }
 
-// Puts two items into a stock, takes one out, and tries to take out the other.
+// Puts two items into a stock, removes one, and tries to remove the other.
 fn sell<R: Print, S: Storage<u64>>(rt: &R, stock: &mut EntityTable<u64, S>) -> anyhow::Result<()> {
     let tea = stock.spawn(0, Location::new("proving.rt", 18, 21))?;
     let salt = stock.spawn(5, Location::new("proving.rt", 19, 22))?;
@@ -26,8 +26,8 @@ fn sell<R: Print, S: Storage<u64>>(rt: &R, stock: &mut EntityTable<u64, S>) -> a
     Ok(())
 }
 
-/// Takes an item out of the stock. The answer is how many there were of it. It is refused where the
-/// item is gone, and then nothing changes.
+/// Removes an item from the stock, and returns how many there were of it. Fails if the item is gone, and
+/// then nothing changes.
 pub fn remove<S: Storage<u64>>(
     stock: &mut EntityTable<u64, S>,
     item: Entity<u64>,
@@ -44,7 +44,7 @@ pub fn remove<S: Storage<u64>>(
     Ok(count)
 }
 
-/// Takes an item out, unless it is the one that is kept. Whether it did.
+/// Removes an item, unless it is the one that is kept. Returns whether it did.
 pub fn remove_unless<S: Storage<u64>>(
     stock: &mut EntityTable<u64, S>,
     item: Entity<u64>,
@@ -55,7 +55,7 @@ pub fn remove_unless<S: Storage<u64>>(
     item != kept && remove(stock, item).is_ok()
 }
 
-/// Takes an item out. Whether another handle is a copy of the same: then it shows nothing either.
+/// Removes an item. Returns whether another handle is a copy of the same: then that is stale too.
 pub fn remove_copies<S: Storage<u64>>(
     stock: &mut EntityTable<u64, S>,
     item: Entity<u64>,

@@ -20,8 +20,8 @@ ghost use Rattle.signals.specs.Signals.{pointer_in};
 use generational_box::{BorrowMutResult, Location, Storage};
 use signals::{Scope, Signal};
 
-/// Makes a signal in one scope and an alias of it in another, ends the first scope, and reads the
-/// alias: it is the value that was handed in.
+/// Makes a signal in one scope and an alias of it in another, ends the first scope, and reads the alias:
+/// it is the value that was passed in.
 pub fn outlived<S: Storage<u64>>(store: &mut S, value: u64, here: Location) -> Option<u64>
     ensures { IfSome result (λ seen. seen ≡ value) }
 {
@@ -75,8 +75,8 @@ fn alias_outlives<S: Storage<u64>>(
     }
 }
 
-/// Sets a value through an alias, and reads it through the signal from which the alias was made: it
-/// is what was set. None where a call is refused.
+/// Sets a value through an alias, and reads it through the signal from which the alias was made: it is
+/// what was set. None if a call fails.
 pub fn set_through_alias<S: Storage<u64>>(
     store: &mut S,
     scope: &Scope,
@@ -93,8 +93,8 @@ pub fn set_through_alias<S: Storage<u64>>(
     signal.get(store, here, |seen| *seen).ok()
 }
 
-/// Lets a signal lead to the value of another, sets that value, and reads it through the first: it
-/// is what was set. Boxes of other names that reach something else are left, whatever the answer.
+/// Points a signal to the value of another, sets that value, and reads it through the first: it is what
+/// was set. Boxes of other names and other cells are unchanged in each case.
 pub fn set_source<S: Storage<u64>>(
     store: &mut S,
     signal: Signal<u64>,
@@ -106,7 +106,7 @@ pub fn set_source<S: Storage<u64>>(
     ensures others { (b : GenerationalPointer) → name_of (pointer_in signal) ≢ name_of b →
         reach (S.state store.old) b ≢ reach (S.state store.old) (pointer_in other) →
         IsUnchanged (S.state store.old) b (S.state store.new) }
-    // It is refused as the turn is, as the write after it, or as a read for which no ticket is left.
+    // It fails like `swap_source`, like the write after it, or like a read when the tickets are used up.
     ensures refused { IfErr result (λ refusal.
         let turn : Action ℕ = Point (pointer_in signal) (pointer_in other) in
         let write : Action ℕ = Write (pointer_in signal) here in
@@ -125,8 +125,7 @@ pub fn set_source<S: Storage<u64>>(
     Ok(seen)
 }
 
-/// Counts a signal up by one, and reads it. Boxes that reach something else are left, whatever the
-/// answer.
+/// Counts a signal up by one, and reads it. Boxes of other cells are unchanged in each case.
 pub fn count_up<S: Storage<u64>>(
     store: &mut S,
     signal: Signal<u64>,
@@ -138,7 +137,7 @@ pub fn count_up<S: Storage<u64>>(
     ensures others { (b : GenerationalPointer) →
         reach (S.state store.old) b ≢ reach (S.state store.old) (pointer_in signal) →
         IsUnchanged (S.state store.old) b (S.state store.new) }
-    // It is refused as the write is, or as a read for which no ticket is left.
+    // It fails like the write, or like a read when the tickets are used up.
     ensures refused { IfErr result (λ refusal.
         Meets (S.state store.old) (Write (pointer_in signal) here) (end_refused refusal)
         (S.state store.new)

@@ -11,8 +11,8 @@ ghost use Rattle.session_table.specs.Tables.{created_at, keeps, session_in, show
 use generational_box::{Location, Storage};
 use session_table::{Entry, Session, SessionTable, Stale};
 
-/// Logs a session out, puts a value into another, and looks at what the first kept: that fails, and the
-/// error says where it was put, whichever slot the new value took.
+/// Logs a session out, puts a value into another, and reads what the first had: that fails, and the error
+/// says where it was put, even if the new value took its slot.
 pub fn told_after_logout<S: Storage<u64>>(
     table: &mut SessionTable<u64, u64, u64, S>,
     id: u64,
@@ -32,8 +32,8 @@ pub fn told_after_logout<S: Storage<u64>>(
     table.get(entry).copied()
 }
 
-/// Logs a session out, and looks at what another keeps: it is what it was. Refused only where it
-/// showed nothing.
+/// Logs a session out, and reads what another has: it is unchanged. Fails only if the entry was stale
+/// before.
 pub fn seen_beside<S: Storage<u64>>(
     table: &mut SessionTable<u64, u64, u64, S>,
     id: u64,
@@ -49,9 +49,8 @@ pub fn seen_beside<S: Storage<u64>>(
     table.get(entry).copied()
 }
 
-/// Keeps a value in a session of its own, looks at it, and logs the session out: it is the same value.
-/// Every other session is as it was, and every entry that was put before shows what it showed, whatever
-/// the answer.
+/// Stores a value in a new session, reads it, and logs the session out: it is the same value. Every other
+/// session, and every entry that was put before, is unchanged in each case.
 pub fn one_visit<S: Storage<u64>>(
     table: &mut SessionTable<u64, u64, u64, S>,
     id: u64,
@@ -72,8 +71,8 @@ pub fn one_visit<S: Storage<u64>>(
     seen
 }
 
-/// Keeps another value in a session, and logs another session out: what the first kept shows what it
-/// showed. Refused only where it showed nothing.
+/// Stores another value in a session, and logs another session out: an entry of the first is unchanged.
+/// Fails only if the entry was stale before.
 pub fn seen_after_put<S: Storage<u64>>(
     table: &mut SessionTable<u64, u64, u64, S>,
     id: u64,
@@ -93,8 +92,9 @@ pub fn seen_after_put<S: Storage<u64>>(
     table.get(entry).copied()
 }
 
-/// Takes out what a session keeps under a key, keeps another value there, and looks at the first entry:
-/// the answer is the value that it showed, and then that it is gone, whichever slot the new value took.
+/// Removes what a session has under a key, stores another value there, and reads the first entry: it
+/// returns the value that the entry had, and then the error that it is gone, even if the new value took
+/// its slot.
 pub fn put_anew<S: Storage<u64>>(
     table: &mut SessionTable<u64, u64, u64, S>,
     at: (u64, u64),
@@ -114,8 +114,8 @@ pub fn put_anew<S: Storage<u64>>(
     (taken, table.get(entry).copied())
 }
 
-/// Gives a visitor's session the id of a user who has proved who they are, and finds in it what the
-/// visitor kept under a key. The visitor's id has no session then.
+/// Gives a visitor's session the id of a user who was authenticated, and finds in it what the visitor
+/// stored under a key. The visitor's id has no session then.
 pub fn signed_in<S: Storage<u64>>(
     table: &mut SessionTable<u64, u64, u64, S>,
     visitor: u64,
@@ -130,7 +130,7 @@ pub fn signed_in<S: Storage<u64>>(
     table.entry(&user, &key)
 }
 
-/// Adds to an entry's value in its place, and answers what it is then.
+/// Adds to an entry's value in place, and returns the sum.
 pub fn added<S: Storage<u64>>(
     table: &mut SessionTable<u64, u64, u64, S>,
     entry: Entry<u64>,
@@ -163,7 +163,7 @@ pub fn found_by_key<S: Storage<u64>>(
     table.get(entry).copied().ok()
 }
 
-/// The latest time of a last use, or 0 where there is no session.
+/// The latest time of a last use, or 0 if there is no session.
 pub fn latest_use<S: Storage<u64>>(table: &SessionTable<u64, u64, u64, S>) -> u64
     ensures { (id : ℕ) (s : LiveSession ℕ ℕ) → session_in nat_eq table.now id ≡ Some s →
         s.used_at ≤ result }
@@ -177,7 +177,7 @@ pub fn latest_use<S: Storage<u64>>(table: &SessionTable<u64, u64, u64, S>) -> u6
     latest
 }
 
-/// The greatest key of a session's entries, or 0 where it has none.
+/// The greatest key of a session's entries, or 0 if it has none.
 pub fn greatest_key(session: &Session<u64, u64>) -> u64
     ensures { (key : ℕ) (e : Entry ℕ) →
         lookup (nat_eq key) session.now.entries.entries ≡ Some e → key ≤ result }

@@ -1,17 +1,17 @@
-//! Getting started: a value that must be spent is made, lent and spent.
+//! Getting started: a value that must be consumed is made, borrowed and consumed.
 
 use anyhow::Result;
 use generational_box::{Location, Storage, UnsyncStorage};
 use session_table::SessionTable;
 
-/// Under which key a session keeps a value.
+/// The keys of a session's values.
 #[derive(Clone, Copy, PartialEq, Eq, Hash)]
 pub enum Key {
     Basket,
 }
 
 pub fn main(rt: HostRuntime) -> Result<()> {
-    // The table must be spent, so nothing between these lines may return early.
+    // The table is linear: it must reach `finish()`, so don't return early (no `?`) between these lines.
     let store = UnsyncStorage::<u64>::new(rt.alloc(), 1);
     let mut table = SessionTable::new(rt.alloc(), store);
     let visited = visit(&rt, &mut table);
@@ -19,7 +19,7 @@ pub fn main(rt: HostRuntime) -> Result<()> {
     visited
 }
 
-// The table is only lent here, so each `?` may end the function.
+// The table is only borrowed here, so each `?` may end the function.
 fn visit<R: Print, S: Storage<u64>>(
     rt: &R,
     table: &mut SessionTable<u64, Key, u64, S>,

@@ -33,7 +33,7 @@ pub fn told_after<S: Storage<u64>>(
     }
 }
 
-/// Moves a node below another, and the other below the node: one of the two is refused always.
+/// Moves a node below another, and the other below the node: one of the two always fails.
 pub fn moved_round<S: Storage<u64>>(
     tree: &mut SceneTree<u64, S>,
     node: Node<u64>,
@@ -149,8 +149,8 @@ pub fn twin_before<S: Storage<u64>>(
     tree.add_at(Spot::Before(node), value, here)
 }
 
-/// Takes a node out of a tree with its value, and looks at it once more: that is refused, and the answer
-/// is the value that it showed.
+/// Removes a node with its value from a tree, and reads it again: that fails. Returns the value that it
+/// had.
 pub fn taken_out<S: Storage<u64>>(tree: &mut SceneTree<u64, S>, node: Node<u64>) -> Option<u64>
     ensures { IfSome result (λ value. value_of tree.old node ≡ Some value) }
 {
@@ -169,7 +169,7 @@ pub fn freed<S: Storage<u64>>(tree: &mut SceneTree<u64, S>, node: Node<u64>) -> 
     tree.depth(node)
 }
 
-/// Adds to a node's number, in its place: every other node is left.
+/// Adds to a node's number in place: every other node is unchanged.
 pub fn count_up<S: Storage<u64>>(tree: &mut SceneTree<u64, S>, node: Node<u64>) -> Result<(), Stale>
     ensures { (other : Node ℕ) → IsOther node other → NodeIsUnchanged tree.old other tree.new }
 {

@@ -1,4 +1,4 @@
-//! Boxes: a value is kept, read, written, refused while it is read, and ended with its owner.
+//! Boxes: a value is stored, read, written (which fails while it is read), and dropped with its owner.
 
 use anyhow::Result;
 use generational_box::{GenerationalBox, Location, Owner, Storage, UnsyncStorage};
@@ -8,7 +8,7 @@ pub fn main(rt: HostRuntime) -> Result<()> {
     visit(&rt, &mut store)
 }
 
-// Makes an owner, lends it, and ends it with all that it keeps.
+// Creates an owner, passes a reference to it, then releases it, dropping everything it owns.
 fn visit<R: Print, S: Storage<u64>>(rt: &R, store: &mut S) -> Result<()> {
     let owner = store.owner()?;
     let seen = keep(rt, store, &owner);
@@ -20,7 +20,7 @@ fn visit<R: Print, S: Storage<u64>>(rt: &R, store: &mut S) -> Result<()> {
     Ok(())
 }
 
-// Keeps 7 by an owner, reads it, and makes it 8.
+// Stores 7 by an owner, reads it, and makes it 8.
 fn keep<R: Print, S: Storage<u64>>(
     rt: &R,
     store: &mut S,
@@ -34,7 +34,7 @@ fn keep<R: Print, S: Storage<u64>>(
     if let (Some(value), Err(refusal)) = (value, refused) {
         println!(rt; "{value}; {refusal}")?;
     }
-    // Nobody borrows it any more, so a closure changes it in its place.
+    // It isn't borrowed any more, so a closure changes it in place.
     kept.with_mut(store, |value| *value = 8);
     if let Some(value) = kept.peek(store) {
         println!(rt; "{kept:?} is {value}")?;
@@ -42,7 +42,7 @@ fn keep<R: Print, S: Storage<u64>>(
     Ok(kept)
 }
 
-// Writes a value in place. It is refused while anybody else reads or writes there.
+// Writes a value in place. It fails while the value is read or written elsewhere.
 fn write<S: Storage<u64>>(store: &mut S, kept: GenerationalBox<u64>, value: u64) -> Result<()> {
     let mut writer = kept.try_write(store, line(47))?;
     *writer.deref_mut() = value;
@@ -50,7 +50,7 @@ fn write<S: Storage<u64>>(store: &mut S, kept: GenerationalBox<u64>, value: u64)
     Ok(())
 }
 
-// Where a call is made: a refusal tells it.
+// Where a call is made: errors say it.
 fn line(line: u32) -> Location {
     Location::new("values.rt", line, 5)
 }
