@@ -1,4 +1,4 @@
--- Finite maps computed as lists: what stands in them is written out, entry by entry.
+-- Finite maps computed as lists: what is in them is written out, entry by entry.
 use Rattle.std.specs.{declared.cmp.Ordering.Ordering, FinMap.Entries.find-where_key}
 use Rattle.std.specs.{FinMap.Entries.is_sorted-where_key, List.filter, List.list_any, Ordering.eq_by_cmp}
 use Rattle.generational_core.specs.{Cells.is_shared, Cells.refers_to, Ending.sweep, Ending.take_away, Names.among}
@@ -11,7 +11,7 @@ use Rattle.std.specs.Prelude.{length, map as list_map, T}
 use Rattle.generational_core.proofs.maps.Maps.{by_name, by_option, get-keep, IsKeyOrder}
 use Rattle.std.specs.FinMap as map
 
--- the entries in which what stands at a key, if anything does, is changed by f
+-- the entries in which what is at a key, if anything does, is changed by f
 abbrev pub change_entry : {K X : Type 0} (R : K → K → Ordering)
     → K → (X → X) → List (K × X) → Option X → List (K × X)
 change_entry R k f es None = es
@@ -72,7 +72,7 @@ module _ {K X : Type 0} (R : K → K → Ordering) where
 -- ---- cells that go
 
 module _ {T : Type 0} where
-  -- the cells but for the Shared ones that no Ref names, and but for the boxes of some names
+  -- the cells except for the Shared ones that no Ref names, and except for the boxes of some names
   abbrev pub sweep_entries : List (Name × Cell T) → List (Name × Cell T)
   sweep_entries es = filter (λ e. not (is_shared (find name_cmp e.0 es))
       || list_any (λ n. refers_to e.0 (find name_cmp n es)) (list_map (λ e. e.0) es)) es

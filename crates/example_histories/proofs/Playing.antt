@@ -73,7 +73,7 @@ Plays S ((Ask a, told) ∷ row) = (Lacks (may_lack S a) ≡ told) × Plays S row
 Plays S ((Open g, told) ∷ row) = (Opens (value_behind S g) ≡ told) × Plays S row
 Plays S ((Count, told) ∷ row) = (counted S ≡ told) × Plays S row
 
--- such a row tells what stands there
+-- such a row says what is there
 tells : {T : Type 0} (S : State T) (row : Row T) → IsSound S → Plays S row → Tells S row
 unfolding Tells Plays
 tells S [] s h = tt
@@ -90,7 +90,7 @@ plays_tell start next row h = tells _ row (fresh_sound 7 start next) h
 
 -- ---- the slots
 
--- the last generations with one name more, and what stands in them
+-- the last generations with another name, and what is in them
 pub adds : map.FinMap nat_cmp ℕ → Name → map.FinMap nat_cmp ℕ
 adds m n = map.insert m n.slot (max n.generation (unwrap_or (map.get m n.slot) 0))
 
@@ -104,7 +104,7 @@ adds_there es n h =
     ap (λ x. map.insert (map.from_sorted es) n.slot (max n.generation (unwrap_or x 0)))
     (get_there nat_cmp es h n.slot) ∙ put_there nat_cmp es h _ _ by_number
 
--- the slots where one more name was given; and where none was, and one more, from the law of them
+-- the slots after another name was issued; and after none was, and one more, from the law of them
 pub more_given : (given : Names) (n : Name)
     → lasts (set.items (set.insert given n)) ≡ adds (lasts (set.items given)) n
 unfolding adds
@@ -161,7 +161,7 @@ module _ {T : Type 0} where
   abbrev outcome_by : {x y : Outcome T} → ((z : Outcome T) → z ≡ x → z ≡ y) → OutcomeOf x
   outcome_by {x = x} {y = y} f = (y, f x refl)
 
-  -- whether a call can't have its ticket, and what a row tells after an outcome
+  -- whether a call can't have its ticket, and what a row says after an outcome
   abbrev pub is_short : Answer T → ℕ → Bool
   is_short answer next = takes_ticket answer && nat_eq next last_ticket
 
@@ -173,7 +173,7 @@ module _ {T : Type 0} where
   pub hears : State T → Action T → NewNames → Outcome T → Told T → Row T → Type 0
   hears S a f out told row = limit (is_short out.0 S.next) S a f out told row
 
-  -- what a row tells after what was seen
+  -- what a row says after what was seen
   pub sees : Told T → Told T → State T → Row T → Type 0
   sees x told S row = (x ≡ told) × Plays S row
 
@@ -181,7 +181,7 @@ module _ {T : Type 0} where
     abbrev S : State T
     S = stage b c g o n p
 
-    -- a reader and a writer more, so that a borrow holds its ticket alone, and no state
+    -- another reader and another writer, so that a borrow holds its ticket alone, and no state
     abbrev fill_in : Name → Content T → State T
     fill_in m x = stage_of b (change (map.from_sorted c) m (refill x)) g (map.from_sorted o) (n + 1) p
 
@@ -203,7 +203,7 @@ module _ {T : Type 0} where
         → write_at S l x y ≡ write_to l x y
     write_same l x y = grind arith
 
-    -- what each call comes to, once it is looked up what stands at its names
+    -- what each call comes to, once it is looked up what is at its names
     module _ (hc : is_sorted name_cmp c ≡ true) (ho : is_sorted nat_cmp o ≡ true) where
       abbrev pub outcome : (a : Action T) (f : NewNames) → OutcomeOf (act S a f)
       unfolding reach refusal_to_read refusal_to_write
@@ -270,8 +270,8 @@ module _ {T : Type 0} where
     unfolding sees
     sees_on told row = (λ h. h.1, λ p. (refl, p))
 
-  -- A row tells so if its first lines lead here, and the others tell so from here. A long row is cut
-  -- where a state is written out: its cells, the names given, the owners, the next ticket and the peak.
+  -- A row says so if its first lines lead here, and the others say so from here. A long row is cut at
+  -- states that are written out: its cells, the names issued, the owners, the next ticket and the peak.
   module _ (c : List (Name × Cell T)) (g : List Name) (o : List (ℕ × Ownership)) (n p : ℕ) where
     abbrev here : State T
     here = stage 1 c (set.from_list g) o n p
@@ -283,7 +283,7 @@ module _ {T : Type 0} where
 
 pub ruleset steps = (ends, calls, asks, hears_on, hears_no, looks, counts, sees_on)
 
--- what rows need but for the slots, and with them
+-- what rows need except for the slots, and with them
 pub ruleset rows = (steps, adds_there, entries, contains-insert_name, set.contains-empty)
 
 pub ruleset plays = (rows, no_slots, more_given)

@@ -16,7 +16,7 @@ use Rattle.std.specs.Prelude.{slice_set}
 use Rattle.std.specs.FinSet as set
 
 module _ {T : Type 0} where
-  -- whether the names are new and fit, where they are given
+  -- whether the names are new and fit, if they are issued
   abbrev takes_new : State T → NewNames → Request T → Bool
   takes_new S f (Asks a) = takes S a (limit_tickets S (act S a f)).0 f
   takes_new S f _ = true
@@ -76,7 +76,7 @@ module _ {T : Type 0} where
     abbrev S : State T
     S = stage b c g o n p
 
-    -- the places after a call that was answered
+    -- the places after a call with a reply
     pub hears_on : (R : State T) (before : List (Held T)) (call : Call T) (a : Action T)
         (f : NewNames) (x : SessionReply T) (row : SessionRow T) (answer : Answer T)
         → is_short answer R.next ≡ false → takes R a answer f ≡ true → reply_of call answer ≡ x
@@ -92,7 +92,7 @@ module _ {T : Type 0} where
       abbrev here : SessionState T
       here = record { state = S; table = table }
 
-      -- what a row replies from what a call asks there
+      -- what a row replies from what a call requests there
       pub comes : Call T → NewNames → SessionReply T → SessionRow T → Request T → Type 0
       comes call f x row asked =
           let out : SessionReply T × SessionState T = comes_to here call f asked in

@@ -1,4 +1,4 @@
--- Worked rows of the machine: histories that start where nothing was made.
+-- Worked rows of the machine: histories that start from a fresh store.
 use Rattle.std.specs.Prelude.{◌∷◌, [], true, false, None, Some, ◌-◌, ◌^◌}
 use Rattle.std.specs.FinMap as map
 use Rattle.std.specs.FinSet as set
@@ -46,8 +46,8 @@ module _ {T : Type 0} (u v w : T) (L M R W : Location) where
       ∷ Read (box (2 # 1) L) R ⇒ BorrowRefused (Dropped L)
       ∷ count_is 3 3 0 0 3 ∷ []
 
-  -- An owner's box of a shared value ends under a reader, where an outside reference keeps the
-  -- value, and the reader's guard still opens it.
+  -- An owner's box of a shared value ends under a reader if an outside reference keeps the value, and the
+  -- reader's guard still opens it.
   abbrev pub a_borrow_of_what_lives_on_hinders_no_release : Row T
   a_borrow_of_what_lives_on_hinders_no_release =
       NewOwner ⇒ Owned (owner 0)
@@ -60,7 +60,7 @@ module _ {T : Type 0} (u v w : T) (L M R W : Location) where
       ∷ count_is 3 1 0 2 3
       ∷ Write (box (2 # 1) L) M ⇒ BorrowRefused (BeingRead (R ∷ [])) ∷ []
 
-  -- An owner's last release is refused where its second box is read, and its first box still reads.
+  -- An owner's last release fails while its second box is read, and its first box can still be read.
   -- Without the reader both boxes end.
   abbrev pub a_release_under_a_reader_changes_nothing : Row T
   a_release_under_a_reader_changes_nothing =
@@ -92,7 +92,7 @@ module _ {T : Type 0} (u v w : T) (L M R W : Location) where
       ∷ Read (box (0 # 1) L) R ⇒ BorrowRefused (Dropped L)
       ∷ ReleaseOwner (owner 0) ⇒ Refused UnknownOwner ∷ []
 
-  -- Where one of two owner values is leaked, the release of the other ends no box.
+  -- If one of two owner values is leaked, the release of the other removes no box.
   abbrev pub a_leaked_clone_keeps_the_boxes : Row T
   a_leaked_clone_keeps_the_boxes =
       NewOwner ⇒ Owned (owner 0)
@@ -103,7 +103,7 @@ module _ {T : Type 0} (u v w : T) (L M R W : Location) where
       ∷ Read (box (0 # 1) L) R ⇒ Reads (guard (0 # 1) 2)
       ∷ guard (0 # 1) 2 opens Some v ∷ []
 
-  -- Where the next ticket is the last number, what would take one is refused, and all else goes on.
+  -- If the next ticket is the last number, a call that needs one fails, and all other calls go on.
   abbrev pub the_last_ticket_is_never_given : Row T
   the_last_ticket_is_never_given =
       Make None v L takes 0 # 1 ⇒ Made (box (0 # 1) L)
@@ -115,7 +115,7 @@ module _ {T : Type 0} (u v w : T) (L M R W : Location) where
       ∷ End (box (0 # 1) L) ⇒ Done
       ∷ Read (box (0 # 1) L) R ⇒ BorrowRefused (Dropped L) ∷ []
 
-  -- One ticket is left for an owner, and none for its clone.
+  -- One ticket remains for an owner, and none for its clone.
   abbrev pub the_ticket_before_the_last_is_given : Row T
   the_ticket_before_the_last_is_given =
       NewOwner ⇒ Owned (owner (2 ^ 64 - 2))
@@ -123,8 +123,8 @@ module _ {T : Type 0} (u v w : T) (L M R W : Location) where
       ∷ ReleaseOwner (owner (2 ^ 64 - 2)) ⇒ Done
       ∷ CloneOwner (owner (2 ^ 64 - 2)) ⇒ Refused UnknownOwner ∷ []
 
-  -- A box of another store is told its own location though its name is live here; its end, a
-  -- setting, and its turning change nothing.
+  -- A call on a box of another store fails with the box's own location, even if its name is live here;
+  -- its removal, a `set`, and a `point_to` change nothing.
   abbrev pub boxes_of_another_store_reach_nothing : Row T
   boxes_of_another_store_reach_nothing =
       MakeShared None v M takes 0 # 1 and 1 # 1 ⇒ Made (box (1 # 1) M)
@@ -138,8 +138,8 @@ module _ {T : Type 0} (u v w : T) (L M R W : Location) where
       ∷ Read (box (1 # 1) M) R ⇒ Reads (guard (0 # 1) 0)
       ∷ guard (0 # 1) 0 opens Some v ∷ []
 
-  -- An owner of another store, with the key of one here, is unknown, and so is such a guard: the
-  -- borrow that stands here stays.
+  -- An owner of another store, with the key of one here, is unknown, and so is such a guard: the borrow
+  -- here stays.
   abbrev pub owners_and_guards_of_another_store_are_unknown : Row T
   owners_and_guards_of_another_store_are_unknown =
       NewOwner ⇒ Owned (owner 0)
@@ -154,8 +154,8 @@ module _ {T : Type 0} (u v w : T) (L M R W : Location) where
       ∷ ReleaseReader (guard (0 # 1) 1) ⇒ Flag false
       ∷ Read (box (0 # 1) L) R ⇒ BorrowRefused (BeingWritten W) ∷ []
 
-  -- The end of one of two references is hindered by no reader of the value and leaves it; the end
-  -- of the last one is hindered, and then ends it.
+  -- No reader of the value hinders the removal of one of two references, which leaves the value; a reader
+  -- hinders the removal of the last one, which removes the value after that.
   abbrev pub a_value_ends_with_its_last_reference : Row T
   a_value_ends_with_its_last_reference =
       MakeShared None v L takes 0 # 1 and 1 # 1 ⇒ Made (box (1 # 1) L)
@@ -170,7 +170,7 @@ module _ {T : Type 0} (u v w : T) (L M R W : Location) where
       ∷ End (box (2 # 1) L) ⇒ Done
       ∷ count_is 3 3 0 0 3 ∷ []
 
-  -- A second box in the slot of an ended one makes no slot; the first stays ended.
+  -- A second box in the slot of a removed one makes no slot; the first stays removed.
   abbrev pub an_ended_slot_is_free_for_another_box : Row T
   an_ended_slot_is_free_for_another_box =
       NewOwner ⇒ Owned (owner 0)
@@ -184,7 +184,7 @@ module _ {T : Type 0} (u v w : T) (L M R W : Location) where
       ∷ CanRead (box (0 # 1) L) ⇒ Flag false
       ∷ CanRead (box (0 # 2) M) ⇒ Flag true ∷ []
 
-  -- A slot whose box ends at the last generation is neither live nor free, and another is made.
+  -- A slot whose box is removed at the last generation is neither live nor free, and another is made.
   abbrev pub a_slot_that_ends_at_the_last_generation_is_retired : Row T
   a_slot_that_ends_at_the_last_generation_is_retired =
       Make None v L takes 0 # (2 ^ 64 - 1) ⇒ Made (box (0 # (2 ^ 64 - 1)) L)
@@ -195,9 +195,9 @@ module _ {T : Type 0} (u v w : T) (L M R W : Location) where
       ∷ count_is 2 0 1 1 1
       ∷ Read (box (0 # (2 ^ 64 - 1)) L) R ⇒ BorrowRefused (Dropped L) ∷ []
 
-  -- ---- readers, writers, and boxes that have ended
+  -- ---- readers, writers, and boxes that were removed
 
-  -- Two readers at one location are two: a release takes away one of them, and only once.
+  -- Two readers at one location are two: a release removes one of them, and only once.
   abbrev leave_by_their_tickets : Name → Row T
   leave_by_their_tickets b =
       Read (box b M) L ⇒ Reads (guard (0 # 1) 0)
@@ -240,8 +240,8 @@ module _ {T : Type 0} (u v w : T) (L M R W : Location) where
       ∷ ReleaseReader (guard (0 # 1) 2) ⇒ Flag true
       ∷ Write (box (0 # 1) R) W ⇒ BorrowRefused (BeingRead (L ∷ M ∷ [])) ∷ []
 
-  -- Under a writer reads and writes are refused with the writer's location, and the tests say so;
-  -- its value comes back by its release, once.
+  -- Under a writer, reads and writes fail with the writer's location, and the tests return false; its
+  -- release puts its value back, once.
   abbrev keep_others_out : Name → Row T
   keep_others_out b =
       CanRead (box b L) ⇒ Flag true
@@ -278,8 +278,8 @@ module _ {T : Type 0} (u v w : T) (L M R W : Location) where
       ∷ Read (box (0 # 1) L) R ⇒ Reads (guard (0 # 1) 1)
       ∷ guard (0 # 1) 1 opens Some w ∷ []
 
-  -- A value is set only where nothing borrows it: it comes back under a reader and under a writer,
-  -- who keep what they have, and an ended box is told its own location.
+  -- A value is set only if nothing borrows it: it comes back under a reader and under a writer, who keep
+  -- what they have, and for a removed box the error has its own location.
   abbrev pub what_is_borrowed_or_gone_is_not_set : Row T
   what_is_borrowed_or_gone_is_not_set =
       Make None u L takes 0 # 1 ⇒ Made (box (0 # 1) L)
@@ -295,8 +295,8 @@ module _ {T : Type 0} (u v w : T) (L M R W : Location) where
       ∷ End (box (0 # 1) L) ⇒ Done
       ∷ SetValue (box (0 # 1) L) u ⇒ BorrowRefused (Dropped L) ∷ []
 
-  -- A box whose slot has a new cell is told its own location, and its end leaves the new cell's
-  -- writer alone.
+  -- A call on a box whose slot has a new cell fails with the box's own location, and its removal leaves
+  -- the new cell's writer alone.
   abbrev pub an_ended_box_tells_of_no_other : Row T
   an_ended_box_tells_of_no_other =
       Make None v L takes 0 # 1 ⇒ Made (box (0 # 1) L)
@@ -310,8 +310,8 @@ module _ {T : Type 0} (u v w : T) (L M R W : Location) where
       ∷ ReleaseWriter (guard (0 # 2) 0) w ⇒ Done
       ∷ End (box (0 # 2) M) ⇒ Done ∷ []
 
-  -- Memory may lack for a slot where too few are free, for an owner's record and list, for a reader
-  -- beside another, and for a list of readers that is told; else it doesn't.
+  -- Allocations may fail for a slot if too few are free, for an owner's record and list, for a reader
+  -- next to another, and for an error's list of readers; there are no others.
   abbrev pub memory_may_lack_where_room_is_needed : Row T
   memory_may_lack_where_room_is_needed =
       Make None v L lacks true
@@ -335,10 +335,10 @@ module _ {T : Type 0} (u v w : T) (L M R W : Location) where
       ∷ CloneOwner (owner 1) lacks false
       ∷ ReleaseOwner (owner 1) lacks false ∷ []
 
-  -- ---- references, where they point, and what a turn and a release ask first
+  -- ---- references, what they point to, and what `point_to` and a release check first
 
-  -- A box that has ended points to itself, wherever it was made; to another that has ended it is
-  -- refused with the other's location.
+  -- A removed box points to itself, whatever its location; to another removed one, `point_to` fails with
+  -- the other's location.
   abbrev pub an_ended_box_points_to_itself_alone : Row T
   an_ended_box_points_to_itself_alone =
       Make None v L takes 0 # 1 ⇒ Made (box (0 # 1) L)
@@ -351,7 +351,7 @@ module _ {T : Type 0} (u v w : T) (L M R W : Location) where
       ∷ Point (box (1 # 1) M) (box (0 # 1) L) ⇒ BorrowRefused (Dropped L)
       ∷ count_is 2 2 0 0 2 ∷ []
 
-  -- Between a plain box and a shared one the answer is the location of the one that is pointed to.
+  -- Between a plain box and a shared one the error has the location of the one that is pointed to.
   abbrev pub a_plain_box_neither_points_nor_is_pointed_to : Row T
   a_plain_box_neither_points_nor_is_pointed_to =
       Make None v L takes 0 # 1 ⇒ Made (box (0 # 1) L)
@@ -360,8 +360,8 @@ module _ {T : Type 0} (u v w : T) (L M R W : Location) where
       ∷ Point (box (2 # 1) M) (box (0 # 1) L) ⇒ BorrowRefused (Dropped L)
       ∷ count_is 3 0 0 3 3 ∷ []
 
-  -- A reference doesn't leave the value that no other names while it is read; afterwards it does,
-  -- and the old value ends.
+  -- The last reference to a value can't be pointed elsewhere while the value is read; afterwards it can,
+  -- and the old value is removed.
   abbrev pub a_turn_from_a_borrowed_last_value_is_refused : Row T
   a_turn_from_a_borrowed_last_value_is_refused =
       MakeShared None v L takes 0 # 1 and 1 # 1 ⇒ Made (box (1 # 1) L)
@@ -375,8 +375,8 @@ module _ {T : Type 0} (u v w : T) (L M R W : Location) where
       ∷ guard (2 # 1) 1 opens Some w
       ∷ count_is 4 1 0 3 4 ∷ []
 
-  -- The turned reference reads the other value, and the box that was turned from reads the old one.
-  -- Both values end with their last boxes.
+  -- The turned reference reads the other value, and the box that it was turned from reads the old one.
+  -- Both values are removed with their last boxes.
   abbrev pub a_reference_turns_to_another_value : Row T
   a_reference_turns_to_another_value =
       NewOwner ⇒ Owned (owner 0)
@@ -398,8 +398,8 @@ module _ {T : Type 0} (u v w : T) (L M R W : Location) where
       ∷ Read (box (2 # 1) L) R ⇒ BorrowRefused (Dropped L)
       ∷ count_is 5 5 0 0 5 ∷ []
 
-  -- A reference to a plain box is refused with its location, also under a reader; under a writer it
-  -- is refused with the writer's.
+  -- A reference to a plain box fails with its location, also under a reader; under a writer it fails with
+  -- the writer's.
   abbrev pub a_plain_box_has_no_reference : Row T
   a_plain_box_has_no_reference =
       Make None v L takes 0 # 1 ⇒ Made (box (0 # 1) L)
@@ -411,8 +411,8 @@ module _ {T : Type 0} (u v w : T) (L M R W : Location) where
       ∷ Refer None (box (0 # 1) L) ⇒ BorrowRefused (BeingWritten W)
       ∷ count_is 1 0 0 1 1 ∷ []
 
-  -- Where a box has turned to a value made at M, a plain box is refused with M, and a reference to
-  -- it has M. An ended box is refused with its own location.
+  -- After a box was turned to a value made at M, pointing a plain box to it fails with M, and a reference
+  -- to it has M. A removed box fails with its own location.
   abbrev pub a_turned_box_leads_to_the_location_of_its_new_value : Row T
   a_turned_box_leads_to_the_location_of_its_new_value =
       MakeShared None v L takes 0 # 1 and 1 # 1 ⇒ Made (box (1 # 1) L)
@@ -426,8 +426,8 @@ module _ {T : Type 0} (u v w : T) (L M R W : Location) where
       ∷ End (box (1 # 1) L) ⇒ Done
       ∷ CanRead (box (1 # 1) L) ⇒ Flag false ∷ []
 
-  -- A turn to what is named already, and one from a value that another box names, go on under a
-  -- reader; one to a value that is being written is refused with the writer's location.
+  -- `point_to` to the same value, and from a value that another box refers to, succeeds under a reader;
+  -- to a value that is being written it fails with the writer's location.
   abbrev pub a_turn_is_hindered_by_no_borrow_of_what_lives_on : Row T
   a_turn_is_hindered_by_no_borrow_of_what_lives_on =
       MakeShared None v L takes 0 # 1 and 1 # 1 ⇒ Made (box (1 # 1) L)
@@ -442,8 +442,8 @@ module _ {T : Type 0} (u v w : T) (L M R W : Location) where
       ∷ Point (box (1 # 1) L) (box (4 # 1) M) ⇒ BorrowRefused (BeingRead (R ∷ []))
       ∷ guard (0 # 1) 0 opens Some v ∷ []
 
-  -- Where two of an owner's boxes are read, the one that was inserted first is told of, in whatever
-  -- slot it stands.
+  -- If two of an owner's boxes are read, the error is that of the one that was inserted first, whatever
+  -- its slot.
   abbrev pub a_release_is_refused_at_the_first_box_listed : Row T
   a_release_is_refused_at_the_first_box_listed =
       NewOwner ⇒ Owned (owner 0)
@@ -459,8 +459,8 @@ module _ {T : Type 0} (u v w : T) (L M R W : Location) where
 
   -- ---- sessions
 
-  -- An owner's value is read, written and ended by places. A release that a reader hinders leaves
-  -- the owner at its place. A guard that was spent, and an owner, are no such then.
+  -- An owner's value is read, written and removed by places. A release that a reader hinders leaves the
+  -- owner at its place. A guard that was consumed, and an owner, are `NoSuch` then.
   abbrev pub places_keep_what_calls_gave : SessionRow T
   places_keep_what_calls_gave =
       call.Owner answers AnOwner
@@ -476,7 +476,7 @@ module _ {T : Type 0} (u v w : T) (L M R W : Location) where
       ∷ call.TryRead (Place 1) R answers Error (Dropped L)
       ∷ call.Insert 0 u M answers NoSuch (Some u) ∷ []
 
-  -- Two values are made and ended, and a third is made: in the slot that was freed last, or first.
+  -- Two values are made and removed, and a third is made: in the slot that was freed last, or first.
   abbrev taken_again : Name → SessionRow T
   taken_again n =
       call.Leak u L gives 0 # 1 answers ABox (box (0 # 1) L)
@@ -491,13 +491,13 @@ module _ {T : Type 0} (u v w : T) (L M R W : Location) where
   abbrev pub the_slot_freed_first_is_taken_again : SessionRow T
   the_slot_freed_first_is_taken_again = taken_again (0 # 2)
 
-  -- one name is given twice, which no store does
+  -- one name is issued twice, which no store does
   abbrev pub one_name_twice : Row T
   one_name_twice =
       Make None v L takes 0 # 1 ⇒ Made (box (0 # 1) L)
       ∷ Make None w M takes 0 # 1 ⇒ Made (box (0 # 1) M) ∷ []
 
-  -- one slot was made, and its cell has ended, or is live
+  -- one slot was made, and its cell was removed, or is live
   abbrev pub one_ended : State T
   one_ended = record (fresh 7 1 0) { given = set.from_list (0 # 1 ∷ []); peak = 1 }
 

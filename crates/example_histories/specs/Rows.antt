@@ -1,4 +1,4 @@
--- Worked rows: calls of the machine one after another, with what each of them should tell.
+-- Worked rows: calls of the machine one after another, with the answer of each of them.
 use Rattle.std.specs.Prelude.{◌≡◌, ℕ, Bool, List, [], ◌∷◌, Option}
 use Rattle.std.specs.FinMap as map
 use Rattle.generational_errors.specs.declared.error.Location.{Location}
@@ -13,16 +13,16 @@ use Rattle.generational_core.specs.Machine.{Action, Answer, NewNames, Outcome, O
 use Rattle.generational_core.specs.Slots.{slots, free, retired}
 use Rattle.generational_core.specs.Steps.{Takes, limit_tickets, may_lack, no_names}
 
--- A line of a row: a call with the names that it takes, whether memory may lack for a call, a look at
--- what a reader's guard opens, or the counts.
+-- A line of a row: a call with the names that it takes, whether a call may fail to allocate, what a
+-- reader's guard opens, or the counts.
 pub data Line (T : Type 0) : Type 0 where
   Call : (action : Action T) (names : NewNames) → Line T
   Ask : (action : Action T) → Line T
   Open : (guard : Guard) → Line T
   Count : Line T
 
--- What a line tells. The counts are of the slots ever made, the free and the retired ones, the
--- live cells, and the most that were live at once.
+-- What a line says. The counts are of the slots ever made, the free and the retired ones, the live cells,
+-- and their peak number.
 pub data Told (T : Type 0) : Type 0 where
   Says : (answer : Answer T) → Told T
   Lacks : (may : Bool) → Told T
@@ -33,12 +33,12 @@ module _ {T : Type 0} where
   abbrev pub counted : State T → Told T
   counted S = Counts (slots S) (free S) (retired S) (map.len S.cells) S.peak
 
--- a line beside what it tells
+-- a line with what it says
 abbrev pub Row : Type 0 → Type 0
 Row T = List (Line T × Told T)
 
--- From a state, each line of a row tells what stands beside it. Each name that a call gives is new
--- and fits, and the state is sound after each call.
+-- From a state, each line of a row says what is paired with it. Each name that a call issues is new and
+-- fits, and the state is sound after each call.
 unfoldable pub Tells : {T : Type 0} → State T → Row T → Type 0
 Tells S [] = Unit {0}
 Tells {T} S ((Call a f, told) ∷ row) =
@@ -48,8 +48,8 @@ Tells S ((Ask a, told) ∷ row) = (Lacks (may_lack S a) ≡ told) × Tells S row
 Tells S ((Open g, told) ∷ row) = (Opens (value_behind S g) ≡ told) × Tells S row
 Tells S ((Count, told) ∷ row) = (counted S ≡ told) × Tells S row
 
--- a row does so, of any values and locations, from a store in which nothing was made, with the
--- number 7, this first generation and this next ticket
+-- a row does so, for any values and locations, from a fresh store with the number 7, this first
+-- generation and this next ticket
 abbrev pub TellsFrom : (T : Type 0)
     → (start next : ℕ) → ((u v w : T) (L M R W : Location) → Row T) → Type 0
 TellsFrom T start next row =
@@ -72,8 +72,8 @@ owner k = record { store = 7; key = k }
 abbrev pub guard : Name → ℕ → Guard
 guard n t = record { store = 7; cell = n; ticket = t }
 
--- a call with its answer, with one name that it takes, or with two; whether memory may lack for a
--- call; a look; the counts
+-- a call with its answer, with one name that it takes, or with two; whether a call may fail to allocate;
+-- a look; the counts
 infix 70 ◌⇒◌
 abbrev pub ◌⇒◌ : {T : Type 0} → Action T → Answer T → Line T × Told T
 a ⇒ r = (Call a no_names, Says r)

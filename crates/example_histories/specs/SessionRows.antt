@@ -1,4 +1,4 @@
--- Rows of sessions: calls that name earlier ones by their places, with their replies.
+-- Rows of sessions: calls that refer to earlier ones by their places, with their replies.
 use Rattle.std.specs.Prelude.{◌≡◌, List, [], ◌∷◌}
 use Rattle.generational_errors.specs.declared.error.Location.{Location}
 use Rattle.generational_core.specs.Conditions.{fresh}
@@ -14,7 +14,7 @@ use Rattle.generational_sessions.specs.Session.Request.{Asks, Tells, Swaps}
 use Rattle.generational_sessions.specs.Session.SessionReply.{TheOld}
 use Rattle.generational_sessions.specs.SoundSession.{IsSoundSession}
 
--- a call of a session and the names that it takes, beside its reply
+-- a call of a session and the names that it takes, with its reply
 pub record Answered (T : Type 0) : Type 0 where
   pub call : Call T
   pub names : NewNames
@@ -24,20 +24,20 @@ abbrev pub SessionRow : Type 0 → Type 0
 SessionRow T = List (Answered T)
 
 module _ {T : Type 0} where
-  -- what a call comes to that asks this, where it takes these names
+  -- what a call with this request comes to, if it takes these names
   abbrev pub comes_to : SessionState T → Call T → NewNames → Request T
       → SessionReply T × SessionState T
   comes_to s c f (Asks a) = settle s c (limit_tickets s.state (act s.state a f))
   comes_to s c f (Tells x) = (x, add_place s Nothing)
   comes_to s c f (Swaps p g v old) = (TheOld old, add_place (swap s p g v) Nothing)
 
-  -- the names are new and fit, where it gives them
+  -- the names are new and fit, if it issues them
   abbrev pub TakesNew : State T → NewNames → Request T → Type 0
   TakesNew S f (Asks a) = Takes S a (limit_tickets S (act S a f)).0 f
   TakesNew S f _ = Unit {0}
 
--- From a session, each call of a row has its reply. Each name that it gives is new and fits, and
--- what holds of sessions holds after it.
+-- From a session, each call of a row has its reply. Each name that it issues is new and fits, and what
+-- holds of sessions holds after it.
 unfoldable pub Replies : {T : Type 0} → SessionState T → SessionRow T → Type 0
 Replies s [] = Unit {0}
 Replies {T} s (line ∷ row) =

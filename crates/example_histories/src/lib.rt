@@ -1,6 +1,6 @@
-//! Worked histories of the machine: calls one after another, with what each of them must tell. They
-//! show that the definitions of `generational_core` mean what they should. Each function takes
-//! nothing and does nothing: its contract is what was computed.
+//! Worked histories of the machine: calls one after another, with the answer of each of them. They check
+//! that the definitions of `generational_core` mean what they should. Each function takes nothing and
+//! does nothing: its contract is what was computed.
 #![tactic(auto)]
 
 ghost use Rattle.std.specs.Prelude.{◌≡◌, ◌-◌, ◌^◌, map as list_map};
@@ -42,7 +42,7 @@ pub fn owners<T>()
     laws::slots_follow_from_names();
 }
 
-/// Sessions: what their places keep, and two orders of slots.
+/// Sessions: what their places hold, and two orders of slots.
 pub fn sessions<T>()
     ensures places { RepliesFrom T row.places_keep_what_calls_gave }
     ensures last_first { RepliesFrom T row.the_slot_freed_last_is_taken_again }
@@ -57,7 +57,7 @@ pub fn sessions<T>()
         (row.the_slot_freed_first_is_taken_again u v w L M R W) }
 {}
 
-/// Readers, writers, and boxes that have ended.
+/// Readers, writers, and boxes that were removed.
 pub fn borrows<T>()
     ensures readers { TellsFrom T 1 0 row.readers_of_a_value_leave_by_their_tickets }
     ensures shared_readers { TellsFrom T 1 0 row.readers_of_a_shared_value_leave_by_their_tickets }
@@ -71,7 +71,7 @@ pub fn borrows<T>()
     ensures memory { TellsFrom T 1 0 row.memory_may_lack_where_room_is_needed }
 {}
 
-/// References, where they point, and what a turn and a release ask first.
+/// References, what they point to, and what `point_to` and a release check first.
 pub fn references<T>()
     ensures ended_boxes { TellsFrom T 1 0 row.an_ended_box_points_to_itself_alone }
     ensures plain_box { TellsFrom T 1 0 row.a_plain_box_neither_points_nor_is_pointed_to }

@@ -7,7 +7,7 @@ use Rattle.example_histories.proofs.Playing.{cut, more_by, none_by, one_owner, p
 use Rattle.example_histories.specs.Histories as row
 use Rattle.example_histories.proofs.owners.Goals as goal
 
--- a name that was given once isn't new
+-- a name that was issued once isn't new
 twice : {T : Type 0} (u v w : T) (L M R W : Location)
     → Tells (fresh 7 1 0) (row.one_name_twice u v w L M R W) → ⊥
 unfolding Tells
