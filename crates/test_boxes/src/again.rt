@@ -1,4 +1,4 @@
-//! Calls that may lack memory, each asked again where it does: the second time it is answered.
+//! Calls that may fail to allocate; each is made again if it does, and then succeeds.
 
 use crate::expected::{assert_same, begin, counts_of, insert, leak, made, new_owner};
 use generational_box::{
@@ -8,7 +8,7 @@ use generational_box::{
 use std::alloc::Global;
 use std::process::Abort;
 
-/// Makes a box. A making that lacks memory hands the value back, and changes no count.
+/// Makes a box. A making that fails to allocate returns the value, and changes no count.
 pub(crate) fn leak_or_again<T: Drop, S: Storage<T>>(
     rt: &impl Abort,
     store: &mut S,
@@ -38,7 +38,7 @@ pub(crate) fn begin_or_again<T, S: Storage<T>>(
     }
 }
 
-/// Makes an owner. If memory runs out the store is as it was.
+/// Makes an owner. If memory runs out the store is unchanged.
 pub(crate) fn owner_or_again<T, S: AnyStorage<T>>(rt: &impl Abort, store: &mut S) -> Owner {
     let before = (store.is_fresh(), counts_of(store));
     match store.owner() {
@@ -51,7 +51,7 @@ pub(crate) fn owner_or_again<T, S: AnyStorage<T>>(rt: &impl Abort, store: &mut S
     }
 }
 
-/// Makes a box by an owner. A making that lacks memory hands the value back, and changes no count.
+/// Makes a box by an owner. A making that fails to allocate returns the value, and changes no count.
 pub(crate) fn insert_or_again<T: Drop, S: Storage<T>>(
     rt: &impl Abort,
     store: &mut S,
@@ -69,7 +69,7 @@ pub(crate) fn insert_or_again<T: Drop, S: Storage<T>>(
     }
 }
 
-/// The refusal of an end with these readers.
+/// The error of an end with these readers.
 pub(crate) fn readers(
     rt: &impl Abort,
     alloc: Global,
@@ -82,12 +82,12 @@ pub(crate) fn readers(
     Refused::Borrow(BorrowMutError::AlreadyBorrowed(AlreadyBorrowedError::new(began)))
 }
 
-/// Whether a call lacked memory.
+/// Whether a call failed to allocate.
 fn lacks(answer: &Result<(), Refused<BorrowMutError>>) -> bool {
     matches!(answer, Err(Refused::Store(StoreError::OutOfMemory)))
 }
 
-/// Asserts that a call is refused with these readers.
+/// Asserts that a call fails with these readers.
 fn assert_readers(
     rt: &impl Abort,
     alloc: Global,
@@ -97,7 +97,7 @@ fn assert_readers(
     assert_same(rt, answer, &Err(readers(rt, alloc, began)));
 }
 
-/// Asserts that an end is refused with these readers, the second time at the latest.
+/// Asserts that an end fails with these readers, the second time at the latest.
 pub(crate) fn assert_borrowed<T, S: Storage<T>>(
     rt: &impl Abort,
     alloc: Global,
@@ -114,7 +114,7 @@ pub(crate) fn assert_borrowed<T, S: Storage<T>>(
     }
 }
 
-/// Asserts that a box isn't pointed at another while these readers stand, the second time at the
+/// Asserts that a box isn't pointed at another while these readers are active, the second time at the
 /// latest.
 pub(crate) fn assert_held<T, S: Storage<T>>(
     rt: &impl Abort,

@@ -56,7 +56,7 @@ fn stays<S: Storage<u64>>(store: &mut S, made: GenerationalBox<u64>) -> bool {
     !set_value(store, made, 9) && matches!(exchange(store, made, 9, here()), Ok(None))
 }
 
-/// Whether a value stays while a reader stands there; and the value that is read after that.
+/// Whether a value stays while it is read; and the value that is read after that.
 fn value_under_reader<S: Storage<u64>>(
     store: &mut S,
     made: GenerationalBox<u64>,
@@ -81,7 +81,7 @@ fn shared_values<S: Storage<u64>>(store: &mut S) -> Option<(u64, u64)> {
     Some((written, kept))
 }
 
-/// What three rows of a new table show, and one that was never given, after the middle one was removed
+/// What three rows of a new table have, and one that was never issued, after the middle one was removed
 /// twice.
 fn rows_of_table<S: Storage<u64> + Drop>(alloc: Global, store: S) -> Option<[Option<u64>; 4]> {
     let mut table = Table::new(alloc, store);
@@ -133,7 +133,7 @@ fn count_errors(replies: &[Reply<u64>]) -> usize {
     found
 }
 
-/// The error that a read of the box at place 0 is told after another box was made.
+/// The error of a read of the box at place 0 after another box was made.
 fn error_told_later<S: Storage<u64>>(session: &mut Session<u64, S>) -> Option<BorrowMutError> {
     let later = Location::new("callers.rt", 14, 5);
     let (_made, read) = read_later(session, Call::Leak(7, later), 0, later).ok()?;
@@ -153,8 +153,8 @@ fn assert_carried_out<S: Storage<u64>>(
     assert_same(rt, &carries_out(session, call).ok(), &Some(done));
 }
 
-/// A value is kept and read, isn't ended under its reader, and is ended after that; its box is told
-/// so, also after another call.
+/// A value is stored and read, can't be removed under its reader, and is removed after that; a call on
+/// its box fails then, even after another call.
 fn assert_calls<S: Storage<u64>>(rt: &impl Abort, alloc: Global, session: &mut Session<u64, S>) {
     assert_carried_out(rt, session, Call::Leak(6, here()), true);
     assert_carried_out(rt, session, Call::TryRead(BoxAt::Place(0), here()), true);

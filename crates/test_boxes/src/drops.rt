@@ -1,5 +1,5 @@
-//! What is let go: values that end, values that others take the place of, and values that a store
-//! still has when it goes itself. Each is counted by what std's `Rc` counts.
+//! What is dropped: values that are removed, that are replaced, and that a store still has when it is
+//! dropped itself. Each is counted by what std's `Rc` counts.
 
 use crate::expected::{
     assert_released, assert_same, begin, begin_write, end, given, insert, leak, made, new_owner,
@@ -81,7 +81,7 @@ impl Scenario<Counted> for Ends {
     }
 }
 
-// Also where the slot retires with its value.
+// Even if the slot retires with its value.
 #[test]
 fn an_ended_value(rt: HostRuntime) {
     play::<Counted, Ends>(&rt, rt.alloc());
@@ -115,7 +115,7 @@ fn values_of_an_owner(rt: HostRuntime) {
     play::<Counted, Releases>(&rt, rt.alloc());
 }
 
-/// Puts a value in the place of a writer's, and lets the old one go.
+/// Replaces a writer's value, and drops the old one.
 fn replace(guard: &mut GenerationalRefMut<Counted>, value: Counted) {
     let _old = guard.replace(value);
 }
@@ -129,12 +129,12 @@ fn put_back<S: Storage<Counted>>(
     given(rt, guard.release(store));
 }
 
-/// Writes a value in the place of a writer's.
+/// Replaces a writer's value through its view.
 fn overwrite(guard: &mut GenerationalRefMut<Counted>, value: Counted) {
     *guard.deref_mut() = value;
 }
 
-/// A write lets the value go that it takes the place of, and no other.
+/// A write drops the value that it replaces, and no other.
 struct Writes;
 
 impl Scenario<Counted> for Writes {
@@ -158,7 +158,7 @@ impl Scenario<Counted> for Writes {
     }
 }
 
-/// Sets a value that may be written, and lets the old one go.
+/// Sets a value that may be written, and drops the old value.
 fn set<S: Storage<Counted>>(
     rt: &impl Abort,
     store: &mut S,
@@ -172,7 +172,7 @@ fn set<S: Storage<Counted>>(
     }
 }
 
-/// Sets a value that may be written, and hands the old one back.
+/// Sets a value that may be written, and returns the old one.
 fn exchange<S: Storage<Counted>>(
     rt: &impl Abort,
     store: &mut S,
@@ -186,7 +186,7 @@ fn exchange<S: Storage<Counted>>(
     }
 }
 
-/// A set lets the old value go, an exchange hands it back.
+/// A set drops the old value, an exchange returns it.
 struct Sets;
 
 impl Scenario<Counted> for Sets {
@@ -212,7 +212,7 @@ fn a_value_that_is_replaced_or_set_away(rt: HostRuntime) {
     play::<Counted, Sets>(&rt, rt.alloc());
 }
 
-/// Lets go of the value that a refused making hands back.
+/// Drops the value that a failed making returns.
 fn assert_refused(
     rt: &impl Abort,
     made: Result<GenerationalBox<Counted>, Refusal<Counted>>,
@@ -251,7 +251,7 @@ fn assert_not_taken<S: Storage<Counted>>(
     assert_count(rt, value, 1);
 }
 
-/// What a refused making was handed in, and what a writer has of another store, comes back.
+/// The value of a failed making, and that of a writer of another store, comes back.
 struct HandedBack;
 
 impl TwoStoreScenario<Counted> for HandedBack {
@@ -271,7 +271,7 @@ fn end_read<S: Storage<Counted>>(rt: &impl Abort, store: &mut S, guard: Generati
     assert_released(rt, store, guard, true);
 }
 
-/// Ends a box and lets the value go that it hands back.
+/// Removes a box and drops the value that it returns.
 fn take_away<S: Storage<Counted>>(
     rt: &impl Abort,
     store: &mut S,
@@ -283,7 +283,7 @@ fn take_away<S: Storage<Counted>>(
     assert!(rt; Rc::ptr_eq(&taken, value));
 }
 
-/// Asserts that a box hands nothing back.
+/// Asserts that a box returns nothing.
 fn assert_none_taken<S: Storage<Counted>>(
     rt: &impl Abort,
     store: &mut S,
@@ -292,7 +292,7 @@ fn assert_none_taken<S: Storage<Counted>>(
     assert!(rt; asked.take(store).is_none());
 }
 
-/// It is the caller's alone. One that somebody reads, or that is shared, isn't handed back.
+/// It is the caller's alone. One that is read, or that is shared, isn't returned.
 struct HandsOut;
 
 impl Scenario<Counted> for HandsOut {
@@ -320,7 +320,7 @@ fn a_value_that_comes_back(rt: HostRuntime) {
     play_at_last_generation::<Counted, HandsOut>(&rt, rt.alloc());
 }
 
-/// It is let go once, with the last reference to it.
+/// It is dropped once, with the last reference to it.
 struct Shares;
 
 impl Scenario<Counted> for Shares {
@@ -340,7 +340,7 @@ impl Scenario<Counted> for Shares {
     }
 }
 
-/// A reference that is pointed elsewhere lets the value go to which it was the last.
+/// A reference that is pointed elsewhere drops the value if it was the last reference to it.
 struct Turns;
 
 impl Scenario<Counted> for Turns {
@@ -381,14 +381,14 @@ impl Scenario<Counted> for Clones {
     }
 }
 
-// A view's clone is one more, and whoever has it lets it go.
+// A view's clone is another one, which its holder drops.
 #[test]
 fn a_value_that_was_cloned(rt: HostRuntime) {
     play::<Counted, Clones>(&rt, rt.alloc());
 }
 
-/// Makes a box by nobody, one by an owner that is leaked, and a shared value with two references, in a
-/// store that goes.
+/// Makes a box without an owner, one by an owner that is leaked, and a shared value with two references,
+/// in a store that is dropped.
 fn fill<S: Storage<Counted> + Drop>(rt: &impl Abort, mut store: S, value: &Counted) {
     leak_clone(rt, &mut store, value);
     let owner = new_owner(rt, &mut store);
@@ -399,7 +399,7 @@ fn fill<S: Storage<Counted> + Drop>(rt: &impl Abort, mut store: S, value: &Count
     assert_count(rt, value, 4);
 }
 
-/// Begins a read and a write of two values, in a store that goes.
+/// Begins a read and a write of two values, in a store that is dropped.
 fn borrow_two<S: Storage<Counted> + Drop>(
     rt: &impl Abort,
     mut store: S,
@@ -411,7 +411,7 @@ fn borrow_two<S: Storage<Counted> + Drop>(
     (reader, begin_write(rt, &mut store, second, written()))
 }
 
-/// Spends guards whose store is gone: the reader's value went with it, the writer's is the guard's.
+/// Consumes guards whose store is gone: the reader's value went with it, the writer's is the guard's.
 fn spend<S: Storage<Counted> + Drop>(
     rt: &impl Abort,
     mut store: S,
@@ -445,15 +445,15 @@ impl LifeOfTwo<Counted> for OutlivedByGuards {
     }
 }
 
-// What is live, what is shared, what is leaked by its owner and what is read goes with the store.
-// What is written goes with its guard.
+// Live and shared values, values of leaked owners, and values that are read are dropped with the store.
+// Values that are written are dropped with their guards.
 #[test]
 fn values_of_a_store(rt: HostRuntime) {
     live::<Counted, Filled>(&rt, rt.alloc());
     live_in_two_stores::<Counted, OutlivedByGuards>(&rt, rt.alloc());
 }
 
-/// The calls of the next tests, by their places. Those that hand in no value let it go.
+/// The calls of the next tests, by their places. Those that take no value drop it.
 fn call_at(place: usize, value: Counted) -> Call<Counted> {
     match place {
         0 => Call::Leak(value, made()),
@@ -500,8 +500,8 @@ fn finish<S: Storage<Counted> + Drop>(
     assert_count(rt, value, 1);
 }
 
-/// A session lets go what it ends and what comes back in a reply, and keeps a writer's value up to
-/// the store's end.
+/// A session drops what it removes and what comes back in a reply, and keeps a writer's value until the
+/// store is dropped.
 struct Calls;
 
 impl Life<Counted> for Calls {
@@ -516,7 +516,7 @@ impl Life<Counted> for Calls {
     }
 }
 
-/// Runs the calls as one list, and lets the replies go.
+/// Runs the calls as one list, and drops the replies.
 fn run<S: Storage<Counted>>(
     rt: &impl Abort,
     alloc: Global,

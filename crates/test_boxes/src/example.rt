@@ -6,19 +6,19 @@ use generational_box::{GenerationalBox, Location, Storage};
 use std::alloc::Global;
 use std::process::Abort;
 
-/// The length of a text that is kept in a store, read and ended. The store goes then.
+/// The length of a text that is kept in a store, read and ended. The store is dropped then.
 pub fn length_in<S: Storage<String> + Drop>(mut store: S, text: String) -> Option<usize> {
     let here = Location::new("example.rt", 9, 16);
 
     // The store owns the text. The box is Copy, and owns nothing.
     let made = GenerationalBox::leak(&mut store, text, here).ok()?;
 
-    // A guard names its borrow, and lends a view of the value. It must be released.
+    // A guard refers to its borrow, and gives a view of the value. It must be released.
     let guard = made.try_read(&mut store, here).ok()?;
     let length = guard.deref(&store).map(|view| view.len());
     guard.release(&mut store);
 
-    // The text ends. The box stays a box, and a read of it is refused.
+    // The text ends. The box stays a box, and a read of it fails.
     made.manually_drop(&mut store).ok()?;
     match made.try_read(&mut store, here) {
         Ok(guard) => {
@@ -29,7 +29,7 @@ pub fn length_in<S: Storage<String> + Drop>(mut store: S, text: String) -> Optio
     }
 }
 
-/// A text that is kept in a store and handed back. The store goes then.
+/// A text that is kept in a store and returned. The store is dropped then.
 pub fn back_from<S: Storage<String> + Drop>(mut store: S, text: String) -> Option<String> {
     let made = GenerationalBox::leak(&mut store, text, Location::new("example.rt", 39, 16)).ok()?;
     let name: String = made.take(&mut store)?;
@@ -41,7 +41,7 @@ fn hello(rt: &impl Abort, alloc: Global) -> String {
     String::from_str(alloc, "hello world").expect(rt, "memory")
 }
 
-/// A text that its store hands back.
+/// A text that its store returns.
 struct HandedBack;
 
 impl<R: Abort> Over<String, R> for HandedBack {

@@ -8,7 +8,7 @@ use generational_box::{
 use std::alloc::Global;
 use std::process::Abort;
 
-/// What a box tells by itself.
+/// What a box has without its store.
 fn tell(one: GenerationalBox<u64>, other: GenerationalBox<u64>) -> bool {
     let is_same = one.ptr_eq(&other);
     let have_one_id = one.id() == other.id();
@@ -45,7 +45,7 @@ fn lead<S: Storage<u64>>(store: &mut S, owner: &Owner) -> Option<u64> {
     second.peek(store).copied()
 }
 
-/// A value that is read where nothing is in the way.
+/// A value that is read if nothing is in the way.
 fn read_free<S: Storage<u64>>(
     store: &mut S,
     kept: GenerationalBox<u64>,
@@ -59,7 +59,7 @@ fn read_free<S: Storage<u64>>(
     Ok(seen)
 }
 
-/// A value that is exchanged where nothing is in the way.
+/// A value that is exchanged if nothing is in the way.
 fn exchange<S: Storage<u64>>(
     store: &mut S,
     kept: GenerationalBox<u64>,
@@ -74,7 +74,8 @@ fn exchange<S: Storage<u64>>(
     Ok(Some(old))
 }
 
-/// What a refused write tells: where a reader or the writer began, or where the value was made.
+/// The location in a failed write's error: where a reader or the writer began, or where the value was
+/// made.
 fn met_at(refused: &BorrowMutError) -> Option<Location> {
     match refused {
         BorrowMutError::AlreadyBorrowed(read) => read.borrowed_at().first().copied(),
@@ -100,7 +101,7 @@ fn hold<S: Storage<u64>>(store: &mut S, owner: Owner) -> Result<bool, StoreError
     }
 }
 
-/// A list of calls. Each names what an earlier call gave by the place of that call.
+/// A list of calls. Each refers to the result of an earlier call by that call's place.
 fn run<S: Storage<u64> + Drop>(alloc: Global, store: S) -> Option<u64> {
     if !store.is_fresh() {
         return None;
@@ -118,7 +119,7 @@ fn run<S: Storage<u64> + Drop>(alloc: Global, store: S) -> Option<u64> {
     }
 }
 
-/// Calls one at a time. Each names what an earlier call gave by the place of that call.
+/// Calls one at a time. Each refers to the result of an earlier call by that call's place.
 fn call<S: Storage<u64> + Drop>(alloc: Global, store: S) -> Option<u64> {
     if !store.is_fresh() {
         return None;
@@ -142,7 +143,7 @@ fn make_late(alloc: Global) -> UnsyncStorage<u64> {
     Store::new_at(alloc, 1, numbers)
 }
 
-/// Makes a box that lives until it is ended by hand, and a reference more to a shared value.
+/// Makes a box that lives until it is ended manually, and another reference to a shared value.
 fn leak<S: Storage<u64>>(store: &mut S) -> Option<bool> {
     let value = GenerationalBox::leak(store, 7, made()).ok()?;
     let first = GenerationalBox::leak_rc(store, 8, made()).ok()?;

@@ -1,5 +1,5 @@
-//! The places that the scenarios name, and calls over any store, one a function, with what they
-//! must answer.
+//! The locations of the scenarios, and calls over any store, one a function, with the results that they
+//! must have.
 
 use generational_box::{
     AlreadyBorrowedError, AnyStorage, BorrowError, BorrowMutError, GenerationalBox,
@@ -43,8 +43,8 @@ pub(crate) fn counts_of<T, S: AnyStorage<T>>(store: &S) -> [u64; 6] {
     ]
 }
 
-/// What a call gave that must not be refused. It is proved once, for all types: a closure that takes a
-/// refusal apart is proved at each place.
+/// The result of a call that must not fail. It is proved once, for all types: a closure that destructures
+/// an error is proved at each use.
 pub(crate) fn given<T, E: Drop>(rt: &impl Abort, answer: Result<T, E>) -> T {
     match answer {
         Ok(given) => given,
@@ -114,7 +114,7 @@ pub(crate) fn release<T, S: AnyStorage<T>>(rt: &impl Abort, store: &mut S, owner
     }
 }
 
-/// The owner that comes back from a release that is refused so.
+/// The owner that comes back from a release that fails so.
 pub(crate) fn assert_kept<T, S: AnyStorage<T>>(
     rt: &impl Abort,
     store: &mut S,
@@ -130,12 +130,12 @@ pub(crate) fn assert_kept<T, S: AnyStorage<T>>(
     }
 }
 
-/// The refusal of a read of a box that was made at a location.
+/// The error of a read of a box that was made at a location.
 pub(crate) fn dropped(made: Location) -> Refused<BorrowError> {
     Refused::Borrow(BorrowError::Dropped(ValueDroppedError::new(made)))
 }
 
-/// The refusal of an end while readers stand that began at these locations, in this order.
+/// The error of an end while it is read by readers that began at these locations, in this order.
 pub(crate) fn borrowed(
     rt: &impl Abort,
     alloc: Global,
@@ -157,7 +157,7 @@ pub(crate) fn assert_reads<S: Storage<u32>>(
     assert_released(rt, store, guard, true);
 }
 
-/// The owner that comes back from a release while a reader stands that began at this location.
+/// The owner that comes back from a release while a reader that began at this location is active.
 pub(crate) fn assert_kept_by_reader<T, S: AnyStorage<T>>(
     rt: &impl Abort,
     alloc: Global,
@@ -168,7 +168,7 @@ pub(crate) fn assert_kept_by_reader<T, S: AnyStorage<T>>(
     assert_kept(rt, store, owner, borrowed(rt, alloc, &[began]))
 }
 
-/// Asserts that a read is refused so.
+/// Asserts that a read fails so.
 pub(crate) fn assert_unread<T: Drop, S: Storage<T>>(
     rt: &impl Abort,
     store: &mut S,
@@ -184,7 +184,7 @@ pub(crate) fn assert_unread<T: Drop, S: Storage<T>>(
     }
 }
 
-/// Asserts that a making is refused as its owner is unknown, and that this value comes back.
+/// Asserts that a making fails as its owner is unknown, and that this value comes back.
 pub(crate) fn assert_unknown(
     rt: &impl Abort,
     answer: Result<GenerationalBox<u32>, Refusal<u32>>,
@@ -200,7 +200,7 @@ pub(crate) fn assert_unknown(
     }
 }
 
-/// Asserts that a write is refused so.
+/// Asserts that a write fails so.
 pub(crate) fn assert_unwritten<T: Drop, S: Storage<T>>(
     rt: &impl Abort,
     store: &mut S,
@@ -233,12 +233,12 @@ pub(crate) fn assert_released<T, S: Storage<T>>(
     assert_same(rt, &guard.release(store), &is_known);
 }
 
-/// Ends a box's cell.
+/// Removes a box's cell.
 pub(crate) fn end<T, S: Storage<T>>(rt: &impl Abort, store: &mut S, asked: GenerationalBox<T>) {
     given(rt, asked.manually_drop(store));
 }
 
-/// Asserts that the end of a box's cell is refused so.
+/// Asserts that the end of a box's cell fails so.
 pub(crate) fn assert_stays<T, S: Storage<T>>(
     rt: &impl Abort,
     store: &mut S,

@@ -1,8 +1,8 @@
-//! Scenarios that a store of their own is made for: that is done here once, for all of them.
+//! Scenarios with their own stores, which are made here once, for all of them.
 //!
-//! A function that names a store's type, and makes or hands over such a store, is proved with all that a
-//! storage must meet, which takes as long as ten others. So a store is made by its `Kind`, which its user
-//! doesn't know, and `run_over` alone says which kind that is.
+//! A function with a concrete store type, which makes or passes on such a store, is proved with all that
+//! a storage must meet, which takes as long as ten others. So a store is made by its `Kind`, which its
+//! user doesn't know, and `run_over` alone says which kind that is.
 
 use crate::sessions::session_over;
 use generational_box::{
@@ -46,7 +46,7 @@ impl<T: Drop, P: SlotPool + Drop> Kind<T> for P {
     }
 }
 
-/// What is done with stores of whatever kind, of a number and with a beginning that are handed in.
+/// What is done with stores of whatever kind, of a number and with a beginning that are passed in.
 pub(crate) trait Over<T, R> {
     type Answer;
 
@@ -73,7 +73,7 @@ pub(crate) fn run_over_oldest_first<T: Drop, R, A: Over<T, R>>(
     A::run::<OldestFirst>(rt, alloc, number, beginning)
 }
 
-/// What happens with a store that goes in the end.
+/// What happens with a store that is dropped in the end.
 pub(crate) trait Life<T> {
     fn live<R: Abort, S: Storage<T> + Drop>(rt: &R, alloc: Global, store: S);
 }
@@ -89,12 +89,12 @@ impl<T, R: Abort, P: Life<T>> Over<T, R> for Lived<P> {
     }
 }
 
-/// Hands an empty store over, which begins so.
+/// Runs a life over an empty store with these first numbers.
 fn live_from<T: Drop, P: Life<T>>(rt: &impl Abort, alloc: Global, beginning: Beginning) {
     run_over::<T, _, Lived<P>>(rt, alloc, 7, beginning);
 }
 
-/// Hands an empty store over.
+/// Runs a life over an empty store.
 pub(crate) fn live<T: Drop, P: Life<T>>(rt: &impl Abort, alloc: Global) {
     live_from::<T, P>(rt, alloc, Beginning::First);
 }
@@ -145,12 +145,12 @@ impl<T, R: Abort, P: LifeOfTwo<T>> Over<T, R> for LivedOfTwo<P> {
     }
 }
 
-/// Hands two empty stores over, of which one has the number 7 and the other this one.
+/// Runs a life over two empty stores, of which one has the number 7 and the other this one.
 fn live_with<T: Drop, P: LifeOfTwo<T>>(rt: &impl Abort, alloc: Global, number: u64) {
     run_over::<T, _, LivedOfTwo<P>>(rt, alloc, number, Beginning::First);
 }
 
-/// Hands two empty stores over, with the numbers 7 and 8.
+/// Runs a life over two empty stores, with the numbers 7 and 8.
 pub(crate) fn live_in_two_stores<T: Drop, P: LifeOfTwo<T>>(rt: &impl Abort, alloc: Global) {
     live_with::<T, P>(rt, alloc, 8);
 }

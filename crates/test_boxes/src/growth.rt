@@ -1,9 +1,9 @@
 //! How a store and a session grow: by leaps that become larger, and never by much more than they
 //! need.
 //!
-//! A test can't count what was asked of the allocator. So it asks the system, as it goes, how much
-//! memory the process has mapped. What grows by leaps changes that a few times, and what grows by
-//! one at a time changes it whenever a page is full.
+//! A test can't count allocations. So it asks the system now and then how much memory the process has
+//! mapped. What grows by leaps changes that a few times, and what grows by one at a time changes it
+//! whenever a page is full.
 
 use crate::expected::{given, insert, leak, made, new_owner};
 use crate::fresh::{Beginning, Kind, Over, run_over};
@@ -58,7 +58,7 @@ impl Gauge {
     }
 }
 
-/// What grows in a store that goes in the end.
+/// What grows in a store that is dropped in the end.
 pub(crate) trait Growth<T> {
     fn grow<R: Files + AllocGlobal + Abort, S: Storage<T> + Drop>(rt: &R, alloc: Global, store: S);
 }
@@ -74,7 +74,7 @@ impl<T, R: Files + AllocGlobal + Abort, P: Growth<T>> Over<T, R> for Grown<P> {
     }
 }
 
-/// Hands an empty store over.
+/// Runs a life over an empty store.
 pub(crate) fn grow<T: Drop, P: Growth<T>, R: Files + AllocGlobal + Abort>(rt: &R, alloc: Global) {
     run_over::<T, R, Grown<P>>(rt, alloc, 7, Beginning::First);
 }

@@ -75,7 +75,7 @@ impl Scenario<u32> for BoxesOneAfterTheOther {
     }
 }
 
-/// Slots are told by their numbers.
+/// Slots are identified by their numbers.
 struct BoxesBesideAnotherStore;
 
 impl TwoStoreScenario<u32> for BoxesBesideAnotherStore {

@@ -11,7 +11,7 @@ use generational_box::{GenerationalBox, Owner, Storage};
 use std::alloc::Global;
 use std::process::Abort;
 
-/// Makes a hundred thousand references, by an owner, to the shared value that a box reaches.
+/// Makes a hundred thousand references, by an owner, to the shared value that a box refers to.
 fn insert_references<S: Storage<u32>>(
     rt: &impl Abort,
     store: &mut S,
@@ -23,8 +23,8 @@ fn insert_references<S: Storage<u32>>(
     }
 }
 
-/// A value outside keeps the target of all: its reader is in nobody's way, and that of the last name
-/// is told, twice.
+/// A reference outside keeps the target of all: its reader is in nobody's way, and the error is that of
+/// the last name's reader, twice.
 struct ATargetThatLivesOn;
 
 impl Scenario<u32> for ATargetThatLivesOn {
@@ -46,7 +46,7 @@ impl Scenario<u32> for ATargetThatLivesOn {
     }
 }
 
-/// All references to the target are on the list: its reader is told, as that of the first name.
+/// All references to the target are on the list: the error is that of its reader, at the first name.
 struct ATargetThatGoes;
 
 impl Scenario<u32> for ATargetThatGoes {

@@ -1,5 +1,5 @@
-//! Memory runs out. Each test passes whichever one allocation is refused: `rt try --test
-//! --fail-alloc N` refuses the Nth of each test. What may lack memory is tried a second time.
+//! Memory runs out. Each test passes whichever allocation fails: `rt try --test --fail-alloc N` makes the
+//! Nth of each test fail. What may fail to allocate is tried a second time.
 
 use crate::again::{
     assert_borrowed, begin_or_again, insert_or_again, leak_or_again, owner_or_again, readers,
@@ -20,8 +20,8 @@ use generational_box::{
 use std::alloc::Global;
 use std::process::Abort;
 
-/// The owner that comes back from a release that is refused, with these readers. One that lacks
-/// memory for them ends nothing either.
+/// The owner that comes back from a release that fails, with these readers. One that fails to allocate
+/// for them ends nothing either.
 fn assert_kept_by<S: AnyStorage<u32>>(
     rt: &impl Abort,
     alloc: Global,
@@ -43,7 +43,7 @@ fn assert_kept_by<S: AnyStorage<u32>>(
     back
 }
 
-/// Begins a read beside another, if there is memory. One that lacks it changes nothing.
+/// Begins a read beside another, if there is memory. One that fails changes nothing.
 fn begin_if_memory<S: Storage<u32>>(
     rt: &impl Abort,
     store: &mut S,
@@ -59,7 +59,7 @@ fn begin_if_memory<S: Storage<u32>>(
     }
 }
 
-/// Only a making with no slot free may lack memory.
+/// Only a making with no slot free may fail to allocate.
 struct Slots;
 
 impl Scenario<u32> for Slots {
@@ -74,8 +74,8 @@ impl Scenario<u32> for Slots {
     }
 }
 
-/// A cell's first reader takes no memory. One that lacks it beside others leaves those as they
-/// were, and the store goes on once there is memory.
+/// A cell's first reader doesn't allocate. One that can't be added to others leaves those unchanged, and
+/// the store goes on once there is memory.
 struct ReadersBesideOthers;
 
 impl Scenario<u32> for ReadersBesideOthers {
@@ -103,7 +103,7 @@ fn for_slots_and_readers(rt: HostRuntime) {
     play::<u32, ReadersBesideOthers>(&rt, rt.alloc());
 }
 
-/// The records of owners take memory. A refused owner took no ticket.
+/// The records of owners are allocated. An owner that fails takes no ticket.
 struct Owners;
 
 impl Scenario<u32> for Owners {
@@ -134,9 +134,9 @@ fn assert_told_of_earlier<S: Storage<u32>>(
     owner
 }
 
-/// A making by an owner may lack memory for the owner's list also where a slot is free, as at the
-/// first box here. Each box stands in the list after the one before it: where both are read, the
-/// earlier one is told of.
+/// A making by an owner may fail to allocate for the owner's list even if a slot is free, for example for
+/// the first box here. Each box is in the list after the one before it: if both are read, the error is
+/// that of the earlier one.
 struct BoxesOfAnOwner;
 
 impl Scenario<u32> for BoxesOfAnOwner {
@@ -155,7 +155,7 @@ impl Scenario<u32> for BoxesOfAnOwner {
     }
 }
 
-/// A release that lacks memory to tell of two readers hands the owner back, and the readers go on.
+/// A release that can't allocate its error's two locations returns the owner, and the readers go on.
 struct ReadersOfAnOwnersBox;
 
 impl Scenario<u32> for ReadersOfAnOwnersBox {
@@ -192,7 +192,7 @@ fn two_calls(rt: &impl Abort, alloc: Global) -> Vec<Call<u32>> {
     calls
 }
 
-/// Runs two calls, the second time at the latest. A list that finds no memory comes back whole.
+/// Runs two calls, the second time at the latest. A list that fails to allocate comes back whole.
 fn run_or_again<S: Storage<u32>>(
     rt: &impl Abort,
     session: &mut Session<u32, S>,
@@ -208,7 +208,7 @@ fn run_or_again<S: Storage<u32>>(
     given(rt, ran)
 }
 
-/// Asserts the replies to two calls, of which the first may have lacked memory.
+/// Asserts the replies to two calls, of which the first may have failed to allocate.
 fn assert_two_replies<S: Storage<u32>>(
     rt: &impl Abort,
     session: &Session<u32, S>,
@@ -221,7 +221,7 @@ fn assert_two_replies<S: Storage<u32>>(
     }
 }
 
-/// Whether a call was given a box, or hands itself or its value back.
+/// Whether a call returned a box, or returns itself or its value.
 fn is_made_or_back(answer: &Result<Reply<u32>, Call<u32>>) -> bool {
     match answer {
         Ok(Reply::Box(_) | Reply::Back(6, StoreError::OutOfMemory)) => true,
@@ -230,7 +230,7 @@ fn is_made_or_back(answer: &Result<Reply<u32>, Call<u32>>) -> bool {
     }
 }
 
-/// Makes a box by a call. Where memory lacks, the call or its value comes back.
+/// Makes a box by a call. If an allocation fails, the call or its value comes back.
 fn assert_called<S: Storage<u32>>(rt: &impl Abort, session: &mut Session<u32, S>) {
     let answer = session.call(Call::Leak(6, made()));
     assert_same(rt, &is_made_or_back(&answer), &true);
@@ -247,8 +247,8 @@ impl SessionScenario for Places {
     }
 }
 
-// Calls that find no room for their places or replies come back whole, and have no place: they can
-// be handed in again.
+// Calls that find no room for their places or replies come back whole, and have no place: they can be
+// passed in again.
 #[test]
 fn for_the_places_of_calls(rt: HostRuntime) {
     play_in_session::<Places>(&rt, rt.alloc());
@@ -288,7 +288,7 @@ impl<R: Abort> Over<u32, R> for MakingsInRoom {
     }
 }
 
-// What room was made for takes no memory: no making is tried a second time.
+// What room was made for doesn't allocate: no making is tried a second time.
 #[test]
 fn makings_in_reserved_room(rt: HostRuntime) {
     run_over::<u32, _, MakingsInRoom>(&rt, rt.alloc(), 7, Beginning::First);
@@ -317,7 +317,7 @@ impl<R: Abort> Over<u32, R> for RoomBeyondAll {
     }
 }
 
-// More room than there can be is refused, and takes none.
+// More room than there can be fails, and takes none.
 #[test]
 fn room_beyond_all(rt: HostRuntime) {
     run_over::<u32, _, RoomBeyondAll>(&rt, rt.alloc(), 7, Beginning::First);

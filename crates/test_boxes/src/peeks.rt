@@ -1,4 +1,4 @@
-//! What a box shows in passing, while its value is read, and while it is written.
+//! What `peek` returns while the value is read, and while it is written.
 
 use crate::expected::{
     assert_released, assert_same, begin, begin_write, given, leak, made, read, written,

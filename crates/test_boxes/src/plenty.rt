@@ -1,4 +1,4 @@
-//! Plenty of everything: where there is memory nothing lacks it, however much there is already.
+//! Plenty of everything: if there is memory, no call fails to allocate, however much there is already.
 
 use crate::expected::{
     assert_reads, assert_same, assert_unread, dropped, end, given, insert, leak, made, made_later,

@@ -18,8 +18,8 @@ trait Round {
     fn play(&mut self, rt: &impl Abort, alloc: Global);
 }
 
-/// Plays rounds, and asserts that the process has no more memory after them all than after a
-/// hundred, but for a few pages.
+/// Plays rounds, and asserts that the process has no more memory after them all than after a hundred,
+/// except for a few pages.
 fn assert_steady<R: Files + AllocGlobal + Abort, P: Round>(rt: &R, alloc: Global, played: &mut P) {
     for _ in 0..100 {
         played.play(rt, alloc);
@@ -53,7 +53,7 @@ type Three = (
     GenerationalRef<String>,
 );
 
-/// Begins three reads of one value. Its end is told of all of them.
+/// Begins three reads of one value. The error of its removal has all of them.
 fn read_thrice<S: Storage<String>>(
     rt: &impl Abort,
     alloc: Global,
@@ -83,7 +83,7 @@ fn write_and_set<S: Storage<String>>(
     }
 }
 
-/// Makes boxes by an owner, and releases it. A release is refused meanwhile.
+/// Makes boxes by an owner, and releases it. A release fails meanwhile.
 fn own<S: Storage<String>>(rt: &impl Abort, alloc: Global, store: &mut S) {
     let owner = new_owner(rt, store);
     let only = insert(rt, store, &owner, text(rt, alloc), made());
@@ -149,7 +149,7 @@ fn leave<S: Storage<String>>(rt: &impl Abort, alloc: Global, store: &mut S, othe
     assert_released(rt, other, third, false);
 }
 
-/// Values that are left in a store that goes.
+/// Values that are left in a store that is dropped.
 struct LeftWithStore;
 
 impl LifeOfTwo<String> for LeftWithStore {
@@ -202,7 +202,7 @@ fn calls(rt: &impl Abort, alloc: Global) -> Vec<Call<String>> {
     calls
 }
 
-/// The list, run in a session, and a call more. Then it ends.
+/// The list, run in a session, and another call. Then the session ends.
 struct ListInSession;
 
 impl Life<String> for ListInSession {

@@ -25,8 +25,8 @@ fn target<S: Storage<u32>>(
     store.target(reference.pointer()).expect(rt, "a reference")
 }
 
-/// An ended box has the row of its slot alone, and its name stays on its owner's list. Readers
-/// stand behind the value that they read.
+/// An ended box has the row of its slot alone, and its name stays on its owner's list. Readers come after
+/// the value that they read.
 struct RowsOfEachKind;
 
 impl Scenario<u32> for RowsOfEachKind {

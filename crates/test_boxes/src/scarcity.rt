@@ -1,5 +1,5 @@
-//! Shared values where memory runs out. Each test passes whichever one allocation is refused,
-//! and what may lack memory is tried a second time.
+//! Shared values where memory runs out. Each test passes whichever allocation fails, and what may fail to
+//! allocate is tried a second time.
 
 use crate::again::{assert_held, begin_or_again, owner_or_again};
 use crate::expected::{
@@ -15,8 +15,8 @@ use generational_box::{
 use std::alloc::Global;
 use std::process::Abort;
 
-/// Makes a shared value, the second time at the latest. A making that lacks memory hands the value
-/// back and changes no count, and an own value is made after it.
+/// Makes a shared value, the second time at the latest. A making that fails to allocate returns the value
+/// and changes no count, and an own value is made after it.
 fn leak_rc_or_again<S: Storage<u32>>(
     rt: &impl Abort,
     store: &mut S,
@@ -38,7 +38,7 @@ fn leak_rc_or_again<S: Storage<u32>>(
     }
 }
 
-/// Makes a reference, the second time at the latest. One that lacks memory changes no count.
+/// Makes a reference, the second time at the latest. One that fails to allocate changes no count.
 fn leak_reference_or_again<S: Storage<u32>>(
     rt: &impl Abort,
     store: &mut S,
@@ -54,8 +54,8 @@ fn leak_reference_or_again<S: Storage<u32>>(
     }
 }
 
-/// Makes a shared value by an owner, the second time at the latest. A making that lacks memory
-/// hands the value back, and changes no count.
+/// Makes a shared value by an owner, the second time at the latest. A making that fails to allocate
+/// returns the value, and changes no count.
 fn insert_rc_or_again<S: Storage<u32>>(
     rt: &impl Abort,
     store: &mut S,
@@ -77,7 +77,7 @@ fn insert_rc_or_again<S: Storage<u32>>(
     }
 }
 
-/// Makes a reference by an owner, the second time at the latest. One that lacks memory changes no
+/// Makes a reference by an owner, the second time at the latest. One that fails to allocate changes no
 /// count.
 fn insert_reference_or_again<S: Storage<u32>>(
     rt: &impl Abort,
@@ -95,7 +95,7 @@ fn insert_reference_or_again<S: Storage<u32>>(
     }
 }
 
-/// Only a making with fewer than two slots free may lack memory.
+/// Only a making with fewer than two slots free may fail to allocate.
 struct SharedValues;
 
 impl Scenario<u32> for SharedValues {
@@ -110,7 +110,7 @@ impl Scenario<u32> for SharedValues {
     }
 }
 
-/// A making that finds one slot free leaves it free where it lacks memory for the other.
+/// A making that finds one slot free leaves it free where it fails to allocate for the other.
 struct ValuesBesideOneFreeSlot;
 
 impl Scenario<u32> for ValuesBesideOneFreeSlot {
@@ -132,7 +132,7 @@ fn for_two_new_slots_and_for_one(rt: HostRuntime) {
     play::<u32, ValuesBesideOneFreeSlot>(&rt, rt.alloc());
 }
 
-/// A reference lacks memory only where no slot is free.
+/// A reference fails to allocate only if no slot is free.
 struct References;
 
 impl Scenario<u32> for References {
@@ -147,8 +147,8 @@ impl Scenario<u32> for References {
     }
 }
 
-/// An owner's makings may lack memory for slots and for the owner's list. What is refused leaves no
-/// name in the list.
+/// An owner's makings may fail to allocate for slots and for the owner's list. What fails leaves no name
+/// in the list.
 struct NamesOfAnOwner;
 
 impl Scenario<u32> for NamesOfAnOwner {
@@ -165,8 +165,8 @@ impl Scenario<u32> for NamesOfAnOwner {
     }
 }
 
-/// To point a reference elsewhere takes memory only to tell of readers, and what lacks it leaves the
-/// reference where it was.
+/// Pointing a reference elsewhere allocates only an error's readers, and leaves the reference unchanged
+/// if that fails.
 struct ReadersOfTheOldValue;
 
 impl Scenario<u32> for ReadersOfTheOldValue {
@@ -192,7 +192,7 @@ fn for_references_and_their_readers(rt: HostRuntime) {
     play::<u32, ReadersOfTheOldValue>(&rt, rt.alloc());
 }
 
-/// Whether a call was given a box, or hands itself or its value back.
+/// Whether a call returned a box, or returns itself or its value.
 fn is_shared_or_back(answer: &Result<Reply<u32>, Call<u32>>) -> bool {
     match answer {
         Ok(Reply::Box(_) | Reply::Back(6, StoreError::OutOfMemory)) => true,
@@ -201,13 +201,13 @@ fn is_shared_or_back(answer: &Result<Reply<u32>, Call<u32>>) -> bool {
     }
 }
 
-/// Makes a shared value by a call. Where memory lacks, the call or its value comes back.
+/// Makes a shared value by a call. If an allocation fails, the call or its value comes back.
 fn assert_shared<S: Storage<u32>>(rt: &impl Abort, session: &mut Session<u32, S>) {
     let answer = session.call(Call::LeakRc(6, made()));
     assert_same(rt, &is_shared_or_back(&answer), &true);
 }
 
-/// Whether a call was given a box, finds no such place, is refused, or hands itself back.
+/// Whether a call returned a box, finds no such place, fails, or returns itself.
 fn is_referred_or_back(answer: &Result<Reply<u32>, Call<u32>>) -> bool {
     match answer {
         Ok(Reply::Box(_) | Reply::NoSuch(None)) => true,
@@ -217,7 +217,7 @@ fn is_referred_or_back(answer: &Result<Reply<u32>, Call<u32>>) -> bool {
     }
 }
 
-/// Makes a reference by a call. Where memory lacks, the call comes back, or is refused.
+/// Makes a reference by a call. If an allocation fails, the call comes back, or fails.
 fn assert_referred<S: Storage<u32>>(rt: &impl Abort, session: &mut Session<u32, S>) {
     let answer = session.call(Call::LeakReference(BoxAt::Place(0)));
     assert_same(rt, &is_referred_or_back(&answer), &true);
@@ -234,7 +234,7 @@ impl SessionScenario for Calls {
     }
 }
 
-// A session hands back what finds no place, and answers what finds no slot.
+// A session returns a call without a place, and replies to one without a slot.
 #[test]
 fn for_the_calls_of_a_session(rt: HostRuntime) {
     play_in_session::<Calls>(&rt, rt.alloc());

@@ -16,7 +16,7 @@ pub(crate) fn session_over<T: Drop, S: Storage<T>>(
     Session::new(alloc, store)
 }
 
-/// Answers a call.
+/// Runs a call.
 pub(crate) fn call<T: Drop, S: Storage<T>>(
     rt: &impl Abort,
     session: &mut Session<T, S>,
@@ -25,7 +25,7 @@ pub(crate) fn call<T: Drop, S: Storage<T>>(
     given(rt, session.call(call))
 }
 
-/// Makes a call, and lets its reply go.
+/// Makes a call, and drops its reply.
 pub(crate) fn ask<T: Drop, S: Storage<T>>(
     rt: &impl Abort,
     session: &mut Session<T, S>,
@@ -34,7 +34,7 @@ pub(crate) fn ask<T: Drop, S: Storage<T>>(
     let _reply = call(rt, session, asked);
 }
 
-/// What a reply tells, without what it gives: whoever compares this has no reply to let go.
+/// The kind of a reply, without its contents: comparing it leaves no reply to be dropped.
 pub(crate) mod told {
     pub(crate) const BOX: &str = "a box";
 
@@ -110,8 +110,7 @@ impl Life<u32> for ReadersOfTwo {
 
 /// A session that holds a reader of one box, and an owner of another.
 ///
-/// Once a session has ended nothing stands in the way of a write, of what was read and of what an
-/// owner made.
+/// Once a session has ended nothing is in the way of a write, of what was read and of what an owner made.
 struct ReaderAndOwner;
 
 impl Life<u32> for ReaderAndOwner {

@@ -14,7 +14,7 @@ pub(crate) fn leak_rc<T: Drop, S: Storage<T>>(
     given(rt, GenerationalBox::leak_rc(store, value, made))
 }
 
-/// Makes one reference more to the shared value that a box reaches.
+/// Makes another reference to the shared value that a box refers to.
 pub(crate) fn leak_reference<T, S: Storage<T>>(
     rt: &impl Abort,
     store: &mut S,
@@ -34,7 +34,7 @@ pub(crate) fn insert_rc<T: Drop, S: Storage<T>>(
     given(rt, owner.insert_rc(store, value, made))
 }
 
-/// Makes one reference more, by an owner, to the shared value that a box reaches.
+/// Makes another reference, by an owner, to the shared value that a box refers to.
 pub(crate) fn insert_reference<T, S: Storage<T>>(
     rt: &impl Abort,
     store: &mut S,
@@ -44,7 +44,7 @@ pub(crate) fn insert_reference<T, S: Storage<T>>(
     owner.insert_reference(store, shared).expect(rt, "a box")
 }
 
-/// Lets a reference lead to the shared value that another box reaches.
+/// Points a reference to the shared value that another box refers to.
 pub(crate) fn point<T, S: Storage<T>>(
     rt: &impl Abort,
     store: &mut S,

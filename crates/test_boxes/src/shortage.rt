@@ -1,6 +1,5 @@
-//! Memory runs out at the last numbers, beside another store, and for values of other types. Each
-//! test passes whichever one allocation is refused, and what may lack memory is tried a second
-//! time.
+//! Memory runs out at the last numbers, beside another store, and for values of other types. Each test
+//! passes whichever allocation fails, and what may fail to allocate is tried a second time.
 
 use crate::again::{assert_borrowed, insert_or_again, leak_or_again, owner_or_again};
 use crate::expected::{
@@ -60,7 +59,7 @@ fn assert_exhausted(rt: &impl Abort, answer: Result<Owner, StoreError>) {
 
 /// A store without tickets gives none, for a read or for an owner.
 ///
-/// Where tickets are used up, that is told also where memory would lack.
+/// If tickets are used up, that is the error even if an allocation would fail too.
 struct NoTicket;
 
 impl Scenario<u32> for NoTicket {
@@ -117,8 +116,8 @@ impl TwoStoreScenario<u32> for Strangers {
     }
 }
 
-// A box, an owner and a writer of store 8 change nothing in store 7, which makes no box by such an
-// owner, and hands the values back.
+// A box, an owner and a writer of store 8 change nothing in store 7, which makes no box by such an owner,
+// and returns the values.
 #[test]
 fn beside_another_store(rt: HostRuntime) {
     play_in_two_stores::<u32, Strangers>(&rt, rt.alloc());
@@ -170,7 +169,7 @@ fn assert_parts<S: Storage<(u32, u32)>>(
     assert!(rt; other.try_map(|_pair| None::<&u32>).is_none());
 }
 
-/// Views take no memory, and the borrow stands after them.
+/// Views don't allocate, and the borrow outlives them.
 struct Pairs;
 
 impl Scenario<(u32, u32)> for Pairs {
@@ -183,7 +182,7 @@ impl Scenario<(u32, u32)> for Pairs {
     }
 }
 
-/// A clone that lacks memory leaves nothing behind.
+/// A clone that fails to allocate leaves nothing behind.
 struct Texts;
 
 impl Scenario<String> for Texts {

@@ -1,5 +1,5 @@
-//! Guards and owners of one store that are handed to another, and a box that is handed to a store
-//! of the same number. Boxes of other stores are named by scripts.
+//! Guards and owners of one store that are passed to another, and a box that is passed to a store of the
+//! same number. The scripts use boxes of other stores.
 
 use crate::expected::{
     assert_kept, assert_opens, assert_reads, assert_released, assert_same, assert_shows,
@@ -15,8 +15,8 @@ use generational_box::{
 use std::alloc::Global;
 use std::process::Abort;
 
-/// Two stores each have a reader with ticket 0 at a cell `0@1`. A guard opens nothing in the other
-/// store, and is spent there with no change, so its own cell stays borrowed.
+/// Two stores each have a reader with ticket 0 at a cell `0@1`. A guard opens nothing in the other store,
+/// and is consumed there without a change, so its own cell stays borrowed.
 struct GuardsOfTwo;
 
 impl TwoStoreScenario<u32> for GuardsOfTwo {
@@ -38,8 +38,8 @@ impl TwoStoreScenario<u32> for GuardsOfTwo {
     }
 }
 
-/// A guard of the first store is handed to the second, which doesn't know it: it is spent there with
-/// no change, and both cells stay borrowed.
+/// A guard of the first store is passed to the second, which doesn't know it: it is consumed there
+/// without a change, and both cells stay borrowed.
 struct GuardHandedOver;
 
 impl TwoStoreScenario<u32> for GuardHandedOver {
@@ -59,7 +59,7 @@ impl TwoStoreScenario<u32> for GuardHandedOver {
     }
 }
 
-/// Asserts that a store doesn't know a writer, and hands its value back.
+/// Asserts that a store doesn't know a writer, and returns its value.
 fn assert_handed_back<S: Storage<u32>>(
     rt: &impl Abort,
     store: &mut S,
@@ -69,8 +69,8 @@ fn assert_handed_back<S: Storage<u32>>(
     assert_same(rt, &writer.release(store), &Err(value));
 }
 
-/// A store hands another store's writer its value back, and changes nothing. The writer is spent,
-/// and its cell stays borrowed.
+/// A store returns the value of another store's writer, and changes nothing. The writer is consumed, and
+/// its cell stays borrowed.
 struct WritersOfTwo;
 
 impl TwoStoreScenario<u32> for WritersOfTwo {
@@ -118,7 +118,7 @@ fn a_box_of_a_store_of_one_number_reaches_no_shared_value(rt: HostRuntime) {
     play_in_twins::<u32, BoxOfATwin>(&rt, rt.alloc());
 }
 
-/// Asserts that a store makes no box and no shared value by an owner, and hands the values back.
+/// Asserts that a store makes no box and no shared value by an owner, and returns the values.
 fn assert_not_inserted<S: Storage<u32>>(rt: &impl Abort, store: &mut S, owner: &Owner) {
     assert_unknown(rt, owner.insert(store, 9, made()), 9);
     assert_unknown(rt, owner.insert_rc(store, 9, made()), 9);
@@ -146,9 +146,8 @@ fn assert_not_cloned<S: Storage<u32>>(rt: &impl Abort, store: &mut S, owner: &Ow
     }
 }
 
-/// Each of two stores has an owner of boxes, so both have a record under the same key. Only its own
-/// store knows an owner: another one makes nothing by it, which is told before anything about a box
-/// that it is asked for.
+/// Each of two stores has an owner of boxes, so both have a record under the same key. Only its own store
+/// knows an owner: another one makes nothing by it; that error comes before any about a box.
 struct OwnersOfTwo;
 
 impl TwoStoreScenario<u32> for OwnersOfTwo {
@@ -178,8 +177,8 @@ impl TwoStoreScenario<u32> for OwnersOfTwo {
     }
 }
 
-/// Asserts that a making by an owner of another store is refused, and takes no free slot: the next
-/// value has the slot that was freed last.
+/// Asserts that a making by an owner of another store fails, and takes no free slot: the next value has
+/// the slot that was freed last.
 fn assert_first_free<S: Storage<u32>>(
     rt: &impl Abort,
     store: &mut S,
@@ -192,7 +191,7 @@ fn assert_first_free<S: Storage<u32>>(
     next
 }
 
-/// A making that is refused leaves the free slots in their order.
+/// A making that fails leaves the free slots in their order.
 struct FreeSlots;
 
 impl TwoStoreScenario<u32> for FreeSlots {

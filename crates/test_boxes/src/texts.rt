@@ -24,8 +24,8 @@ const READ: &str =
 const READ_BY_NOBODY: &str =
     "Failed to borrow mutably because the value was already borrowed immutably.borrowed_at:";
 
-// An error prints the same by itself and in each error that holds it, also once it was turned into
-// what a write answers.
+// An error prints the same alone and in each error that holds it, even after conversion to a write's
+// error.
 #[test]
 fn errors_of_values_that_are_gone(rt: HostRuntime) {
     let alloc = rt.alloc();

@@ -1,4 +1,4 @@
-//! First steps, run: a value, two readers, a refusal, an owner.
+//! First steps, run: a value, two readers, an error, an owner.
 
 use crate::expected::assert_same;
 use crate::fresh::{Beginning, Kind, Over, run_over};
@@ -6,12 +6,12 @@ use generational_box::{AnyStorage, BorrowMutResult, GenerationalBox, Location, S
 use std::alloc::Global;
 use std::process::Abort;
 
-/// Where each call is made: a refusal tells where a borrow began, and where a value was made.
+/// Where each call is made: errors have where a borrow began, and where a value was made.
 fn line(line: u32) -> Location {
     Location::new("tutorial.rt", line, 5)
 }
 
-/// Reads a value by two guards at once. A write meanwhile is refused, and tells the lines 17 and 18.
+/// Reads a value by two guards at once. A write meanwhile fails with the lines 17 and 18.
 pub fn read_twice<S: Storage<u64>>(store: &mut S, kept: GenerationalBox<u64>) -> Option<u64> {
     let first = kept.try_read(store, line(17)).ok()?;
     let Ok(second) = kept.try_read(store, line(18)) else {
@@ -28,7 +28,7 @@ pub fn read_twice<S: Storage<u64>>(store: &mut S, kept: GenerationalBox<u64>) ->
     sum
 }
 
-/// Writes 8 in the place of a value, where nobody borrows it.
+/// Replaces a value by 8, if it isn't borrowed.
 pub fn write<S: Storage<u64>>(store: &mut S, kept: GenerationalBox<u64>) -> BorrowMutResult<()> {
     let mut writer = kept.try_write(store, line(34))?;
     *writer.deref_mut() = 8;

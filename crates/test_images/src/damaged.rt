@@ -24,7 +24,7 @@ fn load_all<P: SlotPool>(rt: &impl Abort, alloc: Global) {
     assert_loads::<P>(rt, alloc, 1, 0, &[(u64::MAX, No)]);
     assert_loads::<P>(rt, alloc, 1, 1, &[(u64::MAX, No), (u64::MAX - 1, No)]);
     assert_loads::<P>(rt, alloc, 1, 2, &[(u64::MAX, Own(1)), (u64::MAX, No)]);
-    // a reference stands before its value, and values stand at generation 0
+    // a reference comes before its value, and values are at generation 0
     assert_loads::<P>(rt, alloc, 0, 2, &[(0, To(1, 0)), (0, Shared(5))]);
 }
 
@@ -34,7 +34,7 @@ fn images_are_loaded_and_saved_again(rt: HostRuntime) {
     load_all::<OldestFirst>(&rt, rt.alloc());
 }
 
-/// Asserts that the image of these slots has a fault, and comes back as it was.
+/// Asserts that the image of these slots has a fault, and comes back unchanged.
 fn assert_fault(
     rt: &impl Abort,
     alloc: Global,
@@ -119,7 +119,7 @@ fn references_and_shared_values_are_damaged(rt: HostRuntime) {
         &[(1, Shared(9))],
         ImageFault::UnreferencedValue(0),
     );
-    // the first fault is told, generations before the peak, and references after it
+    // the first fault is reported, generations before the peak, and references after it
     let both = [(0, To(1, 1)), (1, Shared(9))];
     assert_fault(&rt, alloc, 1, 0, &both, ImageFault::EarlyGeneration(0));
     assert_fault(&rt, alloc, 0, 0, &both, ImageFault::LowPeak);

@@ -1,5 +1,5 @@
-//! Memory runs out while an image is made or loaded. Each test passes whichever one allocation is
-//! refused, and what may lack memory is tried again.
+//! Memory runs out while an image is made or loaded. Each test passes whichever allocation fails, and
+//! what may fail to allocate is tried again.
 
 use crate::images::{assert_same, made, saved};
 use generational_box::{
@@ -60,7 +60,7 @@ fn copied_or_again(rt: &impl Abort, store: &Texts) -> Image<String> {
     }
 }
 
-/// The store as an image. Refused, the store is as it was.
+/// The store as an image. If that fails, the store is unchanged.
 fn saved_or_again(rt: &impl Abort, store: Texts) -> Image<String> {
     let before = (store.slots(), store.free(), store.len());
     match store.into_image() {
@@ -73,13 +73,13 @@ fn saved_or_again(rt: &impl Abort, store: Texts) -> Image<String> {
     }
 }
 
-/// The image of a load that lacked memory.
+/// The image of a load that failed to allocate.
 fn unloaded(rt: &impl Abort, refusal: LoadRefusal<String>) -> Image<String> {
     assert_same(rt, &refusal.cause, &LoadError::OutOfMemory);
     refusal.image
 }
 
-/// Loads an image. A load asks for little at first, which may be refused again.
+/// Loads an image. A load allocates little at first, which may fail again.
 fn loaded_or_again(rt: &impl Abort, alloc: Global, image: Image<String>) -> Texts {
     let mut image = image;
     for _ in 0..TRIES {

@@ -96,7 +96,7 @@ fn saved_again<P: SlotPool>(rt: &impl Abort, alloc: Global, image: Image<u64>) -
     saved(rt, store.into_image())
 }
 
-/// Asserts that the image of these slots is loaded, and saved again as it was.
+/// Asserts that the image of these slots is loaded, and saved again unchanged.
 pub(crate) fn assert_loads<P: SlotPool>(
     rt: &impl Abort,
     alloc: Global,

@@ -10,7 +10,7 @@ use std::alloc::Global;
 use std::fmt::Display;
 use std::process::Abort;
 
-/// Asserts why a store isn't saved, and gives it back as it was. It has no copy either.
+/// Asserts why a store isn't saved, and gives it back unchanged. It has no copy either.
 fn unsaved(rt: &impl Abort, store: Kept, cause: SaveError) -> Kept {
     let before = counts_of(&store);
     match store.image() {
@@ -84,7 +84,7 @@ fn borrowed_values_stay(rt: HostRuntime) {
     // the shared value is in slot 2
     let reader = begin(&rt, &mut store, ids.second);
     let mut store = unsaved(&rt, store, SaveError::Borrowed(2));
-    // the first of two borrowed values is told
+    // the first of two borrowed values is reported
     let writer = begin_write(&rt, &mut store, ids.live);
     let mut store = unsaved(&rt, store, SaveError::Borrowed(0));
     assert!(&rt; reader.release(&mut store));

@@ -1,4 +1,4 @@
-//! Values that are counted by what std's `Rc` counts, so that a test sees when one is let go.
+//! Values that are counted by what std's `Rc` counts, so that a test sees when one is dropped.
 
 use crate::expected::{assert_same, given};
 use std::alloc::Global;
@@ -23,5 +23,5 @@ pub(crate) fn assert_count(rt: &impl Abort, value: &Counted, count: usize) {
     assert_same(rt, &Rc::strong_count(value), &count);
 }
 
-/// Lets a value go.
+/// Drops a value.
 pub(crate) fn let_go(_value: Counted) {}

@@ -22,12 +22,12 @@ pub(crate) enum Act {
     Set(usize, u64),
     /// Adds to a place's content.
     Update(usize, u64),
-    /// The first leads to the second's part.
+    /// The first gets the second's part.
     Exchange(usize, usize),
     Remove(usize),
 }
 
-/// What a place shows: content, and children. None where it is gone.
+/// What a place shows: content, and children. None if it is gone.
 pub(crate) type Shown<'a> = Option<(u64, &'a [usize])>;
 
 /// An act, with what must come of it.
@@ -192,7 +192,7 @@ fn has_children<S: Storage<u32>>(
     are_places(rt, places, children, numbers);
 }
 
-/// Sees which places stand in a list.
+/// Asserts which places are in a list.
 fn are_places(rt: &impl Abort, places: &[Place], list: &[Place], numbers: &[usize]) {
     assert_same(rt, &list.len(), &numbers.len());
     for (place, number) in list.iter().zip(numbers) {

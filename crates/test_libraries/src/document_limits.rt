@@ -1,4 +1,4 @@
-//! What is told of places that are gone, and outlines, also where no ticket is left.
+//! Errors of places that are gone, and outlines, even if the tickets are used up.
 
 use crate::document_acts::{add, added_at, document_over, has_content};
 use crate::document_memory::{add_or_again, append_or_again, repeat_or_again};
@@ -133,7 +133,7 @@ fn reads<S: Storage<u32>>(
     }
 }
 
-/// A page with a part that stands in two places, below which the page stands in the end.
+/// A page with a part in two places, below which the page is in the end.
 struct PageIsRead;
 
 impl Scene<u32> for PageIsRead {

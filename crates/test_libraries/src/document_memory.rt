@@ -1,5 +1,5 @@
-//! Documents where memory runs out. The test passes whichever one allocation is refused: what lacks
-//! memory changes nothing, and is tried a second time.
+//! Documents where memory runs out. The test passes whichever allocation fails: what fails to allocate
+//! changes nothing, and is tried a second time.
 
 use crate::document_acts::{add, added_at, document_over, has_content};
 use crate::expected::{assert_same, given};
@@ -44,7 +44,7 @@ pub(crate) fn repeat_or_again<S: Storage<u32>>(
     }
 }
 
-/// Appends a child. Where memory lacks the children are what they were.
+/// Appends a child. If an allocation fails, the children are what they were.
 pub(crate) fn append_or_again<S: Storage<u32>>(
     rt: &impl Abort,
     document: &mut Document<u64, S>,
@@ -60,7 +60,7 @@ pub(crate) fn append_or_again<S: Storage<u32>>(
     assert_same(rt, &count(rt, document, parent), &before.wrapping_add(1));
 }
 
-/// Inserts a child before the others. Where memory lacks the children are what they were.
+/// Inserts a child before the others. If an allocation fails, the children are what they were.
 fn insert_or_again<S: Storage<u32>>(
     rt: &impl Abort,
     document: &mut Document<u64, S>,

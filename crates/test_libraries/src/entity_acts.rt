@@ -12,7 +12,7 @@ pub(crate) enum Act {
     Spawn(u64),
     Despawn(usize),
     Set(usize, u64),
-    /// Adds to an element in its place.
+    /// Adds to an element in place.
     Add(usize, u64),
     /// Keeps the entities whose elements are below a number.
     Retain(u64),
@@ -119,7 +119,7 @@ fn carries_out<S: Storage<u64>>(
     }
 }
 
-/// Sets an entity's element. It comes back where that is refused.
+/// Sets an entity's element. It comes back if that fails.
 fn set<S: Storage<u64>>(
     rt: &impl Abort,
     table: &mut EntityTable<u64, S>,
@@ -129,7 +129,7 @@ fn set<S: Storage<u64>>(
     answered(rt, table.set(entity, element), &element)
 }
 
-/// Adds to an entity's element in its place. The closure is called only where it is carried out.
+/// Adds to an entity's element in place. The closure is called only if it is carried out.
 pub(crate) fn add<S: Storage<u64>>(
     rt: &impl Abort,
     table: &mut EntityTable<u64, S>,
@@ -149,7 +149,7 @@ fn entity_at(rt: &impl Abort, entities: &[Entity<u64>], number: usize) -> Entity
     entities.get(number).copied().expect(rt, "an entity")
 }
 
-/// Whether an answer is Ok. An error tells where the entity was made.
+/// Whether a result is Ok. An error says where the entity was made.
 fn told(rt: &impl Abort, answer: Result<(), Stale>, number: usize) -> bool {
     match answer {
         Ok(()) => true,

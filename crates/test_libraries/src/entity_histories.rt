@@ -105,7 +105,7 @@ const AN_ELEMENT_IS_CHANGED_IN_ITS_PLACE: &[Line] = &[
     done!(Act::Add(0, 5), &[0, 1], &[Some(20), Some(20)]),
     done!(Act::Despawn(0), &[1], &[None, Some(20)]),
     stale!(Act::Add(0, 5), &[1], &[None, Some(20)]),
-    // The slot is used again, and the first handle doesn't change what stands there.
+    // The slot is reused, and the first handle doesn't change what is there.
     done!(Act::Spawn(30), &[2, 1], &[None, Some(20), Some(30)]),
     stale!(Act::Add(0, 5), &[2, 1], &[None, Some(20), Some(30)]),
     done!(Act::Add(2, 1), &[2, 1], &[None, Some(20), Some(31)]),

@@ -63,7 +63,7 @@ impl Scene<u64> for StaleIsTold {
     }
 }
 
-/// An entity that is looked at, set and tested, where no ticket is left.
+/// An entity that is looked at, set and tested, if the tickets are used up.
 struct AnEntityGoes;
 
 impl Scene<u64> for AnEntityGoes {

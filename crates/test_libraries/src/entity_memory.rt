@@ -1,5 +1,5 @@
-//! Tables where memory runs out. Each test passes whichever one allocation is refused: what lacks
-//! memory changes nothing, and is tried a second time.
+//! Tables where memory runs out. Each test passes whichever allocation fails: what fails to allocate
+//! changes nothing, and is tried a second time.
 
 use crate::entity_acts::{add, entities_over, made_at};
 use crate::expected::{assert_same, given};
@@ -13,7 +13,7 @@ use std::process::Abort;
 /// How many entities are spawned: more than the room that is found at once.
 const MANY: u64 = 20;
 
-/// Spawns an entity, which shows its element. One that lacks memory leaves the table as it was.
+/// Spawns an entity, which shows its element. One that fails to allocate leaves the table unchanged.
 pub(crate) fn spawn_or_again<S: Storage<u64>>(
     rt: &impl Abort,
     table: &mut EntityTable<u64, S>,
@@ -33,7 +33,7 @@ pub(crate) fn spawn_or_again<S: Storage<u64>>(
     entity
 }
 
-/// Gives an entity a component. One that lacks memory leaves it without.
+/// Gives an entity a component. One that fails to allocate leaves it without.
 fn give_or_again(
     rt: &impl Abort,
     table: &mut ComponentTable<u64, u64>,

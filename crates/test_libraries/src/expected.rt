@@ -10,8 +10,8 @@ pub(crate) fn assert_same<T: PartialEq + Debug>(rt: &impl Abort, found: &T, want
     assert_eq!(rt; *found, *wanted);
 }
 
-/// What a call gave that must not be refused. It is proved once, for all types: a closure that takes a
-/// refusal apart is proved at each place.
+/// The result of a call that must not fail. It is proved once, for all types: a closure that destructures
+/// an error is proved at each use.
 pub(crate) fn given<T, E: Drop>(rt: &impl Abort, answer: Result<T, E>) -> T {
     match answer {
         Ok(given) => given,
@@ -19,7 +19,7 @@ pub(crate) fn given<T, E: Drop>(rt: &impl Abort, answer: Result<T, E>) -> T {
     }
 }
 
-/// What a call answered that hands back what it doesn't keep: that must be what was handed in.
+/// The result of a call that returns what it doesn't store: that must be what was passed in.
 pub(crate) fn answered<A, T: PartialEq + Debug + Drop, E>(
     rt: &impl Abort,
     answer: Result<A, HandedBack<T, E>>,

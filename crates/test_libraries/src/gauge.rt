@@ -1,6 +1,6 @@
-//! How the memory of a process grows. A test can't count what is asked of the allocator, so it looks how
-//! much is mapped: a list that grows by leaps changes that a few times, and one that grows by one element at
-//! a time changes it whenever a page is full.
+//! How the memory of a process grows. A test can't count allocations, so it looks how much memory is
+//! mapped: a list that grows by leaps changes that a few times, and one that grows by one element at a
+//! time changes it whenever a page is full.
 
 use crate::expected::given;
 use std::fs;

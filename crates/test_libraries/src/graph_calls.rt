@@ -25,7 +25,7 @@ pub(crate) trait Graph {
 
     fn get(&mut self, key: Key) -> Result<u64, Fault>;
 
-    /// The same, looked at in its place.
+    /// The same, looked at in place.
     fn seen(&mut self, key: Key) -> Result<u64, Fault>;
 
     fn flush(

@@ -9,7 +9,7 @@ use std::process::Abort;
 /// How many nodes are known at once.
 const NODES: usize = 12;
 
-/// The places of these nodes, and of one that has ended for good.
+/// The places of these nodes, and of one that has ended forever.
 const PLACES: [usize; 13] = [0, 1, 2, 3, 4, 5, 6, 7, 8, 9, 10, 11, 12];
 
 /// So many drawn calls.
@@ -81,7 +81,7 @@ impl World {
         }
     }
 
-    /// Gives a node a drawn rule, which only one that has ended refuses.
+    /// Gives a node a drawn rule, which fails only for a removed one.
     fn redirect(&mut self, rt: &impl Abort, table: &mut Table<impl Graph>, place: usize) {
         let plain = self.drawn_rule();
         let node = node_at(&self.numbers, place);
@@ -100,7 +100,7 @@ impl World {
         self.put(place, Plain::Ended);
     }
 
-    /// Puts a new source in the place of a node. What needed that one needs what has ended for good.
+    /// Replaces a node by a new source. What needed the old one needs a removed node from then on.
     fn replace(&mut self, rt: &impl Abort, table: &mut Table<impl Graph>, place: usize) {
         let (old, node) = (node_at(&self.numbers, place), self.made);
         self.end(rt, table, place);
@@ -146,7 +146,8 @@ impl World {
         self.carry_out(rt, table, Line::Answers(node, wanted));
     }
 
-    /// Flushes: what each watched node meant at the last flush, and what was told since, is what it means.
+    /// Flushes: what each watched node meant at the last flush, and what was reported since, is what it
+    /// means.
     fn flush(&mut self, rt: &impl Abort, table: &mut Table<impl Graph>) {
         self.carry_out(rt, table, Line::Flush);
         let told = table.take_told();

@@ -27,7 +27,7 @@ fn a_flush_tells_what_has_changed_once(rt: HostRuntime) {
         Shows(3, 13, 2),
         Set(0, 8),
         Tells(&[]),
-        // one that is watched later is told alone
+        // one that is watched later is reported alone
         Watch(1),
         Tells(&[(1, Value(12))]),
         Unwatch(3),

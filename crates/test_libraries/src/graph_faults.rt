@@ -1,4 +1,4 @@
-//! What is told of nodes that mean nothing, which refusal comes first, and its text.
+//! The errors of nodes that mean nothing, which comes first, and its text.
 
 use crate::graph_lines::Answer::{AnyCycle, Cycle, Gone, NoSource, NoValue, Short};
 use crate::graph_lines::Line::{

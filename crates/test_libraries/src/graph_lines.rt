@@ -1,4 +1,4 @@
-//! Tests as data: lines that say what is done with a graph, and what it answers.
+//! Tests as data: lines that say what is done with a graph, and the results.
 
 use crate::expected::assert_prints;
 use crate::fresh::{Scene, play_both};
@@ -11,12 +11,12 @@ use std::alloc::Global;
 use std::mem;
 use std::process::Abort;
 
-/// How often a line is tried that lacks memory.
+/// How often a line is tried that fails to allocate.
 const TRIES: u64 = 1000;
 
 const SHORT: Fault = Fault::Store(StoreError::OutOfMemory);
 
-/// What a call answers. Nodes are named by their numbers, in the order in which they were made.
+/// The result of a call. Nodes are identified by their numbers, in the order in which they were made.
 #[derive(Clone, Copy)]
 pub(crate) enum Answer {
     Value(u64),
@@ -26,9 +26,9 @@ pub(crate) enum Answer {
     Cycle(usize),
     /// Some node needs itself.
     AnyCycle,
-    /// Any refusal but for memory.
+    /// Any error except for memory.
     AnyFault,
-    /// Memory is lacking. A line that is answered so is tried again, so this is for texts alone.
+    /// An allocation failed. A line with this result is tried again, so this is only for texts.
     Short,
 }
 
@@ -48,14 +48,14 @@ pub(crate) enum Line<'a> {
     SetRule(usize, Plain),
     End(usize),
     EndScope,
-    /// A set or a rule is refused so.
+    /// A set or a rule fails so.
     Unset(usize, Answer),
     Unruled(usize, Answer),
     /// This node shows this value, for which so many rules come to a value.
     Shows(usize, u64, u64),
     /// So many rules have come to a value in all.
     Ran(u64),
-    /// A `get` is answered so.
+    /// A `get` has this result.
     Answers(usize, Answer),
     /// This node is known without a step.
     Known(usize),
@@ -67,7 +67,7 @@ pub(crate) enum Line<'a> {
     Flush,
     /// A flush tells this of these nodes.
     Tells(&'a [(usize, Answer)]),
-    /// A refusal has this text.
+    /// An error has this text.
     Prints(Answer, &'a str),
 }
 
@@ -81,12 +81,12 @@ pub(crate) struct Table<G> {
     told: Vec<Told<u64>>,
     // how often a rule had come to a value before the line
     runs: u64,
-    // how often a line lacked memory
+    // how often a line failed to allocate
     refused: u64,
 }
 
 impl<G: Graph> Table<G> {
-    /// Carries out a line, which must be answered as it says. One that lacks memory is tried again.
+    /// Runs a line, which must have the result that it says. One that fails to allocate is tried again.
     pub(crate) fn carry_out(&mut self, rt: &impl Abort, place: usize, line: Line<'_>) {
         self.runs = self.graph.runs();
         for _ in 0..TRIES {
@@ -109,7 +109,7 @@ impl<G: Graph> Table<G> {
         *self.keys.get(node).expect(rt, "a key")
     }
 
-    /// Whether a line is answered as it says. None where it lacks memory.
+    /// Whether a line has the result that it says. None if it fails to allocate.
     fn is_right(&mut self, rt: &impl Abort, line: Line<'_>) -> Option<bool> {
         if let Some(made) = self.made(line) {
             let key = made.ok()?;
@@ -189,7 +189,7 @@ impl<G: Graph> Table<G> {
         }
     }
 
-    /// Changes nodes, if a line says so; whether that is answered as it says.
+    /// Changes nodes, if a line says so; whether that has the result that it says.
     fn is_changed(&mut self, rt: &impl Abort, line: Line<'_>) -> bool {
         match line {
             Line::Set(node, value) => {
@@ -223,7 +223,8 @@ impl<G: Graph> Table<G> {
         }
     }
 
-    /// Asks, if a line says so; whether that is answered as it says. None where it lacks memory.
+    /// Gets a node, if a line says so; whether that has the result that it says. None if it fails to
+    /// allocate.
     fn is_answered(&mut self, rt: &impl Abort, line: Line<'_>) -> Option<bool> {
         match line {
             Line::Shows(node, value, runs) => {
@@ -250,8 +251,8 @@ impl<G: Graph> Table<G> {
         }
     }
 
-    /// Watches nodes or flushes, if a line says so; whether that is answered as it says. None where it
-    /// lacks memory.
+    /// Watches nodes or flushes, if a line says so; whether that has the result that it says. None if it
+    /// fails to allocate.
     fn is_of_effects(&mut self, rt: &impl Abort, line: Line<'_>) -> Option<bool> {
         match line {
             Line::Watch(node) => {
@@ -276,7 +277,7 @@ impl<G: Graph> Table<G> {
         }
     }
 
-    /// What a `get` answers. None where it lacks memory.
+    /// The result of a `get`. None if it fails to allocate.
     fn answer(&mut self, key: Key) -> Option<Result<u64, Fault>> {
         let answer = self.graph.get(key);
         if answer == Err(SHORT) {
@@ -285,7 +286,7 @@ impl<G: Graph> Table<G> {
         Some(answer)
     }
 
-    /// Whether an answer is the one that is wanted.
+    /// Whether a result is the expected one.
     fn is(&self, rt: &impl Abort, given: Result<u64, Fault>, wanted: Answer) -> bool {
         match wanted {
             Answer::Value(value) => given == Ok(value),
@@ -295,7 +296,7 @@ impl<G: Graph> Table<G> {
         }
     }
 
-    /// The refusal that is wanted.
+    /// The expected error.
     fn fault(&self, rt: &impl Abort, wanted: Answer) -> Fault {
         match wanted {
             Answer::Gone(node) => Fault::Gone(self.key(rt, node)),
@@ -342,7 +343,7 @@ impl<'a> Course for Lines<'a> {
 #[derive(Clone, Copy)]
 struct OverGraph<'a, P> {
     course: &'a P,
-    // whether memory may be refused
+    // whether allocations may fail
     may_lack: bool,
 }
 
@@ -386,7 +387,7 @@ pub(crate) fn take<P: Course + Copy>(rt: &impl Abort, alloc: Global, course: &P)
     play_both(rt, alloc, &OverGraph { course, may_lack });
 }
 
-/// Takes a course in which no call lacks memory.
+/// Takes a course in which no call fails to allocate.
 pub(crate) fn take_whole<P: Course + Copy>(rt: &impl Abort, alloc: Global, course: &P) {
     let may_lack = false;
     play_both(rt, alloc, &OverGraph { course, may_lack });

@@ -1,5 +1,5 @@
-//! Refused memory. Each test passes whichever allocation is refused, and those after it that ask for
-//! less: what is refused changes nothing, and is tried again.
+//! When allocations fail: each test passes whichever allocation fails, and those after it that ask for
+//! less: what fails changes nothing, and is tried again.
 
 use crate::graph_drawn::Calls;
 use crate::graph_lines::Answer::{Cycle, Gone, Value};

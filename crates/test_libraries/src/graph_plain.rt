@@ -16,8 +16,8 @@ pub(crate) enum Plain {
 }
 
 impl Plain {
-    /// The rule of a memo, by the keys of the nodes. None where one is named that there isn't, or the
-    /// node isn't a memo.
+    /// The rule of a memo, by the keys of the nodes. None if one is named that there isn't, or the node
+    /// isn't a memo.
     pub(crate) fn rule(self, keys: &[Key]) -> Option<Formula> {
         match self {
             Plain::Ended | Plain::Value(_) => None,
@@ -47,7 +47,7 @@ impl Plain {
         }
     }
 
-    /// The same of other nodes, each the one that stands there in the list.
+    /// The same of other nodes, each the one at that index of the list.
     pub(crate) fn of(self, nodes: &[usize]) -> Plain {
         match self {
             Plain::Ended | Plain::Value(_) | Plain::Blank => self,
@@ -62,7 +62,7 @@ impl Plain {
     }
 }
 
-/// The node that stands there in a list.
+/// The node at an index of a list.
 pub(crate) fn node_at(nodes: &[usize], place: usize) -> usize {
     nodes.get(place).copied().unwrap_or(0)
 }

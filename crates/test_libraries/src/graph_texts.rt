@@ -1,5 +1,5 @@
-//! Memos of texts, whose rules take memory. The test passes whichever allocation is refused, and those after
-//! it that ask for less: a call that lacks memory says so, and is made again.
+//! Memos of texts, whose rules allocate. The test passes whichever allocation fails, and those after it
+//! that ask for less: a call that fails to allocate says so, and is made again.
 
 use crate::fresh::{Scene, play_both};
 use example_libraries::phrases::Phrase;
@@ -8,7 +8,7 @@ use reactive::{Fault, Key, Node, Reactive, Text, Value};
 use std::alloc::Global;
 use std::process::Abort;
 
-/// How often a call is made that lacks memory.
+/// How often a call is made that fails to allocate.
 const TRIES: u64 = 1000;
 
 /// A graph of texts.

@@ -1,5 +1,5 @@
-//! How the libraries' lists grow. Each test adds many things: whoever counts what it asks of the
-//! allocator, and how long it takes, finds that lists grow by leaps, and end in one pass.
+//! How the libraries' lists grow. Each test adds many things: allocations and times show that lists grow
+//! by leaps, and are dropped in one pass.
 
 use crate::document_acts::document_over;
 use crate::document_memory::{add_or_again, append_or_again};

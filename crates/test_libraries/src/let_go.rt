@@ -1,5 +1,5 @@
-//! What is let go by documents, and by tables of entities and of components: values that others take the
-//! place of, values that end, and values that are handed back. Each is counted by what std's `Rc` counts.
+//! What is dropped by documents, and by tables of entities and of components: values that are replaced,
+//! removed or returned. Each is counted by what std's `Rc` counts.
 
 use crate::counted::{Counted, another, assert_count, let_go, new_counted};
 use crate::document_acts::{add, document_over};
@@ -31,7 +31,7 @@ fn set<S: Storage<u32>>(
     given(rt, document.set(place, content));
 }
 
-/// Lets a place lead where another does.
+/// Points a place to another's part.
 fn exchange<S: Storage<u32>>(
     rt: &impl Abort,
     document: &mut Document<Counted, S>,
@@ -108,7 +108,7 @@ fn components_go(
     assert_count(rt, &second, 1);
 }
 
-/// A component that is handed back. It is let go once, by whoever has it then.
+/// A component that is returned. It is dropped once, by the caller that has it then.
 fn components_come_back(
     rt: &impl Abort,
     alloc: Global,

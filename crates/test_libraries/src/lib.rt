@@ -1,6 +1,6 @@
-//! Tests of the libraries above the boxes: signals, tables of entities, of components and of sessions, trees,
-//! documents, and graphs of sources and memos, over stores of either order of free slots. The expected rows
-//! are worked out by hand.
+//! Tests of the libraries built on boxes: signals, tables of entities, of components and of sessions,
+//! trees, documents, and graphs of sources and memos, over stores of either order of free slots. The
+//! expected rows are worked out by hand.
 #![tactic(auto)]
 
 #[cfg(test)]

@@ -17,7 +17,7 @@ pub(crate) enum Act {
     PutAt(u64, u64, u64),
     /// Sets an entry's value.
     Set(usize, u64),
-    /// Adds to an entry's value in its place.
+    /// Adds to an entry's value in place.
     Add(usize, u64),
     /// Takes out what an id's session has under a key.
     Remove(u64, u64),
@@ -30,7 +30,7 @@ pub(crate) enum Act {
     Expire(u64),
 }
 
-/// What an act answers.
+/// The result of an act.
 #[derive(Clone, Copy, Debug, PartialEq, Eq)]
 pub(crate) enum Reply {
     Done,
@@ -48,7 +48,7 @@ pub(crate) enum Reply {
     NoEntry,
     /// So many sessions ended.
     Ended(usize),
-    /// The store refused.
+    /// The store failed.
     Lacks,
 }
 
@@ -56,7 +56,7 @@ pub(crate) enum Reply {
 #[derive(Clone, Copy)]
 pub(crate) struct Line {
     pub(crate) act: Act,
-    /// What it answers.
+    /// Its result.
     pub(crate) reply: Reply,
     /// The sessions afterwards: the id of each, and the time of its last use.
     pub(crate) sessions: &'static [(u64, u64)],
@@ -126,7 +126,7 @@ fn answer<S: Storage<u64>>(
     }
 }
 
-/// What a login answers.
+/// The result of a login.
 fn logged_in(answer: Result<(), LoginError>) -> Reply {
     match answer {
         Ok(()) => Reply::Done,
@@ -135,7 +135,7 @@ fn logged_in(answer: Result<(), LoginError>) -> Reply {
     }
 }
 
-/// What a change of an id answers.
+/// The result of a change of an id.
 fn renamed(answer: Result<(), RenameError>) -> Reply {
     match answer {
         Ok(()) => Reply::Done,
@@ -145,12 +145,12 @@ fn renamed(answer: Result<(), RenameError>) -> Reply {
     }
 }
 
-/// What a call answers that asks for an id's session.
+/// The result of a call on an id's session.
 fn known(had: bool) -> Reply {
     if had { Reply::Done } else { Reply::NoSession }
 }
 
-/// Puts a value under a key, by which its entry is found. Both come back where that is refused.
+/// Puts a value under a key, by which its entry is found. Both come back if that fails.
 fn put<S: Storage<u64>>(
     rt: &impl Abort,
     table: &mut SessionTable<u64, u64, u64, S>,
@@ -171,7 +171,7 @@ fn put<S: Storage<u64>>(
     }
 }
 
-/// Sets an entry's value. A stale entry is told where it was put, and the value comes back.
+/// Sets an entry's value. For a stale entry the error says where it was put, and the value comes back.
 fn set<S: Storage<u64>>(
     rt: &impl Abort,
     table: &mut SessionTable<u64, u64, u64, S>,
@@ -186,7 +186,7 @@ fn set<S: Storage<u64>>(
     Reply::Stale
 }
 
-/// Adds to an entry's value in its place. The closure is called only where the entry isn't stale.
+/// Adds to an entry's value in place. The closure is called only if the entry isn't stale.
 fn add<S: Storage<u64>>(
     rt: &impl Abort,
     table: &mut SessionTable<u64, u64, u64, S>,

@@ -1,4 +1,4 @@
-//! Handles of what sessions keep as keys of a map, and what refusals print.
+//! Entries as keys of a map, and what errors print.
 
 use crate::expected::{assert_prints, assert_same, given};
 use crate::fresh::{Scene, SceneOfTwo, play, play_two};
@@ -73,7 +73,7 @@ fn found_by_handles(
     assert!(rt; alias == later && stale != later && foreign != later);
 }
 
-/// The texts of refusals that a table gives.
+/// The texts of a table's errors.
 struct RefusalsPrint;
 
 impl Scene<u64> for RefusalsPrint {

@@ -242,7 +242,7 @@ const A_VALUE_IS_CHANGED_IN_ITS_PLACE: &[Line] = &[
     answered!(Act::Add(0, 1), Reply::Done, &[(1, 0)], &[Some(8), Some(9)]),
     answered!(Act::Logout(1), Reply::Done, &[], &[None, None]),
     answered!(Act::Login(1, 3), Reply::Done, &[(1, 3)], &[None, None]),
-    // The slot is used again, and the first entry doesn't change what stands there.
+    // The slot is reused, and the first entry doesn't change what is there.
     answered!(
         Act::Put(1, 6),
         Reply::Done,
@@ -336,7 +336,7 @@ fn one_value_is_taken_out(rt: HostRuntime) {
             BOTH,
             &[Some(5), None, Some(7)],
         ),
-        // Another session takes the slot, and the first one's end leaves what stands there.
+        // Another session takes the slot, and the first one's end leaves what is there.
         answered!(
             Act::PutAt(2, 1, 8),
             Reply::Done,

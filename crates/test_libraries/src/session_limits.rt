@@ -49,7 +49,7 @@ impl Scene<u64> for NoTicketIsUsed {
     }
 }
 
-/// Sets a value, which lets the old one go.
+/// Sets a value, which drops the old value.
 fn set<S: Storage<Counted>>(
     rt: &impl Abort,
     table: &mut SessionTable<u64, u64, Counted, S>,

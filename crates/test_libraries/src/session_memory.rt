@@ -1,5 +1,5 @@
-//! Tables where memory runs out. The test passes whichever one allocation is refused: what lacks
-//! memory changes nothing, and is tried a second time.
+//! Tables where memory runs out. The test passes whichever allocation fails: what fails to allocate
+//! changes nothing, and is tried a second time.
 
 use crate::expected::{answered, assert_same, given};
 use crate::fresh::{Scene, play_both};
@@ -13,7 +13,7 @@ use std::process::Abort;
 /// once.
 const MANY: u64 = 10;
 
-/// Begins a session. A login that lacks memory leaves the table as it was.
+/// Begins a session. A login that fails to allocate leaves the table unchanged.
 fn log_in_or_again<S: Storage<u64>>(
     rt: &impl Abort,
     table: &mut SessionTable<u64, u64, u64, S>,
@@ -28,7 +28,7 @@ fn log_in_or_again<S: Storage<u64>>(
     assert!(rt; table.has(&id));
 }
 
-/// Puts a value. Where memory lacks, it comes back with its key, and the session is as it was.
+/// Puts a value. If an allocation fails, it comes back with its key, and the session is unchanged.
 fn put_or_again<S: Storage<u64>>(
     rt: &impl Abort,
     table: &mut SessionTable<u64, u64, u64, S>,
@@ -47,7 +47,7 @@ fn put_or_again<S: Storage<u64>>(
     given(rt, table.put(&id, value, value, put_at(0)));
 }
 
-/// Gives a session another id. A call that lacks memory leaves it under its own.
+/// Gives a session another id. A call that fails to allocate leaves it under its own.
 fn rename_or_again<S: Storage<u64>>(
     rt: &impl Abort,
     table: &mut SessionTable<u64, u64, u64, S>,

@@ -1,4 +1,4 @@
-//! Calls of scopes and signals over any store, one a function, with what they must answer.
+//! Calls of scopes and signals over any store, one a function, with the results that they must have.
 
 use crate::expected::{assert_same, given};
 use generational_box::{
@@ -126,7 +126,7 @@ pub(crate) fn set_ended<S: Storage<u64>>(
     assert_same(rt, &answer, &Err((value, Refused::Borrow(error))));
 }
 
-/// Changes a signal, which is refused so: the closure isn't called.
+/// Changes a signal, which fails so: the closure isn't called.
 fn update_refused<S: Storage<u64>>(
     rt: &impl Abort,
     store: &mut S,
@@ -150,7 +150,7 @@ pub(crate) fn update_ended<S: Storage<u64>>(
     update_refused(rt, store, signal, error);
 }
 
-/// The error that tells of one reader, since `asked`.
+/// The error of one reader, since `asked`.
 fn read_once(rt: &impl Abort, alloc: Global) -> BorrowMutError {
     let readers = [asked()].to_vec(alloc).expect(rt, "memory");
     BorrowMutError::AlreadyBorrowed(AlreadyBorrowedError::new(readers))
@@ -166,7 +166,7 @@ pub(crate) fn update_hindered<S: Storage<u64>>(
     update_refused(rt, store, signal, read_once(rt, alloc));
 }
 
-/// Doubles a signal's value, and answers the one before.
+/// Doubles a signal's value, and returns the one before.
 pub(crate) fn double<S: Storage<u64>>(
     rt: &impl Abort,
     store: &mut S,
@@ -181,7 +181,7 @@ pub(crate) fn double<S: Storage<u64>>(
     assert_same(rt, &answer, &Ok(before));
 }
 
-/// Lets a signal lead to the value of another.
+/// Points a signal to the value of another.
 pub(crate) fn swap<S: Storage<u64>>(
     rt: &impl Abort,
     store: &mut S,

@@ -1,4 +1,4 @@
-//! Short histories of scopes and signals, with the answers that they must have.
+//! Short histories of scopes and signals, with the results that they must have.
 
 use crate::counted::{Counted, another, assert_count, new_counted};
 use crate::expected::{assert_same, given};
@@ -79,8 +79,8 @@ impl Scene<u64> for EndRefused {
 
 struct TicketsTaken;
 
-/// Each read and set takes one ticket, and an update none; none leaves a borrow, and a refused one
-/// takes no ticket.
+/// Each read and set takes one ticket, and an update none; none leaves a borrow, and one that fails takes
+/// no ticket.
 impl Scene<u64> for TicketsTaken {
     fn play<R: Abort, S: Storage<u64> + Drop>(&self, rt: &R, _: Global, mut store: S) {
         let store = &mut store;
@@ -102,7 +102,7 @@ impl Scene<u64> for TicketsTaken {
 
 struct CallersAnswer;
 
-/// What the callers answer, and a scope that is leaked: its signals live on.
+/// The results of the callers, and a scope that is leaked: its signals stay live.
 impl Scene<u64> for CallersAnswer {
     fn play<R: Abort, S: Storage<u64> + Drop>(&self, rt: &R, _: Global, mut store: S) {
         let store = &mut store;
@@ -127,7 +127,7 @@ fn scopes_and_their_signals(rt: HostRuntime) {
     play(&rt, rt.alloc(), &CallersAnswer);
 }
 
-/// Sets a signal's value, which lets the old one go.
+/// Sets a signal's value, which drops the old value.
 fn set_counted<S: Storage<Counted>>(
     rt: &impl Abort,
     store: &mut S,

@@ -1,5 +1,5 @@
-//! Lists that grow where a step is refused: a smaller one follows, so that each call is carried out,
-//! whichever one allocation is refused.
+//! Lists that grow where a step fails: a smaller one follows, so that each call is carried out, whichever
+//! allocation fails.
 
 use crate::adding::{append_all, insert_all, root_all, spawn_all};
 use crate::document_acts::document_over;

@@ -35,7 +35,7 @@ pub(crate) enum Act {
     Remove(usize),
 }
 
-/// How an act is answered.
+/// The result of an act.
 #[derive(Clone, Copy)]
 pub(crate) enum Reply {
     Done,
@@ -121,7 +121,7 @@ fn are_walked<S: Storage<u64>>(rt: &impl Abort, tree: &SceneTree<u64, S>, nodes:
     assert_same(rt, &count, &tree.len());
 }
 
-/// Does an act, and gives its answer.
+/// Does an act, and returns its result.
 fn answer<S: Storage<u64>>(
     rt: &impl Abort,
     tree: &mut SceneTree<u64, S>,
@@ -183,7 +183,7 @@ fn spot_at(side: Side, node: Node<u64>) -> Spot<u64> {
     }
 }
 
-/// Makes a child at a spot. Its value comes back where that is refused.
+/// Makes a child at a spot. Its value comes back if that fails.
 fn add_at<S: Storage<u64>>(
     rt: &impl Abort,
     tree: &mut SceneTree<u64, S>,
@@ -194,7 +194,7 @@ fn add_at<S: Storage<u64>>(
     answered(rt, tree.add_at(spot, value, made_at(number)), &value)
 }
 
-/// Makes a child. Its value comes back where that is refused.
+/// Makes a child. Its value comes back if that fails.
 fn add_child<S: Storage<u64>>(
     rt: &impl Abort,
     tree: &mut SceneTree<u64, S>,
@@ -205,7 +205,7 @@ fn add_child<S: Storage<u64>>(
     answered(rt, tree.add_child(parent, value, made_at(number)), &value)
 }
 
-/// Sets a value. It comes back where that is refused.
+/// Sets a value. It comes back if that fails.
 fn set<S: Storage<u64>>(
     rt: &impl Abort,
     tree: &mut SceneTree<u64, S>,
@@ -221,7 +221,7 @@ pub(crate) fn node_at(rt: &impl Abort, nodes: &[Node<u64>], number: usize) -> No
     nodes.get(number).copied().expect(rt, "a node")
 }
 
-/// Sees how an act was answered. A stale node is told where it was made.
+/// Asserts the result of an act. For a stale node the error says where it was made.
 fn reply_is(rt: &impl Abort, answer: Result<(), TreeError>, reply: Reply) {
     let wanted = match reply {
         Reply::Done => Ok(()),
@@ -232,7 +232,7 @@ fn reply_is(rt: &impl Abort, answer: Result<(), TreeError>, reply: Reply) {
     assert_same(rt, &answer, &wanted);
 }
 
-/// Sees which nodes stand in a list.
+/// Asserts which nodes are in a list.
 pub(crate) fn are_nodes(
     rt: &impl Abort,
     nodes: &[Node<u64>],
@@ -312,7 +312,7 @@ fn stand_below<S: Storage<u64>>(
     assert!(rt; rest.is_empty());
 }
 
-/// Sees that a node is gone: each call on it tells where it was made.
+/// Asserts that a node is gone: the error of each call on it says where it was made.
 fn is_gone<S: Storage<u64>>(
     rt: &impl Abort,
     tree: &mut SceneTree<u64, S>,

@@ -49,7 +49,7 @@ macro_rules! removed {
     };
 }
 
-/// A line whose act is refused.
+/// A line whose act fails.
 macro_rules! refused {
     ($act:expr, $reply:expr, $shows:expr, $below:expr $(,)?) => {
         Line {

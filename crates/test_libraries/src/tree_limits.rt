@@ -1,4 +1,4 @@
-//! Trees of values that are let go, trees whose store has given all its tickets, and callers of trees.
+//! Trees of values that are dropped, trees whose store has given all its tickets, and callers of trees.
 
 use crate::counted::{Counted, another, assert_count, let_go, new_counted};
 use crate::expected::{assert_same, given};
@@ -34,7 +34,7 @@ fn remove<S: Storage<Counted>>(
     given(rt, tree.remove_subtree(node));
 }
 
-/// Sets a node's value, which lets the old one go.
+/// Sets a node's value, which drops the old value.
 fn set<S: Storage<Counted>>(
     rt: &impl Abort,
     tree: &mut SceneTree<Counted, S>,
@@ -65,7 +65,7 @@ impl Scene<Counted> for AValueComesBack {
     }
 }
 
-/// Values of a root and its children, which a removal lets go.
+/// Values of a root and its children, which a removal drops.
 struct ValuesGo;
 
 impl Scene<Counted> for ValuesGo {
@@ -132,7 +132,7 @@ impl Scene<u64> for CallersAreTold {
     }
 }
 
-/// A node that is looked at, set and removed, where no ticket is left.
+/// A node that is looked at, set and removed, if the tickets are used up.
 struct ANodeGoes;
 
 impl Scene<u64> for ANodeGoes {

@@ -1,5 +1,5 @@
-//! Trees where memory runs out. The test passes whichever one allocation is refused: what lacks
-//! memory changes nothing, and is tried again.
+//! Trees where memory runs out. The test passes whichever allocation fails: what fails to allocate
+//! changes nothing, and is tried again.
 
 use crate::expected::{assert_same, given};
 use crate::fresh::{Scene, play};
@@ -12,10 +12,10 @@ use std::process::Abort;
 /// How many children are made: more than the room that is found at once.
 const MANY: u64 = 12;
 
-/// How a call is refused that lacks memory.
+/// The error of a call that fails to allocate.
 const LACKING: TreeError = TreeError::Store(StoreError::OutOfMemory);
 
-/// Makes a root. One that lacks memory leaves the tree as it was.
+/// Makes a root. One that fails to allocate leaves the tree unchanged.
 pub(crate) fn root_or_again<S: Storage<u64>>(
     rt: &impl Abort,
     tree: &mut SceneTree<u64, S>,
@@ -30,7 +30,7 @@ pub(crate) fn root_or_again<S: Storage<u64>>(
     given(rt, made)
 }
 
-/// Makes a child. One that lacks memory leaves as many nodes as there were.
+/// Makes a child. One that fails to allocate leaves as many nodes as there were.
 pub(crate) fn child_or_again<S: Storage<u64>>(
     rt: &impl Abort,
     tree: &mut SceneTree<u64, S>,
@@ -50,7 +50,7 @@ pub(crate) fn child_or_again<S: Storage<u64>>(
     given(rt, made)
 }
 
-/// Makes a child at a spot. One that lacks memory leaves as many nodes as there were.
+/// Makes a child at a spot. One that fails to allocate leaves as many nodes as there were.
 fn child_at_or_again<S: Storage<u64>>(
     rt: &impl Abort,
     tree: &mut SceneTree<u64, S>,
@@ -78,7 +78,7 @@ fn count_of<S: Storage<u64>>(rt: &impl Abort, tree: &SceneTree<u64, S>, node: No
     count
 }
 
-/// How many nodes a tree has, and how many roots, as walks meet them: neither takes memory.
+/// How many nodes and how many roots a tree has, counted by iterators: neither allocates.
 fn counts_of<S: Storage<u64>>(tree: &SceneTree<u64, S>) -> (usize, usize) {
     let mut counts: (usize, usize) = (0, 0);
     for _ in tree.nodes() {
@@ -90,8 +90,8 @@ fn counts_of<S: Storage<u64>>(tree: &SceneTree<u64, S>) -> (usize, usize) {
     counts
 }
 
-/// Removes a subtree. A removal that lacks memory leaves it, and is tried again: its list begins with
-/// little room, and may lack memory for that too.
+/// Removes a subtree. A removal that fails to allocate leaves it, and is tried again: its list begins
+/// with little room, and may fail to allocate for that too.
 pub(crate) fn remove_or_again<S: Storage<u64>>(
     rt: &impl Abort,
     tree: &mut SceneTree<u64, S>,
@@ -109,7 +109,7 @@ pub(crate) fn remove_or_again<S: Storage<u64>>(
     panic!(rt; "the nodes aren't removed")
 }
 
-/// Takes a node. A call that lacks memory leaves it, and is made again.
+/// Takes a node. A call that fails to allocate leaves it, and is made again.
 fn take_or_again<S: Storage<u64>>(
     rt: &impl Abort,
     tree: &mut SceneTree<u64, S>,

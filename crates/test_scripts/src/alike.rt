@@ -1,4 +1,4 @@
-//! Replies in pairs: each is the same as itself, and no two that differ in one part are.
+//! Replies in pairs: each is the same as itself, and no two that differ in one part are the same.
 
 use crate::expected::{assert_same, made_in, push};
 use boxes_parts::is_same;
@@ -119,7 +119,7 @@ fn add_no_value(rt: &impl Abort, list: &mut Vec<Reply<String>>) {
     }
 }
 
-/// All the replies, made anew, with the boxes of a store that goes. No two are the same.
+/// All the replies, made anew, with the boxes of a store that is dropped. No two are the same.
 fn every_reply<S: Storage<String> + Drop>(
     rt: &impl Abort,
     alloc: Global,
@@ -167,7 +167,7 @@ fn assert_alike(rt: &impl Abort, one: Reply<String>, other: Reply<String>) {
     assert_same(rt, &found, &true);
 }
 
-/// Asserts that replies are the same that tell of two boxes.
+/// Asserts that replies of two boxes are the same.
 fn assert_boxes_alike<S: Storage<String> + Drop>(rt: &impl Abort, alloc: Global, mut store: S) {
     let one = made_in(rt, alloc, &mut store, place(0));
     let other = made_in(rt, alloc, &mut store, place(0));

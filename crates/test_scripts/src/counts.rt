@@ -5,7 +5,7 @@ use crate::tables::{LAST_BUT_ONE, assert_answers, assert_answers_from};
 use generational_box::LastFirst;
 
 const SCRIPTS: [Script; 2] = [
-    // Neither a making nor an end takes a ticket, nor does a read that is refused.
+    // Neither a making nor an end takes a ticket, nor does a read that fails.
     (
         "makings and ends",
         &[

@@ -2,17 +2,16 @@
 //!
 //! | line              | what it does, and its reply                                       |
 //! |-------------------|-------------------------------------------------------------------|
-//! | `eight VALUE`     | makes a box in a store beside, of number 8: `box SLOT@GENERATION` |
+//! | `eight VALUE`     | makes a box in another store, of number 8: `box SLOT@GENERATION`  |
 //! | `twin VALUE`      | the same in another store, of the session's own number            |
 //! | `counts`          | `slots S free F retired R peak P next N`, N being the next ticket |
-//! | `view P`          | `value ` and the value that the place P lends, or `no such`       |
-//! | `as N COMMAND`    | what the command does, asked for at the location of line N        |
-//! | `WORD NAME ..`    | makes the call, and is answered as the program's command is       |
+//! | `view P`          | `value ` and the value of the guard at place P, or `no such`      |
+//! | `as N COMMAND`    | what the command does, called at the location of line N           |
+//! | `WORD NAME ..`    | makes the call, with the reply of the program's command            |
 //!
-//! A NAME of a box is `#P`, the place P, counted from 0 whatever the calls before gave, or `*K`,
-//! the box that the stores beside gave K-th, counted from 0. Other NAMEs are places. A value that
-//! comes back unused is told by `back VALUE`, or by `unready VALUE` from a set whose condition
-//! doesn't hold.
+//! A NAME of a box is `#P`, the place P, counted from 0 whatever the calls before gave, or `*K`, the box
+//! that the stores beside gave K-th, counted from 0. Other NAMEs are places. A value that comes back
+//! unused is printed as `back VALUE`, or as `unready VALUE` from a set whose condition doesn't hold.
 
 ghost use Rattle.generational_core.specs.Conditions.{IsFresh};
 
@@ -25,14 +24,14 @@ use std::io::Write;
 
 /// A script of the dialect.
 ///
-/// It must be spent by `finish`.
+/// It must be consumed by `finish`.
 pub(crate) struct Dialect<S: Storage<String> + Drop> {
     script: Script<S>,
     strangers: Strangers<S>,
 }
 
 impl<S: Storage<String> + Drop> Dialect<S> {
-    /// A script of which no line is answered yet.
+    /// A script without lines yet.
     pub(crate) fn new(alloc: Global, store: S, strangers: Strangers<S>) -> Dialect<S>
         requires { IsFresh (S.state store) }
     {
@@ -42,7 +41,7 @@ impl<S: Storage<String> + Drop> Dialect<S> {
         }
     }
 
-    /// Answers the next line, whose number is `number`.
+    /// Runs the next line, whose number is `number`.
     pub(crate) fn answer<W: Write>(
         &mut self,
         number: u32,
@@ -69,7 +68,7 @@ impl<S: Storage<String> + Drop> Dialect<S> {
         }
     }
 
-    // Answers a line that makes no call.
+    // Runs a line that makes no call.
     fn answer_beside<W: Write>(
         &mut self,
         word: &str,
@@ -123,7 +122,7 @@ impl<S: Storage<String> + Drop> Dialect<S> {
     }
 }
 
-/// What a write answers.
+/// The result of a write.
 fn written(answer: io::Result<()>) -> Result<(), Fault> {
     answer.map_err(|_| Fault::Output)
 }

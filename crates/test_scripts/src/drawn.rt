@@ -181,8 +181,8 @@ fn assert_stores_compared(
     assert_answered(rt, alloc, one, other, verdict);
 }
 
-// A store without a ticket refuses the first read, and one of the other number doesn't take the
-// last box for another store's.
+// On a store without a ticket the first read fails, and one of the other number doesn't take the last box
+// for another store's.
 #[test]
 fn the_first_call_that_stores_answer_otherwise_is_found(rt: HostRuntime) {
     let alloc = rt.alloc();
@@ -199,8 +199,8 @@ fn the_first_call_that_stores_answer_otherwise_is_found(rt: HostRuntime) {
     assert_stores_compared(&rt, alloc, 2, first, Verdict::Differs(3));
 }
 
-// A store with too many slots differs from there on, unless another difference comes earlier, or
-// memory refused the same call.
+// A store with too many slots differs from there on, unless another difference comes earlier, or the same
+// call failed to allocate.
 #[test]
 fn too_many_slots_are_a_difference(rt: HostRuntime) {
     for (verdict, breach, wanted) in [

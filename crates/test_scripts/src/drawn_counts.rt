@@ -15,7 +15,7 @@ use std::process::Abort;
 /// How many calls the lists here have.
 pub(crate) const COUNT: usize = 10_000;
 
-/// The words for a list's calls and their replies, and how often each stands at least.
+/// The words for a list's calls and their replies, and how often each occurs at least.
 const LEAST: [(&str, usize); 60] = [
     ("leak", 600),
     ("leak_rc", 300),
@@ -99,7 +99,7 @@ pub(crate) const FEW_TICKETS: Numbers = Numbers {
     ticket: u64::MAX - 400,
 };
 
-/// What a store that begins so answers the list of a seed.
+/// The replies of a store with these first numbers to the list of a seed.
 pub(crate) fn replies_from(
     rt: &impl Abort,
     alloc: Global,
@@ -112,7 +112,7 @@ pub(crate) fn replies_from(
     run(rt, alloc, store, list_of(rt, alloc, seed))
 }
 
-/// Asserts that each word of a table stands in a list at least so often.
+/// Asserts that each word of a table is in a list at least so often.
 fn assert_at_least(rt: &impl Abort, list: &[&str], least: &[(&str, usize)]) {
     for (word, count) in least {
         let found = count_of(list, word);
@@ -120,7 +120,7 @@ fn assert_at_least(rt: &impl Abort, list: &[&str], least: &[(&str, usize)]) {
     }
 }
 
-/// How often a word stands in a list.
+/// How often a word is in a list.
 fn count_of(list: &[&str], word: &str) -> usize {
     let mut found: usize = 0;
     for it in list {
@@ -149,7 +149,7 @@ const EXHAUSTED: [(&str, usize); 5] = [
     ("write", 20),
 ];
 
-/// The kinds of the calls that are told that the tickets are used up.
+/// The kinds of the calls that fail because the tickets are used up.
 fn exhausted(
     rt: &impl Abort,
     alloc: Global,

@@ -1,5 +1,5 @@
-//! Drawn lists where memory runs out. Each test passes whichever allocation is refused: a list is
-//! run twice, and all replies before the first call that is refused are the same, with their ids.
+//! Drawn lists where memory runs out. Each test passes whichever allocation fails: a list is run twice,
+//! and all replies before the first call that fails are the same, with their ids.
 
 use crate::expected::given;
 use boxes_parts::{is_lacking, is_same};
@@ -11,7 +11,7 @@ use std::process::Abort;
 /// How many calls a list has.
 const COUNT: usize = 200;
 
-/// Draws a list. Where memory lacks it is drawn again: what is less may lack too, a few times.
+/// Draws a list. If an allocation fails, it is drawn again: smaller requests may fail too, a few times.
 fn list_or_again(rt: &impl Abort, alloc: Global, seed: u64) -> Vec<Call<String>> {
     for _ in 0..9 {
         if let Ok(calls) = fuzz_list(alloc, seed, COUNT) {

@@ -5,7 +5,7 @@ use generational_box::{BorrowMutError, BoxAt, Call, Location, Reply, StoreError}
 use std::alloc::Global;
 use std::process::Abort;
 
-/// The number of the store that answers the lists here.
+/// The number of the store on which the lists are run here.
 pub(crate) const NUMBER: u64 = 1;
 
 /// A call's kind.
@@ -81,7 +81,7 @@ pub(crate) fn guard_in(call: &Call<String>) -> Option<usize> {
     }
 }
 
-/// The value that a call hands in.
+/// The value that a call passes.
 pub(crate) fn value_in(call: &Call<String>) -> Option<&str> {
     match call {
         Call::Leak(value, _)
@@ -94,7 +94,7 @@ pub(crate) fn value_in(call: &Call<String>) -> Option<&str> {
     }
 }
 
-/// The location that a call hands in.
+/// The location that a call passes.
 pub(crate) fn location_in(call: &Call<String>) -> Option<Location> {
     match call {
         Call::Leak(_, location)
@@ -185,8 +185,7 @@ const OWNER: Holder = Holder {
 };
 
 impl Holder {
-    // The word for a place that a call names, which gave such a thing or didn't, where the call is
-    // answered so.
+    // The word for a place in a call with this reply, which returned such a thing or didn't.
     fn word(
         &self,
         place: usize,

@@ -1,11 +1,11 @@
-//! Boxes that are read and ended, and slots that are used again.
+//! Boxes that are read and removed, and slots that are reused.
 
 use crate::runs::Script;
 use crate::tables::assert_answers;
 
 const SCRIPTS: [Script; 4] = [
-    // Nothing ends while its reader stands. Then the value is gone for good, also once its slot has
-    // another one.
+    // Nothing is removed while it is read. Then the value is gone forever, even once its slot has another
+    // one.
     (
         "a value ends once its reader is gone",
         &[
@@ -55,8 +55,8 @@ const SCRIPTS: [Script; 4] = [
             "leak 4 -> box 0@2",
         ],
     ),
-    // A box is copied freely and keeps nothing alive: each copy reads the value, each tells that it is
-    // gone, and none ends the value that has the slot by then.
+    // A box is `Copy` and keeps nothing alive: each copy reads the value, calls on each fail once it is
+    // gone, and none removes the value that has the slot by then.
     (
         "a box outlives its value",
         &[

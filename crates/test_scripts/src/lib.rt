@@ -1,5 +1,5 @@
-//! Scripts: lines of commands with the replies that they must have, and whole runs of the program.
-//! The expected values are worked out by hand.
+//! Scripts: lines of commands with the replies that they must have, and whole runs of the program. The
+//! expected values are worked out by hand.
 #![tactic(auto)]
 
 #[cfg(test)]

@@ -21,7 +21,7 @@ const LISTS: [Script; 1] = [
 ];
 
 const SCRIPTS: [Script; 3] = [
-    // Call by call the replies are the same, and the value is seen while its guard stands.
+    // Call by call the replies are the same, and the value is seen while its guard is active.
     (
         "calls are answered one by one",
         &[
@@ -91,7 +91,7 @@ const SCRIPTS: [Script; 3] = [
 ];
 
 const WITH_ONE_TICKET: [Script; 1] = [
-    // A refusal of the store itself leaves the guard that stands.
+    // An error of the store itself leaves the active guard.
     (
         "a session without tickets",
         &[

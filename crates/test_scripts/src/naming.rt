@@ -1,11 +1,11 @@
-//! Calls in the dialect of the tests, by places and by the boxes of stores that stand beside.
+//! Calls in the dialect of the tests, by places and by the boxes of other stores.
 
 use boxes_script::Fault;
 use generational_box::{BoxAt, Call, GenerationalBox, Location, Storage};
 use std::alloc::{AllocError, Global};
 use std::io::Write;
 
-/// The stores that stand beside a session's own, and the boxes that they gave.
+/// The stores other than the session's own, and the boxes that they issued.
 #[derive(Drop)]
 pub(crate) struct Strangers<S> {
     alloc: Global,

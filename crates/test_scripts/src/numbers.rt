@@ -7,7 +7,7 @@ use crate::tables::{
 use generational_box::LastFirst;
 
 const AT_THE_LAST_GENERATION: [Script; 2] = [
-    // A slot whose cell ends at the last generation is never used again.
+    // A slot whose cell ends at the last generation is never reused.
     (
         "a slot retires at its last generation",
         &[
@@ -49,8 +49,8 @@ const AT_THE_LAST_BUT_ONE: [Script; 1] = [
 ];
 
 const WITHOUT_TICKETS: [Script; 2] = [
-    // The last number is never given as a ticket. There a read is refused, unless the value is gone,
-    // and a making or an end isn't.
+    // The last number is never given as a ticket. There a read fails, unless the value is gone, and a
+    // making or an end isn't.
     (
         "no ticket is left",
         &[
@@ -86,8 +86,8 @@ const WITH_ONE_TICKET: [Script; 3] = [
             "try_read 1 -> dropped: script:1:1",
         ],
     ),
-    // The last ticket goes to a reader. Then a read and a write are refused, also after the reader's
-    // end, and a box whose value has ended is told so.
+    // The last ticket goes to a reader. Then a read and a write fail, even after the reader's release,
+    // and a read of a box whose value was removed fails with that.
     (
         "the last ticket goes to a reader",
         &[

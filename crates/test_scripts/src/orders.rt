@@ -40,7 +40,7 @@ const OLDEST_FIRST: [Script; 1] = [(
 )];
 
 const LISTS: [Script; 1] = [
-    // Ids aside, both stores answer the list alike.
+    // Ids aside, both stores give the same replies to the list.
     (
         "one list over either order",
         &[

@@ -6,7 +6,7 @@ use generational_box::LastFirst;
 
 const LISTS: [Script; 2] = [
     // An owner is made, inserts a value and is cloned. The value is read, and ends with the second
-    // release, which is refused once: the owner stays at its place, and inserts there.
+    // release, which fails once: the owner stays at its place, and inserts there.
     (
         "an owners boxes end with its last value",
         &[
@@ -23,7 +23,7 @@ const LISTS: [Script; 2] = [
             "try_read #6 -> dropped: script:7:1",
         ],
     ),
-    // Questions look at no store: they are answered for ended boxes and for those of other stores.
+    // Some calls access no store: they work for removed boxes and for those of other stores.
     (
         "questions about boxes",
         &[
@@ -66,7 +66,7 @@ const SCRIPTS: [Script; 2] = [
         ],
     ),
     // Places that hold no owner: not given yet, spent by a release or a leak, or of another thing. A
-    // value that was handed in comes back.
+    // value that was passed in comes back.
     (
         "calls of owners that are none",
         &[

@@ -76,8 +76,8 @@ const SCRIPTS: [Script; 11] = [
             "try_read 3 -> dropped: script:3:1",
         ],
     ),
-    // Of several borrowed boxes the one that was inserted first is told of, whichever was borrowed
-    // first.
+    // Of several borrowed boxes the error is that of the one that was inserted first, whichever was
+    // borrowed first.
     (
         "the first borrowed box is told of",
         &[
@@ -147,7 +147,7 @@ const SCRIPTS: [Script; 11] = [
             "try_read 3 -> dropped: script:3:1",
         ],
     ),
-    // An owner's box has ended, and its slot has a box of nobody. Whoever reads that one neither
+    // An owner's box was removed, and its slot has a box without an owner. A reader of that one neither
     // hinders the owner nor is disturbed.
     (
         "an owner leaves the next box of a slot alone",

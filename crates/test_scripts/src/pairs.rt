@@ -34,7 +34,7 @@ fn words(rt: &impl Abort, alloc: Global, seed: u64, count: usize) -> Vec<String>
     given(rt, vec![in alloc; fuzz, seed, count])
 }
 
-/// Asserts with which status the list of a seed ends over a pair, and what is told of it.
+/// Asserts with which status the list of a seed ends over a pair, and what is printed.
 fn assert_told(rt: &impl Abort, alloc: Global, list: (u64, usize), pair: Pair, told: (u8, &str))
     requires one { IsFresh pair.one.state }
     requires other { IsFresh pair.other.state }
@@ -58,8 +58,8 @@ fn first_other(ones: &[Reply<String>], others: &[Reply<String>]) -> Option<usize
         .position(|(one, other)| reply_word(one) != reply_word(other))
 }
 
-/// Asserts that the program tells where the second store of a pair answers the list of a seed
-/// otherwise, and that it does so at this place or behind it.
+/// Asserts that the program prints where the second store of a pair has other replies to the list of a
+/// seed, and that this is at this place or after it.
 fn assert_differs(rt: &impl Abort, alloc: Global, seed: u64, other: Beginning, least: usize)
     requires { 1 ≤ other.1.generation }
 {

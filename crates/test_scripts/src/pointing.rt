@@ -47,8 +47,8 @@ const SCRIPTS: [Script; 14] = [
             "stats -> slots 4 free 4 retired 0 peak 4",
         ],
     ),
-    // A box is pointed to itself with no change. Of two that have ended, the one that would be led to
-    // is told of.
+    // A box is pointed to itself without a change. Of two that were removed, the error is that of the new
+    // target.
     (
         "ended boxes are pointed",
         &[
@@ -70,8 +70,7 @@ const SCRIPTS: [Script; 14] = [
             "show 15 -> value 3",
         ],
     ),
-    // The location of the value that would be led to is told, whether or not the other one is
-    // borrowed.
+    // The error has the location of the new target's value, whether or not the other one is borrowed.
     (
         "own values and references are not mixed",
         &[
@@ -113,7 +112,8 @@ const SCRIPTS: [Script; 14] = [
             "point_to 2 1 -> dropped: script:1:1",
         ],
     ),
-    // It has ended, or is written, or neither: then the box that would be pointed is told of.
+    // It was removed, or is being written, or neither: then the error is that of the box that would be
+    // pointed.
     (
         "the box that would be led to is asked first",
         &[

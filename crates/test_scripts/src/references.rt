@@ -1,12 +1,12 @@
-//! References: from which boxes they are made, and what their makings are told.
+//! References: from which boxes they are made, and why that fails.
 
 use crate::runs::Script;
 use crate::tables::{LAST_GENERATION, ONE_TICKET, assert_answers, assert_answers_from};
 use generational_box::LastFirst;
 
 const SCRIPTS: [Script; 7] = [
-    // A value that was not made to be shared is told by its location, also while it is read. Its
-    // writer is told of first.
+    // The error of a value that isn't shared has its location, even while it is read. Its writer's error
+    // comes first.
     (
         "own values have no references",
         &[
@@ -55,7 +55,7 @@ const SCRIPTS: [Script; 7] = [
             "show 5 -> value hello world",
         ],
     ),
-    // The writer is told of by each reference.
+    // The error by each reference is the writer's.
     (
         "written values have no more references",
         &[
@@ -87,7 +87,7 @@ const SCRIPTS: [Script; 7] = [
             "created_at 9 -> script:1:1",
         ],
     ),
-    // A value that was handed in comes back, and nothing changes.
+    // A value that was passed in comes back, and nothing changes.
     (
         "lines that give no such thing",
         &[

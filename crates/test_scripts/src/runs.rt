@@ -7,7 +7,7 @@ use std::io::{Read, Write};
 use std::process::Abort;
 use std::str;
 
-/// What a run answered and wrote.
+/// A run's status, and what it wrote.
 #[derive(Drop)]
 pub(crate) struct Outcome {
     pub(crate) status: u8,
@@ -59,7 +59,7 @@ pub(crate) fn assert_ended(
     assert_same(rt, &outcome.status, &status);
 }
 
-/// The texts of errors, and the words that stand for them in a script.
+/// The texts of errors, and the words for them in a script.
 const ERRORS: [(&str, &str); 3] = [
     (
         "dropped: ",
@@ -112,8 +112,8 @@ fn commands_of(rt: &impl Abort, alloc: Global, lines: &[&str]) -> Vec<u8> {
     commands
 }
 
-/// Asserts that the program answers the commands of each script with the replies beside them, and that
-/// its run ends well.
+/// Asserts that the program prints the replies beside the commands of each script, and that its run ends
+/// well.
 pub(crate) fn assert_replies(rt: &impl Abort, alloc: Global, scripts: &[Script]) {
     for (name, lines) in scripts {
         let commands = commands_of(rt, alloc, lines);

@@ -5,8 +5,8 @@ use crate::tables::{assert_answers, assert_run};
 use generational_box::LastFirst;
 
 const SCRIPTS: [Script; 13] = [
-    // An inner owner makes the value, and an outer one refers to it. It lives as long as the outer
-    // one, and its location is told by both boxes.
+    // An inner owner makes the value, and an outer one refers to it. It lives as long as the outer one,
+    // and both boxes have its location.
     (
         "a value outlives the owner that made it",
         &[
@@ -99,7 +99,7 @@ const SCRIPTS: [Script; 13] = [
             "show 11 -> value 2",
         ],
     ),
-    // Two readers that began at one location are told one by one.
+    // Two readers that began at one location are listed separately.
     (
         "readers of a shared value",
         &[
@@ -114,7 +114,7 @@ const SCRIPTS: [Script; 13] = [
             "try_write 2 -> writer",
         ],
     ),
-    // A borrow stands at the value, whichever reference it came by.
+    // A borrow is of the value, by whichever reference.
     (
         "borrows are seen by each reference",
         &[

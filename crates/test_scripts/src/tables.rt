@@ -48,7 +48,7 @@ pub(crate) const TWO_TICKETS: Numbers = Numbers {
     ticket: u64::MAX - 2,
 };
 
-/// A session's own store, and those that stand beside: of number 8, and of its own number.
+/// A session's own store, and the others: of number 8, and of its own number.
 #[derive(Drop)]
 struct Stores<S> {
     own: S,
@@ -67,13 +67,13 @@ fn new_stores<P: SlotPool>(alloc: Global, numbers: Numbers) -> Stores<Store<Stri
     }
 }
 
-/// Asserts that the lines of each script are answered by the replies beside them, over a new store that
-/// takes the slot that was freed last.
+/// Asserts that the lines of each script have the replies beside them, over a new store that takes the
+/// slot that was freed last.
 pub(crate) fn assert_answers(rt: &impl Abort, alloc: Global, scripts: &[Script]) {
     assert_answers_from::<LastFirst>(rt, alloc, FIRST, scripts);
 }
 
-/// Asserts the same over a store whose numbers begin where they are told to.
+/// Asserts the same over a store with these first numbers.
 pub(crate) fn assert_answers_from<P: SlotPool + Drop>(
     rt: &impl Abort,
     alloc: Global,
@@ -87,7 +87,7 @@ pub(crate) fn assert_answers_from<P: SlotPool + Drop>(
     }
 }
 
-// Asserts that the lines of a script are answered by the replies beside them.
+// Asserts that the lines of a script have the replies beside them.
 fn assert_lines<S: Storage<String> + Drop>(
     rt: &impl Abort,
     alloc: Global,
@@ -107,15 +107,15 @@ fn assert_lines<S: Storage<String> + Drop>(
     assert_written(rt, name, &answered, &replies_of(rt, alloc, lines));
 }
 
-/// Asserts that the calls of each script, handed in as one list, are answered by the replies beside
-/// them. Lines of the stores beside are no calls, and come first.
+/// Asserts that the calls of each script, passed in as one list, have the replies beside them. Lines of
+/// other stores are no calls, and come first.
 pub(crate) fn assert_run<P: SlotPool + Drop>(rt: &impl Abort, alloc: Global, scripts: &[Script]) {
     for (name, lines) in scripts {
         assert_list(rt, alloc, new_stores::<P>(alloc, FIRST), name, lines);
     }
 }
 
-// Asserts that the calls of a script are answered by the replies beside them.
+// Asserts that the calls of a script have the replies beside them.
 fn assert_list<S: Storage<String> + Drop>(
     rt: &impl Abort,
     alloc: Global,
@@ -137,7 +137,7 @@ fn assert_list<S: Storage<String> + Drop>(
     assert_written(rt, name, &answered, &replies_of(rt, alloc, lines));
 }
 
-// Adds the call of a line to a list. A line of the stores beside is answered at once.
+// Adds the call of a line to a list. A line of another store is run at once.
 fn add_line<S: Storage<String>>(
     rt: &impl Abort,
     strangers: &mut Strangers<S>,

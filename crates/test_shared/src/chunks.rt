@@ -1,4 +1,4 @@
-//! Scenarios of lists in chunks: past several chunks, and where memory is refused.
+//! Scenarios of lists in chunks: past several chunks, and when allocations fail.
 #[cfg(test)]
 mod again;
 #[cfg(test)]

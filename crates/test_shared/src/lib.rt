@@ -1,6 +1,6 @@
-//! Scenarios of threads: stores that they share, with what calls answer, what the audited history
-//! has, and that each call that waits is answered; and boxes and guards of a sequential store that
-//! they hand each other. The expected values are worked out by hand.
+//! Scenarios of threads: stores that they share, with what calls return, what the audited history has,
+//! and that each waiting call returns; and boxes and guards of a sequential store that they exchange. The
+//! expected values are worked out by hand.
 #![tactic(auto)]
 
 #[cfg(test)]

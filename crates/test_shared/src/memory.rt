@@ -1,5 +1,5 @@
-//! What finds no memory leaves no step. Each test passes whichever one allocation is refused: what
-//! lacks memory is called a second time.
+//! What fails to allocate leaves no step. Each test passes whichever allocation fails: what fails to
+//! allocate is called a second time.
 
 use crate::stages::plays_with_little_memory;
 use std::test::*;

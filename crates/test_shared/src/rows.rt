@@ -1,4 +1,4 @@
-//! What one worker asks of a new store, and is answered.
+//! The calls of one worker on a new store, and their results.
 
 use crate::stages::plays;
 use std::test::*;

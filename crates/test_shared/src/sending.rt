@@ -15,9 +15,9 @@ fn here() -> Location {
     Location::new("a.rs", 3, 5)
 }
 
-/// Lets another thread exchange two values, which takes both there and back.
+/// Has another thread exchange two values, which takes both there and back.
 ///
-/// A guard can't be moved into a closure, since it is no value that may be let go.
+/// A guard can't be moved into a closure, since it can't be dropped.
 fn swap_elsewhere<T: Send, R: Threads + Wait + Sync>(rt: &R, one: &mut T, other: &mut T) {
     thread::join(rt, || (), || mem::swap(one, other));
 }

@@ -13,10 +13,10 @@ use std::sync::ledger::Blank;
 use std::thread::Threads;
 use test_shared_workers::{Handle, Scenario};
 
-// How often a store is made anew where memory lacks.
+// How often a store is made again if an allocation fails.
 const TRIES: u64 = 20;
 
-/// Plays a scenario with so many workers of a new store, numbered from 0. Memory never lacks.
+/// Plays a scenario with so many workers of a new store, numbered from 0. No allocation fails.
 pub(crate) fn plays<H: Threads + Wait + Abort + Sync>(
     rt: &H,
     alloc: Global,
@@ -28,8 +28,8 @@ pub(crate) fn plays<H: Threads + Wait + Abort + Sync>(
     assert!(rt; play(rt, alloc, workers, scenario) == Ok(0));
 }
 
-/// Plays a scenario with one worker, where memory may lack. Where a store can't be made, it is made
-/// anew.
+/// Plays a scenario with one worker, where allocations may fail. If a store can't be made, it is made
+/// again.
 pub(crate) fn plays_with_little_memory<H: Threads + Wait + Abort + Sync>(
     rt: &H,
     alloc: Global,
@@ -43,7 +43,7 @@ pub(crate) fn plays_with_little_memory<H: Threads + Wait + Abort + Sync>(
     rt.abort()
 }
 
-// How often memory lacked. Err where no store was made.
+// How often an allocation failed. Err if no store was made.
 fn play<H: Threads + Wait + Abort + Sync>(
     rt: &H,
     alloc: Global,

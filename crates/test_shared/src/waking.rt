@@ -1,4 +1,4 @@
-//! That each call that waits is answered once no borrow stands in its way.
+//! That each waiting call returns once no borrow is in its way.
 
 use crate::stages::plays;
 use std::test::*;

@@ -60,7 +60,7 @@ struct Boxes {
     reference: GenerationalBox<String>,
 }
 
-// What the two workers tell each other.
+// What the two workers report to each other.
 #[derive(Drop)]
 struct Gates {
     written: Gate,

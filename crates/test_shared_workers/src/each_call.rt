@@ -70,7 +70,7 @@ fn leak_rc<A: Count, B: Count, C: Count, D: Count>(
     rt.expect(shared.map_err(|refusal| refusal.cause), "a shared value")
 }
 
-// Makes a reference to what a box reaches, on no list.
+// Makes a reference to what a box refers to, on no list.
 fn refer<A: Count, B: Count, C: Count, D: Count>(
     rt: &impl Judge,
     state: &mut SyncState<String, 7, A, B, C, D>,
@@ -84,7 +84,7 @@ fn refer<A: Count, B: Count, C: Count, D: Count>(
     rt.expect(reference, "a reference")
 }
 
-// Makes a reference to what a box reaches, on the owner's list.
+// Makes a reference to what a box refers to, on the owner's list.
 fn refer_for<A: Count, B: Count, C: Count, D: Count>(
     rt: &impl Judge,
     state: &mut SyncState<String, 7, A, B, C, D>,
@@ -161,7 +161,7 @@ fn end_write<A: Count, B: Count, C: Count, D: Count>(
     rt.compare(&state.release_write(guard, tally), &Ok(()));
 }
 
-// Points a reference to what another box reaches.
+// Points a reference to what another box refers to.
 fn point<A: Count, B: Count, C: Count, D: Count>(
     rt: &impl Judge,
     state: &mut SyncState<String, 7, A, B, C, D>,

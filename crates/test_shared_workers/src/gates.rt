@@ -3,7 +3,7 @@
 use std::sync::atomic::{AtomicU64, Ordering};
 use std::thread;
 
-// How often a gate is asked before whoever waits gives up.
+// How often a gate is checked before the waiting thread gives up.
 const TURNS: u64 = 10_000_000;
 
 /// Each arrival opens the gate for one that passes it.
@@ -29,8 +29,8 @@ impl Gate {
         self.arrivals.load(Ordering::SeqCst) > 0
     }
 
-    /// Waits until the gate is open, for a bounded number of turns, and passes it. Answers whether
-    /// it was opened in time. One thread alone waits at a gate.
+    /// Waits until the gate is open, for a bounded number of turns, and passes it. Returns whether it was
+    /// opened in time. One thread alone waits at a gate.
     pub(crate) fn passes(&self) -> bool {
         for _ in 0..TURNS {
             if self.is_open() {

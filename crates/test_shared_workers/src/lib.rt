@@ -1,6 +1,6 @@
-//! Scenarios of a store that threads share, over workers and their stores: what calls answer, what
-//! the audited history has, and that each call that waits is answered. The expected values are
-//! worked out by hand. `test_shared` plays them.
+//! Scenarios of a store that threads share, over workers and their stores: what calls return, what the
+//! audited history has, and that each waiting call returns. The expected values are worked out by hand.
+//! `test_shared` plays them.
 #![tactic(auto)]
 
 mod audits;

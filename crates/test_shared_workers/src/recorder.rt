@@ -1,5 +1,5 @@
-//! Workers that know what the history must have of them. Each call is answered as its scenario
-//! says, or the test ends; where memory lacks, it is called a second time.
+//! Workers that know what the history must have of them. Each call has the result that its scenario says,
+//! or the test ends; if an allocation fails, it is made a second time.
 
 use crate::judge::{Judge, present};
 use crate::recorded::{KINDS, assert_kinds, assert_recorded};
@@ -17,7 +17,7 @@ use std::thread;
 // How often a worker looks whether calls wait before it gives up.
 const TURNS: u64 = 10_000_000;
 
-/// How often an audit that was refused is asked for again.
+/// How often an audit that failed is asked for again.
 const AUDITS: u64 = 8;
 
 /// A worker, and the steps that its calls are.
@@ -28,7 +28,7 @@ pub(crate) struct Recorder<W> {
     steps: Vec<Step>,
     // how many steps of all workers were trimmed, where this one trimmed them
     trimmed: u64,
-    // how often memory lacked
+    // how often an allocation failed
     lacks: u64,
 }
 
@@ -55,7 +55,7 @@ impl<W: Worker> Recorder<W> {
         }
     }
 
-    // That a call found no memory, and is called again.
+    // That a call failed to allocate, and is called again.
     fn lacks(&mut self, rt: &impl Judge, cause: StoreError) {
         rt.compare(&cause, &StoreError::OutOfMemory);
         self.lacks = self.lacks.wrapping_add(1);
@@ -73,8 +73,8 @@ impl<W: Worker> Recorder<W> {
         made
     }
 
-    // The box of the shared value that was made. Its cell stands in the slot before, since the
-    // scenarios make shared values where no slot is free.
+    // The box of the shared value that was made. Its cell is in the slot before, since the scenarios make
+    // shared values if no slot is free.
     fn made_shared(
         &mut self,
         rt: &impl Judge,
@@ -196,7 +196,7 @@ impl<W: Worker> Recorder<W> {
         made
     }
 
-    // What a read answers that found memory, called by either name.
+    // The result of a read that didn't fail to allocate, called by either name.
     fn asks_to_read(
         &mut self,
         rt: &(impl Wait + Judge),
@@ -339,7 +339,7 @@ impl<W: Worker> Recorder<W> {
         self.writer(rt, asked, at, answer)
     }
 
-    /// Puts another value in the place of one, and ends the write.
+    /// Replaces the value, and ends the write.
     pub(crate) fn release_over(
         &mut self,
         rt: &(impl Wait + Judge),
@@ -403,7 +403,7 @@ impl<W: Worker> Recorder<W> {
         self.record(rt, call, StepReply::Dropped(made));
     }
 
-    /// Ends a box.
+    /// Removes a box.
     pub(crate) fn end(&mut self, rt: &(impl Wait + Judge), asked: GenerationalBox<String>) {
         rt.expect(self.worker.manually_drop(rt, asked), "a box that ends");
         let call = StepCall::ManuallyDrop(asked.pointer());
@@ -537,8 +537,8 @@ impl<W: Worker> Recorder<W> {
         rt.stop("no call waits")
     }
 
-    /// Lets the history go, which had so many steps in all, and the steps of this worker with it. A
-    /// refusal leaves all of them, and the base.
+    /// Trims the history, which had so many steps in all, and the steps of this worker with it. If that
+    /// fails, all of them and the base stay.
     pub(crate) fn trim(&mut self, rt: &(impl Wait + Judge), trimmed: u64) {
         let answer = match self.worker.checkpoint(rt) {
             Err(cause) => {
@@ -557,7 +557,7 @@ impl<W: Worker> Recorder<W> {
     // The base and the history, once all other workers' counts were taken over.
     fn history(&mut self, rt: &(impl Wait + Judge)) -> (Base, Vec<Step>) {
         let mut audit = self.worker.audit(rt);
-        // An audit takes memory several times, so it may be refused as often.
+        // An audit allocates several times, so it may fail as often.
         for _ in 0..AUDITS {
             if audit.is_none() {
                 self.lacks = self.lacks.wrapping_add(1);
@@ -608,8 +608,8 @@ impl<W: Worker> Recorder<W> {
         }
     }
 
-    /// Asserts that too, and of each worker so many steps that made, lent, changed and were
-    /// refused. Answers how often memory lacked.
+    /// Asserts that too, and of each worker so many steps of each kind: made, lent, changed, refused.
+    /// Returns how often an allocation failed.
     pub(crate) fn finish(mut self, rt: &(impl Wait + Judge), kinds: &[[usize; 4]]) -> u64 {
         self.audit(rt, kinds.len());
         for (worker, counts) in kinds.iter().enumerate() {
@@ -619,7 +619,7 @@ impl<W: Worker> Recorder<W> {
     }
 }
 
-/// A text. Where memory lacks, it is asked for a second time.
+/// A text. If an allocation fails, it is asked for a second time.
 pub(crate) fn text(rt: &impl Judge, alloc: Global, letters: &str) -> String {
     match String::from_str(alloc, letters) {
         Ok(text) => text,

@@ -1,4 +1,4 @@
-//! What one worker asks of a new store, and is answered; the history is the calls that it made, in
+//! The calls of one worker on a new store, and their results; the history is the calls that it made, in
 //! order.
 
 use crate::judge::Judge;
@@ -16,7 +16,7 @@ pub(crate) fn owners_end<W: Worker>(rt: &(impl Wait + Judge), mut one: Recorder<
     one.finish(rt, &[[4, 1, 3, 2]])
 }
 
-// The calls of that row; the box that is answered has another value, which stays.
+// The calls of that row; the returned box has another value, which stays.
 fn owners_box_ends<W: Worker>(
     rt: &(impl Wait + Judge),
     one: &mut Recorder<W>,
@@ -33,8 +33,8 @@ fn owners_box_ends<W: Worker>(
     kept
 }
 
-/// The same, with a read of the other value. Whichever one allocation is refused, each call is
-/// answered so when it is called again, and the history has no step of the refused call.
+/// The same, with a read of the other value. Whichever allocation fails, each call has this reply when it
+/// is made again, and the history has no step of the call that failed.
 pub(crate) fn memory_lacks<W: Worker>(rt: &(impl Wait + Judge), mut one: Recorder<W>) -> u64 {
     let kept = owners_box_ends(rt, &mut one);
     one.reads(rt, kept, read_later(), "x");
@@ -67,7 +67,7 @@ pub(crate) fn value_is_read<W: Worker>(rt: &(impl Wait + Judge), mut one: Record
     one.finish(rt, &[[2, 1, 2, 0]])
 }
 
-/// A value outlives its owner where the owner is leaked.
+/// A value outlives its owner if the owner is leaked.
 pub(crate) fn owner_leaks<W: Worker>(rt: &(impl Wait + Judge), mut one: Recorder<W>) -> u64 {
     let owner = one.owner(rt);
     let owned = one.insert(rt, &owner, "hello world", made());
@@ -171,8 +171,8 @@ pub(crate) fn bases_have_borrows<W: Worker>(rt: &(impl Wait + Judge), mut one: R
     one.finish(rt, &[[0, 1, 1, 0]])
 }
 
-/// A history is let go while a reader stands. The guard opens the value still, and the history has
-/// what comes later.
+/// A history is trimmed during a read. The guard still opens the value, and the history has the later
+/// steps.
 pub(crate) fn history_is_trimmed<W: Worker>(rt: &(impl Wait + Judge), mut one: Recorder<W>) -> u64 {
     let kept = one.leak(rt, "x", made());
     let owner = one.owner(rt);
@@ -185,8 +185,8 @@ pub(crate) fn history_is_trimmed<W: Worker>(rt: &(impl Wait + Judge), mut one: R
     one.finish(rt, &[[0, 1, 3, 0]])
 }
 
-/// Boxes and guards of another store are strangers here, also where the slot, the generation and
-/// the ticket are those of a reader of this one.
+/// Boxes and guards of another store are strangers here, even if the slot, the generation and the ticket
+/// are those of a reader of this one.
 pub(crate) fn strangers_come<W: Worker>(
     rt: &(impl Wait + Judge),
     alloc: Global,
@@ -210,8 +210,7 @@ pub(crate) fn strangers_come<W: Worker>(
     one.finish(rt, &[[1, 1, 2, 2]])
 }
 
-/// An owner of another store is a stranger here, also where its key is that of an owner of this
-/// one.
+/// An owner of another store is a stranger here, even if its key is that of an owner of this one.
 pub(crate) fn strange_owner_comes<W: Worker>(
     rt: &(impl Wait + Judge),
     alloc: Global,

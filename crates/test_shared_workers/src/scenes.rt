@@ -38,7 +38,7 @@ pub enum Scenario {
     WakeAll,
 }
 
-/// Lets the workers act, each of which records its steps. Answers how often memory lacked.
+/// Runs the workers, each of which records its steps. Returns how often an allocation failed.
 pub fn play<W: Worker, H: Threads + Wait + Judge + Sync>(
     rt: &H,
     alloc: Global,
@@ -54,7 +54,7 @@ pub fn play<W: Worker, H: Threads + Wait + Judge + Sync>(
     Ok(act(rt, alloc, all, scenario))
 }
 
-// Lets the workers act, and answers how often memory lacked for one alone.
+// Runs the workers, and returns how often an allocation failed for a single one.
 fn act<W: Worker, H: Threads + Wait + Judge + Sync>(
     rt: &H,
     alloc: Global,

@@ -8,7 +8,7 @@ use generational_box::{
 use generational_sync::{Count, SyncState, Tally};
 use std::mem;
 
-/// Ends a box.
+/// Removes a box.
 pub(crate) fn end<A: Count, B: Count, C: Count, D: Count>(
     state: &mut SyncState<String, 7, A, B, C, D>,
     tally: &mut Tally<A, B, C, D>,
@@ -57,7 +57,7 @@ pub(crate) fn release_write<A: Count, B: Count, C: Count, D: Count>(
     }
 }
 
-/// What an owner's release answers.
+/// The result of an owner's release.
 pub(crate) type Released = Result<(), (Owner, Refused<BorrowMutError>)>;
 
 /// Spends an owner that wasn't spent yet.
@@ -78,7 +78,7 @@ pub(crate) fn release_owner<A: Count, B: Count, C: Count, D: Count>(
     }
 }
 
-/// Makes one reference more.
+/// Makes another reference.
 pub(crate) fn leak_reference<A: Count, B: Count, C: Count, D: Count>(
     state: &mut SyncState<String, 7, A, B, C, D>,
     tally: &mut Tally<A, B, C, D>,

@@ -33,7 +33,7 @@ fn begin<A: Count, B: Count, C: Count, D: Count>(
     rt.expect(guard, "a guard")
 }
 
-// Ends a box, which nothing hinders.
+// Removes a box, which nothing hinders.
 fn end<A: Count, B: Count, C: Count, D: Count>(
     rt: &impl Judge,
     state: &mut SyncState<String, 7, A, B, C, D>,
@@ -77,8 +77,8 @@ pub fn live<A: Count, B: Count, C: Count, D: Count>(
     end(rt, state, tally, made);
 }
 
-/// Lets the steps go while a reader stands, and goes on. The audit has a base of what stood then,
-/// and the later steps alone.
+/// Trims the steps during a read, and goes on. The audit has a base of the state then, and only the later
+/// steps.
 pub fn trim<A: Count, B: Count, C: Count, D: Count>(
     rt: &impl Judge,
     alloc: Global,
@@ -93,7 +93,7 @@ pub fn trim<A: Count, B: Count, C: Count, D: Count>(
     assert_audited(rt, state, tally, made);
 }
 
-// Asserts that a box and its reader stand in the base, and that their ends came later.
+// Asserts that a box and its reader are in the base, and that their ends came later.
 fn assert_audited<A: Count, B: Count, C: Count, D: Count>(
     rt: &impl Judge,
     state: &mut SyncState<String, 7, A, B, C, D>,

@@ -1,9 +1,9 @@
-//! That each call that waits is answered once no borrow stands in its way.
+//! That each waiting call returns once no borrow is in its way.
 //!
-//! Where a call is known to wait, one step is taken that frees it, and no other until it was
-//! answered: a step after which nobody is woken leaves the call asleep, and the test ends with a
-//! failure. Another worker takes the lock again and again meanwhile, so a wake that comes before
-//! the step is soon one that comes too early.
+//! When a call is known to wait, one step is taken that frees it, and no other until it has returned: a
+//! step that wakes nothing leaves the call asleep, and the test ends with a failure. Another worker takes
+//! the lock again and again meanwhile, so a wake that comes before the step is soon one that comes too
+//! early.
 
 use crate::gates::Gate;
 use crate::judge::{Judge, present};
@@ -34,7 +34,7 @@ pub enum Freeing {
     ReferenceInserted,
 }
 
-// What the workers tell each other.
+// What the workers report to each other.
 #[derive(Drop)]
 struct Rounds {
     asked: Mutex<Option<GenerationalBox<String>>>,
@@ -53,7 +53,7 @@ impl Rounds {
         }
     }
 
-    // Lets the other worker call something of this box, and goes on once that call waits.
+    // Has the other worker call something on this box, and goes on once that call waits.
     fn send_to_sleep<W: Worker>(
         &self,
         rt: &(impl Wait + Judge),
@@ -71,7 +71,7 @@ impl Rounds {
         present(rt, self.asked.lock(rt).take(), "a box is asked for")
     }
 
-    // Goes on once the call that waited was answered.
+    // Goes on once the waiting call has returned.
     fn assert_answered(&self, rt: &impl Judge) {
         rt.demand(self.answered.passes(), "the call was not woken");
     }
@@ -269,7 +269,7 @@ fn frees_two_reads<W: Worker>(
     rounds.over.arrive();
 }
 
-// Reads the value once it isn't written any more, and until the other read was answered too.
+// Reads the value once it isn't written any more, and until the other read has returned too.
 fn reads_once_released<W: Worker>(
     rt: &(impl Wait + Judge),
     one: &mut Recorder<W>,
@@ -307,7 +307,7 @@ pub(crate) fn wake_all<W: Worker, H: Threads + Wait + Judge + Sync>(
     first.finish(rt, &[[1, 1, 1, 0], [0, 1, 1, 0], [0, 1, 1, 0]]);
 }
 
-// Lets the history go while a call waits, which goes on to wait, and releases the value.
+// Trims the history while a call waits, which goes on to wait, and releases the value.
 fn trims_while_written<W: Worker>(
     rt: &(impl Wait + Judge),
     one: &mut Recorder<W>,
@@ -324,7 +324,7 @@ fn trims_while_written<W: Worker>(
     rounds.over.arrive();
 }
 
-/// A read waits while the history is let go, and is answered once the writer is released.
+/// A read waits while the history is trimmed, and returns once the writer is released.
 pub(crate) fn trim_beside<W: Worker, H: Threads + Wait + Judge + Sync>(
     rt: &H,
     mut first: Recorder<W>,

@@ -1,5 +1,5 @@
 //! Workers of a store that threads share. Their calls have no contract here: the scenarios compare
-//! answers.
+//! results.
 
 use crate::audits::audited;
 use crate::together;
@@ -25,7 +25,7 @@ pub trait Worker: Drop + Send {
     /// Makes a shared value.
     fn leak_rc(&mut self, rt: &impl Wait, value: String, at: Location) -> MadeOrBack;
 
-    /// Makes one reference more.
+    /// Makes another reference.
     fn leak_reference(
         &mut self,
         rt: &impl Wait,
@@ -108,7 +108,7 @@ pub trait Worker: Drop + Send {
         value: String,
     ) -> Result<(), (String, Refused<BorrowMutError>)>;
 
-    /// Ends a box.
+    /// Removes a box.
     fn manually_drop(
         &mut self,
         rt: &impl Wait,
@@ -139,15 +139,15 @@ pub trait Worker: Drop + Send {
     /// Takes over what another worker has counted. False for the tally of another store.
     fn take_over(&mut self, other: Self) -> bool;
 
-    /// Lets the history go, and answers how many steps that were in all.
+    /// Trims the history, and returns how many steps that were in all.
     fn checkpoint(&mut self, rt: &impl Wait) -> Result<u64, StoreError>;
 
-    /// The base and the history, once all other workers' counts were taken over. None where memory
-    /// lacks, or where a worker's counts lack.
+    /// The base and the history, once all other workers' counts were taken over. None if an allocation
+    /// fails, or where a worker's counts lack.
     fn audit(&mut self, rt: &impl Wait) -> Option<(Base, Vec<Step>)>;
 }
 
-/// What a making answers: a box, or the value back.
+/// The result of a making: a box, or the value.
 pub type MadeOrBack = Result<GenerationalBox<String>, Refusal<String>>;
 
 /// A handle of the store with number 7, and a tally.

@@ -1,5 +1,5 @@
-//! Lists in chunks, past several chunks. Each test passes whichever one allocation is refused: what
-//! lacks memory is tried a second time.
+//! Lists in chunks, past several chunks. Each test passes whichever allocation fails: what fails to
+//! allocate is tried a second time.
 
 ghost use Rattle.std.specs.Prelude.{◌≤◌};
 
@@ -8,7 +8,7 @@ use std::alloc::Global;
 use std::process::Abort;
 use std::test::*;
 
-/// Makes room. Where memory lacks the list stays as long as it was.
+/// Makes room. If an allocation fails, the list's length is unchanged.
 fn reserve_or_again(rt: &impl Abort, list: &mut Chunks<u64>, more: usize)
     ensures { more ≤ list.new.room }
 {
@@ -61,7 +61,7 @@ fn past_several_chunks(rt: HostRuntime) {
     }
 }
 
-/// Room for more than the largest chunk has at once, before anything stands in the list and after.
+/// Room for more than the largest chunk has at once, before anything is in the list and after.
 #[test]
 fn many_at_once(rt: HostRuntime) {
     let mut list = Chunks::new(rt.alloc());

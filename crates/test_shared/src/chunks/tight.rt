@@ -1,4 +1,4 @@
-//! A list in chunks where memory reaches for what is needed, and for no more.
+//! A list in chunks when there is just enough memory for what is needed.
 
 use shared_chunks::Chunks;
 use std::test::*;
