@@ -4,7 +4,7 @@ use crate::element::Element;
 use generational_box::{GenerationalBox, Location, Owner, Refusal, Refused, Storage, StoreError};
 use std::alloc::AllocError;
 
-/// The workload can't go on: a call was refused, as for lack of memory.
+/// The workload can't go on: a call failed, for example because an allocation did.
 #[derive(Clone, Copy)]
 pub struct Stopped;
 
@@ -105,7 +105,7 @@ pub(crate) fn write<E: Element, S: Storage<E>>(
     }
 }
 
-/// Ends a box's value.
+/// Removes a box's value.
 #[inline(always)]
 pub(crate) fn end<E: Element, S: Storage<E>>(
     store: &mut S,
@@ -125,7 +125,7 @@ pub(crate) fn make_shared<E: Element, S: Storage<E>>(
     Ok(made)
 }
 
-/// One reference more to a box's shared value.
+/// Adds another reference to a box's shared value.
 #[inline(always)]
 pub(crate) fn refer<E: Element, S: Storage<E>>(
     store: &mut S,
@@ -135,7 +135,7 @@ pub(crate) fn refer<E: Element, S: Storage<E>>(
     Ok(made)
 }
 
-/// Lets a reference lead to the shared value of another box.
+/// Points a reference to the shared value of another box.
 #[inline(always)]
 pub(crate) fn point<E: Element, S: Storage<E>>(
     store: &mut S,
@@ -164,7 +164,7 @@ pub(crate) fn insert<E: Element, S: Storage<E>>(
     Ok(made)
 }
 
-/// Ends an owner's values. An owner that the store refuses is leaked.
+/// Removes an owner's values. If the release fails, the owner is leaked.
 #[inline(always)]
 pub(crate) fn release<E: Element, S: Storage<E>>(
     store: &mut S,

@@ -27,7 +27,7 @@ impl Element for u64 {
 
 /// `v` and the decimal digits of the word modulo a million.
 impl Element for String {
-    // By hand: `format!` costs more than most of the calls that are measured.
+    // Written out, since `format!` costs more than most of the calls that are measured.
     fn of_word(alloc: Global, word: u32) -> Result<String, AllocError> {
         let mut buffer = Buffer::new();
         let digits = buffer.format(word % 1_000_000);

@@ -1,7 +1,7 @@
 //! Whole workloads over a store: what the store is measured by.
 //!
-//! Each workload makes many calls and answers a checksum of the values that were seen, which is the
-//! same for every store that does the same work. They are described in `docs/PERFORMANCE.md` at the
+//! Each workload makes many calls and returns a checksum of the values that were seen, which is the same
+//! for every store that does the same work. They are described in `docs/PERFORMANCE.md` at the
 //! repository's root.
 #![tactic(auto)]
 

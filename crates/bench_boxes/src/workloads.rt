@@ -24,7 +24,7 @@ const VALUES: usize = 100;
 // How many references a shared value has at first.
 const REFERENCES: usize = 10;
 
-/// The number that a workload answers: its checksum, or 1 where it couldn't go on.
+/// The number that a workload returns: its checksum, or 1 if it couldn't go on.
 pub fn answer(outcome: Result<u64, Stopped>) -> u64 {
     outcome.unwrap_or(1)
 }
@@ -46,8 +46,7 @@ pub fn insert_and_read<E: Element, S: Storage<E> + Drop>(
     Ok(checksum)
 }
 
-/// w2: values are made; 10n times one is ended and another made in its place; each is read, and
-/// ended.
+/// w2: values are made; 10n times one is ended and another takes its slot; each is read, and ended.
 #[inline(always)]
 pub fn churn<E: Element, S: Storage<E> + Drop>(
     alloc: Global,
@@ -414,7 +413,7 @@ fn own_many<E: Element, S: Storage<E>>(
     Ok(checksum)
 }
 
-// Makes an owner's values. The answer is the box of the last one.
+// Makes an owner's values. Returns the box of the last one.
 #[inline(always)]
 fn insert_many<E: Element, S: Storage<E>>(
     alloc: Global,
@@ -431,7 +430,7 @@ fn insert_many<E: Element, S: Storage<E>>(
     Ok(last)
 }
 
-// Releases each owner, in the order of the vector, also those after one that is refused.
+// Releases each owner, in the order of the vector, also those after one that fails.
 #[inline(always)]
 fn release_each<E: Element, S: Storage<E>>(
     store: &mut S,

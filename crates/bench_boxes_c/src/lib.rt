@@ -1,11 +1,11 @@
 //! Whole workloads over a store, for C: what the store is measured by.
 //!
-//! Guards can't cross C, and a call is too short to be timed alone. So each export runs a workload
-//! of many calls and answers a checksum of the values that were seen, which is the same for every
-//! store that does the same work. Each workload has an export for `u64` and one for `String`; they
-//! are described in `docs/PERFORMANCE.md` at the repository's root.
+//! Guards can't cross C, and a call is too short to be timed alone. So each export runs a workload of
+//! many calls and returns a checksum of the values that were seen, which is the same for every store that
+//! does the same work. Each workload has an export for `u64` and one for `String`; they are described in
+//! `docs/PERFORMANCE.md` at the repository's root.
 //!
-//! An export answers 1 where memory was refused.
+//! An export returns 1 if an allocation failed.
 #![tactic(auto)]
 
 #[cfg(test)]

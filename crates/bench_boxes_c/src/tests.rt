@@ -1,4 +1,4 @@
-//! The checksums that generational-box 0.7.10 and slotmap answer for the same workloads.
+//! The checksums of generational-box 0.7.10 and slotmap for the same workloads.
 use crate::{
     gbox_w1_text, gbox_w1_u64, gbox_w2_text, gbox_w2_u64, gbox_w3_text, gbox_w3_u64, gbox_w4_text,
     gbox_w4_u64, gbox_w5_text, gbox_w5_u64, gbox_w6_text, gbox_w6_u64, gbox_w8_text, gbox_w8_u64,

@@ -7,7 +7,7 @@ use std::alloc::Global;
 use std::time::Clock;
 
 /// Makes the operations over n places of a document, ten of a part, and returns a sum of what was seen.
-/// None where a call wasn't carried out.
+/// None if a call wasn't carried out.
 pub(crate) fn run<R: Clock, S: Storage<u32>>(
     rt: &R,
     alloc: Global,

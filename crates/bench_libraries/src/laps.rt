@@ -25,8 +25,8 @@ impl Laps {
         Some(())
     }
 
-    /// Adds the time since the lap began to an operation's, and begins the next. None where the clock
-    /// or memory lacks.
+    /// Adds the time since the lap began to an operation's, and begins the next. None if the clock or an
+    /// allocation fails.
     pub(crate) fn end<R: Clock>(&mut self, rt: &R, name: &'static str) -> Option<()> {
         let taken = u64::try_from(self.start?.elapsed(rt).ok()?.as_nanos()).ok()?;
         match self.list.iter_mut().find(|lap| lap.0 == name) {
@@ -42,7 +42,7 @@ impl Laps {
     }
 }
 
-/// The places below n in an order drawn by a linear generator. None where memory lacks.
+/// The places below n in an order drawn by a linear generator. None if an allocation fails.
 pub(crate) fn drawn(alloc: Global, n: usize) -> Option<Vec<usize>> {
     let mut list = Vec::with_capacity(alloc, n).ok()?;
     for place in 0..n {

@@ -13,7 +13,7 @@
 //! `bench/compare.py` runs both. Each operation is a function of its own, so that a profiler counts it
 //! apart. Things are looked at in a drawn order.
 //!
-//! The status is 1 where a call wasn't carried out, as for lack of memory, and 2 for other words.
+//! The status is 1 if a call failed, for example to allocate, and 2 for other words.
 #![tactic(auto)]
 
 mod documents;
@@ -54,7 +54,7 @@ fn main(rt: HostRuntime) -> ExitCode {
 }
 
 /// Makes the list's operations as often as the words say, and returns what was seen the last time. None
-/// where a call wasn't carried out.
+/// if a call wasn't carried out.
 fn seen_in(rt: &HostRuntime, laps: &mut Laps, words: Words) -> Option<u64> {
     let order = drawn(rt.alloc(), words.things)?;
     let mut seen = 0;

@@ -7,7 +7,7 @@ use std::alloc::Global;
 use std::time::Clock;
 
 /// Makes the operations over n entries of a table, in n / 10 sessions, and returns a sum of what was
-/// seen. None where a call wasn't carried out.
+/// seen. None if a call wasn't carried out.
 pub(crate) fn run<R: Clock, S: Storage<u64>>(
     rt: &R,
     alloc: Global,

@@ -6,8 +6,8 @@ use scene_tree::{Node, SceneTree};
 use std::alloc::Global;
 use std::time::Clock;
 
-/// Makes the operations over n nodes of a tree, and returns a sum of what was seen. None where a call
-/// wasn't carried out.
+/// Makes the operations over n nodes of a tree, and returns a sum of what was seen. None if a call wasn't
+/// carried out.
 pub(crate) fn run<R: Clock, S: Storage<u64>>(
     rt: &R,
     alloc: Global,

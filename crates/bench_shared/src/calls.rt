@@ -1,9 +1,9 @@
-//! The calls of the workload, over whatever answers them.
+//! The calls of the workload, over any kind of store.
 
 use generational_box::{GenerationalBox, GenerationalRef, GenerationalRefMut, Location, Owner};
 use std::sync::Wait;
 
-/// What a worker of the workload calls. A call that isn't carried out answers None or false.
+/// What a worker of the workload calls. A call that fails returns None or false.
 pub(crate) trait Calls {
     /// Says where the calls are made from now on.
     fn move_to(&mut self, at: Location);
@@ -14,7 +14,7 @@ pub(crate) trait Calls {
     /// Makes a shared value.
     fn leak_rc(&mut self, rt: &impl Wait, value: u64) -> Option<GenerationalBox<u64>>;
 
-    /// Makes one reference more.
+    /// Makes another reference.
     fn leak_reference(
         &mut self,
         rt: &impl Wait,
@@ -60,7 +60,7 @@ pub(crate) trait Calls {
     /// Sets another value.
     fn set(&mut self, rt: &impl Wait, asked: GenerationalBox<u64>, value: u64) -> bool;
 
-    /// Lets a reference lead elsewhere.
+    /// Points a reference elsewhere.
     fn point_to(
         &mut self,
         rt: &impl Wait,
@@ -68,13 +68,13 @@ pub(crate) trait Calls {
         other: GenerationalBox<u64>,
     ) -> bool;
 
-    /// Ends a box.
+    /// Removes a box.
     fn end(&mut self, rt: &impl Wait, asked: GenerationalBox<u64>) -> bool;
 
     /// Makes a box, reads it twice, ends it, and reads it once more: 9 calls, under one lock.
     fn reads_together(&mut self, rt: &impl Wait, value: u64) -> Option<u64>;
 
-    /// Lets the history go. True where there is none.
+    /// Trims the history. True where there is none.
     fn checkpoint(&mut self, rt: &impl Wait) -> bool;
 }
 

@@ -1,4 +1,4 @@
-//! Calls that are drawn, over boxes that workers hand each other.
+//! Calls that are drawn, over boxes that workers exchange.
 
 ghost use Rattle.std.specs.Prelude.{◌<◌};
 
@@ -12,7 +12,7 @@ pub(crate) trait DrawnCalls: Calls {
     /// Makes another owner of the same record.
     fn clone_owner(&mut self, rt: &impl Wait, owner: &Owner) -> Option<Owner>;
 
-    /// Makes one reference more, which ends with the owner.
+    /// Makes another reference, which ends with the owner.
     fn insert_reference(
         &mut self,
         rt: &impl Wait,
@@ -23,15 +23,15 @@ pub(crate) trait DrawnCalls: Calls {
     /// Takes over what another worker has counted. False for the counts of another store.
     fn take_over(&mut self, other: Self) -> bool;
 
-    /// Prints the base and the steps since, a line each, once all other workers' counts were taken
-    /// over, and answers how many steps that were.
+    /// Prints the base and the steps since, a line each, once all other workers' counts were taken over,
+    /// and returns how many steps that were.
     fn print_audit(&mut self, rt: &(impl Wait + Print)) -> Option<usize>;
 }
 
 /// How many places a board has.
 pub(crate) const PLACES: u32 = 32;
 
-/// Boxes that workers hand each other, each at a place.
+/// Boxes that workers exchange, each at a place.
 #[derive(Drop)]
 pub(crate) struct Board {
     boxes: Arc<Mutex<Vec<GenerationalBox<u64>>>, Global>,
@@ -56,7 +56,7 @@ impl Board {
         boxes.get(place as usize).copied()
     }
 
-    // Puts a box at a place, and answers the one that stood there.
+    // Puts a box at a place, and returns the one that was there.
     fn replace(
         &self,
         rt: &impl Wait,
@@ -90,8 +90,8 @@ impl<S: DrawnCalls> Drawing<S> {
         }
     }
 
-    /// Makes the calls of so many rounds, with a checkpoint after each so many, and with none where
-    /// that is 0. None where a checkpoint was refused.
+    /// Makes the calls of so many rounds, with a checkpoint after each so many, and with none if that is
+    /// 0. None if a checkpoint failed.
     pub(crate) fn rounds(&mut self, rt: &impl Wait, rounds: u64, between: u64) -> Option<()> {
         let mut since = 0u64;
         for _ in 0..rounds {

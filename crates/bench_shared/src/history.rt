@@ -20,7 +20,7 @@ pub(crate) struct Course {
     pub(crate) seed: u64,
     /// The rounds of each worker.
     pub(crate) rounds: u64,
-    /// A worker's rounds from one checkpoint to the next; 0 where none is made.
+    /// A worker's rounds from one checkpoint to the next; 0 if none is made.
     pub(crate) between: u64,
 }
 
@@ -60,7 +60,7 @@ pub(crate) fn print_history<W: DrawnCalls + Drop + Send, H: Threads + Wait + Pri
     Some(Done { calls: 0, steps })
 }
 
-// Lets the workers draw their calls in threads. The one that is answered has the counts of all.
+// Has the workers draw their calls in threads. The one that is returned has the counts of all.
 fn draw_beside<W: DrawnCalls + Drop + Send, H: Threads + Wait + Sync>(
     rt: &H,
     alloc: Global,
@@ -90,7 +90,7 @@ fn draw_beside<W: DrawnCalls + Drop + Send, H: Threads + Wait + Sync>(
     gather(parts)
 }
 
-// The last worker, with the counts of all. None where one didn't come to its end.
+// The last worker, with the counts of all. None if one didn't come to its end.
 fn gather<W: DrawnCalls + Drop>(mut parts: Vec<(Drawing<W>, Option<()>)>) -> Option<Drawing<W>> {
     let (mut last, done) = parts.pop()?;
     done?;
@@ -103,7 +103,7 @@ fn gather<W: DrawnCalls + Drop>(mut parts: Vec<(Drawing<W>, Option<()>)>) -> Opt
     Some(last)
 }
 
-// Makes a box of another store. The worker is refused an insertion by an owner of that store's.
+// Makes a box of another store. An insertion by an owner of that store fails.
 fn ask_for_strangers<S: Storage<u64>>(
     rt: &impl Wait,
     worker: &mut impl Calls,
@@ -164,8 +164,8 @@ fn print_step(rt: &impl Print, step: &Step) -> Option<()> {
     println!(rt; "{worker} {call:?} {reply:?} {:?}", origins(step)).ok()
 }
 
-// The store of each box in a step, and where its cell was made: of the box that was asked, of the
-// other one, and of that which was given.
+// The store of each box in a step, and where its cell was made: of the box of the call, of the other one,
+// and of the returned one.
 fn origins(step: &Step) -> [Option<(u64, Location)>; 3] {
     let (asked, other) = match step.call {
         StepCall::LeakReference(asked)

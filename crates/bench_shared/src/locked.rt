@@ -135,7 +135,7 @@ impl<A: Count, B: Count, C: Count, D: Count> Calls for Worker<A, B, C, D> {
     }
 }
 
-// Makes a box, reads it twice, ends it, and reads it once more. None where a call isn't carried out.
+// Makes a box, reads it twice, ends it, and reads it once more. None if a call isn't carried out.
 fn read_at_once<A: Count, B: Count, C: Count, D: Count>(
     state: &mut SyncState<u64, 7, A, B, C, D>,
     tally: &mut Tally<A, B, C, D>,
@@ -163,7 +163,7 @@ fn read_at_once<A: Count, B: Count, C: Count, D: Count>(
     }
 }
 
-// Begins a read, unless a writer stands in its way or the store refuses it.
+// Begins a read, unless a writer is in its way or the store fails.
 fn read_now<A: Count, B: Count, C: Count, D: Count>(
     state: &mut SyncState<u64, 7, A, B, C, D>,
     tally: &mut Tally<A, B, C, D>,

@@ -1,11 +1,11 @@
-//! `bench_shared STORE LIST WORKERS ROUNDS [BETWEEN]`: so many workers in threads make a list of
-//! calls so many times over one store, each over boxes of its own; where BETWEEN is told and isn't 0,
-//! with a checkpoint after each so many rounds, or, where they are those of `keeps`, with so many
-//! checkpoints at the end; of `places` it says at how many places the calls are made. One line says how many calls that were, and how many steps an audit
-//! answered. How long it takes, in processor time, is for who runs it to measure
+//! `bench_shared STORE LIST WORKERS ROUNDS [BETWEEN]`: so many workers in threads make a list of calls so
+//! many times over one store, each over boxes of its own; if BETWEEN is passed and isn't 0, with a
+//! checkpoint after each so many rounds, or, for `keeps`, with so many checkpoints at the end; for
+//! `places` it is the number of places at which the calls are made. One line says how many calls that
+//! were, and how many steps an audit returned. The caller measures how long it takes, in processor time
 //! (`.ci/bench_shared.py`).
 //!
-//! | STORE       | what answers the calls                                             |
+//! | STORE       | the store of the calls                                             |
 //! |-------------|--------------------------------------------------------------------|
 //! | `shared`    | `SyncStorage`, with its history, which is audited at the end       |
 //! | `unaudited` | the same, without the audit                                        |
@@ -19,10 +19,10 @@
 //! | `keeps`  | a box is made, and stays: 1 call                                       |
 //! | `places` | a box that stays is read, at each of BETWEEN places in turn, and then at the last 500 of them: 2 calls |
 //! | `forgotten` | the same, with a checkpoint once each place has come                |
-//! | a number | calls drawn from it, over boxes that workers of a shared store hand each other: a few a round |
+//! | a number | calls drawn from it, over boxes that workers of a shared store exchange: a few a round |
 //!
-//! Of drawn calls the audits are printed, a base and each step a line (`.ci/replay.py` replays them).
-//! The status is 1 where a call wasn't carried out, as for lack of memory, and 2 for other words.
+//! Of drawn calls the audits are printed, a base and each step a line (`.ci/replay.py` replays them). The
+//! status is 1 if a call failed, for example to allocate, and 2 for other words.
 #![tactic(auto)]
 
 ghost use Rattle.std.specs.Prelude.{◌≡◌, ◌<◌, IfSome};
@@ -84,7 +84,7 @@ fn main(rt: HostRuntime) -> ExitCode {
     }
 }
 
-/// What answers the calls.
+/// Which kind of store the calls are made on.
 #[derive(Clone, Copy, PartialEq, Eq)]
 enum Store {
     Shared,
@@ -226,7 +226,7 @@ fn run_all<
     gather(parts)
 }
 
-// How many steps an audit answers, and none where it isn't asked for. None where a tally is missing.
+// How many steps an audit returns, and none without an audit. None if a tally is missing.
 fn count_steps<A: Count, B: Count, C: Count, D: Count>(
     rt: &impl Wait,
     store: &SyncStorage<u64, 7, A, B, C, D>,

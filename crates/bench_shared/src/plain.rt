@@ -1,5 +1,5 @@
-//! The workload's calls over a sequential store in a plain mutex: without a history, and where a
-//! borrow stands in the way the call is refused in the place of a wait.
+//! The workload's calls over a sequential store in a plain mutex: without a history, and if a borrow is
+//! in the way, a call fails instead of waiting.
 
 use crate::calls::{Calls, place};
 use generational_box::{

@@ -6,10 +6,10 @@ use crate::calls::Calls;
 use generational_box::{GenerationalBox, Location, Owner};
 use std::sync::Wait;
 
-/// Runs so many rounds, and answers how many calls they made; None where a call wasn't carried out.
-/// A checkpoint, which isn't counted, comes after each so many rounds, and none where that is 0. Of
-/// `Keeps` all checkpoints come at the end, so many, each with a round more after it. Of `Places` that
-/// number says at how many places boxes are read.
+/// Runs so many rounds, and returns how many calls they made; None if a call wasn't carried out. A
+/// checkpoint, which isn't counted, comes after each so many rounds, and none if that is 0. For `Keeps`
+/// all checkpoints come at the end, so many, each followed by another round. Of `Places` that number says
+/// at how many places boxes are read.
 pub(crate) fn run<S: Calls>(
     store: &mut S,
     rt: &impl Wait,
@@ -84,7 +84,7 @@ fn reading_round<S: Calls>(store: &mut S, rt: &impl Wait, value: u64) -> Option<
     }
 }
 
-// Makes so many boxes, and then so many checkpoints, each with a box more after it.
+// Makes so many boxes, and then so many checkpoints, each followed by another box.
 fn keep<S: Calls>(store: &mut S, rt: &impl Wait, boxes: u64, checkpoints: u64) -> Option<u64> {
     for value in 0..boxes {
         store.leak(rt, value)?;
