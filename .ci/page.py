@@ -12,13 +12,14 @@ the comment of a public item must stand in one of those files too, whatever its 
 file or a heading must lead there, on the pages of docs/api too, a line of `crates.txt` on a page must
 be that of the file, and what a page says that its program prints must be what the guide's programs
 print. The commands and the replies of docs/script.md must be those that the gate runs, and so must what a
-page pipes into `rt try`, and what that prints (script_page.py). What is wrong is printed, and the exit
-status is 1 then.
+page pipes into `rt try`, and what that prints (script_page.py). Neither a page nor a doc comment has a
+word that plain_words.py lists. What is wrong is printed, and the exit status is 1 then.
 """
 import pathlib
 import re
 import sys
 
+import plain_words
 import script_page
 
 ROOT = pathlib.Path(__file__).resolve().parent.parent
@@ -237,8 +238,12 @@ def main(words):
                         print(f"{page}: a changed copy isn't refused: {block[0]}", file=sys.stderr)
                         status = 1
     faults, count = example_faults(sources)
-    for fault in written_faults() + script_page.page_faults(words == ["--try"]) + (faults or ["the calls have no examples"] * (count == 0)):
+    faults = faults or ["the calls have no examples"] * (count == 0)
+    for fault in written_faults() + script_page.page_faults(words == ["--try"]) + faults + plain_words.faults(ROOT, PAGES):
         print(fault, file=sys.stderr)
+        status = 1
+    if words == ["--try"] and not plain_words.faults_in(ROOT / "docs/a.md", ["The call answers a box."]):
+        print("a word that has a plainer one isn't found", file=sys.stderr)
         status = 1
     if words == ["--try"] and not example_faults({path: [] for path in sources})[0]:
         print("examples that stand nowhere aren't refused", file=sys.stderr)
@@ -250,7 +255,7 @@ def main(words):
         print("a wrong link or line of crates.txt isn't refused", file=sys.stderr)
         status = 1
     if status == 0:
-        print(f"the pages' code, links and lines of crates.txt, and {count} examples, are true")
+        print(f"the pages' code, links and lines of crates.txt, and {count} examples, are true, and the words are plain")
     return status
 
 
