@@ -4,7 +4,7 @@
 mod threads;
 
 use example_libraries::{
-    actors, dialog, memory, pages, prices, proving, saving, started, values, window,
+    actors, dialog, idioms, memory, pages, prices, proving, saving, started, values, window,
 };
 
 fn main(rt: HostRuntime) -> anyhow::Result<()> {
@@ -18,5 +18,6 @@ fn main(rt: HostRuntime) -> anyhow::Result<()> {
     threads::main(&rt)?;
     proving::main(rt)?;
     saving::main(rt)?;
-    memory::main(rt)
+    memory::main(rt)?;
+    idioms::main(rt)
 }

@@ -7,6 +7,7 @@ pub mod dialog;
 pub mod documents;
 pub mod entities;
 pub mod errors;
+pub mod idioms;
 pub mod memory;
 pub mod memos;
 pub mod pages;
