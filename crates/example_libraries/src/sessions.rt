@@ -1,12 +1,12 @@
 //! Sessions, and entries that outlive them.
 
 ghost use Rattle.std.specs.Prelude.{◌≡◌, ℕ, true, false, None, Some, IfOk, IfErr, IfSome, IsErr};
-ghost use Rattle.std.specs.Prelude.{◌≤◌, ◌<◌, ◌+◌, ◌^◌, nat_eq, OnErr};
+ghost use Rattle.std.specs.Prelude.{◌≤◌, ◌<◌, ◌+◌, ◌^◌, is_some, nat_eq, OnErr};
 ghost use Rattle.generational_errors.specs.declared.error.Location.{Location};
 ghost use Rattle.handles.specs.Handles.{IsOther};
-ghost use Rattle.session_table.specs.Sessions.{Entry, LiveSession, entry_in};
+ghost use Rattle.session_table.specs.Sessions.{Entry, LiveSession, entry_in, if_young};
 ghost use Rattle.std.specs.Map.{lookup};
-ghost use Rattle.session_table.specs.Tables.{created_at, keeps, session_in, shown_in, WasPut};
+ghost use Rattle.session_table.specs.Tables.{created_at, keeps, session_in, shown_in, value_at, WasPut};
 
 use generational_box::{Location, Storage};
 use session_table::{Entry, Session, SessionTable, Stale};
@@ -161,6 +161,32 @@ pub fn found_by_key<S: Storage<u64>>(
 {
     let entry = table.entry(&id, &key)?;
     table.get(entry).copied().ok()
+}
+
+/// The value that an id's session has under a key, if it has one, in one call.
+pub fn got_by_key<S: Storage<u64>>(
+    table: &SessionTable<u64, u64, u64, S>,
+    id: u64,
+    key: u64,
+) -> Option<u64>
+    ensures { result ≡ value_at (nat_eq id) (nat_eq key) table.now }
+{
+    table.get_at(&id, &key).copied()
+}
+
+/// Ends the sessions that were last used before a time, passes their ids to a closure, and returns whether
+/// an id still has a session: exactly if it had one that was used at the time or later.
+pub fn is_left_after<S: Storage<u64>, F: FnMut(u64)>(
+    table: &mut SessionTable<u64, u64, u64, S>,
+    before: u64,
+    id: u64,
+    f: F,
+) -> bool
+    requires { F.IsAlwaysCallable f }
+    ensures { result ≡ is_some (if_young before (session_in nat_eq table.old id)) }
+{
+    table.expire_each(before, f);
+    table.has(&id)
 }
 
 /// The latest time of a last use, or 0 if there is no session.

@@ -488,6 +488,14 @@ first_young : {X : Type 0} (test : X → Bool) (n : ℕ) (x : X) (xs : List X) �
     → swap_retain test (suc n) (x ∷ xs) ≡ x ∷ swap_retain test n xs
 first_young test n x xs young = rw young refl
 
+shed_first : {X : Type 0} (test : X → Bool) (n : ℕ) (x : X) (xs : List X) → test x ≡ false
+    → swap_shed test (suc n) (x ∷ xs) ≡ x ∷ swap_shed test n (swap_remove (x ∷ xs) 0 x)
+shed_first test n x xs old = rw old refl
+
+shed_none : {X : Type 0} (test : X → Bool) (n : ℕ) (x : X) (xs : List X) → test x ≡ true
+    → swap_shed test (suc n) (x ∷ xs) ≡ swap_shed test n xs
+shed_none test n x xs young = rw young refl
+
 module _ {X : Type 0} (test : X → Bool) (xs : List X) (i : ℕ) where
   pub retained_old : (x : X) (ys : List X) → slice_get xs i ≡ Some x → test x ≡ false
       → length ys + 1 ≡ length xs → ys ≡ swap_remove xs i x
@@ -523,6 +531,34 @@ module _ {X : Type 0} (test : X → Bool) (xs : List X) (i : ℕ) where
       ap (λ l. take i xs ++ l) back ∙ (sym (append_assoc (take i xs) (x ∷ []) (swap_retain test n rest))
       ∙ ap (λ l. l ++ swap_retain test n rest) (sym front))
 
+  -- the same of those that are taken out
+  pub shed_old : (x : X) (ys : List X) → slice_get xs i ≡ Some x → test x ≡ false
+      → length ys + 1 ≡ length xs → ys ≡ swap_remove xs i x
+      → swap_shed test (length xs - i) (drop i xs) ≡ x ∷ swap_shed test (length ys - i) (drop i ys)
+  shed_old x ys is old fewer order =
+      let lt = slice_get_within xs i x is in
+      let n = length ys - i in
+      let count : length xs - i ≡ suc n = omega (arith, lt, fewer) in
+      let cut = cut_at xs i x is in
+      let rest = drop (i + 1) xs in
+      let left : swap_remove (x ∷ rest) 0 x ≡ drop i ys =
+      ap (λ l. swap_remove l 0 x) (sym cut) ∙ (sym (dropped_from xs i x lt) ∙ ap (drop i) (sym order)) in
+      (λ j. swap_shed test (count j) (cut j))
+      ∙ (shed_first test n x rest old ∙ ap (λ l. x ∷ swap_shed test n l) left)
+
+  pub shed_young : (x : X) → slice_get xs i ≡ Some x → test x ≡ true
+      → swap_shed test (length xs - i) (drop i xs) ≡ swap_shed test (length xs - (i + 1)) (drop (i + 1) xs)
+  shed_young x is young =
+      let lt = slice_get_within xs i x is in
+      let n = length xs - (i + 1) in
+      let count : length xs - i ≡ suc n = omega (arith, lt) in
+      (λ j. swap_shed test (count j) (cut_at xs i x is j)) ∙ shed_none test n x (drop (i + 1) xs) young
+
+  pub shed_all : length xs ≤ i → swap_shed test (length xs - i) (drop i xs) ≡ []
+  shed_all all =
+      let none : length xs - i ≡ 0 = omega (arith, all) in
+      ap (λ n. swap_shed test n (drop i xs)) none
+
   pub retained_all : length xs ≤ i → take i xs ++ swap_retain test (length xs - i) (drop i xs) ≡ xs
   retained_all all =
       let none : length xs - i ≡ 0 = omega (arith, all) in
@@ -546,6 +582,15 @@ module _ {I K T : Type 0} where
       ∙ (map-swap_remove live_row (e ∷ es) i e (omega arith)
       ∙ sym (swap_remove_entry-found test (map live_row (e ∷ es)) i (live_row e) (keys ∙ is))))
 
+-- before the first look nothing was taken out
+start_left : {X : Type 0} (test : X → Bool) (xs : List X) → swap_retain test (length xs) xs
+    ≡ swap_retain test (length xs - 0) (drop 0 xs)
+start_left test xs = let none : length xs - 0 ≡ length xs = omega arith in ap (λ n. swap_retain test n xs) (sym none)
+
+shed_left : {X : Type 0} (test : X → Bool) (xs : List X) → swap_shed test (length xs) xs
+    ≡ swap_shed test (length xs - 0) (drop 0 xs)
+shed_left test xs = let none : length xs - 0 ≡ length xs = omega arith in ap (λ n. swap_shed test n xs) (sym none)
+
 module _ {I K T : Type 0} (eq : I → I → Bool) (time : ℕ) where
   -- from the one table to the other some old sessions have ended: those before an index are young, and
   -- the others are still to be checked; an id has the same session, or none if that was old, and every
@@ -564,6 +609,19 @@ module _ {I K T : Type 0} (eq : I → I → Bool) (time : ℕ) where
     pub put : (e : Entry T) → WasPut a e → WasPut b e
     pub told : (e : Entry T) → created_at b e ≡ created_at a e
     pub ticket : b.state.next ≡ a.state.next
+
+  pub none_shed : (a : TableState I K T) → Sheds 0 a a
+  none_shed a = record {
+    within = omega arith;
+    fewer = omega arith;
+    young = λ i e lt is. absurd (omega (arith, lt));
+    order = start_left (λ (row : I × LiveSession K T). is_young time row.1) a.sessions;
+    sessions = λ id. inl refl;
+    left = λ e. inl refl;
+    put = λ e was. was;
+    told = λ e. refl;
+    ticket = refl;
+  }
 
 module _ {I K T : Type 0} {eq : I → I → Bool} {time : ℕ} where
   module _ {place : ℕ} {a b : TableState I K T} (s : Sheds eq time place a b) where
@@ -619,6 +677,56 @@ module _ {I K T : Type 0} {eq : I → I → Bool} {time : ℕ} where
           → shown_in b e ≡ shown_in a e
       shed_kept id e kept has = grind (arith, s.left e, keepers id)
 
+      pub all_expired : IsOrderly eq b → length b.sessions ≤ place → HasExpired eq time a b
+      all_expired now all = record {
+        ids = shed_ids all;
+        order = shed_order all;
+        gone = λ id e kept none. by_option (shown_in b e) (λ is. is) (λ v is.
+            let at = now.kept e (ap is_some is) in
+            absurd (grind (arith, s.sessions at.0, keepers id at.0 e kept, none, at.1)));
+        kept = shed_kept;
+        none = λ e none. grind (arith, s.left e);
+        put = s.put;
+        told = s.told;
+        ticket = s.ticket;
+      }
+
+-- ==== a closure that is called on the ids of sessions that end
+
+module _ {I K T F : Type 0} (time : ℕ) (step : F → I → F → Type 0) (first : F) where
+  abbrev ids_from : ℕ → TableState I K T → List I
+  ids_from place b = map (λ row. row.0) (swap_shed (λ row. is_young time row.1) (length b.sessions - place) (drop place b.sessions))
+
+  -- if it is called on the ids of those that are still to end, then it was called on those of all
+  pub record AreCalled (place : ℕ) (a b : TableState I K T) (now : F) : Type 0 where
+    pub whole : (last : F) → FoldsTo step now (ids_from place b) last → FoldsTo step first (expired_ids time a) last
+
+  pub none_called : (a : TableState I K T) → AreCalled 0 a a first
+  none_called a = record {
+    whole = λ last calls. rw (shed_left (λ (row : I × LiveSession K T). is_young time row.1) a.sessions) calls;
+  }
+
+  module _ {place : ℕ} {a b : TableState I K T} {now : F} (so : AreCalled place a b now) where
+    -- one more has ended
+    pub called_old : {eq : I → I → Bool} {c : TableState I K T} → (e : EndsAt eq place b c) → is_young time e.ended.1 ≡ false
+        → {next : F} → step now e.ended.0 next → AreCalled place a c next
+    called_old {c = c} e old {next} called = record {
+      whole = λ last calls. so.whole last (rw (shed_old (λ (row : I × LiveSession K T). is_young time row.1) b.sessions
+          place e.ended c.sessions e.there old e.fewer e.order) (next, called, calls));
+    }
+
+    -- one stays
+    pub called_young : place < length b.sessions → ((e : I × LiveSession K T)
+        → slice_get b.sessions place ≡ Some e → is_young time e.1 ≡ true) → AreCalled (place + 1) a b now
+    called_young within young = let (e, there) = row_within b.sessions place within in record {
+      whole = λ last calls. so.whole last (rw (shed_young (λ (row : I × LiveSession K T). is_young time row.1) b.sessions
+          place e there (young e there)) calls);
+    }
+
+    -- once each session is young
+    pub all_called : length b.sessions ≤ place → FoldsTo step first (expired_ids time a) now
+    all_called all = so.whole now (rw (shed_all (λ (row : I × LiveSession K T). is_young time row.1) b.sessions place all) refl)
+
 -- a session that starts, or gets another id, comes last
 pub begun_last : {I K T : Type 0} (eq : I → I → Bool) (old : List (I × Session K T)) {new : List (I × Session K T)}
     (k : I) (s : Session K T) → lookup (eq k) old ≡ None → new ≡ insert_entry eq old k s
@@ -654,6 +762,13 @@ no_row test rows none = by_option (lookup test rows) (λ is. is) (λ s is. cc (s
 -- what has no value is none
 pub no_value : {X : Type 0} (o : Option X) → is_some o ≡ false → o ≡ None
 no_value o none = grind arith
+
+-- a query that finds a session asks for the id under which it is stored
+pub asked_id : {I R : Type 0} {eq : I → I → Bool} {test : I → Bool}
+    → ((x y : I) → IsTrue (test x) → test y ≡ eq x y) → (rows : List (I × R)) {s : R} → lookup test rows ≡ Some s
+    → (k : I) × (test ≡ eq k)
+asked_id {test = test} alike rows {s} found =
+    let at = place_from_lookup test rows s found in (at.1, λ j y. alike at.1 y at.3 j)
 
 -- the row of an id is another one, or is new, or gone
 pub record IsChange {I R : Type 0} (eq : I → I → Bool) (old new : List (I × R)) (k : I)

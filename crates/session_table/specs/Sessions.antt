@@ -27,9 +27,9 @@ module _ {K T : Type 0} where
   abbrev pub with_entry : K → Entry T → LiveSession K T → LiveSession K T
   with_entry k e s = record s { entries = s.entries ++ (k, e) ∷ [] }
 
-  -- one without the entry under a key; the others keep their order
-  abbrev pub without_entry : (K → K → Bool) → K → LiveSession K T → LiveSession K T
-  without_entry eq k s = record s { entries = remove_entry (eq k) s.entries }
+  -- one without the first entry whose key passes a test; the others keep their order
+  abbrev pub without_entry : (K → Bool) → LiveSession K T → LiveSession K T
+  without_entry test s = record s { entries = remove_entry test s.entries }
 
   -- whether one was used at a time or after it; the session, if it was
   abbrev pub is_young : ℕ → LiveSession K T → Bool
@@ -50,7 +50,10 @@ module _ {K T : Type 0} where
   names_in None = []
   names_in (Some s) = names_of s.entries
 
-  -- the entry under a key
+  -- the entry under a key: the first whose key passes a test, and the one under what `==` says of keys
+  abbrev pub find_entry : (K → Bool) → Option (LiveSession K T) → Option (Entry T)
+  find_entry test None = None
+  find_entry test (Some s) = lookup test s.entries
+
   abbrev pub entry_in : (K → K → Bool) → Option (LiveSession K T) → K → Option (Entry T)
-  entry_in eq None k = None
-  entry_in eq (Some s) k = lookup (eq k) s.entries
+  entry_in eq s k = find_entry (eq k) s

@@ -1,6 +1,6 @@
 -- What a caller knows of a table of sessions.
 use Rattle.std.specs.Prelude.{◌≡◌, ℕ, zero, suc, ◌+◌, Bool, true, false, cond, if◌then◌else◌, is_some}
-use Rattle.std.specs.Prelude.{List, [], ◌∷◌, Option, None, Some, length, slice_get, swap_remove}
+use Rattle.std.specs.Prelude.{List, [], ◌∷◌, Option, None, Some, length, option_and_then, slice_get, swap_remove}
 use Rattle.std.specs.Prelude.{map as list_map}
 use Rattle.std.specs.List.{IsDistinct}
 use Rattle.std.specs.Map.{keys_of, lookup}
@@ -12,7 +12,7 @@ use Rattle.generational_errors.specs.declared.error.Location.{Location}
 use Rattle.handles.specs.Handles.{pointer_in}
 use Rattle.handles.specs.Sites.{told_at}
 use Rattle.session_table.specs.declared.session.Session.{Session}
-use Rattle.session_table.specs.Sessions.{Entry, LiveSession, names_in, names_of}
+use Rattle.session_table.specs.Sessions.{Entry, LiveSession, find_entry, if_young, is_young, names_in, names_of}
 
 -- the state of the store, the sessions under their ids, and the locations at which values were put
 pub record TableState (I K T : Type 0) : Type 0 where
@@ -27,6 +27,13 @@ swap_retain test zero rows = []
 swap_retain test (suc n) [] = []
 swap_retain test (suc n) (r ∷ rows) = if test r then r ∷ swap_retain test n rows
     else swap_retain test n (swap_remove (r ∷ rows) 0 r)
+
+-- the rows that don't, in the order in which their places are taken
+abbrev pub swap_shed : {X : Type 0} → (X → Bool) → ℕ → List X → List X
+swap_shed test zero rows = []
+swap_shed test (suc n) [] = []
+swap_shed test (suc n) (r ∷ rows) = if test r then swap_shed test n rows
+    else r ∷ swap_shed test n (swap_remove (r ∷ rows) 0 r)
 
 -- what a row is to a caller
 abbrev pub live : {K T : Type 0} → Session K T → LiveSession K T
@@ -56,17 +63,33 @@ module _ {I K T : Type 0} where
   KeepsTelling old new =
       (e : Entry T) (l : Location) → created_at old e ≡ Some l → created_at new e ≡ Some l
 
+  -- the ids of the sessions that were last used before a time, in the order in which they end
+  abbrev pub expired_ids : ℕ → TableState I K T → List I
+  expired_ids time t = list_map (λ row. row.0)
+      (swap_shed (λ row. is_young time row.1) (length t.sessions) t.sessions)
+
+  -- the session whose id passes a test, if there is one, and whether it keeps an entry,
+  -- and what it has under a key that passes another
+  abbrev pub find_session : (I → Bool) → TableState I K T → Option (LiveSession K T)
+  find_session test t = lookup test t.sessions
+
+  abbrev pub keeps_by : (I → Bool) → TableState I K T → Entry T → Bool
+  keeps_by test t e = among (names_in (find_session test t)) (name_of (pointer_in e))
+
+  abbrev pub value_at : (I → Bool) → (K → Bool) → TableState I K T → Option T
+  value_at id key t = option_and_then (shown_in t) (find_entry key (find_session id t))
+
   -- with `==` of ids: the session of an id, if there is one, whether there is, and whether it keeps an
   -- entry
   module _ (eq : I → I → Bool) where
     abbrev pub session_in : TableState I K T → I → Option (LiveSession K T)
-    session_in t id = lookup (eq id) t.sessions
+    session_in t id = find_session (eq id) t
 
     abbrev pub has_session : TableState I K T → I → Bool
     has_session t id = is_some (session_in t id)
 
     abbrev pub keeps : TableState I K T → I → Entry T → Bool
-    keeps t id e = among (names_in (session_in t id)) (name_of (pointer_in e))
+    keeps t id e = keeps_by (eq id) t e
 
     -- no id has two sessions; each entry that shows a value is in a session, and none in two; and each
     -- that is in one shows a value, except for entries of other stores
@@ -89,6 +112,19 @@ module _ {I K T : Type 0} where
           → shown_in u e ≡ None
       pub left : (e : Entry T) → among (names_of ended.1.entries) (name_of (pointer_in e)) ≡ false
           → shown_in u e ≡ shown_in t e
+      pub put : (e : Entry T) → WasPut t e → WasPut u e
+      pub told : (e : Entry T) → created_at u e ≡ created_at t e
+      pub ticket : u.state.next ≡ t.state.next
+
+    -- the sessions that were last used before a time have ended, and nothing else: from the front on, the
+    -- last one took the place of each
+    pub record HasExpired (time : ℕ) (t u : TableState I K T) : Type 0 where
+      pub ids : (id : I) → session_in u id ≡ if_young time (session_in t id)
+      pub order : u.sessions ≡ swap_retain (λ row. is_young time row.1) (length t.sessions) t.sessions
+      pub gone : (id : I) (e : Entry T) → keeps t id e ≡ true → has_session u id ≡ false → shown_in u e ≡ None
+      pub kept : (id : I) (e : Entry T) → keeps t id e ≡ true → has_session u id ≡ true
+          → shown_in u e ≡ shown_in t e
+      pub none : (e : Entry T) → shown_in t e ≡ None → shown_in u e ≡ None
       pub put : (e : Entry T) → WasPut t e → WasPut u e
       pub told : (e : Entry T) → created_at u e ≡ created_at t e
       pub ticket : u.state.next ≡ t.state.next

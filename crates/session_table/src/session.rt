@@ -20,7 +20,7 @@ use crate::entry::{Entry, PutError};
 use crate::walk::Entries;
 use generational_core::{HandedBack, Location, Refusal, Storage, StoreError};
 use handles::parts::{Sites, handle_at, pointer_to};
-use indexmap::IndexMap;
+use indexmap::{Equivalent, IndexMap};
 use std::error::Error;
 use std::fmt;
 use std::hash::Hash;
@@ -53,8 +53,8 @@ impl<K: Eq + Hash, T> Session<K, T> {
     /// ```rust
     /// let found = table.session(&7).and_then(|session| session.entry(&1));
     /// ```
-    pub fn entry(&self, key: &K) -> Option<Entry<T>>
-        ensures { result ≡ lookup (K.eq key.now) self.now.entries.entries }
+    pub fn entry<Q: Equivalent<K>>(&self, key: Q) -> Option<Entry<T>>
+        ensures { result ≡ lookup (Q.equivalent key) self.now.entries.entries }
     {
         self.entries.get(key).copied()
     }
@@ -132,12 +132,12 @@ impl<K: Eq + Hash, T> Session<K, T> {
     }
 
     /// Removes and returns the entry under a key, if there is one. The others keep their order.
-    pub(crate) fn forget(&mut self, key: &K) -> Option<Entry<T>>
+    pub(crate) fn forget<Q: Equivalent<K>>(&mut self, key: Q) -> Option<Entry<T>>
     where
         K: Drop,
-        ensures entry { result ≡ lookup (K.eq key.now) self.old.entries.entries }
+        ensures entry { result ≡ lookup (Q.equivalent key) self.old.entries.entries }
         ensures entries { self.new.entries.entries
-            ≡ remove_entry (K.eq key.now) self.old.entries.entries }
+            ≡ remove_entry (Q.equivalent key) self.old.entries.entries }
         ensures used { self.new.used_at ≡ self.old.used_at }
         ensures same { IfNone result (self.new.entries.entries ≡ self.old.entries.entries) }
     {

@@ -6,6 +6,7 @@ ghost use Rattle.std.specs.Prelude.{IfErr, IsErrAnd, OnErr, IsErr, IsTrue, IsFal
 ghost use Rattle.std.specs.Prelude.{if◌then◌else◌, not};
 ghost use Rattle.std.specs.Borrow.{MutBor};
 ghost use Rattle.std.specs.Fn.{FnOnceReturnsAtMut};
+ghost use Rattle.std.specs.List.{FoldsTo};
 ghost use Rattle.generational_core.specs.Conditions.{IsFresh};
 ghost use Rattle.generational_core.specs.Leaving.{HasNoBorrows};
 ghost use Rattle.generational_core.specs.Machine.{OwnerName, ownership};
@@ -17,9 +18,10 @@ ghost use Rattle.handles.specs.Sites.{Tells};
 ghost use Rattle.session_table.specs.declared.entry.PutError.TheVariants as put;
 ghost use Rattle.session_table.specs.declared.session.LoginError.TheVariants as login;
 ghost use Rattle.session_table.specs.declared.session.RenameError.TheVariants as rename;
-ghost use Rattle.session_table.specs.Sessions.{Entry, LiveSession, begun, used, with_entry, without_entry, entry_in};
-ghost use Rattle.session_table.specs.Sessions.{is_young, if_young};
-ghost use Rattle.session_table.specs.Tables.{EndsAt, KeepsTelling, TableState, created_at, live, shown_in, keeps, swap_retain};
+ghost use Rattle.session_table.specs.Sessions.{Entry, LiveSession, begun, used, with_entry, without_entry, entry_in, find_entry};
+ghost use Rattle.session_table.specs.Sessions.{is_young};
+ghost use Rattle.session_table.specs.Tables.{EndsAt, HasExpired, KeepsTelling, TableState, created_at, expired_ids, live, shown_in};
+ghost use Rattle.session_table.specs.Tables.{find_session, keeps, keeps_by, value_at};
 ghost use Rattle.indexmap.specs.IndexMap.{swap_remove_entry};
 ghost use Rattle.session_table.specs.Tables.{has_session, session_in, WasPut, IsOrderly};
 
@@ -29,7 +31,7 @@ use crate::walk::Sessions;
 use generational_core::{HandedBack, Location, Storage, StoreError};
 use handles::Stale;
 use handles::parts::{Sites, number_of, peek, pointer_to, site_of};
-use indexmap::IndexMap;
+use indexmap::{Equivalent, IndexMap};
 use std::alloc::Global;
 use std::hash::Hash;
 use std::marker::{Model, PhantomData};
@@ -146,9 +148,9 @@ impl<I: Eq + Hash, K: Eq + Hash, T, S: Storage<T>> SessionTable<I, K, T, S> {
     /// ```rust
     /// let basket = table.put(&7, 1, 42, here)?;
     /// ```
-    pub fn put(
+    pub fn put<P: Equivalent<I>>(
         &mut self,
-        id: &I,
+        id: P,
         key: K,
         value: T,
         here: Location,
@@ -156,14 +158,14 @@ impl<I: Eq + Hash, K: Eq + Hash, T, S: Storage<T>> SessionTable<I, K, T, S> {
     where
         K: Drop,
         ensures shown { IfOk result (λ e. shown_in self.new e ≡ Some value) }
-        ensures kept { IfOk result (λ e. session_in I.eq self.new id.now
-            ≡ option_map (with_entry key e) (session_in I.eq self.old id.now)) }
-        ensures keeps { IfOk result (λ e. keeps I.eq self.new id.now e ≡ true) }
+        ensures kept { IfOk result (λ e. find_session (P.equivalent id) self.new
+            ≡ option_map (with_entry key e) (find_session (P.equivalent id) self.old)) }
+        ensures keeps { IfOk result (λ e. keeps_by (P.equivalent id) self.new e ≡ true) }
         ensures still { (other : I) (f : Entry T) → keeps I.eq self.old other f ≡ true →
             keeps I.eq self.new other f ≡ true }
         ensures unkept { (other : I) (f : Entry T) → WasPut self.old f →
             keeps I.eq self.old other f ≡ false → keeps I.eq self.new other f ≡ false }
-        ensures others { (other : I) → I.eq id.now other ≡ false →
+        ensures others { (other : I) → P.equivalent id other ≡ false →
             session_in I.eq self.new other ≡ session_in I.eq self.old other }
         ensures count { length self.new.sessions ≡ length self.old.sessions }
         ensures beside { IfOk result (λ e. (f : Entry T) → IsOther e f →
@@ -176,12 +178,12 @@ impl<I: Eq + Hash, K: Eq + Hash, T, S: Storage<T>> SessionTable<I, K, T, S> {
         ensures put { (f : Entry T) → WasPut self.old f → WasPut self.new f }
         ensures given { IfOk result (λ e. WasPut self.new e) }
         ensures ticket { self.new.state.next ≡ self.old.state.next }
-        ensures unknown { has_session I.eq self.old id.now ≡ false →
+        ensures unknown { is_some (find_session (P.equivalent id) self.old) ≡ false →
             IsErrAnd result (λ refusal. refusal.cause ≡ put.NoSession) }
-        ensures in_use { is_some (entry_in K.eq (session_in I.eq self.old id.now) key) ≡ true →
+        ensures in_use { is_some (entry_in K.eq (find_session (P.equivalent id) self.old) key) ≡ true →
             IsErrAnd result (λ refusal. refusal.cause ≡ put.KeyInUse) }
-        ensures short { IfErr result (λ refusal. (has_session I.eq self.old id.now ≡ false)
-            ⊎ ((is_some (entry_in K.eq (session_in I.eq self.old id.now) key) ≡ true)
+        ensures short { IfErr result (λ refusal. (is_some (find_session (P.equivalent id) self.old) ≡ false)
+            ⊎ ((is_some (entry_in K.eq (find_session (P.equivalent id) self.old) key) ≡ true)
             ⊎ (refusal.cause ≡ put.Store OutOfMemory))) }
         ensures back { IfErr result (λ refusal. refusal.value ≡ (key, value)) }
         ensures refused { OnErr result (self.new ≡ self.old) }
@@ -201,10 +203,24 @@ impl<I: Eq + Hash, K: Eq + Hash, T, S: Storage<T>> SessionTable<I, K, T, S> {
     ///     println!(rt; "{}", table.get(entry)?)?;
     /// }
     /// ```
-    pub fn entry(&self, id: &I, key: &K) -> Option<Entry<T>>
-        ensures { result ≡ entry_in K.eq (session_in I.eq self.now id.now) key.now }
+    pub fn entry<P: Equivalent<I>, Q: Equivalent<K>>(&self, id: P, key: Q) -> Option<Entry<T>>
+        ensures { result ≡ find_entry (Q.equivalent key) (find_session (P.equivalent id) self.now) }
     {
         self.session(id)?.entry(key)
+    }
+
+    /// The value that an id's session has under a key, if it has one. The table is borrowed meanwhile.
+    /// Doesn't allocate, and is O(1).
+    ///
+    /// ```rust
+    /// if let Some(count) = table.get_at(&7, &1) {
+    ///     println!(rt; "{count} in the basket")?;
+    /// }
+    /// ```
+    pub fn get_at<P: Equivalent<I>, Q: Equivalent<K>>(&self, id: P, key: Q) -> Option<&T>
+        ensures { option_copied result ≡ value_at (P.equivalent id) (Q.equivalent key) self.now }
+    {
+        peek(&self.store, self.entry(id, key)?)
     }
 
     /// Whether an entry is live: false once it was removed or its session has ended, and for an entry of
@@ -353,24 +369,24 @@ impl<I: Eq + Hash, K: Eq + Hash, T, S: Storage<T>> SessionTable<I, K, T, S> {
     ///     println!(rt; "{count} were in the basket")?;
     /// }
     /// ```
-    pub fn remove(&mut self, id: &I, key: &K) -> Option<T>
+    pub fn remove<P: Equivalent<I>, Q: Equivalent<K>>(&mut self, id: P, key: Q) -> Option<T>
     where
         K: Drop,
         ensures taken { (e : Entry T) →
-            entry_in K.eq (session_in I.eq self.old id.now) key.now ≡ Some e →
+            find_entry (Q.equivalent key) (find_session (P.equivalent id) self.old) ≡ Some e →
             result ≡ shown_in self.old e }
         ensures none { IsNone result
-            ↔ entry_in K.eq (session_in I.eq self.old id.now) key.now ≡ None }
-        ensures kept { IsSome result → session_in I.eq self.new id.now
-            ≡ option_map (without_entry K.eq key.now) (session_in I.eq self.old id.now) }
-        ensures others { (other : I) → I.eq id.now other ≡ false →
+            ↔ find_entry (Q.equivalent key) (find_session (P.equivalent id) self.old) ≡ None }
+        ensures kept { IsSome result → find_session (P.equivalent id) self.new
+            ≡ option_map (without_entry (Q.equivalent key)) (find_session (P.equivalent id) self.old) }
+        ensures others { (other : I) → P.equivalent id other ≡ false →
             session_in I.eq self.new other ≡ session_in I.eq self.old other }
         ensures count { length self.new.sessions ≡ length self.old.sessions }
         ensures gone { (e : Entry T) →
-            entry_in K.eq (session_in I.eq self.old id.now) key.now ≡ Some e →
+            find_entry (Q.equivalent key) (find_session (P.equivalent id) self.old) ≡ Some e →
             shown_in self.new e ≡ None }
         ensures beside { (e : Entry T) →
-            entry_in K.eq (session_in I.eq self.old id.now) key.now ≡ Some e →
+            find_entry (Q.equivalent key) (find_session (P.equivalent id) self.old) ≡ Some e →
             (f : Entry T) → IsOther e f → shown_in self.new f ≡ shown_in self.old f }
         ensures put { (f : Entry T) → WasPut self.old f → WasPut self.new f }
         ensures tells { (f : Entry T) → created_at self.new f ≡ created_at self.old f }
@@ -395,11 +411,11 @@ impl<I: Eq + Hash, K: Eq + Hash, T, S: Storage<T>> SessionTable<I, K, T, S> {
     /// ```rust
     /// let is_known = table.touch(&7, 1200);
     /// ```
-    pub fn touch(&mut self, id: &I, now: u64) -> bool
-        ensures had { result ≡ has_session I.eq self.old id.now }
-        ensures used { session_in I.eq self.new id.now
-            ≡ option_map (used now) (session_in I.eq self.old id.now) }
-        ensures others { (other : I) → I.eq id.now other ≡ false →
+    pub fn touch<P: Equivalent<I>>(&mut self, id: P, now: u64) -> bool
+        ensures had { result ≡ is_some (find_session (P.equivalent id) self.old) }
+        ensures used { find_session (P.equivalent id) self.new
+            ≡ option_map (used now) (find_session (P.equivalent id) self.old) }
+        ensures others { (other : I) → P.equivalent id other ≡ false →
             session_in I.eq self.new other ≡ session_in I.eq self.old other }
         ensures count { length self.new.sessions ≡ length self.old.sessions }
         ensures state { self.new.state ≡ self.old.state }
@@ -428,27 +444,31 @@ impl<I: Eq + Hash, K: Eq + Hash, T, S: Storage<T>> SessionTable<I, K, T, S> {
     /// ```rust
     /// table.rename(&visitor, user).ok()?;
     /// ```
-    pub fn rename(&mut self, id: &I, to: I) -> Result<(), HandedBack<I, RenameError>>
+    pub fn rename<P: Equivalent<I>>(
+        &mut self,
+        id: P,
+        to: I,
+    ) -> Result<(), HandedBack<I, RenameError>>
     where
         I: Drop,
         ensures moved { OnOk result (session_in I.eq self.new to
-            ≡ session_in I.eq self.old id.now) }
-        ensures gone { OnOk result (session_in I.eq self.new id.now ≡ None) }
-        ensures others { (other : I) → I.eq id.now other ≡ false → I.eq to other ≡ false →
+            ≡ find_session (P.equivalent id) self.old) }
+        ensures gone { OnOk result (find_session (P.equivalent id) self.new ≡ None) }
+        ensures others { (other : I) → P.equivalent id other ≡ false → I.eq to other ≡ false →
             session_in I.eq self.new other ≡ session_in I.eq self.old other }
         ensures order { OnOk result ((session : LiveSession K T) →
-            session_in I.eq self.old id.now ≡ Some session →
-            self.new.sessions ≡ swap_remove_entry (I.eq id.now) self.old.sessions
+            find_session (P.equivalent id) self.old ≡ Some session →
+            self.new.sessions ≡ swap_remove_entry (P.equivalent id) self.old.sessions
             ++ (to, session) ∷ []) }
         ensures count { length self.new.sessions ≡ length self.old.sessions }
         ensures state { self.new.state ≡ self.old.state }
         ensures sites { self.new.sites ≡ self.old.sites }
-        ensures unknown { has_session I.eq self.old id.now ≡ false →
+        ensures unknown { is_some (find_session (P.equivalent id) self.old) ≡ false →
             IsErrAnd result (λ refusal. refusal.cause ≡ rename.NoSession) }
-        ensures in_use { has_session I.eq self.old id.now ≡ true →
+        ensures in_use { is_some (find_session (P.equivalent id) self.old) ≡ true →
             has_session I.eq self.old to ≡ true →
             IsErrAnd result (λ refusal. refusal.cause ≡ rename.IdInUse) }
-        ensures short { IfErr result (λ refusal. (has_session I.eq self.old id.now ≡ false)
+        ensures short { IfErr result (λ refusal. (is_some (find_session (P.equivalent id) self.old) ≡ false)
             ⊎ ((has_session I.eq self.old to ≡ true)
             ⊎ (refusal.cause ≡ rename.Store OutOfMemory))) }
         ensures back { IfErr result (λ refusal. refusal.value ≡ to) }
@@ -486,23 +506,23 @@ impl<I: Eq + Hash, K: Eq + Hash, T, S: Storage<T>> SessionTable<I, K, T, S> {
     /// ```rust
     /// let was_logged_in = table.logout(&7);
     /// ```
-    pub fn logout(&mut self, id: &I) -> bool
+    pub fn logout<P: Equivalent<I>>(&mut self, id: P) -> bool
     where
         I: Drop,
         K: Drop,
-        ensures had { result ≡ has_session I.eq self.old id.now }
-        ensures ended { session_in I.eq self.new id.now ≡ None }
-        ensures others { (other : I) → I.eq id.now other ≡ false →
+        ensures had { result ≡ is_some (find_session (P.equivalent id) self.old) }
+        ensures ended { find_session (P.equivalent id) self.new ≡ None }
+        ensures others { (other : I) → P.equivalent id other ≡ false →
             session_in I.eq self.new other ≡ session_in I.eq self.old other }
         ensures order { self.new.sessions
-            ≡ swap_remove_entry (I.eq id.now) self.old.sessions }
+            ≡ swap_remove_entry (P.equivalent id) self.old.sessions }
         ensures count { length self.new.sessions + (if result then 1 else 0)
             ≡ length self.old.sessions }
-        ensures gone { (e : Entry T) → keeps I.eq self.old id.now e ≡ true →
+        ensures gone { (e : Entry T) → keeps_by (P.equivalent id) self.old e ≡ true →
             shown_in self.new e ≡ None }
-        ensures kept { (other : I) (e : Entry T) → I.eq id.now other ≡ false →
+        ensures kept { (other : I) (e : Entry T) → P.equivalent id other ≡ false →
             keeps I.eq self.old other e ≡ true → shown_in self.new e ≡ shown_in self.old e }
-        ensures left { (e : Entry T) → keeps I.eq self.old id.now e ≡ false →
+        ensures left { (e : Entry T) → keeps_by (P.equivalent id) self.old e ≡ false →
             shown_in self.new e ≡ shown_in self.old e }
         ensures put { (e : Entry T) → WasPut self.old e → WasPut self.new e }
         ensures tells { (e : Entry T) → created_at self.new e ≡ created_at self.old e }
@@ -516,17 +536,20 @@ impl<I: Eq + Hash, K: Eq + Hash, T, S: Storage<T>> SessionTable<I, K, T, S> {
         true
     }
 
-    // Ends the session at an index. The last one moves into its place.
-    fn end_at(&mut self, place: usize)
+    // Ends the session at an index, and returns its id. The last one moves into its place.
+    fn end_at(&mut self, place: usize) -> I
     where
-        I: Drop,
         K: Drop,
         requires within { place < length self.old.sessions }
-        ensures { EndsAt I.eq place self.old self.new }
+        ensures ended { EndsAt I.eq place self.old self.new }
+        ensures id { option_map (λ row. row.0) (slice_get self.old.sessions place) ≡ Some result }
     {
         prove!(place < self.rows.len());
         match self.rows.swap_remove_index(place) {
-            Some((_, session)) => session.end(&mut self.store),
+            Some((id, session)) => {
+                session.end(&mut self.store);
+                id
+            }
             None => unreachable!(),
         }
     }
@@ -556,25 +579,33 @@ impl<I: Eq + Hash, K: Eq + Hash, T, S: Storage<T>> SessionTable<I, K, T, S> {
     where
         I: Drop,
         K: Drop,
-        ensures ids { (id : I) → session_in I.eq self.new id
-            ≡ if_young before (session_in I.eq self.old id) }
-        ensures order { self.new.sessions ≡ swap_retain (λ row. is_young before row.1)
-            (length self.old.sessions) self.old.sessions }
+        ensures expired { HasExpired I.eq before self.old self.new }
         ensures count { result + length self.new.sessions ≡ length self.old.sessions }
-        ensures gone { (id : I) (e : Entry T) → keeps I.eq self.old id e ≡ true →
-            has_session I.eq self.new id ≡ false → shown_in self.new e ≡ None }
-        ensures kept { (id : I) (e : Entry T) → keeps I.eq self.old id e ≡ true →
-            has_session I.eq self.new id ≡ true → shown_in self.new e ≡ shown_in self.old e }
-        ensures none { (e : Entry T) → shown_in self.old e ≡ None → shown_in self.new e ≡ None }
-        ensures put { (e : Entry T) → WasPut self.old e → WasPut self.new e }
-        ensures tells { (e : Entry T) → created_at self.new e ≡ created_at self.old e }
-        ensures ticket { self.new.state.next ≡ self.old.state.next }
+    {
+        self.expire_each(before, |_id: I| {})
+    }
+
+    /// Ends sessions like [`SessionTable::expire`], and passes the id of each to a closure once it has
+    /// ended, in the order in which they end. Doesn't allocate itself.
+    ///
+    /// ```rust
+    /// let mut last = None;
+    /// table.expire_each(1100, |id| last = Some(id));
+    /// ```
+    pub fn expire_each<F: FnMut(I)>(&mut self, before: u64, mut f: F) -> usize
+    where
+        K: Drop,
+        requires { F.IsAlwaysCallable f }
+        ensures called { (last : F) × FoldsTo (λ p id q. F.step p id tt q) f
+            (expired_ids before self.old) last }
+        ensures expired { HasExpired I.eq before self.old self.new }
+        ensures count { result + length self.new.sessions ≡ length self.old.sessions }
     {
         let count = self.len();
         let mut place = 0;
         'places: while place < self.len() {
             if self.is_old_at(place, before) {
-                self.end_at(place);
+                f(self.end_at(place));
             } else {
                 place += 1;
             }
@@ -598,7 +629,7 @@ impl<I: Eq + Hash, K: Eq + Hash, T, S: Storage<T>> SessionTable<I, K, T, S> {
         ensures owners { (o : OwnerName) → ownership (S.state result) o ≡ None }
     {
         'places: while self.len() > 0 {
-            self.end_at(self.len() - 1);
+            drop(self.end_at(self.len() - 1));
         }
         let SessionTable {
             store,
@@ -615,8 +646,8 @@ impl<I: Eq + Hash, K: Eq + Hash, T, S: Storage<T>> SessionTable<I, K, T, S> {
     /// ```rust
     /// let is_logged_in = table.has(&7);
     /// ```
-    pub fn has(&self, id: &I) -> bool
-        ensures { result ≡ has_session I.eq self.now id.now }
+    pub fn has<P: Equivalent<I>>(&self, id: P) -> bool
+        ensures { result ≡ is_some (find_session (P.equivalent id) self.now) }
     {
         self.session(id).is_some()
     }
@@ -628,8 +659,8 @@ impl<I: Eq + Hash, K: Eq + Hash, T, S: Storage<T>> SessionTable<I, K, T, S> {
     ///     println!(rt; "last used at {}", session.used_at())?;
     /// }
     /// ```
-    pub fn session(&self, id: &I) -> Option<&Session<K, T>>
-        ensures { option_map live (option_copied result) ≡ session_in I.eq self.now id.now }
+    pub fn session<P: Equivalent<I>>(&self, id: P) -> Option<&Session<K, T>>
+        ensures { option_map live (option_copied result) ≡ find_session (P.equivalent id) self.now }
     {
         self.rows.get(id)
     }
@@ -648,6 +679,17 @@ impl<I: Eq + Hash, K: Eq + Hash, T, S: Storage<T>> SessionTable<I, K, T, S> {
         Sessions {
             rows: self.rows.iter(),
         }
+    }
+
+    /// Whether there is no session. Doesn't allocate, and is O(1).
+    ///
+    /// ```rust
+    /// let is_quiet = table.is_empty();
+    /// ```
+    pub fn is_empty(&self) -> bool
+        ensures { IsTrue result ↔ length self.now.sessions ≡ 0 }
+    {
+        self.rows.len() == 0
     }
 
     /// How many sessions there are. Doesn't allocate, and is O(1).

@@ -56,6 +56,8 @@ mod let_go;
 #[cfg(test)]
 mod session_acts;
 #[cfg(test)]
+mod session_finds;
+#[cfg(test)]
 mod session_handles;
 #[cfg(test)]
 mod session_histories;

@@ -51,9 +51,10 @@ pub use Rattle.indexmap.proofs.MapLemmas.{absent_from_lookup, insert_entry-absen
 pub use Rattle.indexmap.proofs.MapLemmas.{swap_remove_entry-found, swap_remove_entry-missing}
 pub use Rattle.indexmap.proofs.SetLemmas.{map-swap_remove}
 pub use Rattle.indexmap.specs.IndexMap.{insert_entry, swap_remove_entry}
-pub use Rattle.session_table.specs.Tables.{swap_retain}
+pub use Rattle.session_table.specs.Tables.{expired_ids, HasExpired, find_session, swap_retain, swap_shed, value_at}
 pub use Rattle.std.specs.HashMap.Eq.{lookup_congr}
 pub use Rattle.std.specs.Map.{keys_of, lookup, remove_entry, set_value}
-pub use Rattle.std.specs.Prelude.{IfSome, is_some, nat_eq, not, option_map, slice_get, swap_remove}
+pub use Rattle.std.specs.Prelude.{IfSome, IsTrue, is_some, nat_eq, not, option_map, slice_get, swap_remove}
+pub use Rattle.std.specs.List.{FoldsTo}
 pub use Rattle.std.specs.{List.AllByRecursion, Cmp.IsEquivalence, Ordering.nat_cmp, Prelude.◌⊎◌}
 unfoldable pub use Rattle.std.specs.List.{IsDistinct}

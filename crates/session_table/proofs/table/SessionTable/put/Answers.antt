@@ -1,4 +1,4 @@
-use Rattle.session_table.proofs.{ap, changed, inr, is_some, length-map, live_row, made_next, map, meets_given}
+use Rattle.session_table.proofs.{ap, asked_id, changed, inr, is_some, length-map, live_row, made_next, map, meets_given}
 use Rattle.session_table.proofs.{meets_number, other_sessions, own_session, put_apart, put_beside, put_fresh, put_given}
 use Rattle.session_table.proofs.{put_keeps, put_leaves, put_rows, put_shown, put_still, put_unkept, rules}
 use Rattle.session_table.proofs.{same_held, same_rows, same_sessions, session_of, Some, sym, ◌∙◌}
@@ -9,29 +9,32 @@ keep-requires g c = c.self.invariant.simple
 
 pub invariant_of-self-2 : goal.invariant_of-self-2
 invariant_of-self-2 g c =
-    let found = sym c.in-Some.ensures.value in
-    put_rows (changed g.met.I.Eq.laws c.args.id.now found ((c.get_mut.follows.holds c.keep.new.self).3 (ap is_some found)).0)
+    let asked = asked_id (g.met.P.Equivalent.respects_eq c.args.id) c.self.inside.rows.entries (sym c.in-Some.ensures.value) in
+    let found = rw (asked.1) at (sym c.in-Some.ensures.value) in
+    put_rows (changed g.met.I.Eq.laws asked.0 found (rw (asked.1) at ((c.get_mut.follows.holds c.keep.new.self).3 (ap is_some (sym c.in-Some.ensures.value))).0))
     c.args.key c.in_ok-entry.entry c.in_ok-entry.ensures.entries (g.met.S.AnyStorage.sound c.self.inside.store) c.self.invariant
     _ _ c.in_ok-entry.ensures.put
 
 pub invariant_of-self-in_err-entry : goal.invariant_of-self-in_err-entry
 invariant_of-self-in_err-entry g c =
-    let found = sym c.in-Some.ensures.value in
-    rw c.in_err-entry.ensures.refused (same_rows (changed g.met.I.Eq.laws c.args.id.now found
-    ((c.get_mut.follows.holds c.keep.new.self).3 (ap is_some found)).0) c.self.invariant
+    let asked = asked_id (g.met.P.Equivalent.respects_eq c.args.id) c.self.inside.rows.entries (sym c.in-Some.ensures.value) in
+    let found = rw (asked.1) at (sym c.in-Some.ensures.value) in
+    rw c.in_err-entry.ensures.refused (same_rows (changed g.met.I.Eq.laws asked.0 found
+    (rw (asked.1) at ((c.get_mut.follows.holds c.keep.new.self).3 (ap is_some (sym c.in-Some.ensures.value))).0)) c.self.invariant
     (same_held c.in-Some.session.now c.keep.new.self c.in_err-entry.ensures.same))
 
 pub returns : goal.returns
 returns g c =
-    let found = sym c.in-Some.ensures.value in
+    let asked = asked_id (g.met.P.Equivalent.respects_eq c.args.id) c.self.inside.rows.entries (sym c.in-Some.ensures.value) in
+    let found = rw (asked.1) at (sym c.in-Some.ensures.value) in
     let sound = g.met.S.AnyStorage.sound c.self.inside.store in
-    let change = changed g.met.I.Eq.laws c.args.id.now found
-    ((c.get_mut.follows.holds c.keep.new.self).3 (ap is_some found)).0 in
+    let change = changed g.met.I.Eq.laws asked.0 found
+    (rw (asked.1) at ((c.get_mut.follows.holds c.keep.new.self).3 (ap is_some (sym c.in-Some.ensures.value))).0) in
     let put = c.in_ok-entry.ensures.put in
     let number = meets_number _ _ _ _ put.1 in
     let entry = c.in_ok-entry.entry in
     let entries = c.in_ok-entry.ensures.entries in
-    rw (← c.self.view_is, session_of (g.I.PartialEq.eq c.args.id.now) _ found) (record {
+    rw (← c.self.view_is, asked.1, session_of (g.I.PartialEq.eq asked.0) _ found) (record {
       shown = put_shown _ _ entry put;
       kept = own_session change
           ∙ (λ j. Some (record { used_at = c.keep.ensures.used j; entries = entries j }));
@@ -61,12 +64,12 @@ returns-in_err-entry g c =
     let found = sym c.in-Some.ensures.value in
     let why = c.in_err-entry.ensures in
     let same = ap (map live_row) (c.get_mut.follows.holds c.keep.new.self).0
-    ∙ same_sessions (g.I.PartialEq.eq c.args.id.now) _ _ c.keep.new.self found
+    ∙ same_sessions (g.P.Equivalent.equivalent c.args.id) _ _ c.keep.new.self (sym c.in-Some.ensures.value)
     (λ j. record { used_at = c.keep.ensures.used j; entries = why.same j }) in
-    let session = session_of (g.I.PartialEq.eq c.args.id.now) _ found in
+    let session = session_of (g.P.Equivalent.equivalent c.args.id) _ found in
     rw (← c.self.view_is, why.refused, same, session, why.sites) (search (rules, inr))
 
 pub returns-in_default : goal.returns-in_default
 returns-in_default g c =
-    let none = session_of (g.I.PartialEq.eq c.args.id.now) _ (sym c.in_default.ensures.value) in
+    let none = session_of (g.P.Equivalent.equivalent c.args.id) _ (sym c.in_default.ensures.value) in
     rw (← c.self.view_is, c.get_mut.follows.holds-at-none, none) (search rules)

@@ -1,4 +1,4 @@
-use Rattle.session_table.proofs.{ap, changed, forgotten_rows, is_some, length-map, live_row, lost_beside, lost_one, map}
+use Rattle.session_table.proofs.{ap, asked_id, changed, forgotten_rows, is_some, length-map, live_row, lost_beside, lost_one, map}
 use Rattle.session_table.proofs.{name_of, one_named, other_sessions, own_session, pointer_in, row_own, row_shows}
 use Rattle.session_table.proofs.{rules, same_held, same_id_sees, same_rows, same_sessions, same_Some, session_of}
 use Rattle.session_table.proofs.{simple_taken, Some, sym, told_at, told_in, true≢false, ◌∙◌}
@@ -11,9 +11,10 @@ returns-in_default g c =
 
 pub invariant_of-self-in_default-forget : goal.invariant_of-self-in_default-forget
 invariant_of-self-in_default-forget g c =
-    let found = sym c.in-Some.ensures.value in
-    same_rows (changed g.met.I.Eq.laws c.args.id.now found
-    ((c.get_mut.follows.holds c.forget.new.self).3 (ap is_some found)).0) c.self.invariant
+    let asked = asked_id (g.met.P.Equivalent.respects_eq c.args.id) c.self.inside.rows.entries (sym c.in-Some.ensures.value) in
+    let found = rw (asked.1) at (sym c.in-Some.ensures.value) in
+    same_rows (changed g.met.I.Eq.laws asked.0 found
+    (rw (asked.1) at ((c.get_mut.follows.holds c.forget.new.self).3 (ap is_some (sym c.in-Some.ensures.value))).0)) c.self.invariant
     (same_held c.in-Some.session.now c.forget.new.self c.in_default-forget.ensures.same)
 
 pub returns-in_default-forget : goal.returns-in_default-forget
@@ -30,8 +31,10 @@ pub unreachable-requires : goal.unreachable-requires
 unreachable-requires g c =
     let sound = g.met.S.AnyStorage.sound c.self.inside.store in
     let k = c.self.invariant in
+    let asked = asked_id (g.met.P.Equivalent.respects_eq c.args.id) c.self.inside.rows.entries (sym c.in-Some.ensures.value) in
+    let found = rw (asked.1) at (sym c.in-Some.ensures.value) in
     let entry = sym c.in-Some-forget.ensures.entry in
-    let seen = row_shows _ _ k (sym c.in-Some.ensures.value) _ entry in
+    let seen = row_shows _ _ k found _ entry in
     let b = pointer_in c.in-Some-forget.entry in
     true≢false (sym seen ∙ ap is_some (sym (same_id_sees _ c.pointer_to.result b c.pointer_to.ensures)
     ∙ (sym (simple_taken _ sound k.simple.plain k.simple.unborrowed c.pointer_to.result)
@@ -39,9 +42,10 @@ unreachable-requires g c =
 
 pub invariant_of-self-2 : goal.invariant_of-self-2
 invariant_of-self-2 g c =
-    let found = sym c.in-Some.ensures.value in
-    let change = changed g.met.I.Eq.laws _ found
-    ((c.get_mut.follows.holds c.forget.new.self).3 (ap is_some found)).0 in
+    let asked = asked_id (g.met.P.Equivalent.respects_eq c.args.id) c.self.inside.rows.entries (sym c.in-Some.ensures.value) in
+    let found = rw (asked.1) at (sym c.in-Some.ensures.value) in
+    let change = changed g.met.I.Eq.laws asked.0 found
+    (rw (asked.1) at ((c.get_mut.follows.holds c.forget.new.self).3 (ap is_some (sym c.in-Some.ensures.value))).0) in
     let seen = row_shows _ _ c.self.invariant found _ (sym c.in-Some-forget.ensures.entry) in
     forgotten_rows _ _ c.self.invariant found _ (sym c.in-Some-forget.ensures.entry) change c.forget.ensures.entries
     (lost_one (g.met.S.AnyStorage.sound _) c.self.invariant.simple c.in-Some-forget.entry c.pointer_to.result
@@ -49,18 +53,19 @@ invariant_of-self-2 g c =
 
 pub returns : goal.returns
 returns g c =
-    let found = sym c.in-Some.ensures.value in
+    let asked = asked_id (g.met.P.Equivalent.respects_eq c.args.id) c.self.inside.rows.entries (sym c.in-Some.ensures.value) in
+    let found = rw (asked.1) at (sym c.in-Some.ensures.value) in
     let entry = c.in-Some-forget.entry in
     let sound = g.met.S.AnyStorage.sound c.self.inside.store in
-    let change = changed g.met.I.Eq.laws c.args.id.now found
-    ((c.get_mut.follows.holds c.forget.new.self).3 (ap is_some found)).0 in
+    let change = changed g.met.I.Eq.laws asked.0 found
+    (rw (asked.1) at ((c.get_mut.follows.holds c.forget.new.self).3 (ap is_some (sym c.in-Some.ensures.value))).0) in
     let k = c.self.invariant in
     let seen = row_shows _ _ k found _ (sym c.in-Some-forget.ensures.entry) in
     let lost = lost_one sound k.simple entry c.pointer_to.result c.pointer_to.ensures seen
     c.in-Some-take_value.ensures.ended in
     let own = row_own _ _ k found _ (sym c.in-Some-forget.ensures.entry) in
     let session = session_of _ c.self.inside.rows.entries found in
-    rw (← c.self.view_is, session, ← c.in-Some-forget.ensures.entry) (record {
+    rw (← c.self.view_is, asked.1, session, ← c.in-Some-forget.ensures.entry) (record {
       taken = λ e is. rw (← same_Some entry e is) (sym (sym (same_id_sees _ c.pointer_to.result (pointer_in entry)
           c.pointer_to.ensures) ∙ (sym (simple_taken _ sound k.simple.plain k.simple.unborrowed c.pointer_to.result)
           ∙ (sym c.take_value.ensures.value ∙ c.in-Some-take_value.is))));

@@ -3,4 +3,4 @@ use Rattle.session_table.proofs.table.SessionTable.session.Goals as goal
 
 pub returns : goal.returns
 returns g c = rw (← c.self.view_is) (ap (option_map live) c.get.ensures.value
-    ∙ sym (session_of (g.I.PartialEq.eq c.args.id.now) c.self.inside.rows.entries refl))
+    ∙ sym (session_of (g.P.Equivalent.equivalent c.args.id) c.self.inside.rows.entries refl))
