@@ -138,7 +138,7 @@ module _ {T : Type 0} where
 
 -- ==== what holds of what the lock protects holds after each call, and each recorded call is a step
 
-no_borrows : {T : Type 0} (es : List (Name × Cell T)) → length es ≡ 0 → borrows_in es ≡ 0
+pub no_borrows : {T : Type 0} (es : List (Name × Cell T)) → length es ≡ 0 → borrows_in es ≡ 0
 no_borrows [] e = refl
 no_borrows (e ∷ es) none = absurd (omega arith)
 

@@ -10,12 +10,14 @@
 //! [`SyncState`] is what the lock protects. It needs no threads.
 #![tactic(auto)]
 
+mod begin;
 pub mod laws;
 pub mod parts;
 mod state;
 mod storage;
 mod together;
 
+pub use crate::begin::{BeginError, BeginRefusal, Unbegun};
 pub use crate::state::SyncState;
 pub use crate::storage::SyncStorage;
 pub use crate::together::Together;

@@ -20,6 +20,7 @@ ghost use Rattle.generational_sync.specs.Shared.{Replays};
 
 mod borrowing;
 mod ending;
+mod images;
 mod making;
 
 // A law does nothing when it is called: the caller's proof cites it.
@@ -47,8 +48,8 @@ use store_rows::{PackedRows, RowCounts};
 /// It is what the lock of a [`SyncStorage`](crate::SyncStorage) protects, and needs no threads. After any
 /// calls, the history replays from the base, which is a sound state of this number, to the state, by the
 /// letters of locations; each kind's book has as many steps as were trimmed and as the history has; and
-/// the history has room for another step for each active borrow. The base is that of an empty store until
-/// a checkpoint.
+/// the history has room for another step for each active borrow. The base is that of an empty store, or
+/// an image's, until a checkpoint.
 ///
 /// Each call that returns is a step of the machine, and of the tally's worker: exactly that step is
 /// appended, by the letters of its locations, and only the count of its kind is raised by one; the call

@@ -11,6 +11,7 @@ ghost use Rattle.generational_sync.specs.Shared.{IsBlank, IsHistory, MayRefuseTr
 
 mod borrowing;
 mod ending;
+mod images;
 mod making;
 
 use crate::laws::histories_lead_to_sound_states;
