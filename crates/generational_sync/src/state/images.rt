@@ -38,8 +38,8 @@ impl<T: Drop, const NUMBER: u64, M: Count, L: Count, C: Count, R: Count> SyncSta
     R,
 > {
     /// A store that goes on from the image of a store with the same number, and a tally for each
-    /// worker, numbered from 0. The state is the one that the image tells, the history is empty, and
-    /// its base tells that state without its values. Each tally counts nothing. Any image may be passed
+    /// worker, numbered from 0. The state is the image's, the history is empty, and its base is that
+    /// state without its values. Each tally counts nothing. Any image may be passed
     /// in, and the blanks are as in `new`.
     ///
     /// # Errors
@@ -47,7 +47,7 @@ impl<T: Drop, const NUMBER: u64, M: Count, L: Count, C: Count, R: Count> SyncSta
     /// In this order, but that memory may run out before: `OtherNumber`, if the image's number isn't
     /// the store's; `OtherStart`, if its first generation isn't 1; `Load`, with the image's fault if no
     /// store can have it, or `OutOfMemory`, also for 2^32 workers or more. The image comes back as it was;
-    /// if memory runs out after the image's values are in a store, that store does. The blanks are spent.
+    /// if memory runs out after the image's values are in a store, that store does. The blanks are consumed.
     ///
     /// Takes O(n) for n slots. Allocates what the sequential store's `from_image` allocates, and the
     /// base's rows.

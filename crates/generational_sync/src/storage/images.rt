@@ -35,7 +35,7 @@ impl<T: Drop, const NUMBER: u64, M: Count, L: Count, C: Count, R: Count> SyncSto
     /// In this order, but that memory may run out before: `OtherNumber`, if the image's number isn't
     /// the store's; `OtherStart`, if its first generation isn't 1; `Load`, with the image's fault if no
     /// store can have it, or `OutOfMemory`, also for 2^32 workers or more. The image comes back as it was;
-    /// if memory runs out after the image's values are in a store, that store does. The blanks are spent.
+    /// if memory runs out after the image's values are in a store, that store does. The blanks are consumed.
     ///
     /// Takes O(n) for n slots. Allocates what the sequential store's `from_image` allocates, and the
     /// base's rows.
