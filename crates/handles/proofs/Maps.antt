@@ -1,6 +1,6 @@
 -- Rows, how many hold a value, and the list of those.
 use Rattle.std.proofs.Common.{◌≡◌, ◌≢◌, ◌<◌, ◌≤◌, ◌+◌, ◌-◌, ◌^◌, ◌∙◌, ◌++◌, ℕ, zero, suc, List, [], ◌∷◌, Option, None, Some, true}
-use Rattle.std.proofs.Common.{length, map, refl, ap, sym, arith, slice_get, slice_set, slice_index_or, is_some, IfSome, IfNone, add-one}
+use Rattle.std.proofs.Common.{length, map, refl, ap, sym, arith, take, slice_get, slice_set, slice_index_or, is_some, IfSome, IfNone, add-one}
 use Rattle.std.proofs.lemmas.List.{get_or-set_other, get_or-set_same, get_or_past, length-set}
 use Rattle.handles.specs.declared.handle.Handle.{Handle}
 use Rattle.handles.specs.declared.map.Row.{Row}
@@ -10,7 +10,10 @@ use Rattle.std.proofs.lemmas.List.Elements.{All-cons, All-nil}
 use Rattle.std.proofs.lemmas.Option.{same_Some}
 use Rattle.std.specs.List.{All}
 use Rattle.std.specs.List.Sorted.{IsStrictlyIncreasing}
-use Rattle.handles.specs.Handles.{at_slot, IsOther, IsSame, slot_in}
+use Rattle.generational_core.specs.declared.boxes.GenerationalBoxId.{GenerationalBoxId}
+use Rattle.std.proofs.lemmas.List.{length-map, length-take-le, map-append, take_more}
+use Rattle.std.proofs.lemmas.Option.{get_or_from_slice_get, slice_get_within}
+use Rattle.handles.specs.Handles.{at_slot, id_in, IsOther, IsSame, slot_in}
 use Rattle.handles.specs.Maps.{count, listed, listed_from, MapState, refilled, row_at, value_of}
 
 -- a number before others that rise, of which each is above it
@@ -121,6 +124,18 @@ module _ {V : Type 0} where
       → slot_in h < length m.rows
   value_within m h some = grind (arith, get_or_past m.rows (slot_in h) Vacant)
 
+  -- how many there are in a beginning of the rows, and in it with the next one
+  pub count_take : (rows : List (Row V)) (n : ℕ) → count (take n rows) ≤ count rows
+  count_take rows zero = omega arith
+  count_take [] (suc n) = omega arith
+  count_take (Vacant ∷ rows) (suc n) = count_take rows n
+  count_take (Held site generation v ∷ rows) (suc n) = omega (arith, count_take rows n)
+
+  pub count_with : (rows : List (Row V)) (r : Row V) → count (rows ++ r ∷ []) ≡ count rows + count (r ∷ [])
+  count_with [] r = omega arith
+  count_with (Vacant ∷ rows) r = count_with rows r
+  count_with (Held site generation v ∷ rows) r = omega (arith, count_with rows r)
+
   -- ==== the list of those that hold a value
 
   module _ (T K : Type 0) where
@@ -175,10 +190,18 @@ module _ {V T K : Type 0} where
   same_listed number slot (r ∷ rows) (q ∷ more) same =
       grind (arith, same 0, same_listed number (slot + 1) rows more (λ at. same (suc at)))
 
+  -- a row more at the end
+  pub listed_with : (number slot at : ℕ) (rows : List (Row V)) (r : Row V) → at ≡ slot + length rows
+      → listed_from {T = T} {K = K} number slot (rows ++ r ∷ []) ≡ listed_from number slot rows ++ listed_from number at (r ∷ [])
+  listed_with number slot at [] r is = ap (λ s. listed_from number s (r ∷ [])) (omega (arith, is))
+  listed_with number slot at (Vacant ∷ rows) r is = listed_with number (slot + 1) at rows r (omega (arith, is))
+  listed_with number slot at (Held site generation v ∷ rows) r is =
+      ap (λ rest. (at_slot number slot site generation, v) ∷ rest) (listed_with number (slot + 1) at rows r (omega (arith, is)))
+
   -- ==== the list of handles
 
   -- a listed one is that of a slot, from the first on
-  listed_at : (number slot : ℕ) (rows : List (Row V)) (i : ℕ) (h : Handle T K) (v : V)
+  pub listed_at : (number slot : ℕ) (rows : List (Row V)) (i : ℕ) (h : Handle T K) (v : V)
       → slice_get (listed_from number slot rows) i ≡ Some (h, v)
       → (k : ℕ) × (h.slot ≡ slot + k) × (h.store ≡ number) × (row_at rows k ≡ Held h.site h.generation v)
   listed_at number slot [] i h v is = cc
@@ -208,6 +231,20 @@ module _ {V T K : Type 0} where
   listed_there number slot (Held s g w ∷ rows) (suc k) site generation v is =
       let at = listed_there number (slot + 1) rows k site generation v is in
       (suc at.0, at.1, at.2, at.3, omega (arith, at.4), at.5)
+
+  -- the handle of a slot's row is listed
+  pub listed_row : (number slot : ℕ) (rows : List (Row V)) (k site generation : ℕ) (v : V)
+      → row_at rows k ≡ Held site generation v
+      → (i : ℕ) × (slice_get (listed_from {T = T} {K = K} number slot rows) i ≡ Some (at_slot number (slot + k) site generation, v))
+  listed_row number slot [] k site generation v is = cc
+  listed_row number slot (Vacant ∷ rows) zero site generation v is = cc
+  listed_row number slot (Vacant ∷ rows) (suc k) site generation v is =
+      let at = listed_row number (slot + 1) rows k site generation v is in
+      (at.0, at.1 ∙ ap (λ s. Some (at_slot number s site generation, v)) (omega arith))
+  listed_row number slot (Held s g w ∷ rows) zero site generation v is = (0, grind arith)
+  listed_row number slot (Held s g w ∷ rows) (suc k) site generation v is =
+      let at = listed_row number (slot + 1) rows k site generation v is in
+      (suc at.0, at.1 ∙ ap (λ s. Some (at_slot number s site generation, v)) (omega arith))
 
   pub listed_shown : (m : MapState V) (i : ℕ) (h : Handle T K) (v : V) → slice_get (listed m) i ≡ Some (h, v)
       → value_of m h ≡ Some v
@@ -249,3 +286,49 @@ module _ {V : Type 0} (T K : Type 0) where
 pub one_vacant : (V : Type 0) → one {V = V} Vacant ≡ 0
 unfolding one
 one_vacant V = refl
+
+-- ==== values with their ids
+
+module _ (T K : Type 0) {V : Type 0} where
+  abbrev pub with_ids : List (Handle T K × V) → List (GenerationalBoxId × V)
+  with_ids ps = map (λ p. (id_in p.0, p.1)) ps
+
+  pub ids_with : (number slot : ℕ) (rows : List (Row V)) (r : Row V) → slot ≡ length rows
+      → with_ids (listed_from number 0 (rows ++ r ∷ []))
+      ≡ with_ids (listed_from number 0 rows) ++ with_ids (listed_from number slot (r ∷ []))
+  ids_with number slot rows r is = ap with_ids (listed_with number 0 slot rows r (omega (arith, is)))
+      ∙ map-append (λ (p : Handle T K × V). (id_in p.0, p.1)) (listed_from number 0 rows) (listed_from number slot (r ∷ []))
+
+  pub ids_count : (number : ℕ) (rows : List (Row V)) → length (with_ids (listed_from number 0 rows)) ≡ count rows
+  ids_count number rows = length-map (listed_from number 0 rows) (λ (p : Handle T K × V). (id_in p.0, p.1))
+      ∙ listed_count T K number 0 rows
+
+  -- a beginning of rows with the next one
+  taken_row : (rows : List (Row V)) (n : ℕ) (r : Row V) → slice_get rows n ≡ Some r
+      → take (n + 1) rows ≡ take n rows ++ r ∷ []
+  taken_row rows n r is = take_more rows n r (slice_get_within rows n r is)
+      ∙ ap (λ x. take n rows ++ x ∷ []) (get_or_from_slice_get rows n r r is)
+
+  -- there is room for the next row's value, and with it the values are those of one row more
+  pub room_for : (number : ℕ) (rows : List (Row V)) (n : ℕ) (r : Row V) (items : List (GenerationalBoxId × V)) (cap : ℕ)
+      → slice_get rows n ≡ Some r → items ≡ with_ids (listed_from number 0 (take n rows)) → count rows ≤ cap
+      → length items + count (r ∷ []) ≤ cap
+  room_for number rows n r items cap is same room = omega (
+    arith,
+    ap length same,
+    ids_count number (take n rows),
+    count_take rows (n + 1),
+    ap count (taken_row rows n r is),
+    count_with (take n rows) r,
+    room,
+  )
+
+  pub values_more : (number : ℕ) (rows : List (Row V)) (n : ℕ) (r : Row V) (items next : List (GenerationalBoxId × V))
+      → slice_get rows n ≡ Some r → items ≡ with_ids (listed_from number 0 (take n rows))
+      → next ≡ items ++ with_ids (listed_from number n (r ∷ []))
+      → next ≡ with_ids (listed_from number 0 (take (n + 1) rows))
+  values_more number rows n r items next is same pushed =
+      pushed ∙ (ap (λ xs. xs ++ with_ids (listed_from number n (r ∷ []))) same
+      ∙ (sym (ids_with number n (take n rows) r
+      (sym (length-take-le n rows (omega (arith, slice_get_within rows n r is)))))
+      ∙ ap (λ rows. with_ids (listed_from number 0 rows)) (sym (taken_row rows n r is))))

@@ -22,5 +22,6 @@ pub mod parts {
 }
 
 pub use crate::handle::Handle;
+pub use crate::sites::Sites;
 pub use crate::stale::Stale;
 pub use crate::walk::HandleIter;

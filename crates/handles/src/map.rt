@@ -1,6 +1,8 @@
 //! Values by handles.
 
 ghost use Rattle.std.specs.Prelude.{◌≡◌, ◌<◌, ◌≤◌, ◌+◌, ◌^◌, ℕ, [], Some, IsFalse, IsTrue, IfSome, IfNone};
+ghost use Rattle.std.specs.Prelude.{IfErr, IfOk, ◌++◌, map as list_map};
+ghost use Rattle.handles.specs.Handles.{id_in};
 ghost use Rattle.std.specs.Prelude.{◌∷◌, length, option_copied, slice_set, vec_capacity};
 ghost use Rattle.std.specs.Borrow.{MutBor};
 ghost use Rattle.std.specs.Fn.{FnOnceReturnsAtMut};
@@ -11,6 +13,8 @@ ghost use Rattle.handles.specs.Visits.{AreChanged, CalledOn, CalledOnBoth};
 
 use crate::handle::Handle;
 use crate::walk::HandleIter;
+use generational_core::GenerationalBoxId;
+use generational_core::parts::id_at;
 use std::alloc::Global;
 use std::marker::{Model, PhantomData};
 use std::mem;
@@ -339,6 +343,25 @@ impl<T, K, V> HandleMap<T, K, V> {
         self.live = 0;
     }
 
+    /// All values with the ids of their handles, in the order of their slots. Allocates a list for them, and
+    /// is O(n) for n rows.
+    ///
+    /// # Errors
+    ///
+    /// The map, unchanged, if memory runs out.
+    pub fn into_values(self, alloc: Global) -> Result<Vec<(GenerationalBoxId, V)>, Self>
+    where
+        V: Drop,
+        ensures values { IfOk result (λ all. all.items ≡ list_map (λ p. (id_in p.0, p.1)) (listed {T = T} {K = K} self)) }
+        ensures back { IfErr result (λ map. map ≡ self) }
+    {
+        let Ok(all) = Vec::with_capacity(alloc, self.live) else {
+            return Err(self);
+        };
+        let HandleMap { number, rows, .. } = self;
+        Ok(values_of::<T, K, V>(number, rows, all))
+    }
+
     /// The handles that have a value, with it, in the order of their slots. Doesn't allocate, and is O(1).
     pub fn iter(&self) -> HandleIter<'_, T, K, V>
         ensures { result ≡ listed self.now }
@@ -357,5 +380,39 @@ fn fill<V>(rows: &mut Vec<Row<V>>, len: usize)
 {
     while rows.len() < len {
         rows.push_reserved(Row::Vacant);
+    }
+}
+
+// The values of rows with the ids of their handles, in a list that has room for them.
+fn values_of<T, K, V: Drop>(
+    number: u64,
+    mut rows: Vec<Row<V>>,
+    mut all: Vec<(GenerationalBoxId, V)>,
+) -> Vec<(GenerationalBoxId, V)>
+    requires none { all.items ≡ [] }
+    requires room { count rows.items ≤ vec_capacity all }
+    ensures { result.items ≡ list_map (λ p. (id_in p.0, p.1)) (listed_from {T = T} {K = K} number 0 rows.items) }
+{
+    for slot in 0..rows.len() {
+        let row = mem::replace(&mut rows[slot], Row::Vacant);
+        push_value::<T, K, V>(&mut all, number, slot, row);
+    }
+    all
+}
+
+// Adds the value of a slot's row with its handle's id, if the row holds one. There is room for it.
+fn push_value<T, K, V: Drop>(
+    all: &mut Vec<(GenerationalBoxId, V)>,
+    number: u64,
+    slot: usize,
+    row: Row<V>,
+)
+    requires { length all.old.items + count (row ∷ []) ≤ vec_capacity all.old }
+    ensures pushed { all.new.items ≡ all.old.items
+        ++ list_map (λ p. (id_in p.0, p.1)) (listed_from {T = T} {K = K} number slot (row ∷ [])) }
+    ensures room { vec_capacity all.new ≡ vec_capacity all.old }
+{
+    if let Row::Held(_, generation, value) = row {
+        all.push_reserved((id_at(number, slot, generation), value));
     }
 }

@@ -72,6 +72,14 @@ impl Sites {
         }
     }
 
+    /// Publishes all sites.
+    pub fn tell_all(&mut self)
+        ensures all { self.new.all ≡ self.old.all }
+        ensures told { self.new.told ≡ length self.old.all }
+    {
+        self.told = self.list.len();
+    }
+
     /// The location of a site, if it is published. Doesn't allocate.
     pub fn get(&self, site: u32) -> Option<Location>
         ensures { result ≡ slice_get (told_in self.now) site }
