@@ -61,7 +61,7 @@ impl Error for AttachError {}
 /// that has taken its slot gets one.
 #[derive(Drop)]
 pub struct ComponentTable<T, C> {
-    map: HandleMap<T, EntityKind, C>,
+    pub(crate) map: HandleMap<T, EntityKind, C>,
 }
 
 impl<T, C> Model for ComponentTable<T, C> {

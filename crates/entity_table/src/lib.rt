@@ -10,6 +10,7 @@
 mod components;
 mod entity;
 mod laws;
+mod parts;
 mod table;
 mod walk;
 
@@ -18,7 +19,9 @@ pub use crate::entity::{Entity, EntityKind};
 pub use crate::laws::{
     changed_components, changed_elements, changed_pairs, equal_entities_show_the_same,
 };
+pub use crate::parts::{EntityParts, RowFault};
 pub use crate::table::EntityTable;
 pub use crate::walk::{ComponentIter, Iter, Join};
 pub use generational_core::HandedBack;
-pub use handles::{Handle, HandleIter, Stale};
+pub use handles::{Handle, HandleIter, Sites, Stale};
+pub use live_cells::CellFault;

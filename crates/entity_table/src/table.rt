@@ -25,10 +25,10 @@ use std::marker::Model;
 /// shows, the live entities in the order of their slots, and the locations where entities were made.
 #[derive(Drop)]
 pub struct EntityTable<T, S: Storage<T>> {
-    store: S,
+    pub(crate) store: S,
     // the generation and the site of each live entity, by its slot
-    rows: HandleMap<T, EntityKind, ()>,
-    sites: Sites,
+    pub(crate) rows: HandleMap<T, EntityKind, ()>,
+    pub(crate) sites: Sites,
 }
 
 impl<T, S: Storage<T>> Model for EntityTable<T, S> {
