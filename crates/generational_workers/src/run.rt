@@ -96,40 +96,7 @@ fn run_named<
     ensures run { IfOk result (λ s. IsRun (S.begins service.now) (S.serves service.now)
         (S.ends service.now) workers s.end s.answers.items s.base s.steps.items) }
 {
-    run_task::<T, STORE_NUMBER, M, L, C, R, S, H>(
-        rt, alloc, workers, service, made, lent, changed, refused,
-    )
-}
-
-// The same for a store with this number.
-fn run_task<
-    T: Drop + Send,
-    const NUMBER: u64,
-    M: Count + Send + Sync,
-    L: Count + Send + Sync,
-    C: Count + Send + Sync,
-    R: Count + Send + Sync,
-    S: Service<T>,
-    H: Threads + Wait + Sync,
->(
-    rt: &H,
-    alloc: Global,
-    workers: u32,
-    service: &S,
-    made: Blank,
-    lent: Blank,
-    changed: Blank,
-    refused: Blank,
-) -> Result<Served<S::End, S::Answer>, S::Error>
-    requires made { IsBlank (workers + 1) made M.name M.parts M.workers }
-    requires lent { IsBlank (workers + 1) lent L.name L.parts L.workers }
-    requires changed { IsBlank (workers + 1) changed C.name C.parts C.workers }
-    requires refused { IsBlank (workers + 1) refused R.name R.parts R.workers }
-    ensures history { IfOk result (λ s. IsHistory NUMBER s.base s.steps.items) }
-    ensures run { IfOk result (λ s. IsRun (S.begins service.now) (S.serves service.now)
-        (S.ends service.now) workers s.end s.answers.items s.base s.steps.items) }
-{
-    let (chief, desks) = open_desks::<T, NUMBER, M, L, C, R>(
+    let (chief, desks) = open_desks::<T, STORE_NUMBER, M, L, C, R>(
         alloc, workers, made, lent, changed, refused,
     )?;
     let Desk { store, own } = chief;
