@@ -5,8 +5,8 @@ use Rattle.generational_core.specs.declared.boxes.GenerationalPointer.{Generatio
 use Rattle.generational_core.specs.Borrowing.{Guard}
 use Rattle.generational_core.specs.Borrowing.BorrowRefusal.{Dropped}
 use Rattle.generational_core.specs.Machine.{Answer}
-use Rattle.generational_core.specs.Machine.Action.{Read, ReleaseReader}
-use Rattle.generational_core.specs.Machine.Answer.{BorrowRefused, Flag, Reads}
+use Rattle.generational_core.specs.Machine.Action.{Read, ReleaseReader, ReleaseWriter, Write}
+use Rattle.generational_core.specs.Machine.Answer.{BorrowRefused, Flag, Reads, Writes}
 use Rattle.generational_sync.specs.Shared.{IsUnseenStep}
 use Rattle.shared_history.specs.Counts.{Counts}
 
@@ -18,6 +18,15 @@ pub record IsReadThrough (T : Type 0) (number : ℕ) (old : Counts) (asked : Gen
   pub between : Counts
   pub begun : IsUnseenStep {T = T} number old (Read asked at) (Reads guard) between
   pub ended : IsUnseenStep {T = T} number between (ReleaseReader guard) (Flag known) new
+
+-- a write of this box began, and gave its value; its own guard was released with what has become of
+-- the value, and the release was answered so
+pub record IsWriteThrough {T : Type 0} (number : ℕ) (old : Counts) (asked : GenerationalPointer)
+    (at : Location) (value changed : T) (released : Answer T) (new : Counts) : Type 0 where
+  pub guard : Guard
+  pub between : Counts
+  pub begun : IsUnseenStep number old (Write asked at) (Writes guard value) between
+  pub ended : IsUnseenStep number between (ReleaseWriter guard changed) released new
 
 -- the answer that this box's value is gone
 abbrev pub IsOwnDropped : (T : Type 0) → GenerationalPointer → Answer T → Type 0

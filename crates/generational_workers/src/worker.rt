@@ -2,16 +2,17 @@
 
 ghost use Rattle.std.specs.Prelude.{◌≡◌, ◌<◌, ◌⊎◌, ℕ, None, Some, Err, IfErr, IfOk, IfSome, OnSome};
 ghost use Rattle.generational_errors.specs.declared.error.StoreError.TheVariants.{OutOfMemory};
-ghost use Rattle.generational_core.specs.Answers.{back_answer, box_answer, end_answer, owner_answer};
-ghost use Rattle.generational_core.specs.Answers.{pointer_of, read_answer, read_refused};
+ghost use Rattle.std.specs.Fn.{FnOnceReturnsAtMut};
+ghost use Rattle.generational_core.specs.Answers.{back_answer, box_answer, end_answer, end_refused};
+ghost use Rattle.generational_core.specs.Answers.{owner_answer, pointer_of, read_answer, read_refused};
 ghost use Rattle.generational_core.specs.Answers.{reference_box_answer, release_answer, write_answer};
 ghost use Rattle.generational_core.specs.Machine.Action.{CloneOwner, End, Make, MakeShared};
 ghost use Rattle.generational_core.specs.Machine.Action.{NewOwner, Point, Read, Refer, ReleaseOwner};
 ghost use Rattle.generational_core.specs.Machine.Action.{ReleaseReader, ReleaseWriter, SetValue};
 ghost use Rattle.generational_core.specs.Machine.Action.{Write};
-ghost use Rattle.generational_core.specs.Machine.Answer.{Done, Flag, Owned};
+ghost use Rattle.generational_core.specs.Machine.Answer.{Back, Done, Flag, Owned};
 ghost use Rattle.generational_sync.specs.Shared.{IsUnseenStep, MayRefuseTrimming};
-ghost use Rattle.generational_workers.specs.Borrows.{IsOwnDropped, IsReadThrough};
+ghost use Rattle.generational_workers.specs.Borrows.{IsOwnDropped, IsReadThrough, IsWriteThrough};
 ghost use Rattle.shared_history.specs.Counts.{Counts};
 ghost use Rattle.shared_history.specs.Replies.{set_answer};
 
@@ -288,6 +289,43 @@ pub trait Worker<T> {
         }
     }
 
+    /// Changes a box's value by a closure: begins a write, runs `f` on the value, ends the write, and
+    /// returns what `f` returns. Waits while the value is borrowed. No other worker reads or writes the
+    /// value meanwhile. `f` runs outside the store's lock. Two steps.
+    ///
+    /// # Errors
+    /// In this order: `Dropped` with the location at which the box was created, if its cell has ended or
+    /// is of another store; `NumbersExhausted`, if no ticket is left. Allocates room for two steps.
+    /// `Dropped` with that location also comes after `f`, if the store didn't know the write's own guard:
+    /// the value is dropped then.
+    final fn with_mut<A: Drop, F: FnOnce(&mut T) -> A>(
+        &mut self,
+        asked: GenerationalBox<T>,
+        location: Location,
+        f: F,
+    ) -> BorrowMutResult<A>
+    where
+        T: Drop,
+        requires { F.IsAlwaysCallable f }
+        ensures steps { IfOk result (λ answer. (value changed : T)
+            × FnOnceReturnsAtMut F.FnOnce f value answer changed
+            × IsWriteThrough number (counts self.old) (pointer_of asked) location value changed Done
+            (counts self.new)) }
+        ensures refusal { IfErr result (λ e.
+            IsUnseenStep {T = T} number (counts self.old) (Write (pointer_of asked) location)
+            (end_refused e) (counts self.new)
+            ⊎ ((value changed back : T)
+            × IsWriteThrough number (counts self.old) (pointer_of asked) location value changed
+            (Back back) (counts self.new) × IsOwnDropped T (pointer_of asked) (end_refused e))) }
+    {
+        let mut writer = self.try_write(asked, location)?;
+        let answer = change(&mut writer, f);
+        match self.release_write(writer) {
+            Ok(()) => Ok(answer),
+            Err(_) => Err(Refused::Borrow(BorrowMutError::Dropped(dropped(asked)))),
+        }
+    }
+
     /// Runs `f` with a new owner, releases the owner, and returns what `f` returns. Waits at the end
     /// while a value that would be dropped is borrowed. Two steps, beside those of `f`.
     ///
@@ -319,6 +357,15 @@ pub trait Worker<T> {
             }
         }
     }
+}
+
+// Runs a closure once on the value of a writer's guard, and returns what it returns.
+fn change<T, A, F: FnOnce(&mut T) -> A>(guard: &mut GenerationalRefMut<T>, f: F) -> A
+    requires { F.IsAlwaysCallable f }
+    ensures { (changed : T) × FnOnceReturnsAtMut F.FnOnce f guard.old.value result changed
+        × (guard.new ≡ record guard.old { value = changed }) }
+{
+    f(&mut *guard.deref_mut())
 }
 
 // That the value of a box is gone.
