@@ -63,9 +63,6 @@ fn serve_client<W: Worker<u64>>(
     let here = Location::new("workers.rt", 63, 16);
     let kept = worker.insert(session, value, here)?;
     let seen = worker.with(kept, here, |value| *value)?;
-    let mut writer = worker.try_write(total, here)?;
-    let sum = (*writer.deref()).wrapping_add(seen);
-    *writer.deref_mut() = sum;
-    let _ = worker.release_write(writer);
+    worker.with_mut(total, here, |sum| *sum = (*sum).wrapping_add(seen))?;
     Ok(())
 }

@@ -289,9 +289,8 @@ pub trait Worker<T> {
         }
     }
 
-    /// Changes a box's value by a closure: begins a write, runs `f` on the value, ends the write, and
-    /// returns what `f` returns. Waits while the value is borrowed. No other worker reads or writes the
-    /// value meanwhile. `f` runs outside the store's lock. Two steps.
+    /// Changes a box's value by a closure: begins a write, runs `f` on the value that its guard owns, ends
+    /// the write, and returns what `f` returns. Waits while the value is borrowed. Two steps.
     ///
     /// # Errors
     /// In this order: `Dropped` with the location at which the box was created, if its cell has ended or
