@@ -24,7 +24,7 @@ PLANTED = os.path.join(ROOT, ".ci", "planted.md")
 # The kinds of crates, each by the heading of its list and what its names are.
 KINDS = {
     "### What users take": r"generational_\w+|saved_bytes|signals|reactive|\w+_table|\w+_tree",
-    "### What stores are made of": r"(store|shared)_\w+|location_list|handles",
+    "### What stores are made of": r"(store|shared)_\w+|location_list|live_cells|handles",
     "### Programs": r"boxes(_\w+)?|sheet",
     "### Proved callers": r"example_\w+",
     "### Tests": r"test_\w+",

@@ -17,7 +17,7 @@ use std::fmt;
 /// Why a store can't be a table's or a tree's.
 #[derive(Clone, Copy, Debug, PartialEq, Eq)]
 pub enum CellFault {
-    /// A borrow stands at the value in this slot.
+    /// The value in this slot is borrowed.
     Borrowed(usize),
     /// This slot has a shared value, or a reference to one.
     Shared(usize),
@@ -44,8 +44,8 @@ impl Error for CellFault {}
 /// # Errors
 ///
 /// The first of these in the order of slots: `Shared` if a slot has a shared value or a reference;
-/// `Borrowed` if a borrow stands at its value. `OutOfMemory` if the two lists, of some 50 bytes for each
-/// slot, find no memory.
+/// `Borrowed` if its value is borrowed. `OutOfMemory` if the two lists, of some 50 bytes for each slot,
+/// can't be allocated.
 pub fn plain_cells<T, S: Storage<T>>(
     alloc: Global,
     store: &S,
