@@ -1,0 +1,4 @@
+//! Callers of shared stores that outlive their process.
+#![tactic(auto)]
+
+pub mod restarts;
