@@ -2,7 +2,7 @@
 pub mod Common
 unfoldable pub use Common.*
 
--- ==== a walk over rows of which each box sees a value
+-- ==== a walk over rows of which each box has a value
 
 -- what a list has at a place is its first element, or one of the others
 pub get_cases : {X : Type 0} (x : X) (xs : List X) (i : ℕ) (y : X) → slice_get (x ∷ xs) i ≡ Some y
@@ -28,7 +28,7 @@ module _ {E V R : Type 0} (key : R → E) (box : R → GenerationalPointer) (S :
   shown_length rows seen = sym (length-map (shown_rows key box S rows) (λ p. p.0))
       ∙ (ap length (shown_all rows seen) ∙ length-map rows key)
 
-  -- each is a row's, with the value that its box sees
+  -- each is a row's, with the value of its box
   pub shown_sees : (rows : List R) (i : ℕ) (e : E) (v : V)
       → slice_get (shown_rows key box S rows) i ≡ Some (e, v)
       → (j : ℕ) × (r : R) × (slice_get rows j ≡ Some r) × (key r ≡ e) × (value_in S (box r) ≡ Some v)
@@ -117,7 +117,7 @@ set_others sound plain a b v old m other =
     others_left _ _ m a b (seen_store _ _ sound (ap is_some saw)) (λ ne. same_value _ _ _ _ sound m _
     (λ same. ne (reach_apart _ plain _ _ to.0 to.1 (sym same))) tt) other
 
--- where nothing is, nothing is found
+-- in an empty list nothing is found
 absent : {X : Type 0} (o : Option X) → ((v : X) → o ≡ Some v → ⊥) → is_some o ≡ false
 absent None h = refl
 absent (Some v) h = absurd (h v refl)
@@ -159,7 +159,7 @@ reserved_count T m more same = sym (listed_count T EntityKind 0 0 more.rows)
 none_some : {X : Type 0} (x : X) → None ≡ Some x → ⊥
 none_some x is = cc
 
--- what is told of the number and the locations, it is told when more are
+-- what is said of the number and the locations stays so when more are added
 pub still_told : {T : Type 0} (n m : ℕ) (s t : SiteState) (old : List Location) (e : Entity T) (l : Location) → m ≡ n
     → s.told ≤ t.told → t.all ≡ s.all → told_in s ≡ old → told_at n old e ≡ Some l → told_at m (told_in t) e ≡ Some l
 still_told n m s t old e l number le same was is =
@@ -193,7 +193,7 @@ module _ {T : Type 0} where
   held_live k e is = sym (k.same e) ∙ is
 
   module _ {S R : State T} {m : MapState (Unit {0})} (s : IsSound S) (k : IsKept S m) where
-    -- where each entity that was live is, and no other, the rows stay
+    -- if the same entities are live, the rows stay
     pub kept_still : IsSimple R → R.number ≡ S.number
         → ((b : GenerationalPointer) → is_some (value_in R b) ≡ is_some (value_in S b)) → IsKept R m
     kept_still simple number same = record {
@@ -273,7 +273,7 @@ module _ {T : Type 0} where
               one_held {V = Unit {0}} e.site e.generation tt,
             ))
 
-    -- ---- a cell that was ended
+    -- ---- a cell that was removed
 
     module _ (a : GenerationalPointer) (e : Entity T) (own : a.id ≡ id_in e) (live : is_some (value_of m e) ≡ true)
         (met : Meets S (End a) Done R) where
@@ -343,7 +343,7 @@ module _ {T : Type 0} where
       mapped (p ∷ ps) zero e is = (p, same_Some _ _ is, refl)
       mapped (p ∷ ps) (suc row) e is = mapped ps row e is
 
-  -- where no entity is live there are no rows
+  -- if no entity is live there are no rows
   pub dense_empty : (t : TableState T) → IsDense t → ((e : Entity T) → element_in t e ≡ None) → t.rows ≡ []
   dense_empty t dense none = no_rows t.rows refl
     where
@@ -351,7 +351,7 @@ module _ {T : Type 0} where
       no_rows [] is = refl
       no_rows (e ∷ rows) is = absurd (true≢false (sym (dense.live 0 e (ap (λ r. slice_get r 0) is)) ∙ ap is_some (none e)))
 
--- ==== a table after one slot more was tested: its entity has passed, or it was ended
+-- ==== a table after another slot was tested: its entity has passed, or it was removed
 
 module _ {T : Type 0} {answers : T → Bool → Type 0} {first old : TableState T} {slot : ℕ}
     (s : Sifts answers first old slot) where
@@ -387,7 +387,7 @@ module _ {T : Type 0} {answers : T → Bool → Type 0} {first old : TableState 
           passes);
     }
 
-    -- it was ended
+    -- it was removed
     module _ (new : TableState T) (gone : element_in new entity ≡ None)
         (others : (e : Entity T) → IsOther entity e → element_in new e ≡ element_in old e) where
       alike : (e : Entity T) → IsSame entity e → element_in new e ≡ None
@@ -437,12 +437,12 @@ module _ {T : Type 0} {answers : T → Bool → Type 0} where
 
 -- ==== components after each slot of a sweep
 
--- handles of one entity show one element
+-- handles of one entity have one element
 same_shown : {T : Type 0} (table : TableState T) (a e : Entity T) → IsSame a e
     → element_in table a ≡ element_in table e
 same_shown table a e = same_id_sees table.state (pointer_in a) (pointer_in e)
 
--- handles of one entity show one component
+-- handles of one entity have one component
 pub same_component : {T C : Type 0} (t : MapState C) (a e : Entity T) → IsSame a e → component_in t a ≡ component_in t e
 same_component t a e same = grind arith
 
@@ -462,7 +462,7 @@ module _ {T C : Type 0} {table : TableState T} where
 
     module _ (p : Entity T) (site generation : ℕ) (v : C) (there : row_at now.rows slot ≡ Held site generation v)
         (is : p ≡ at_slot now.number slot site generation) where
-      -- what another of the slot shows
+      -- the component of another of the slot
       other : (e : Entity T) → slot_in e ≡ slot → IsOther p e → component_in now e ≡ None
       other e same ne = grind arith
 

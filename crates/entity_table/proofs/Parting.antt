@@ -42,7 +42,7 @@ module _ {T : Type 0} (S : State T) where
       let same : b.id ≡ c.id = grind (arith, first.0, second.0, one) in
       same_Some b c (sym has ∙ (ap (box_with S) same ∙ found))
 
--- ==== rows that cells were given
+-- ==== rows that were made of cells
 
 -- a location has its site also among more
 pub still_at : (list more : List Location) (site : ℕ) (l : Location)
@@ -158,7 +158,7 @@ module _ {T : Type 0} (S : State T) (cells : List GenerationalPointer) where
       given_sited slot site generation is =
           let it = given.only slot site generation is in (it.0, it.1, it.3, it.4, it.5)
 
--- ==== what the table's handles tell
+-- ==== the locations of the table's handles
 
 -- an element of a list that is mapped
 mapped : {A B : Type 0} (f : A → B) (xs : List A) (i : ℕ) (y : B) → slice_get (map f xs) i ≡ Some y
@@ -168,7 +168,7 @@ mapped f (x ∷ xs) zero y is = (x, same_Some _ _ is, refl)
 mapped f (x ∷ xs) (suc i) y is = mapped f xs i y is
 
 module _ {T : Type 0} where
-  -- each row tells where its cell was made
+  -- each row has the location where its cell was made
   pub rows_tell : {S : State T} {m : MapState (Unit {0})} (k : IsKept S m) (u : List Location) → AreSited S u m
       → (v : SiteState) → v.all ≡ u → v.told ≡ length u
       → (row : ℕ) (e : Entity T) (b : GenerationalPointer) → slice_get (map (λ (p : Entity T × Unit {0}). p.0) (listed m)) row ≡ Some e
@@ -294,7 +294,7 @@ module _ {T C : Type 0} where
   row_of : (r : GenerationalBoxId × C) (e : Entity T) → r.0 ≡ id_in e → is_row_of r e ≡ true
   row_of r e is = grind arith
 
-  -- what rows list for an entity stands in one of them, and in none if they list nothing
+  -- what rows list for an entity is in one of them, and in none if they list nothing
   told_sees : (rows : List (GenerationalBoxId × C)) (e : Entity T) (c : C) → component_told rows e ≡ Some c
       → (i : ℕ) × (r : GenerationalBoxId × C) × (slice_get rows i ≡ Some r) × (r.0 ≡ id_in e) × (r.1 ≡ c)
   told_sees [] e c is = cc

@@ -1,4 +1,4 @@
--- Components of entities: what each entity shows.
+-- Components of entities.
 use Rattle.std.specs.Prelude.{Option}
 use Rattle.handles.specs.Maps.{MapState, value_of}
 use Rattle.entity_table.specs.Tables.{Entity}

@@ -1,4 +1,4 @@
--- What a caller sees of a table of entities.
+-- The model of a table of entities.
 use Rattle.std.specs.Prelude.{◌≡◌, ◌⊎◌, ◌<◌, ℕ, List, Option, None, Some, Bool, true, false, is_some, map, slice_get}
 use Rattle.std.specs.List.Sorted.{IsStrictlyIncreasing}
 use Rattle.generational_core.specs.Boxes.{name_of}
@@ -22,7 +22,7 @@ pub record TableState (T : Type 0) : Type 0 where
   pub sites : List Location
 
 module _ {T : Type 0} where
-  -- what an entity shows: its element, or nothing once it was despawned
+  -- an entity's element, or None once it was removed
   abbrev pub element_in : TableState T → Entity T → Option T
   element_in t e = value_in t.state (pointer_in e)
 
@@ -30,15 +30,15 @@ module _ {T : Type 0} where
   abbrev pub elements_in : TableState T → List (Entity T × T)
   elements_in t = shown_rows (λ e. e) pointer_in t.state t.rows
 
-  -- a handle that the table gave, once
+  -- a handle that the table has issued
   abbrev pub WasSpawned : TableState T → Entity T → Type 0
   WasSpawned t e = IsGiven t.state (name_of (pointer_in e))
 
-  -- where an entity was made, as the table tells it: nothing of another table's
+  -- where an entity was made, by the table's locations: None for another table's
   abbrev pub created_at : TableState T → Entity T → Option Location
   created_at t e = told_at t.state.number t.sites e
 
-  -- what a table tells of where an entity was made, it tells for good
+  -- the table keeps each location of an entity
   abbrev pub KeepsTelling : TableState T → TableState T → Type 0
   KeepsTelling old new =
       (e : Entity T) (l : Location) → created_at old e ≡ Some l → created_at new e ≡ Some l

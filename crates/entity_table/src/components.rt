@@ -1,4 +1,4 @@
-//! Tables of components, beside a table of entities.
+//! Tables of components, in addition to a table of entities.
 
 ghost use Rattle.std.specs.Prelude.{◌≡◌, ◌≢◌, ◌↔◌, ◌<◌, ◌+◌, ℕ, None, Some, is_some, option_copied, true};
 ghost use Rattle.std.specs.Prelude.{OnOk, IfErr, OnErr, IsErrAnd, IfSome, IfNone, IsTrue, slice_get, length};
@@ -28,12 +28,12 @@ use std::error::Error;
 use std::fmt;
 use std::marker::Model;
 
-/// Why a component isn't given.
+/// Why a component can't be attached.
 #[derive(Clone, Copy, Debug, PartialEq, Eq)]
 pub enum AttachError {
-    /// The entity is gone, or is another table's.
+    /// The entity was removed, or belongs to another table.
     Stale(Stale),
-    /// Memory runs out.
+    /// Out of memory.
     Store(StoreError),
 }
 
@@ -54,11 +54,11 @@ impl fmt::Display for AttachError {
 
 impl Error for AttachError {}
 
-/// Components of one kind, one an entity at most, of the entities of one [`EntityTable`]. Contracts see
-/// the number of that table, and what each slot holds.
+/// Components of one type, at most one for each entity of one [`EntityTable`]. Contracts model it as the
+/// number of that table, and the component of each slot.
 ///
-/// An entity that was despawned keeps its component until that is removed or swept, or until an entity
-/// that has taken its slot gets one.
+/// A removed entity keeps its component until the component is removed or swept, or until a later entity
+/// of the same slot gets one.
 #[derive(Drop)]
 pub struct ComponentTable<T, C> {
     pub(crate) map: HandleMap<T, EntityKind, C>,
@@ -73,7 +73,7 @@ impl<T, C> Model for ComponentTable<T, C> {
 }
 
 impl<T, C> ComponentTable<T, C> {
-    /// A table without components, for the entities of a table. Doesn't allocate.
+    /// Creates a table without components, for the entities of a table. Doesn't allocate.
     ///
     /// ```rust
     /// let mut names = ComponentTable::new(rt.alloc(), &table);
@@ -87,15 +87,17 @@ impl<T, C> ComponentTable<T, C> {
         }
     }
 
-    /// Gives an entity a component, in the place of the one that its slot has, which is dropped. Every
-    /// entity of another slot keeps its own; one that had this slot before loses its, and so does one that
-    /// has it now if this entity is gone: `attach` asks whether it is live. O(1), amortised if slots come in
-    /// order, and O(n) for n slots more.
+    /// Sets an entity's component, and drops the one that its slot had. The components of other slots
+    /// are unchanged; any other entity of this slot loses its component. If `entity` is stale, that is
+    /// the slot's current entity: `attach` checks for it. Amortised O(1) if slots come in order, and
+    /// O(n) if the table grows by n slots.
     ///
     /// # Errors
     ///
-    /// `Stale` without a location if the entity is another table's; `Store` of `OutOfMemory`, only if the
-    /// slot has no component yet. The component comes back, and every entity keeps its own.
+    /// - `Stale` without a location if the entity belongs to another table.
+    /// - `Store` of `OutOfMemory`, only if the slot has no component yet.
+    ///
+    /// The component comes back then, and every component is unchanged.
     ///
     /// ```rust
     /// names.insert(entity, 200)?;
@@ -141,17 +143,19 @@ impl<T, C> ComponentTable<T, C> {
         Ok(())
     }
 
-    /// Gives a live entity of a table a component, in the place of the one that it has, which is dropped.
-    /// Every other live entity of that table keeps its own, and so does every entity of another slot;
-    /// one that had this slot before loses its. O(1), amortised if slots come in order, and O(n) for n
-    /// slots more.
+    /// Sets a live entity's component, and drops the one that it had. The component of every other live
+    /// entity of that table is unchanged, and so is that of every other slot; an earlier entity of this
+    /// slot loses its component. Amortised O(1) if slots come in order, and O(n) if the table grows by n
+    /// slots.
     ///
     /// # Errors
     ///
-    /// In this order: `Stale` if the entity is gone, or is another table's, with the location where it was
-    /// made if the table tells it; `Stale` without one if the components are those of another table;
-    /// `Store` of `OutOfMemory`, only if the slot has no component yet. The component comes back, and every
-    /// entity keeps its own.
+    /// - `Stale` if the entity was removed, or belongs to another table, with the location where it was
+    ///   made if the table has it.
+    /// - `Stale` without a location if the components are those of another table.
+    /// - `Store` of `OutOfMemory`, only if the slot has no component yet.
+    ///
+    /// The component comes back then, and every component is unchanged.
     ///
     /// ```rust
     /// names.attach(table, entity, 100)?;
@@ -195,8 +199,7 @@ impl<T, C> ComponentTable<T, C> {
         self.insert(entity, component)
     }
 
-    /// An entity's component; None if it has none. The table is borrowed meanwhile. Doesn't allocate,
-    /// and is O(1).
+    /// Borrows an entity's component; None if it has none. Doesn't allocate, and is O(1).
     ///
     /// ```rust
     /// if let Some(name) = names.get(entity) {
@@ -210,9 +213,8 @@ impl<T, C> ComponentTable<T, C> {
         self.map.get(entity)
     }
 
-    /// Changes an entity's component in its place by a closure, which is called once on it, and returns
-    /// what that returns. Every other entity keeps its own. Doesn't allocate itself, and is O(1), but for
-    /// the closure.
+    /// Calls a closure once on an entity's component, mutably, and returns the closure's result. Every
+    /// other component is unchanged. Doesn't allocate itself, and is O(1) except for the closure.
     ///
     /// None if the entity has no component: the closure isn't called, and the table is unchanged.
     ///
@@ -236,10 +238,10 @@ impl<T, C> ComponentTable<T, C> {
         self.map.change(entity, f)
     }
 
-    /// Calls a closure once on each component with its entity, in the order of the entities' slots: the
-    /// components that [`ComponentTable::iter`] gives. The closure changes a component in place, and may
-    /// change what it captures. Never fails. Doesn't allocate itself, and is O(n) for n slots, not counting
-    /// the closure.
+    /// Calls a closure once on each component with its entity, in the order of the entities' slots:
+    /// those that [`ComponentTable::iter`] yields. The closure changes a component in place, and may
+    /// change what it captures. Never fails. Doesn't allocate itself, and is O(n) for n slots, not
+    /// counting the closure.
     ///
     /// ```rust
     /// names.for_each_mut(|_, name: &mut u64| *name = name.wrapping_add(1));
@@ -255,9 +257,9 @@ impl<T, C> ComponentTable<T, C> {
 
     /// Calls a closure once on each entity that has a component in this table and in another, with both
     /// components, in the order of the entities' slots. The closure changes components in place, and may
-    /// change what it captures. Every component that has no partner in the other table is unchanged. Never
-    /// fails; it calls nothing if the tables are of the entities of two tables. Doesn't allocate itself, and
-    /// is O(n) for the fewer slots n of the two, not counting the closure.
+    /// change what it captures. A component without a partner in the other table is unchanged. Never
+    /// fails; if the two tables are of different entity tables, it calls nothing. Doesn't allocate
+    /// itself, and is O(n), where n is the smaller number of slots, not counting the closure.
     ///
     /// ```rust
     /// places.for_each2_mut(&mut speeds, |_, place: &mut u64, speed: &mut u64| {
@@ -282,8 +284,8 @@ impl<T, C> ComponentTable<T, C> {
         self.map.for_each2_mut(&mut other.map, f);
     }
 
-    /// The components with their entities, in the order of the entities' slots, each once. The table is
-    /// borrowed meanwhile. Doesn't allocate, and is O(1); all steps together are O(n) for n slots.
+    /// Iterates over the components with their entities, in the order of the entities' slots, each once.
+    /// Doesn't allocate, and is O(1); the whole iteration is O(n) for n slots.
     ///
     /// ```rust
     /// for (entity, name) in names.iter() {
@@ -301,9 +303,9 @@ impl<T, C> ComponentTable<T, C> {
         self.map.iter()
     }
 
-    /// The live entities of a table that have a component, each with its element and its component, in
-    /// the order of the entities' slots, each once. Both tables are borrowed meanwhile. Doesn't allocate,
-    /// and is O(1); all steps together are O(n) for n slots.
+    /// Iterates over the live entities of a table that have a component, each once with its element and
+    /// its component, in the order of the entities' slots. Doesn't allocate, and is O(1); the whole
+    /// iteration is O(n) for n slots.
     ///
     /// ```rust
     /// for (entity, element, name) in names.join(table) {
@@ -324,7 +326,8 @@ impl<T, C> ComponentTable<T, C> {
         }
     }
 
-    /// How many components there are, those of entities that are gone too. Doesn't allocate, and is O(1).
+    /// How many components there are, including those of removed entities. Doesn't allocate, and is
+    /// O(1).
     ///
     /// ```rust
     /// println!(rt; "{} names", names.len())?;
@@ -335,7 +338,7 @@ impl<T, C> ComponentTable<T, C> {
         self.map.len()
     }
 
-    /// Whether there is no component, also none of an entity that is gone. Doesn't allocate, and is O(1).
+    /// Whether there is no component, not even one of a removed entity. Doesn't allocate, and is O(1).
     ///
     /// ```rust
     /// let is_unnamed = names.is_empty();
@@ -362,8 +365,8 @@ impl<T, C> ComponentTable<T, C> {
         self.map.clear();
     }
 
-    /// Drops an entity's component, and returns whether it had one. Every other entity keeps its own. Never
-    /// fails. Doesn't allocate, and is O(1).
+    /// Drops an entity's component, and returns whether it had one. Every other component is unchanged.
+    /// Never fails. Doesn't allocate, and is O(1).
     ///
     /// ```rust
     /// let had_one = names.remove(entity);
@@ -381,8 +384,8 @@ impl<T, C> ComponentTable<T, C> {
         self.map.take(entity).is_some()
     }
 
-    /// Removes an entity's component, and returns it; None if it has none, and nothing changes. Every other
-    /// entity keeps its own. Never fails. Doesn't allocate, and is O(1).
+    /// Removes and returns an entity's component; None if it has none, and nothing changes then. Every
+    /// other component is unchanged. Never fails. Doesn't allocate, and is O(1).
     ///
     /// ```rust
     /// let name = names.take(entity)?;
@@ -399,8 +402,8 @@ impl<T, C> ComponentTable<T, C> {
         self.map.take(entity)
     }
 
-    /// Drops the components of all entities that aren't live in a table: those of entities that were
-    /// despawned since the last sweep. Every live one keeps its own. Never fails. Doesn't allocate, and
+    /// Drops the components of all entities that aren't live in a table: those of entities removed since
+    /// the last sweep. The components of live entities are unchanged. Never fails. Doesn't allocate, and
     /// is O(n) for n slots.
     ///
     /// ```rust

@@ -5,6 +5,6 @@ use handles::Handle;
 /// What marks a handle as an entity's.
 pub enum EntityKind {}
 
-/// A handle of an entity. It is copied freely, owns nothing, and outlives its entity: no later
-/// entity is mistaken for it.
+/// A handle of an entity. It is `Copy`, owns nothing, and may outlive its entity: it never refers to a
+/// later one.
 pub type Entity<T> = Handle<T, EntityKind>;

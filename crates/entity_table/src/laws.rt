@@ -13,15 +13,15 @@ use crate::entity::Entity;
 use crate::table::EntityTable;
 use generational_core::Storage;
 
-/// Handles that are equal are of one entity, and show one element.
+/// Handles that are equal are of one entity, and have the same element.
 pub fn equal_entities_show_the_same<T>()
     ensures equal { (a b : Entity T) → (is_same a b ≡ true) ↔ IsSame a b }
     ensures shown { (t : TableState T) (a b : Entity T) → IsSame a b →
         element_in t a ≡ element_in t b }
 {}
 
-/// What [`EntityTable::for_each_mut`] leaves of a live entity: its element is what one call of the closure made
-/// of it.
+/// What [`EntityTable::for_each_mut`] does to a live entity: its new element is the result of one call
+/// of the closure.
 pub fn changed_elements<T, S: Storage<T>, F: FnMut(Entity<T>, &mut T)>(
     _table: &EntityTable<T, S>,
     _visit: &F,
@@ -32,8 +32,8 @@ pub fn changed_elements<T, S: Storage<T>, F: FnMut(Entity<T>, &mut T)>(
         × IsSame a e × CalledOn F.FnMut p a v w q × (element_in new e ≡ Some w) }
 {}
 
-/// What [`ComponentTable::for_each_mut`] leaves of components: each is what one call of the closure made of
-/// it, and no entity gets or loses one.
+/// What [`ComponentTable::for_each_mut`] does to components: each is the result of one call of the
+/// closure, and no entity gets or loses one.
 pub fn changed_components<T, C, F: FnMut(Entity<T>, &mut C)>(
     _table: &ComponentTable<T, C>,
     _visit: &F,
@@ -47,8 +47,8 @@ pub fn changed_components<T, C, F: FnMut(Entity<T>, &mut C)>(
         (e : Entity T) → component_in old e ≡ None → component_in new e ≡ None }
 {}
 
-/// What [`ComponentTable::for_each2_mut`] leaves of an entity that has a component in each of two tables: what
-/// one call of the closure made of both.
+/// What [`ComponentTable::for_each2_mut`] does to an entity that has a component in each of two tables:
+/// both are the result of one call of the closure.
 pub fn changed_pairs<T, C, D, F: FnMut(Entity<T>, &mut C, &mut D)>(
     _table: &ComponentTable<T, C>,
     _other: &ComponentTable<T, D>,

@@ -1,10 +1,10 @@
-//! Entity tables above the boxes: handles that are copied freely and outlive what they name, walks over
-//! the live entities, and tables of components beside them.
+//! Entity tables, built on boxes: `Copy` handles that may outlive their entities, iteration over the
+//! live entities, and tables of components.
 //!
 //! An [`Entity`] is a handle of 24 bytes. An [`EntityTable`] has a store of the entities' elements, and
-//! the generation and the site of each live entity by its slot. A call with a handle whose entity was
-//! despawned fails with [`Stale`], which says where the entity was made, also after another has taken its
-//! slot. Each call's contract says what every entity shows afterwards.
+//! the generation and the site of each live entity by its slot. A call with a stale handle fails with
+//! [`Stale`], which says where the entity was made, even if its slot was reused. Each call's contract
+//! says which element every entity has afterwards.
 #![tactic(auto)]
 
 mod components;

@@ -1,4 +1,4 @@
-//! Tables that are taken apart, and that are made of a store with values or of rows.
+//! The parts of tables: taking tables apart, and making them of a store with values or of rows.
 
 ghost use Rattle.std.specs.Prelude.{◌≡◌, ◌≢◌, ◌<◌, ℕ, None, Some, IfErr, IfNone, IfOk, IfSome, IsTrue, OnOk};
 ghost use Rattle.std.specs.Prelude.{is_some, length, map as list_map, slice_get, true};
@@ -33,24 +33,24 @@ use std::alloc::Global;
 use std::error::Error;
 use std::fmt;
 
-/// What a table of entities is made of.
+/// The parts of a table of entities.
 #[derive(Drop)]
 pub struct EntityParts<S> {
     /// The store, which has the elements of the live entities.
     pub store: S,
-    /// The locations of which the table's handles tell. `Sites::new` has none: it is for a store that comes
-    /// from elsewhere than a table.
+    /// The locations that the table's handles refer to. `Sites::new` has none: it is for a store that
+    /// doesn't come from a table.
     pub sites: Sites,
 }
 
-/// Why rows aren't those of a table of components.
+/// Why rows don't make a table of components.
 #[derive(Clone, Copy, Debug, PartialEq, Eq)]
 pub enum RowFault {
-    /// This row's id is that of no live entity of the table.
+    /// This row's id isn't that of a live entity of the table.
     Stale(usize),
     /// This row's slot isn't above the slot of the row before.
     Order(usize),
-    /// Memory ran out.
+    /// Out of memory.
     OutOfMemory,
 }
 
@@ -68,7 +68,8 @@ impl fmt::Display for RowFault {
 impl Error for RowFault {}
 
 impl<T, S: Storage<T>> EntityTable<T, S> {
-    /// The table's store. An image of it is all that a file needs, and the table goes on. Doesn't allocate.
+    /// Borrows the table's store, for example to make an image of it, which is all that a file needs.
+    /// Doesn't allocate.
     ///
     /// ```rust
     /// let image = table.store().image()?;
@@ -79,7 +80,8 @@ impl<T, S: Storage<T>> EntityTable<T, S> {
         &self.store
     }
 
-    /// Takes the table apart: its store has the elements. Never fails. Doesn't allocate, and is O(n) for n slots.
+    /// Takes the table apart: its store has the elements. Never fails. Doesn't allocate, and is O(n) for
+    /// n slots.
     ///
     /// ```rust
     /// let store = table.into_parts().store;
@@ -93,15 +95,15 @@ impl<T, S: Storage<T>> EntityTable<T, S> {
         EntityParts { store, sites }
     }
 
-    /// The table of the entities that a store has: each live value is an entity's element, under its own
-    /// id, and is made where its cell was. Any store may be passed in. Handles of before, of a table whose
-    /// store was in the same state, show what they showed. O(n) for n slots.
+    /// Creates the table of a store's entities: each live value is the element of an entity with its id,
+    /// made where its cell was made. Any store may be passed in. Earlier handles, of a table whose store
+    /// was in the same state, have the same elements as before. O(n) for n slots. Allocates two
+    /// temporary lists of the slots, of some 50 bytes each, and a row for each slot.
     ///
     /// # Errors
     ///
-    /// The parts, of which nothing has changed, with the first slot that has a shared value or a
-    /// reference, or whose value is borrowed; or with `OutOfMemory`. Allocates two lists of the slots
-    /// meanwhile, of some 50 bytes each, and a row for each slot.
+    /// The parts come back unchanged, with the first slot that has a shared value or a reference, or
+    /// whose value is borrowed; or with `OutOfMemory`.
     ///
     /// ```rust
     /// let sites = Sites::new(rt.alloc());
@@ -135,8 +137,8 @@ impl<T, S: Storage<T>> EntityTable<T, S> {
         }
     }
 
-    /// The handle of the live entity with an id; None if the entity is gone, or of another table. It
-    /// tells where the entity was made. Doesn't allocate, and is O(1).
+    /// The handle of the live entity with an id, with the location where the entity was made. None if
+    /// the entity was removed, or belongs to another table. Doesn't allocate, and is O(1).
     ///
     /// ```rust
     /// let entity = table.find(id)?;
@@ -156,7 +158,7 @@ impl<T, S: Storage<T>> EntityTable<T, S> {
     }
 }
 
-// The rows of a store's live entities, each at the site where its cell was made. No site more is told.
+// The rows of a store's live entities, each with the site where its cell was made. Adds no site.
 fn live_rows<T, S: Storage<T>>(
     alloc: Global,
     store: &S,
@@ -180,7 +182,7 @@ fn live_rows<T, S: Storage<T>>(
     Ok(rows)
 }
 
-// Makes a cell's row, at the site where the cell was made. False if memory runs out.
+// Makes a cell's row, with the site where the cell was made. False if memory runs out.
 fn put_cell<T>(
     rows: &mut HandleMap<T, EntityKind, ()>,
     sites: &mut Sites,
@@ -206,13 +208,13 @@ fn put_cell<T>(
 }
 
 impl<T, C: Drop> ComponentTable<T, C> {
-    /// Takes all components out, each with its entity's id, in the order of the entities' slots. Those of
-    /// entities that are gone are among them: `sweep` drops these first. Allocates a list for them, and is
-    /// O(n) for n slots.
+    /// Removes all components and returns them, each with its entity's id, in the order of the entities'
+    /// slots. Those of removed entities are among them: call `sweep` first to drop these. Allocates a
+    /// list for them, and is O(n) for n slots.
     ///
     /// # Errors
     ///
-    /// The table, unchanged, if memory runs out.
+    /// The table comes back unchanged if memory runs out.
     ///
     /// ```rust
     /// names.sweep(table);
@@ -234,14 +236,14 @@ impl<T, C: Drop> ComponentTable<T, C> {
         }
     }
 
-    /// The table of components that rows list, each with the id of its entity in a table. Any rows may be
-    /// passed in. O(n) for n slots of that table.
+    /// Creates the table of the components that rows list, each with the id of its entity in a table.
+    /// Any rows may be passed in. O(n) for n slots of that table. Allocates a row for each slot of the
+    /// table, before it moves a component.
     ///
     /// # Errors
     ///
-    /// The rows, unchanged, with the first row that is of no live entity of the table, or whose slot
-    /// isn't above that of the row before; or with `OutOfMemory`. Allocates a row for each slot of the
-    /// table, before a component is moved.
+    /// The rows come back unchanged, with the first row that isn't of a live entity of the table, or
+    /// whose slot isn't above that of the row before; or with `OutOfMemory`.
     ///
     /// ```rust
     /// let names = ComponentTable::from_parts(rt.alloc(), table, rows).ok()?;

@@ -21,8 +21,9 @@ use handles::parts::{HandleMap, Sites, handle_at, number_of, peek, pointer_to, s
 use std::alloc::Global;
 use std::marker::Model;
 
-/// Entities, each with an element. Contracts see the machine's state, which says what each entity
-/// shows, the live entities in the order of their slots, and the locations where entities were made.
+/// Entities, each with an element. Contracts model it as the machine's state, which says which element
+/// each entity has, the live entities in the order of their slots, and the locations where entities were
+/// made.
 #[derive(Drop)]
 pub struct EntityTable<T, S: Storage<T>> {
     pub(crate) store: S,
@@ -54,7 +55,7 @@ impl<T, S: Storage<T>> Model for EntityTable<T, S> {
 }
 
 impl<T, S: Storage<T>> EntityTable<T, S> {
-    /// A table without entities, over a fresh store (`is_fresh` is the test). Doesn't allocate.
+    /// Creates a table without entities, over a fresh store (see `is_fresh`). Doesn't allocate.
     ///
     /// ```rust
     /// let store = UnsyncStorage::<u64>::new(rt.alloc(), 1);
@@ -73,7 +74,7 @@ impl<T, S: Storage<T>> EntityTable<T, S> {
         }
     }
 
-    /// The number of the table's store, which its entities bear. Doesn't allocate.
+    /// The number of the table's store, which is part of its handles. Doesn't allocate.
     ///
     /// ```rust
     /// let number = table.number();
@@ -84,14 +85,14 @@ impl<T, S: Storage<T>> EntityTable<T, S> {
         self.rows.number()
     }
 
-    /// Makes a new entity with this element, and returns its handle, which was never given before. Every
-    /// other entity shows what it showed. The table says where the entity was made as long as it lasts.
-    /// Amortised O(1).
+    /// Adds an entity with this element, and returns its handle, which was never issued before. Every
+    /// other entity is unchanged. The table says for its whole lifetime where the entity was made.
+    /// Amortised O(1). Allocates only if no slot is free, or for a location from which no entity came
+    /// yet.
     ///
     /// # Errors
     ///
-    /// `OutOfMemory` alone. The element comes back, and the table is unchanged. The table allocates only
-    /// if no slot is free, or for a location from which no entity came yet.
+    /// `OutOfMemory` is the only possible error. The element comes back, and the table is unchanged.
     ///
     /// ```rust
     /// let entity = table.spawn(7, here)?;
@@ -127,12 +128,12 @@ impl<T, S: Storage<T>> EntityTable<T, S> {
         Ok(entity)
     }
 
-    /// Ends an entity and its element: it shows nothing from then on, and no later entity is
-    /// mistaken for it. Every other entity shows what it showed. Doesn't allocate, and is O(1).
+    /// Removes an entity and drops its element. The handle is stale from then on, and never refers to a
+    /// later entity. Every other entity is unchanged. Doesn't allocate, and is O(1).
     ///
     /// # Errors
     ///
-    /// `Stale` if the entity is gone, or is another table's. The table is unchanged then.
+    /// `Stale` if the entity was removed, or belongs to another table. The table is unchanged then.
     ///
     /// ```rust
     /// table.despawn(entity)?;
@@ -158,12 +159,12 @@ impl<T, S: Storage<T>> EntityTable<T, S> {
         }
     }
 
-    /// Ends an entity, and returns its element: it shows nothing from then on, and no later entity
-    /// is mistaken for it. Every other entity shows what it showed. Doesn't allocate, and is O(1).
+    /// Removes an entity and returns its element. The handle is stale from then on, and never refers to
+    /// a later entity. Every other entity is unchanged. Doesn't allocate, and is O(1).
     ///
     /// # Errors
     ///
-    /// `Stale` if the entity is gone, or is another table's. The table is unchanged then.
+    /// `Stale` if the entity was removed, or belongs to another table. The table is unchanged then.
     ///
     /// ```rust
     /// let element = table.take(entity).ok()?;
@@ -189,13 +190,13 @@ impl<T, S: Storage<T>> EntityTable<T, S> {
         }
     }
 
-    /// Replaces an entity's element, and drops the old one. Every other entity shows what it showed.
-    /// Doesn't allocate, and is O(1), but for dropping the old element.
+    /// Replaces an entity's element, and drops the old one. Every other entity is unchanged. Doesn't
+    /// allocate, and is O(1) except for dropping the old element.
     ///
     /// # Errors
     ///
-    /// `Stale` if the entity is gone, or is another table's. The element comes back, and the table is
-    /// unchanged.
+    /// `Stale` if the entity was removed, or belongs to another table. The element comes back, and the
+    /// table is unchanged.
     ///
     /// ```rust
     /// if let Err(refusal) = table.set(entity, 9) {
@@ -227,14 +228,13 @@ impl<T, S: Storage<T>> EntityTable<T, S> {
         Ok(())
     }
 
-    /// Changes an entity's element in its place by a closure, which is called once on it, and returns
-    /// what that returns. Every other entity shows what it showed. Doesn't allocate itself, and is
-    /// O(1), but for the closure.
+    /// Calls a closure once on an entity's element, mutably, and returns the closure's result. Every
+    /// other entity is unchanged. Doesn't allocate itself, and is O(1) except for the closure.
     ///
     /// # Errors
     ///
-    /// `Stale` if the entity is gone, or is another table's. The closure isn't called then, and the
-    /// table is unchanged.
+    /// `Stale` if the entity was removed, or belongs to another table. The closure isn't called then,
+    /// and the table is unchanged.
     ///
     /// ```rust
     /// let doubled = table.update(entity, |element: &mut u64| {
@@ -265,8 +265,9 @@ impl<T, S: Storage<T>> EntityTable<T, S> {
     }
 
     /// Calls a closure once on each live entity and its element, in the order of their slots: those that
-    /// [`EntityTable::iter`] gives. The closure changes an element in place, and may change what it captures.
-    /// Never fails. Doesn't allocate itself, and is O(n) for n slots, not counting the closure.
+    /// [`EntityTable::iter`] yields. The closure changes an element in place, and may change what it
+    /// captures. Never fails. Doesn't allocate itself, and is O(n) for n slots, not counting the
+    /// closure.
     ///
     /// ```rust
     /// table.for_each_mut(|_, element: &mut u64| *element = element.wrapping_add(1));
@@ -292,8 +293,8 @@ impl<T, S: Storage<T>> EntityTable<T, S> {
         }
     }
 
-    /// The live entities with their elements, each once, in the order of their slots. The table is
-    /// borrowed meanwhile. Doesn't allocate, and is O(1); all steps together are O(n) for n slots.
+    /// Iterates over the live entities with their elements, each once, in the order of their slots.
+    /// Doesn't allocate, and is O(1); the whole iteration is O(n) for n slots.
     ///
     /// ```rust
     /// for (entity, element) in table.iter() {
@@ -312,11 +313,11 @@ impl<T, S: Storage<T>> EntityTable<T, S> {
         }
     }
 
-    /// An entity's element. The table is borrowed meanwhile. Doesn't allocate, and is O(1).
+    /// Borrows an entity's element. Doesn't allocate, and is O(1).
     ///
     /// # Errors
     ///
-    /// `Stale` if the entity is gone, or is another table's.
+    /// `Stale` if the entity was removed, or belongs to another table.
     ///
     /// ```rust
     /// let element = *table.get(entity)?;
@@ -333,8 +334,8 @@ impl<T, S: Storage<T>> EntityTable<T, S> {
         }
     }
 
-    /// Where an entity was made, also once it is gone; None of another table's. Doesn't allocate, and is
-    /// O(1).
+    /// Where an entity was made, even after it was removed; None for an entity of another table. Doesn't
+    /// allocate, and is O(1).
     ///
     /// ```rust
     /// if let Some(created_at) = table.created_at(entity) {
@@ -350,7 +351,7 @@ impl<T, S: Storage<T>> EntityTable<T, S> {
         self.sites.get(site_of(entity))
     }
 
-    // That an entity shows nothing, and where it was made.
+    // The error for a stale handle, with the location where its entity was made.
     #[cold]
     #[inline(never)]
     fn stale(&self, entity: Entity<T>) -> Stale
@@ -361,8 +362,8 @@ impl<T, S: Storage<T>> EntityTable<T, S> {
         }
     }
 
-    /// Whether an entity is live: false if it was despawned, or if it is of another table whose store
-    /// has another number. Doesn't allocate, and is O(1).
+    /// Whether an entity is live: false if it was removed, or if it is of another table whose store has
+    /// another number. Doesn't allocate, and is O(1).
     ///
     /// ```rust
     /// let is_there = table.is_alive(entity);
@@ -374,7 +375,7 @@ impl<T, S: Storage<T>> EntityTable<T, S> {
         peek(&self.store, entity).is_some()
     }
 
-    // Whether an entity is live. No other live entity has its slot then.
+    // Whether an entity is live. If so, no other live entity has its slot.
     #[inline(always)]
     pub(crate) fn has_slot(&self, entity: Entity<T>) -> bool
         ensures live { result ≡ is_some (element_in self.now entity) }
@@ -406,9 +407,9 @@ impl<T, S: Storage<T>> EntityTable<T, S> {
         self.rows.len() == 0
     }
 
-    /// How many slots there are: the slot of each live entity is below. A loop that changes the table
-    /// counts them, and asks [`EntityTable::at`]: an iterator keeps the table borrowed. Doesn't allocate,
-    /// and is O(1).
+    /// How many slots there are: the slot of each live entity is lower. A loop that changes the table
+    /// counts slots and calls [`EntityTable::at`], since an iterator keeps the table borrowed. Doesn't
+    /// allocate, and is O(1).
     ///
     /// ```rust
     /// for slot in 0..table.slots() {
@@ -438,8 +439,8 @@ impl<T, S: Storage<T>> EntityTable<T, S> {
         self.rows.at(slot)
     }
 
-    /// Ends each entity whose element fails a test, in the order of their slots. Every other entity shows
-    /// what it showed. Never fails. Doesn't allocate, and is O(n) for n slots.
+    /// Removes each entity whose element fails a test, in the order of their slots. Every other entity
+    /// is unchanged. Never fails. Doesn't allocate, and is O(n) for n slots.
     ///
     /// ```rust
     /// table.retain(|element| *element < 100);
@@ -458,7 +459,7 @@ impl<T, S: Storage<T>> EntityTable<T, S> {
         }
     }
 
-    // Ends the entity of a slot if it fails a test. The slots before it were tested.
+    // Removes the entity of a slot if it fails a test. The slots before it were tested.
     fn sift_slot<F: Fn(&T) -> bool>(&mut self, slot: usize, test: &F)
         requires { F.IsAlwaysCallable test.now }
         ensures { (first : TableState T) →
@@ -490,8 +491,8 @@ impl<T, S: Storage<T>> EntityTable<T, S> {
         }
     }
 
-    /// Ends all entities and their elements, in the order of their slots. Never fails. Doesn't allocate,
-    /// and is O(n) for n slots.
+    /// Removes all entities and drops their elements, in the order of their slots. Never fails. Doesn't
+    /// allocate, and is O(n) for n slots.
     ///
     /// ```rust
     /// table.clear();
@@ -505,11 +506,11 @@ impl<T, S: Storage<T>> EntityTable<T, S> {
         for slot in 0..self.slots() {
             self.clear_slot(slot);
         }
-        // No row is left where no entity is.
+        // There are no rows if there are no entities.
         let _ = self.iter();
     }
 
-    // Ends the entity of a slot, if it has one.
+    // Removes the entity of a slot, if it has one.
     fn clear_slot(&mut self, slot: usize)
         ensures gone { (e : Entity T) → slot_in e ≡ slot → element_in self.new e ≡ None }
         ensures none { (e : Entity T) → element_in self.old e ≡ None → element_in self.new e ≡ None }
@@ -533,7 +534,7 @@ fn called<T, F: FnMut(Entity<T>, &mut T)>(mut f: F, entity: Entity<T>, element: 
     f
 }
 
-// That memory runs out before an element is kept.
+// The error for an element that couldn't be stored because memory ran out.
 fn lacking<T>(element: T) -> Refusal<T>
     ensures value { result.value ≡ element }
     ensures cause { result.cause ≡ OutOfMemory }

@@ -1,4 +1,4 @@
-//! Walks over the live entities with their elements, and over components with their entities.
+//! Iterators over the live entities with their elements, and over components with their entities.
 
 ghost use Rattle.std.specs.Prelude.{◌≡◌, IfSome, Some, is_some, length, true};
 ghost use Rattle.std.specs.Iterator.{UpTo, YieldsFirstBy, item_count};
@@ -15,9 +15,9 @@ use handles::parts::peek;
 use std::iter::FusedIterator;
 use std::marker::Model;
 
-/// The live entities of a table with their elements, in the order of their slots, as
-/// [`EntityTable::iter`](crate::EntityTable::iter) gives them. Contracts see the list of those that
-/// are left.
+/// The live entities of a table with their elements, in the order of their slots: the iterator of
+/// [`EntityTable::iter`](crate::EntityTable::iter). Contracts model it as the list of the remaining
+/// ones.
 #[derive(Drop)]
 pub struct Iter<'a, T: 'a, S: Storage<T>> {
     pub(crate) store: &'a S,
@@ -71,14 +71,14 @@ impl<'a, T: 'a, S: Storage<T>> ExactSizeIterator for Iter<'a, T, S> {
 
 impl<'a, T: 'a, S: Storage<T>> FusedIterator for Iter<'a, T, S> {}
 
-/// The components of a table with their entities, in the order of the entities' slots, as
-/// [`ComponentTable::iter`](crate::ComponentTable::iter) gives them. Contracts see the list of those
-/// that are left, and `len` is how many they are.
+/// The components of a table with their entities, in the order of the entities' slots: the iterator of
+/// [`ComponentTable::iter`](crate::ComponentTable::iter). Contracts model it as the list of the
+/// remaining ones, and `len` is their number.
 pub type ComponentIter<'a, T, C> = HandleIter<'a, T, EntityKind, C>;
 
 /// The live entities of a table that have a component, each with its element and its component, in the
-/// order of the entities' slots, as [`ComponentTable::join`](crate::ComponentTable::join) gives them.
-/// Contracts see the list of those that are left.
+/// order of the entities' slots: the iterator of [`ComponentTable::join`](crate::ComponentTable::join).
+/// Contracts model it as the list of the remaining ones.
 #[derive(Drop)]
 pub struct Join<'a, T, C, E: Storage<T>> {
     pub(crate) components: ComponentIter<'a, T, C>,
@@ -119,7 +119,7 @@ impl<'a, T, C, E: Storage<T>> Iterator for Join<'a, T, C, E> {
 
 impl<'a, T, C, E: Storage<T>> FusedIterator for Join<'a, T, C, E> {}
 
-// The first component whose entity is live, with its element. Those up to it are taken.
+// The first component whose entity is live, with its element. It and those before it are consumed.
 #[inline(always)]
 fn first_joined<'a, T, C, E: Storage<T>>(
     components: &mut ComponentIter<'a, T, C>,

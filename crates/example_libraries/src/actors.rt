@@ -17,7 +17,7 @@ fn play<R: Print, A: Storage<u64>>(
     scores: &mut ComponentTable<u64, u64>,
 ) -> Result<()> {
     let dog = begin(actors, scores)?;
-    // The dog goes, and its handle finds nobody, whoever takes its slot.
+    // The dog is removed: its handle is stale, even if its slot is reused.
     actors.despawn(dog)?;
     scores.sweep(actors);
     show(rt, actors, scores)?;
@@ -27,7 +27,7 @@ fn play<R: Print, A: Storage<u64>>(
     Ok(())
 }
 
-// Spawns a cat with a score, and a dog, and trains them. The answer is the dog.
+// Spawns a cat with a score, and a dog, and trains them. Returns the dog.
 fn begin<A: Storage<u64>>(
     actors: &mut EntityTable<u64, A>,
     scores: &mut ComponentTable<u64, u64>,
