@@ -19,7 +19,7 @@ fn draw<R: Print, S: Storage<u64>>(rt: &R, scene: &mut SceneTree<u64, S>) -> Res
     end(rt, scene, list, button)
 }
 
-// A last child of a node.
+// Adds a last child of a node.
 fn add<S: Storage<u64>>(
     scene: &mut SceneTree<u64, S>,
     parent: Node<u64>,
@@ -39,7 +39,7 @@ fn show<R: Print, S: Storage<u64>>(
     Ok(())
 }
 
-// The list goes, with the button in it.
+// Removes the list, with the button in it.
 fn end<R: Print, S: Storage<u64>>(
     rt: &R,
     scene: &mut SceneTree<u64, S>,

@@ -117,8 +117,8 @@ module _ {T : Type 0} (S : State T) (roots : Bool) where
   met_some n None lt = absurd (omega (arith, lt))
   met_some n (Some l) lt = (l, refl, grind arith, grind arith)
 
--- lists of nodes: one stands in a list if it stands there some times, and a list is of different nodes if
--- each stands there once
+-- lists of nodes: one is in a list if it is there some times, and a list is of different nodes if each
+-- is there once
 module _ {T : Type 0} where
   same_equivalence : IsEquivalence (is_same {T = T} {K = NodeKind})
   same_equivalence = record {
@@ -170,7 +170,7 @@ module _ {T : Type 0} {S : State T} (sound : IsSound S) (links : List (Link T)) 
       → times n (met S roots links) ≡ met_at S roots n (slice_get links (slot_in n))
   met_is roots n = met_times S roots links 0 (slot_in n) placed_row n (omega arith)
 
-  -- a node is met where its slot's link is of it, and is met
+  -- a node is yielded if its slot's link is of it, and is yielded
   from_link : (roots : Bool) (n : Node T) → 0 < times n (met S roots links) → (l : Link T)
       × (slice_get links (slot_in n) ≡ Some l) × (is_met S roots l ≡ true)
       × (is_same l.node n ≡ true)
@@ -347,7 +347,7 @@ module _ {T : Type 0} where
         → ((n : Node T) → IsLiveIn S n → IsLiveIn R n) → IsKept R gs
     kept_same gs simple whole same live = grind (arith, same_forest fs gs k.forest same)
 
-    -- the same families where the same nodes are live
+    -- the same families if the same nodes are live
     pub kept_still : {R : State T} → IsSimple R → slots R ≡ slots S
         → ((n : Node T) → is_some (value_in R (pointer_in n)) ≡ is_some (value_in S (pointer_in n)))
         → IsKept R fs
@@ -413,7 +413,8 @@ module _ {T : Type 0} where
             (filtered (IsLiveIn S) _ (children_at fs s) (k.children s)))
             (λ ne. rw (new.others s ne) (k.children s)) (slot_cases (above fs (slot_in child)) s)
 
-    -- nodes that were left alone, with all that are below them and none above, and whose values ended
+    -- nodes that were detached, with all that are below them and none above, and whose values were
+    -- removed
     module _ (R : State T) (gs : List (Family T)) (list : List (Node T)) (c : IsCleared fs gs list)
         (down : (s up : ℕ) → above fs s ≡ Some up → 0 < count_at up list → 0 < count_at s list)
         (upward : (s up : ℕ) → above fs s ≡ Some up → 0 < count_at s list → 0 < count_at up list)
@@ -572,7 +573,7 @@ module _ {T : Type 0} {S R : State T} (sound : IsSound S) (node : Node T) (b : G
       seen : (n : Node T) → is_some (value_in R (pointer_in n)) ≡ is_some (value_in S (pointer_in n))
       seen n = set_seen sound was.0.simple.unborrowed _ _ _ m (pointer_in n)
 
-  -- the node shows the old value, and then the new one
+  -- the node has the old value, and then the new one
   pub set_shows : (value_in S (pointer_in node) ≡ Some old) × (value_in R (pointer_in node) ≡ Some v)
   set_shows =
       let sees = sets b v old m in (
@@ -616,7 +617,7 @@ module _ {T : Type 0} {S : State T} {fs gs : List (Family T)} (sites : List Loca
       → children_of freed n ≡ children_of moved_tree n
   freed_others n beside = part_with (λ f. f.children) moved_tree freed n refl (children_left n beside)
 
-  -- a spot that doesn't name the node or what is below it is where it was
+  -- a spot that isn't the node's or of what is below it stays
   sibling_left : (by up : Node T) → parent_of moved_tree by ≡ Some up → (IsBelow moved_tree node by → ⊥)
       → IsAmong (children_at gs (slot_in up)) by
   sibling_left by up is apart =
@@ -648,7 +649,7 @@ module _ {T : Type 0} {S : State T} {fs gs : List (Family T)} (sites : List Loca
         kept_attached left hs parent node at may.parent live (ap slot_of d.here)
         (λ e under. may.apart (e, below e parent may.parent (under_before e (slot_in parent) under))) a
 
-    -- the node is at its spot, and was taken out from where it stood
+    -- the node is at its spot, and was removed from its old position
     pub moved_placed : (up : Node T) → parent_for moved_tree at ≡ Some up
         → children_of moved up ≡ placed at node (without node (children_of moved_tree up))
     moved_placed up some = rw (same_Some up parent (sym some ∙ is))
@@ -744,10 +745,10 @@ module _ {T : Type 0} {S R : State T} {fs hs : List (Family T)} (sound : IsSound
               (one_live S p.0 n sound k.simple (k.parents (slot_in node) p.0 p.1) lives p.2)) i;
         })
 
--- ==== where nodes were made
+-- ==== the locations of nodes
 
 module _ {T : Type 0} where
-  -- what is told of the locations, it is told when more are
+  -- what is said of the locations stays so when more are added
   pub still_told : (number : ℕ) (s t : SiteState) (old : List Location) (n : Node T) (l : Location)
       → s.told ≤ t.told → t.all ≡ s.all → told_in s ≡ old → told_at number old n ≡ Some l
       → told_at number (told_in t) n ≡ Some l

@@ -25,7 +25,7 @@ module _ (T : Type 0) (number : ℕ) where
   unpacked_at k (q ∷ ps) (suc i) s p is lt read =
       unpacked_at (suc k) ps i s p (omega (arith, is)) (omega (arith, lt)) read
 
-  -- what is written in the place of what was read
+  -- what replaces the value that was read
   pub repacked : (k : ℕ) (ps : List PackedLink) (i s : ℕ) (p q : PackedLink) (f : Link T → Link T) → s ≡ k + i
       → p ≡ slice_index_or ps i p → unpacked number s q ≡ f (unpacked number s p)
       → links_from k (slice_set ps i q) ≡ changed (links_from k ps) i f
@@ -34,7 +34,7 @@ module _ (T : Type 0) (number : ℕ) where
   repacked k (o ∷ ps) (suc i) s p q f is read put =
       ap (λ rest. unpacked number k o ∷ rest) (repacked (suc k) ps i s p q f (omega (arith, is)) read put)
 
-  -- one more at the end
+  -- another at the end
   pub unpacked_more : (k : ℕ) (ps : List PackedLink) (s : ℕ) (p : PackedLink) → s ≡ k + length ps
       → links_from k (ps ++ p ∷ []) ≡ links_from k ps ++ unpacked number s p ∷ []
   unpacked_more k [] s p is = grind arith

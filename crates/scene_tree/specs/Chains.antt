@@ -44,7 +44,7 @@ module _ {T : Type 0} where
       node_tied (tie_of (slice_get links slot))
       ++ chain links n (after_tied (tie_of (slice_get links slot)))
 
-  -- the slots of the first and of the last node of a list, or another where the list has none
+  -- the slots of the first and of the last node of a list, or another if the list has none
   abbrev pub head_or : List (Node T) → Option ℕ → Option ℕ
   head_or [] other = other
   head_or (c ∷ cs) other = Some (slot_in c)
@@ -77,12 +77,12 @@ module _ {T : Type 0} where
   changed (l ∷ links) zero f = f l ∷ links
   changed (l ∷ links) (suc slot) f = l ∷ changed links slot f
 
-  -- after one child of a slot, or first where there is none, comes another
+  -- after one child of a slot, or first if there is none, comes another
   abbrev pub after_put : List (Link T) → ℕ → Option ℕ → Option ℕ → List (Link T)
   after_put links slot None next = changed links slot (λ l. record l { first = next })
   after_put links slot (Some at) next = changed links at (λ l. record l { after = next })
 
-  -- before one child of a slot, or last where there is none, comes another
+  -- before one child of a slot, or last if there is none, comes another
   abbrev pub before_put : List (Link T) → ℕ → Option ℕ → Option ℕ → List (Link T)
   before_put links slot None next = changed links slot (λ l. record l { last = next })
   before_put links slot (Some at) next = changed links at (λ l. record l { before = next })

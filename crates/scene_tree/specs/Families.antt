@@ -66,7 +66,7 @@ module _ {T : Type 0} where
       (up : ℕ) × (above fs slot ≡ Some up) × IsUnder fs top steps up
 
   -- each slot stands once among its parent's children, and in no other list, and going from parent to
-  -- parent ends at a root
+  -- parent reaches a root
   pub record IsForest (fs : List (Family T)) : Type 0 where
     pub once : (s up : ℕ) → above fs s ≡ Some up → count_at s (children_at fs up) ≡ 1
     pub only : (s other : ℕ) → above fs s ≢ Some other → count_at s (children_at fs other) ≡ 0
@@ -87,7 +87,7 @@ module _ {T : Type 0} where
     pub old : slot < length before → length after ≡ length before
     pub next : slot ≡ length before → length after ≡ length before + 1
 
-  -- a node is one of a list, where it is looked for by its id
+  -- a node is one of a list, at the index that its id is found at
   pub record IsAmong (list : List (Node T)) (n : Node T) : Type 0 where
     pub front : List (Node T)
     pub here : Node T
@@ -96,7 +96,7 @@ module _ {T : Type 0} where
     pub slot : slot_in here ≡ slot_in n
     pub place : place_of n list ≡ length front
 
-  -- a spot is among the children of a node: where it names a sibling, this is one of them
+  -- a spot is among the children of a node: its sibling, if it has one, is one of them
   abbrev pub IsSpotIn : List (Node T) → Spot T → Type 0
   IsSpotIn list (spot.FirstOf up) = Unit {0}
   IsSpotIn list (spot.LastOf up) = Unit {0}

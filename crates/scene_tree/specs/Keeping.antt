@@ -33,7 +33,7 @@ module _ {T : Type 0} where
   HasMade old v here n new = (b : GenerationalPointer) × Meets old (Make None v here) (Made b) new
       × (id_in n ≡ b.id)
 
-  -- from one state to another the nodes of a list are gone, and each other shows what it showed
+  -- from one state to another the nodes of a list are removed, and each other node has the same value
   pub record HasLost (old : State T) (gone : List (Node T)) (new : State T) : Type 0 where
     pub simple : IsSimple new
     pub same : slots new ≡ slots old

@@ -7,7 +7,7 @@ use Rattle.handles.specs.Handles.{pointer_in}
 use Rattle.scene_tree.specs.Nodes.{Node}
 
 module _ {T : Type 0} where
-  -- whether a link's node is met: it is live, and where roots alone are met it has no parent
+  -- whether a link's node is yielded: it is live, and if only roots are yielded it has no parent
   abbrev pub is_met : State T → Bool → Link T → Bool
   is_met S roots l = is_some (value_in S (pointer_in l.node)) && not (roots && is_some l.parent)
 

@@ -13,7 +13,7 @@ module _ {T : Type 0} where
   abbrev pub number_in : Node T → ℕ
   number_in n = (id_in n).store
 
-  -- how many times a node stands in a list, and the list without it
+  -- how many times a node is in a list, and the list without it
   abbrev pub times : Node T → List (Node T) → ℕ
   times n list = count_by (λ c. is_same c n) list
 

@@ -1,4 +1,4 @@
--- Spots: where a node is put among the children of another.
+-- Spots: positions among the children of a node.
 use Rattle.std.specs.Prelude.{ℕ, ◌+◌, ◌++◌, ◌∷◌, [], List}
 use Rattle.std.specs.List.{insert, position_or_len}
 use Rattle.scene_tree.specs.declared.spot.Spot.{Spot}
@@ -18,7 +18,7 @@ module _ {T : Type 0} where
   abbrev pub place_of : Node T → List (Node T) → ℕ
   place_of n list = position_or_len (λ c. is_same c n) list
 
-  -- a list of children with a node more at a spot
+  -- a list of children with another node at a spot
   abbrev pub placed : Spot T → Node T → List (Node T) → List (Node T)
   placed (spot.FirstOf parent) n list = n ∷ list
   placed (spot.LastOf parent) n list = list ++ n ∷ []

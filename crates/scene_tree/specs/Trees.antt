@@ -1,4 +1,4 @@
--- What a caller sees of a tree.
+-- The model of a tree.
 use Rattle.std.specs.FinMap as map
 use Rattle.std.specs.List.{flat_map}
 use Rattle.std.specs.Prelude.{◌≡◌, ◌<◌, ◌≤◌, ◌+◌, ◌++◌, ◌↔◌, [], ◌∷◌, map as list_map, ℕ, suc, zero, true, Bool, List, Option, None, Some}
@@ -23,7 +23,7 @@ pub record TreeState (T : Type 0) : Type 0 where
   pub sites : List Location
 
 module _ {T : Type 0} where
-  -- what a node shows: its value, or nothing once it was removed
+  -- a node's value, or None once it was removed
   abbrev pub value_of : TreeState T → Node T → Option T
   value_of t n = value_in t.state (pointer_in n)
 
@@ -34,18 +34,18 @@ module _ {T : Type 0} where
   abbrev pub count_of : TreeState T → ℕ
   count_of t = map.len t.state.cells
 
-  -- a handle that the tree gave, once
+  -- a handle that the tree has issued
   abbrev pub WasMade : TreeState T → Node T → Type 0
   WasMade t n = IsGiven t.state (name_of (pointer_in n))
 
-  -- where a node was made, as the tree tells it: nothing of another tree's
+  -- where a node was made, by the tree's locations: None for another tree's
   abbrev pub created_at : TreeState T → Node T → Option Location
   created_at t n = told_at t.state.number t.sites n
 
   abbrev pub stale_of : TreeState T → Node T → Stale
   stale_of t n = record { created_at = created_at t n }
 
-  -- what a tree tells of where a node was made, it tells for good
+  -- the tree keeps each location of a node
   abbrev pub KeepsTelling : TreeState T → TreeState T → Type 0
   KeepsTelling old new =
       (n : Node T) (l : Location) → created_at old n ≡ Some l → created_at new n ≡ Some l
@@ -67,7 +67,7 @@ module _ {T : Type 0} where
   parent_for t (spot.Before sibling) = parent_of t sibling
   parent_for t (spot.After sibling) = parent_of t sibling
 
-  -- from one tree to another a node is left: it shows what it showed, and has the family that it had
+  -- from one tree to another a node is unchanged: it has the same value and the same family
   pub record NodeIsUnchanged (old : TreeState T) (n : Node T) (new : TreeState T) : Type 0 where
     pub value : value_of new n ≡ value_of old n
     pub family : family_of new n ≡ family_of old n
@@ -123,7 +123,7 @@ module _ {T : Type 0} where
       r ∷ outline_of t limit (list_map (λ n. (r.0 + 1, n)) (children_of t r.1) ++ waiting)
 
   -- a node stands once among its parent's children, and in no other node's, and going from parent to
-  -- parent ends at a root
+  -- parent reaches a root
   pub record IsTree (t : TreeState T) : Type 0 where
     pub once : (n up : Node T) → parent_of t n ≡ Some up → times n (children_of t up) ≡ 1
     pub only : (n other : Node T)

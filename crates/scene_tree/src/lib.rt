@@ -1,11 +1,10 @@
-//! Trees above the boxes: nodes with a parent and children in order, and handles that are copied
-//! freely and outlive what they name.
+//! Trees, built on boxes: nodes with a parent and ordered children, and `Copy` handles that may outlive
+//! their nodes.
 //!
-//! A [`Node`] is a handle of 24 bytes. A [`SceneTree`] has a store of the values, and beside it each node's
-//! parent and children, by their slots. It is a tree after each call: a node stands once in its parent's
-//! list of children and in no other, and going from parent to parent ends at a root. A call with a handle
-//! whose node was removed fails with [`Stale`], which says where the node was made, also after another has
-//! taken its slot.
+//! A [`Node`] is a handle of 24 bytes. A [`SceneTree`] has a store of the values, and each node's parent
+//! and children, by their slots. It is a tree after each call: a node is once in its parent's list of
+//! children and in no other, and going from parent to parent reaches a root. A call with a stale handle
+//! fails with [`Stale`], which says where the node was made, even if its slot was reused.
 #![tactic(auto)]
 
 mod links;

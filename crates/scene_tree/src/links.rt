@@ -1,4 +1,4 @@
-//! The links of each slot's node: its parent, its first and last child, and the siblings beside it.
+//! The links of each slot's node: its parent, its first and last child, and its neighbouring siblings.
 
 ghost use Rattle.std.specs.Prelude.{◌≡◌, ◌≢◌, ◌<◌, ◌≤◌, ◌+◌, ◌-◌, ◌^◌, ◌++◌, ◌⊎◌, ℕ, length, true, None, Some, IfOk, OnOk, OnErr, IsTrue, ◌↔◌, slice_get};
 ghost use Rattle.handles.specs.Handles.{is_same, slot_in};
@@ -29,7 +29,7 @@ pub(crate) struct Link<T> {
     pub(crate) after: Option<usize>,
 }
 
-/// Opens the slot of a new node, where it is the next one, and notes the node there.
+/// Opens the slot of a new node, if it is the next one, and records the node there.
 pub(crate) fn open_slot<T>(links: &mut Links<T>, node: Node<T>)
     requires room { length links.old.items < links.old.room }
     requires fits { length links.old.items < 2 ^ 32 - 1 }
@@ -53,7 +53,7 @@ pub(crate) fn open_slot<T>(links: &mut Links<T>, node: Node<T>)
     }
 }
 
-/// Makes a node without parent a child of another, at a spot among its children.
+/// Makes a node without a parent a child of another, at a spot among its children.
 pub(crate) fn attach<T>(links: &mut Links<T>, parent: Node<T>, spot: Spot<T>, child: Node<T>)
     requires linked { IsLinked links.old.items }
     requires forest { IsForest (families links.old.items) }
@@ -78,7 +78,7 @@ pub(crate) fn attach<T>(links: &mut Links<T>, parent: Node<T>, spot: Spot<T>, ch
     put_before(links, up, after, Some(slot));
 }
 
-/// Takes a node out of its parent's children, if it has a parent.
+/// Removes a node from its parent's children, if it has a parent.
 pub(crate) fn detach<T>(links: &mut Links<T>, node: Node<T>)
     requires linked { IsLinked links.old.items }
     requires forest { IsForest (families links.old.items) }
@@ -127,7 +127,7 @@ fn sides_at<T>(links: &Links<T>, slot: usize) -> (Option<usize>, Option<usize>)
     (link.before, link.after)
 }
 
-// Gives a node its parent, and the siblings beside it.
+// Sets a node's parent, and its neighbouring siblings.
 #[tactic(auto, using(crate::proofs::Moving::Trees::Links::changed_length))]
 fn place<T>(
     links: &mut Links<T>,
@@ -155,7 +155,7 @@ fn place<T>(
     links.set_after(slot, after);
 }
 
-// Puts another after one child of a slot's node, or first where there is none.
+// Puts another node after one child of a slot's node, or first if there is none.
 fn put_after<T>(links: &mut Links<T>, slot: usize, child: Option<usize>, next: Option<usize>)
     requires within { slot < length links.old.items }
     requires child { (s : ℕ) → child ≡ Some s → s < length links.old.items }
@@ -169,7 +169,7 @@ fn put_after<T>(links: &mut Links<T>, slot: usize, child: Option<usize>, next: O
     }
 }
 
-// Puts another before one child of a slot's node, or last where there is none.
+// Puts another node before one child of a slot's node, or last if there is none.
 fn put_before<T>(links: &mut Links<T>, slot: usize, child: Option<usize>, next: Option<usize>)
     requires within { slot < length links.old.items }
     requires child { (s : ℕ) → child ≡ Some s → s < length links.old.items }
@@ -183,7 +183,7 @@ fn put_before<T>(links: &mut Links<T>, slot: usize, child: Option<usize>, next: 
     }
 }
 
-/// Takes a node with all below it out of the links, and answers them, level by level.
+/// Removes a subtree from the links, and returns its nodes, level by level.
 pub(crate) fn cut<T>(
     alloc: Global,
     links: &mut Links<T>,
@@ -208,7 +208,7 @@ pub(crate) fn cut<T>(
     Ok(list)
 }
 
-// Leaves each node of a list without parent and children.
+// Clears the parents and the children of the nodes of a list.
 fn clear_all<T>(links: &mut Links<T>, nodes: &Vec<Node<T>>)
     requires linked { IsLinked links.old.items }
     requires within { (s : ℕ) → 0 < count_at s nodes.now.items → s < length links.old.items }
@@ -223,7 +223,7 @@ fn clear_all<T>(links: &mut Links<T>, nodes: &Vec<Node<T>>)
     }
 }
 
-// Leaves the node of a slot without parent and children.
+// Clears the parent and the children of a slot's node.
 #[tactic(auto, using(crate::proofs::Moving::Trees::Links::changed_length))]
 fn clear<T>(links: &mut Links<T>, slot: usize)
     requires within { slot < length links.old.items }
@@ -239,7 +239,7 @@ fn clear<T>(links: &mut Links<T>, slot: usize)
     links.set_last(slot, None);
 }
 
-/// Whether one node is another, or below it.
+/// Whether a node is another, or below it.
 pub(crate) fn is_under<T>(links: &Links<T>, slot: usize, top: usize) -> bool
     requires forest { IsForest (families links.now.items) }
     requires within { slot < length links.now.items }
@@ -247,12 +247,12 @@ pub(crate) fn is_under<T>(links: &Links<T>, slot: usize, top: usize) -> bool
 {
     let above = parent_at(links, top);
     let mut at = slot;
-    // No way to a root is longer than there are slots.
+    // No path to a root is longer than the number of slots.
     for _ in 0..links.len() {
         if at == top {
             return true;
         }
-        // What is above the other isn't below it: so a sibling is told at its parent.
+        // What is above the other node isn't below it: so a sibling is recognised by its parent.
         if is_at(above, at) {
             return false;
         }
@@ -264,7 +264,7 @@ pub(crate) fn is_under<T>(links: &Links<T>, slot: usize, top: usize) -> bool
     unreachable!()
 }
 
-// Whether there is a node, and it lives at a slot.
+// Whether there is a node, and this is its slot.
 fn is_at<T>(node: Option<Node<T>>, slot: usize) -> bool
     ensures { IsTrue result → slot_of node ≡ Some slot }
 {
@@ -281,7 +281,7 @@ pub(crate) fn depth_at<T>(links: &Links<T>, slot: usize) -> usize
     ensures { IsRooted (families links.now.items) result slot }
 {
     let mut at = slot;
-    // No way to a root is longer than there are slots.
+    // No path to a root is longer than the number of slots.
     for steps in 0..links.len() {
         match parent_at(links, at) {
             Some(parent) => at = slot_of(parent),
@@ -310,8 +310,8 @@ pub(crate) fn children_at<T>(links: &Links<T>, slot: usize) -> Children<'_, T>
     Children::new(links, links.at(slot).first)
 }
 
-/// The row that follows that of a slot's node in an outline: its first child, or what follows it and all
-/// below it.
+/// The row after that of a slot's node in an outline: its first child, or what follows its whole
+/// subtree.
 pub(crate) fn next_row<T>(links: &Links<T>, depth: usize, slot: usize) -> Option<(usize, Node<T>)>
     requires linked { IsLinked links.now.items }
     requires forest { IsForest (families links.now.items) }
@@ -327,7 +327,7 @@ pub(crate) fn next_row<T>(links: &Links<T>, depth: usize, slot: usize) -> Option
     }
 }
 
-// The row that follows that of a slot's node and those of all below it.
+// The row after those of the whole subtree of a slot's node.
 fn row_behind<T>(links: &Links<T>, depth: usize, slot: usize) -> Option<(usize, Node<T>)>
     requires linked { IsLinked links.now.items }
     requires forest { IsForest (families links.now.items) }
@@ -350,7 +350,7 @@ fn row_behind<T>(links: &Links<T>, depth: usize, slot: usize) -> Option<(usize, 
     None
 }
 
-/// A node and all below it, level by level.
+/// The nodes of a subtree, level by level.
 pub(crate) fn gather<T>(
     alloc: Global,
     links: &Links<T>,
@@ -370,7 +370,7 @@ pub(crate) fn gather<T>(
     Ok(list)
 }
 
-// Adds the children of a node of a list at its end.
+// Appends the children of one node of a list to it.
 fn push_children<T>(
     list: &mut Vec<Node<T>>,
     links: &Links<T>,

@@ -8,16 +8,16 @@ use std::fmt;
 /// What marks a handle as a node's.
 pub enum NodeKind {}
 
-/// A handle of a node. It is copied freely, owns nothing, and outlives its node: no later node is
-/// mistaken for it.
+/// A handle of a node. It is `Copy`, owns nothing, and may outlive its node: it never refers to a later
+/// one.
 pub type Node<T> = Handle<T, NodeKind>;
 
 /// Why a call on a tree fails.
 #[derive(Clone, Copy, Debug, PartialEq, Eq)]
 pub enum TreeError {
-    /// The node is gone, or is another tree's.
+    /// The node was removed, or belongs to another tree.
     Stale(Stale),
-    /// The node that the spot names has no parent, so no sibling; it was made here.
+    /// The spot's node has no parent, so it can have no sibling; it was made here.
     NoParent(Option<Location>),
     /// The node would be its own child or sibling, or below itself.
     Cycle,
@@ -48,7 +48,7 @@ impl fmt::Display for TreeError {
 
 impl Error for TreeError {}
 
-/// Keeps where the node was made. Doesn't allocate.
+/// Converts with `?`, and keeps where the node was made. Doesn't allocate.
 impl From<Stale> for TreeError {
     ghost use Rattle.std.specs.Prelude.{◌≡◌};
     ghost use Rattle.scene_tree.specs.declared.node.TreeError.TheVariants as error;

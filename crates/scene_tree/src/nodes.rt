@@ -1,4 +1,4 @@
-//! Walks over all nodes of a tree, and over its roots.
+//! Iterators over all nodes of a tree, and over its roots.
 
 ghost use Rattle.std.specs.Prelude.{◌≡◌, ◌∷◌, [], drop, length, IfSome, IfNone, Some};
 ghost use Rattle.std.specs.Iterator.{UpTo, YieldsFirst, item_count};
@@ -16,9 +16,8 @@ use std::iter::FusedIterator;
 use std::marker::Model;
 
 impl<T, S: Storage<T>> SceneTree<T, S> {
-    /// All nodes, each once, in no order that a caller can choose: a new node comes where one that was
-    /// removed stood. They are as many as `len` says, and the iterator knows how many are left. Doesn't
-    /// allocate, and takes O(n) time for all, for as many slots as the tree ever had nodes at once.
+    /// Iterates over all nodes, each once, in an unspecified order. The iterator knows how many are left, at
+    /// first `len`. Doesn't allocate; the whole iteration is O(n), where n is the peak number of nodes.
     ///
     /// ```rust
     /// for node in tree.nodes() {
@@ -37,8 +36,8 @@ impl<T, S: Storage<T>> SceneTree<T, S> {
         }
     }
 
-    /// The nodes without a parent, each once, in the order of `nodes`. Doesn't allocate, and takes O(n)
-    /// time for all, for as many slots as the tree ever had nodes at once.
+    /// Iterates over the nodes without a parent, each once, in the order of `nodes`. Doesn't allocate;
+    /// the whole iteration is O(n), where n is the peak number of nodes.
     ///
     /// ```rust
     /// for root in tree.roots() {
@@ -58,8 +57,8 @@ impl<T, S: Storage<T>> SceneTree<T, S> {
     }
 }
 
-/// The nodes of a tree, as [`SceneTree::nodes`](crate::SceneTree::nodes) gives them. Contracts see the list
-/// of those that are left.
+/// The nodes of a tree: the iterator of [`SceneTree::nodes`](crate::SceneTree::nodes). Contracts model
+/// it as the list of the remaining ones.
 #[derive(Drop)]
 pub struct Nodes<'a, T, S: Storage<T>> {
     links: &'a Links<T>,
@@ -112,8 +111,8 @@ impl<'a, T, S: Storage<T>> ExactSizeIterator for Nodes<'a, T, S> {
 
 impl<'a, T, S: Storage<T>> FusedIterator for Nodes<'a, T, S> {}
 
-/// The nodes of a tree without a parent, as [`SceneTree::roots`](crate::SceneTree::roots) gives them.
-/// Contracts see the list of those that are left.
+/// The nodes of a tree without a parent: the iterator of [`SceneTree::roots`](crate::SceneTree::roots).
+/// Contracts model it as the list of the remaining ones.
 #[derive(Drop)]
 pub struct Roots<'a, T, S: Storage<T>> {
     links: &'a Links<T>,
@@ -147,14 +146,15 @@ impl<'a, T, S: Storage<T>> Iterator for Roots<'a, T, S> {
 
 impl<'a, T, S: Storage<T>> FusedIterator for Roots<'a, T, S> {}
 
-// Whether a link's node is live, and has no parent where roots alone are met.
+// Whether the iterator yields a link's node: it is live, and if only roots are yielded, it has no
+// parent.
 fn is_met<T, S: Storage<T>>(store: &S, only_roots: bool, link: &Link<T>) -> bool
     ensures { result ≡ is_met (S.state store.now) only_roots link.now }
 {
     peek(store, link.node).is_some() && !(only_roots && link.parent.is_some())
 }
 
-// The first node that is met from a slot on, and the slot behind its own.
+// The first node that is yielded from a slot on, and the slot after its own.
 fn next_met<T, S: Storage<T>>(
     links: &Links<T>,
     store: &S,

@@ -14,11 +14,11 @@ use std::alloc::Global;
 use std::marker::{Model, PhantomData};
 use store_room::reserve_more;
 
-/// The code of no slot. There are at most as many links, so no slot has this number.
+/// The code for no slot. There are at most as many links, so no slot has this number.
 const NONE: u32 = 4294967295;
 
-/// A link without what all links of a tree share: its node's generation and site, its parent's slot,
-/// generation and site, and the codes of the other slots.
+/// A link without what all links of a tree have in common: its node's generation and site, its parent's
+/// slot, generation and site, and the codes of the other slots.
 #[derive(Drop)]
 pub(crate) struct PackedLink {
     generation: u64,
@@ -67,8 +67,8 @@ fn code(slot: Option<usize>) -> u32
     }
 }
 
-/// The links of a tree's slots, for nodes of the store with this number. Contracts see the number, the
-/// links, and for how many there is room.
+/// The links of a tree's slots, for nodes of the store with this number. Contracts model it as the
+/// number, the links, and the capacity.
 #[derive(Drop)]
 pub(crate) struct Links<T> {
     number: u64,
@@ -94,7 +94,7 @@ impl<T> Model for Links<T> {
 }
 
 impl<T> Links<T> {
-    /// No links. Doesn't allocate.
+    /// Creates an empty list of links. Doesn't allocate.
     pub(crate) fn new(alloc: Global, number: u64) -> Self
         ensures number { result.number ≡ number }
         ensures items { result.items ≡ [] }
@@ -123,8 +123,8 @@ impl<T> Links<T> {
         self.packed.len()
     }
 
-    /// Makes room for one link more, and mostly for many. False if memory runs out, or if there are too
-    /// many links.
+    /// Reserves capacity for another link, and usually for many. False if memory runs out, or if there
+    /// are too many links.
     #[inline(always)]
     pub(crate) fn reserve(&mut self) -> bool
         ensures number { self.new.number ≡ self.old.number }
@@ -153,7 +153,7 @@ impl<T> Links<T> {
         }
     }
 
-    /// Adds the link of a node without parent and children, for which there is room.
+    /// Adds the link of a node without parent and children. There must be capacity for it.
     pub(crate) fn push(&mut self, node: Node<T>)
         requires room { length self.old.items < self.old.room }
         requires fits { length self.old.items < 2 ^ 32 - 1 }
@@ -175,7 +175,7 @@ impl<T> Links<T> {
         });
     }
 
-    /// Notes a node at its slot.
+    /// Records a node at its slot.
     pub(crate) fn set_node(&mut self, node: Node<T>)
         requires within { slot_in node < length self.old.items }
         requires number { number_in node ≡ self.old.number }
@@ -188,7 +188,7 @@ impl<T> Links<T> {
         packed.site = site_of(node);
     }
 
-    /// Gives a slot's node a parent.
+    /// Sets the parent of a slot's node.
     pub(crate) fn set_parent(&mut self, slot: usize, parent: Node<T>)
         requires within { slot < length self.old.items }
         requires parent { slot_in parent < length self.old.items }
@@ -203,7 +203,7 @@ impl<T> Links<T> {
         packed.up_site = site_of(parent);
     }
 
-    /// Leaves a slot's node without parent.
+    /// Clears the parent of a slot's node.
     pub(crate) fn remove_parent(&mut self, slot: usize)
         requires within { slot < length self.old.items }
         ensures number { self.new.number ≡ self.old.number }
@@ -213,7 +213,7 @@ impl<T> Links<T> {
         packed.up = NONE;
     }
 
-    /// Puts the slot of the first child.
+    /// Sets the slot of the first child.
     pub(crate) fn set_first(&mut self, slot: usize, first: Option<usize>)
         requires within { slot < length self.old.items }
         requires first { (s : ℕ) → first ≡ Some s → s < length self.old.items }
@@ -224,7 +224,7 @@ impl<T> Links<T> {
         packed.first = code(first);
     }
 
-    /// Puts the slot of the last child.
+    /// Sets the slot of the last child.
     pub(crate) fn set_last(&mut self, slot: usize, last: Option<usize>)
         requires within { slot < length self.old.items }
         requires last { (s : ℕ) → last ≡ Some s → s < length self.old.items }
@@ -235,7 +235,7 @@ impl<T> Links<T> {
         packed.last = code(last);
     }
 
-    /// Puts the slot of the sibling before.
+    /// Sets the slot of the sibling before.
     pub(crate) fn set_before(&mut self, slot: usize, before: Option<usize>)
         requires within { slot < length self.old.items }
         requires before { (s : ℕ) → before ≡ Some s → s < length self.old.items }
@@ -246,7 +246,7 @@ impl<T> Links<T> {
         packed.before = code(before);
     }
 
-    /// Puts the slot of the sibling after.
+    /// Sets the slot of the sibling after.
     pub(crate) fn set_after(&mut self, slot: usize, after: Option<usize>)
         requires within { slot < length self.old.items }
         requires after { (s : ℕ) → after ≡ Some s → s < length self.old.items }

@@ -6,7 +6,7 @@ ghost use Rattle.scene_tree.specs.Spots.{named};
 use crate::node::Node;
 use std::alloc::AllocError;
 
-/// Where a node is put among the children of another.
+/// A position among the children of a node.
 pub enum Spot<T> {
     /// Before all children of this node.
     FirstOf(Node<T>),
@@ -18,7 +18,7 @@ pub enum Spot<T> {
     After(Node<T>),
 }
 
-/// Never refused, and takes no memory.
+/// Never fails, and doesn't allocate.
 impl<T> Clone for Spot<T> {
     ghost use Rattle.std.specs.Prelude.{⊤};
 
@@ -34,7 +34,7 @@ impl<T> Clone for Spot<T> {
 impl<T> Copy for Spot<T> {}
 
 impl<T> Spot<T> {
-    /// The node that the spot names: the parent, or the sibling.
+    /// The spot's node: the parent, or the sibling.
     ///
     /// ```rust
     /// let sibling = Spot::Before(child).node();

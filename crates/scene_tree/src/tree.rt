@@ -35,14 +35,14 @@ use handles::parts::{Sites, handle_at, number_of, peek, pointer_to, site_of, slo
 use std::alloc::Global;
 use std::marker::Model;
 
-/// Nodes, each with a value, a parent or none, and children in order. Contracts see the machine's
-/// state, which says what each node shows, the families of the nodes, and the locations where nodes were
-/// made.
+/// Nodes, each with a value, an optional parent, and ordered children. Contracts model it as the
+/// machine's state, which says which value each node has, the families of the nodes, and the locations
+/// where nodes were made.
 #[derive(Drop)]
 pub struct SceneTree<T, S: Storage<T>> {
     alloc: Global,
     pub(crate) store: S,
-    // of each slot the node that lives there, or did last, and those around it
+    // of each slot its current or last node, and that node's neighbours
     pub(crate) links: Links<T>,
     sites: Sites,
 }
@@ -73,7 +73,7 @@ impl<T, S: Storage<T>> Model for SceneTree<T, S> {
 }
 
 impl<T, S: Storage<T>> SceneTree<T, S> {
-    /// A tree without nodes, over a fresh store (`is_fresh` is the test). Doesn't allocate.
+    /// Creates a tree without nodes, over a fresh store (see `is_fresh`). Doesn't allocate.
     ///
     /// ```rust
     /// let store = UnsyncStorage::<u64>::new(rt.alloc(), 1);
@@ -93,11 +93,13 @@ impl<T, S: Storage<T>> SceneTree<T, S> {
         }
     }
 
-    /// A new node with this value, without a parent and without children. Its handle is none that
-    /// was ever given, and every other node is unchanged.
+    /// Adds a node with this value, without a parent and without children, and returns its handle, which
+    /// was never issued before. Every other node is unchanged. Amortised O(1). Allocates if the links
+    /// have no room, or no slot is free.
     ///
-    /// Refused by `OutOfMemory` alone: the value comes back, and the tree is unchanged. Takes
-    /// memory where the links have no room, or no slot is free. O(1), but for finding room.
+    /// # Errors
+    ///
+    /// `OutOfMemory` is the only possible error. The value comes back, and the tree is unchanged.
     ///
     /// ```rust
     /// let root = tree.add_root(1, here)?;
@@ -123,12 +125,17 @@ impl<T, S: Storage<T>> SceneTree<T, S> {
         Ok(node)
     }
 
-    /// A new node with this value, as the last child of another, and without children. Its handle is
-    /// none that was ever given, and every other node is unchanged.
+    /// Adds a node with this value, without children, as the last child of another, and returns its
+    /// handle, which was never issued before. The parent keeps its value, its parent and its other
+    /// children, and every other node is unchanged. Amortised O(1). Allocates if the links have no room,
+    /// or no slot is free.
     ///
-    /// Refused, in this order: `Stale`, if the parent is gone, or is of a store with another number;
-    /// `Store` of `OutOfMemory`. The value comes back then, and the tree is unchanged. Takes memory
-    /// where the links have no room, or no slot is free. O(1), but for finding room.
+    /// # Errors
+    ///
+    /// - `Stale` if the parent was removed, or is of a store with another number.
+    /// - `Store` of `OutOfMemory`.
+    ///
+    /// The value comes back then, and the tree is unchanged.
     ///
     /// ```rust
     /// let child = tree.add_child(root, 2, here)?;
@@ -165,13 +172,18 @@ impl<T, S: Storage<T>> SceneTree<T, S> {
         self.add_at(Spot::LastOf(parent), value, here)
     }
 
-    /// A new node with this value, at a spot among the children of another, and without children. Its
-    /// handle is none that was ever given, and every other node is unchanged.
+    /// Adds a node with this value, without children, at a spot among the children of another, and
+    /// returns its handle, which was never issued before. The parent keeps its value, its parent and its
+    /// other children, and every other node is unchanged. Amortised O(1). Allocates if the links have no
+    /// room, or no slot is free.
     ///
-    /// Refused, in this order: `Stale`, if the node that the spot names is gone, or is of a store with
-    /// another number; `NoParent`, where it is to be a sibling and has no parent; `Store` of
-    /// `OutOfMemory`. The value comes back then, and the tree is unchanged. Takes memory as `add_child`
-    /// does. O(1), but for finding room.
+    /// # Errors
+    ///
+    /// - `Stale` if the spot's node was removed, or is of a store with another number.
+    /// - `NoParent` if the spot is beside a sibling that has no parent.
+    /// - `Store` of `OutOfMemory`.
+    ///
+    /// The value comes back then, and the tree is unchanged.
     ///
     /// ```rust
     /// let first = tree.add_at(Spot::Before(child), 3, here)?;
@@ -225,7 +237,7 @@ impl<T, S: Storage<T>> SceneTree<T, S> {
         Ok(child)
     }
 
-    // The parent of what is put at a spot.
+    // The parent of a node that is added at a spot.
     fn parent_for(&self, spot: Spot<T>) -> Result<Node<T>, TreeError>
         ensures parent { IfOk result (λ up. parent_for self.now spot ≡ Some up) }
         ensures live { IfOk result (λ up. is_live self.now up ≡ true) }
@@ -278,11 +290,13 @@ impl<T, S: Storage<T>> SceneTree<T, S> {
         }
     }
 
-    /// Puts another value in the place of a node's, which is let go. Every other node is unchanged, and
-    /// the node has the family that it had.
+    /// Replaces a node's value, and drops the old one. The node's parent and children are unchanged, and
+    /// so is every other node. Doesn't allocate, and is O(1) except for dropping the old value.
     ///
-    /// Fails if the node is gone, or is of a store with another number: the value comes back, and the
-    /// tree is unchanged. Doesn't allocate, and is O(1), but for letting the old value go.
+    /// # Errors
+    ///
+    /// `Stale` if the node was removed, or is of a store with another number. The value comes back, and
+    /// the tree is unchanged.
     ///
     /// ```rust
     /// if let Err(refusal) = tree.set(child, 9) {
@@ -311,11 +325,14 @@ impl<T, S: Storage<T>> SceneTree<T, S> {
         Ok(())
     }
 
-    /// Changes a node's value in its place, by a closure that is called once on it, and answers what
-    /// that answers. Every other node is unchanged, and the node has the family that it had.
+    /// Calls a closure once on a node's value, mutably, and returns the closure's result. The node's
+    /// parent and children are unchanged, and so is every other node. Doesn't allocate itself, and is
+    /// O(1) except for the closure.
     ///
-    /// Fails if the node is gone, or is of a store with another number: the closure isn't called, and
-    /// the tree is unchanged. Doesn't allocate, and is O(1), but for the closure.
+    /// # Errors
+    ///
+    /// `Stale` if the node was removed, or is of a store with another number. The closure isn't called
+    /// then, and the tree is unchanged.
     ///
     /// ```rust
     /// tree.update(child, |value: &mut u64| *value = value.wrapping_add(1))?;
@@ -341,9 +358,11 @@ impl<T, S: Storage<T>> SceneTree<T, S> {
         Ok(self.store.change_value(pointer_to(node), f))
     }
 
-    /// A node's value. The tree is lent meanwhile.
+    /// Borrows a node's value. Doesn't allocate, and is O(1).
     ///
-    /// Fails if the node is gone, or is of a store with another number. Doesn't allocate, and is O(1).
+    /// # Errors
+    ///
+    /// `Stale` if the node was removed, or is of a store with another number.
     ///
     /// ```rust
     /// let value = *tree.get(child)?;
@@ -371,7 +390,8 @@ impl<T, S: Storage<T>> SceneTree<T, S> {
         peek(&self.store, node).is_some()
     }
 
-    /// Where a node was made, also once it is gone; None of another tree's. Doesn't allocate, and is O(1).
+    /// Where a node was made, even after it was removed; None for a node of another tree. Doesn't
+    /// allocate, and is O(1).
     ///
     /// ```rust
     /// if let Some(created_at) = tree.created_at(child) {
@@ -387,7 +407,7 @@ impl<T, S: Storage<T>> SceneTree<T, S> {
         self.sites.get(site_of(node))
     }
 
-    // That a node shows nothing, and where it was made.
+    // The error for a stale handle, with the location where its node was made.
     #[cold]
     #[inline(never)]
     fn stale(&self, node: Node<T>) -> Stale
@@ -409,9 +429,11 @@ impl<T, S: Storage<T>> SceneTree<T, S> {
         self.store.len()
     }
 
-    /// A node's parent, if it has one.
+    /// A node's parent, if it has one. Doesn't allocate, and is O(1).
     ///
-    /// Fails if the node is gone, or is of a store with another number. Doesn't allocate, and is O(1).
+    /// # Errors
+    ///
+    /// `Stale` if the node was removed, or is of a store with another number.
     ///
     /// ```rust
     /// let is_below = tree.parent(child)? == Some(root);
@@ -427,11 +449,12 @@ impl<T, S: Storage<T>> SceneTree<T, S> {
         Ok(parent_at(&self.links, slot_of(node)))
     }
 
-    /// The nodes above a node: its parent, the parent of that, and so on up to its root. The tree is
-    /// lent meanwhile.
+    /// Iterates over the nodes above a node: its parent, the parent's parent, and so on up to its root.
+    /// Doesn't allocate, and is O(1), like each of its steps.
     ///
-    /// Fails if the node is gone, or is of a store with another number. Doesn't allocate, and is O(1),
-    /// as each of its steps.
+    /// # Errors
+    ///
+    /// `Stale` if the node was removed, or is of a store with another number.
     ///
     /// ```rust
     /// for above in tree.ancestors(child)? {
@@ -450,10 +473,12 @@ impl<T, S: Storage<T>> SceneTree<T, S> {
         Ok(Ancestors::new(links, parent_at(links, slot_of(node))))
     }
 
-    /// How many steps a node is below its root: as many as it has ancestors, none at a root.
+    /// How many steps a node is below its root: the number of its ancestors, 0 for a root. Doesn't
+    /// allocate, and is O(d) for d steps.
     ///
-    /// Fails if the node is gone, or is of a store with another number. Doesn't allocate, and O(d) time
-    /// for d steps.
+    /// # Errors
+    ///
+    /// `Stale` if the node was removed, or is of a store with another number.
     ///
     /// ```rust
     /// let steps = tree.depth(child)?;
@@ -470,10 +495,11 @@ impl<T, S: Storage<T>> SceneTree<T, S> {
         Ok(depth_at(links, slot_of(node)))
     }
 
-    /// A node's children, in order. The tree is lent meanwhile.
+    /// Iterates over a node's children, in order. Doesn't allocate, and is O(1), like each of its steps.
     ///
-    /// Fails if the node is gone, or is of a store with another number. Doesn't allocate, and is O(1),
-    /// as each of its steps.
+    /// # Errors
+    ///
+    /// `Stale` if the node was removed, or is of a store with another number.
     ///
     /// ```rust
     /// for node in tree.children(root)? {
@@ -493,12 +519,14 @@ impl<T, S: Storage<T>> SceneTree<T, S> {
         Ok(children_at(links, slot_of(node)))
     }
 
-    /// A node and all below it, each once, level by level: first the node, and then the children of
-    /// each node of the list, in order. So parents stand before their children.
+    /// Returns a list of a node and all below it, each once, level by level: first the node, and then
+    /// the children of each node of the list, in order. So parents come before their children. Allocates
+    /// the list. O(k) for k nodes.
     ///
-    /// Refused, in this order: `Stale`, if the node is gone, or is of a store with another number;
-    /// `Store` of `OutOfMemory`. Takes memory for the list, and O(k) time for k nodes, but for finding
-    /// room.
+    /// # Errors
+    ///
+    /// - `Stale` if the node was removed, or is of a store with another number.
+    /// - `Store` of `OutOfMemory`.
     ///
     /// ```rust
     /// for node in tree.subtree(root)?.iter() {
@@ -521,13 +549,14 @@ impl<T, S: Storage<T>> SceneTree<T, S> {
         }
     }
 
-    /// A node and those below it, as they are read: each before its children, and these in their order,
-    /// each with how many steps it is below the node. The tree is lent meanwhile. At most `limit` of
-    /// them, so all of them where that is no less than `len`.
+    /// Iterates depth-first over a node and those below it, each before its children, and these in their
+    /// order, each with its depth below the node. It yields at most `limit` of them: pass `len` or more
+    /// for all. Doesn't allocate, and is O(1). A step is O(d) for a depth of d, and the whole iteration
+    /// is O(k) for k nodes.
     ///
-    /// Fails if the node is gone, or is of a store with another number. Doesn't allocate, and is O(1).
-    /// A step is O(d) for d steps from its node to the first, and all steps together are O(k) for k
-    /// nodes.
+    /// # Errors
+    ///
+    /// `Stale` if the node was removed, or is of a store with another number.
     ///
     /// ```rust
     /// for (depth, node) in tree.outline(root, 100)? {
@@ -547,12 +576,17 @@ impl<T, S: Storage<T>> SceneTree<T, S> {
         Ok(Outline::new(links, node, limit))
     }
 
-    /// Moves a node with all below it: it becomes the last child of another. Its parent loses this
-    /// one child, all below it stays where it is, and every node shows what it showed.
+    /// Moves a subtree: its root becomes the last child of another node, and leaves the children of its
+    /// old parent. Below it nothing changes, and no value does. Doesn't allocate, and is O(d) for d
+    /// steps from the parent to its root, to check for cycles.
     ///
-    /// Refused, in this order: `Stale`, if the node is gone, or is of a store with another number;
-    /// `Stale`, where the parent is; `Cycle`, where the parent is the node or below it. The tree is
-    /// unchanged then. Doesn't allocate, and O(d) time for d steps from the parent to its root.
+    /// # Errors
+    ///
+    /// - `Stale` if the node was removed, or is of a store with another number.
+    /// - `Stale` of the parent, if that was removed.
+    /// - `Cycle` if the parent is the node or below it.
+    ///
+    /// The tree is unchanged then.
     ///
     /// ```rust
     /// tree.move_to(child, first)?;
@@ -584,14 +618,19 @@ impl<T, S: Storage<T>> SceneTree<T, S> {
         self.move_at(node, Spot::LastOf(parent))
     }
 
-    /// Moves a node with all below it to a spot among the children of another. Its parent loses this
-    /// one child, all below it stays where it is, and every node shows what it showed.
+    /// Moves a subtree to a spot among the children of another node: its root leaves the children of its
+    /// old parent. Below it nothing changes, and no value does. Doesn't allocate, and is O(d) for d
+    /// steps from the spot to its root, or O(1) for a spot among the node's siblings: this reorders
+    /// children.
     ///
-    /// Refused, in this order: `Stale`, if the node is gone, or is of a store with another number;
-    /// `Stale`, where the node that the spot names is; `Cycle`, where that is the node or below it;
-    /// `NoParent`, where it is to be a sibling and has no parent. The tree is unchanged then. Doesn't
-    /// allocate, and O(d) time for d steps from the spot to its root, or O(1) where it is among the
-    /// node's siblings: so children are put in another order.
+    /// # Errors
+    ///
+    /// - `Stale` if the node was removed, or is of a store with another number.
+    /// - `Stale` of the spot's node, if that was removed.
+    /// - `Cycle` if the spot's node is the node or below it.
+    /// - `NoParent` if the spot is beside a sibling that has no parent.
+    ///
+    /// The tree is unchanged then.
     ///
     /// ```rust
     /// tree.move_at(child, Spot::FirstOf(root))?;
@@ -630,11 +669,13 @@ impl<T, S: Storage<T>> SceneTree<T, S> {
         Ok(())
     }
 
-    /// Makes a node a root, with all below it: its parent loses this one child, all below it stays
-    /// where it is, and every node shows what it showed. A root stays as it is.
+    /// Makes a node a root: it leaves its parent's children. Below it nothing changes, and no value
+    /// does. A root is unchanged. Doesn't allocate, and is O(1).
     ///
-    /// Fails if the node is gone, or is of a store with another number: the tree is unchanged. Doesn't
-    /// allocate, and is O(1).
+    /// # Errors
+    ///
+    /// `Stale` if the node was removed, or is of a store with another number. The tree is unchanged
+    /// then.
     ///
     /// ```rust
     /// tree.detach(child)?;
@@ -706,13 +747,17 @@ impl<T, S: Storage<T>> SceneTree<T, S> {
         Ok(())
     }
 
-    /// Removes a node and all below it, and answers their handles as `subtree` does: each shows
-    /// nothing from then on, and no later node is mistaken for it. The node's parent loses this one
-    /// child, and every other node is unchanged.
+    /// Removes a node and all below it, and returns their handles in the order of `subtree`. These are
+    /// stale from then on, and never refer to a later node. The node leaves its parent's children, and
+    /// every other node is unchanged. Allocates the list. O(k) for k nodes, except for dropping their
+    /// values.
     ///
-    /// Refused, in this order: `Stale`, if the node is gone, or is of a store with another number;
-    /// `Store` of `OutOfMemory`. The tree is unchanged then. Takes memory for the list, and O(k) time
-    /// for k nodes, but for finding room and for letting the values go.
+    /// # Errors
+    ///
+    /// - `Stale` if the node was removed, or is of a store with another number.
+    /// - `Store` of `OutOfMemory`.
+    ///
+    /// The tree is unchanged then.
     ///
     /// ```rust
     /// let gone = tree.remove_subtree(root)?;
@@ -751,12 +796,16 @@ impl<T, S: Storage<T>> SceneTree<T, S> {
         Ok(list)
     }
 
-    /// Removes a node and all below it as `remove_subtree` does, and hands the node's value back. The
-    /// values of those below are let go: `detach` or `move_to` keeps one of them from that.
+    /// Removes a node and all below it like `remove_subtree`, and returns the node's value. The values
+    /// below it are dropped: move a node away by `detach` or `move_to` first to keep it. Allocates a
+    /// list of the removed nodes. O(k) for k nodes, except for dropping their values.
     ///
-    /// Refused, in this order: `Stale`, if the node is gone, or is of a store with another number;
-    /// `Store` of `OutOfMemory`. The tree is unchanged then. Takes memory for a list of what goes, and
-    /// O(k) time for k nodes, but for finding room and for letting the values go.
+    /// # Errors
+    ///
+    /// - `Stale` if the node was removed, or is of a store with another number.
+    /// - `Store` of `OutOfMemory`.
+    ///
+    /// The tree is unchanged then.
     ///
     /// ```rust
     /// let value = tree.take(node).ok()?;
@@ -794,7 +843,7 @@ impl<T, S: Storage<T>> SceneTree<T, S> {
     }
 }
 
-// Makes a node's cell, and opens its slot. Where the node was made is told from then on.
+// Makes a node's cell, and opens its slot. The tree has the node's location from then on.
 #[inline(always)]
 fn make<T, S: Storage<T>>(
     store: &mut S,
@@ -838,7 +887,7 @@ fn make<T, S: Storage<T>>(
     Ok(node)
 }
 
-// That memory runs out before a value is kept.
+// The error for a value that couldn't be stored because memory ran out.
 fn lacking<T>(value: T) -> Refusal<T>
     ensures value { result.value ≡ value }
     ensures cause { result.cause ≡ OutOfMemory }
@@ -849,7 +898,7 @@ fn lacking<T>(value: T) -> Refusal<T>
     }
 }
 
-// Ends the values of nodes, and hands the first one's back.
+// Drops the values of nodes except for the first one's, which it returns.
 fn take_first<T, S: Storage<T>>(store: &mut S, nodes: &Vec<Node<T>>) -> T
     requires some { 0 < length nodes.now.items }
     requires simple { IsSimple (S.state store.old) }
@@ -869,7 +918,7 @@ fn take_first<T, S: Storage<T>>(store: &mut S, nodes: &Vec<Node<T>>) -> T
     value
 }
 
-// Ends a node, and hands its value back.
+// Removes a node's cell, and returns its value.
 fn take_value<T, S: Storage<T>>(store: &mut S, node: Node<T>) -> T
     requires simple { IsSimple (S.state store.old) }
     requires live { IsLiveIn (S.state store.old) node }
@@ -882,7 +931,7 @@ fn take_value<T, S: Storage<T>>(store: &mut S, node: Node<T>) -> T
     }
 }
 
-// Ends the values of nodes.
+// Drops the values of nodes.
 fn end_all<T, S: Storage<T>>(store: &mut S, nodes: &Vec<Node<T>>)
     requires simple { IsSimple (S.state store.old) }
     requires live { (i : ℕ) (n : Node T) → slice_get nodes.now.items i ≡ Some n →
@@ -895,7 +944,7 @@ fn end_all<T, S: Storage<T>>(store: &mut S, nodes: &Vec<Node<T>>)
     }
 }
 
-// Ends the value of a node.
+// Drops the value of a node.
 fn end<T, S: Storage<T>>(store: &mut S, node: Node<T>)
     requires simple { IsSimple (S.state store.old) }
     requires live { IsLiveIn (S.state store.old) node }

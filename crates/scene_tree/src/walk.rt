@@ -1,4 +1,4 @@
-//! Walks from a node to its root, over its children, and over all below it.
+//! Iterators from a node to its root, over its children, and over its subtree.
 
 ghost use Rattle.std.specs.Prelude.{◌≡◌, ◌<◌, ◌∷◌, [], length, Option, ℕ};
 ghost use Rattle.handles.specs.Handles.{slot_in};
@@ -15,9 +15,9 @@ use handles::parts::slot_of;
 use std::iter::FusedIterator;
 use std::marker::Model;
 
-/// The nodes above a node, from its parent to its root, as
-/// [`SceneTree::ancestors`](crate::SceneTree::ancestors) gives them. Contracts see the list of those
-/// that are left.
+/// The nodes above a node, from its parent to its root: the iterator of
+/// [`SceneTree::ancestors`](crate::SceneTree::ancestors). Contracts model it as the list of the
+/// remaining ones.
 #[derive(Drop)]
 pub struct Ancestors<'a, T> {
     links: &'a Links<T>,
@@ -66,8 +66,9 @@ impl<'a, T> Iterator for Ancestors<'a, T> {
 
 impl<'a, T> FusedIterator for Ancestors<'a, T> {}
 
-/// The children of a node, in order, as [`SceneTree::children`](crate::SceneTree::children) gives them.
-/// Contracts see the list of those that are left.
+/// The children of a node, in order: the iterator of
+/// [`SceneTree::children`](crate::SceneTree::children). Contracts model it as the list of the remaining
+/// ones.
 #[derive(Drop)]
 pub struct Children<'a, T> {
     links: &'a Links<T>,
@@ -113,9 +114,9 @@ impl<'a, T> Iterator for Children<'a, T> {
 
 impl<'a, T> FusedIterator for Children<'a, T> {}
 
-/// A node and those below it, each before its children, with how many steps each is below the first, as
-/// [`SceneTree::outline`](crate::SceneTree::outline) gives them. Contracts see the list of those that are
-/// left.
+/// A node and those below it, each before its children, with its depth below the first: the iterator of
+/// [`SceneTree::outline`](crate::SceneTree::outline). Contracts model it as the list of the remaining
+/// ones.
 #[derive(Drop)]
 pub struct Outline<'a, T> {
     links: &'a Links<T>,

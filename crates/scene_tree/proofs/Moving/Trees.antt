@@ -1,8 +1,8 @@
--- Trees over a store, as they are told and as rows.
+-- Trees over a store, as their models and as rows.
 pub mod Links
 unfoldable pub use Links.*
 
--- ==== what a tree shows of its nodes
+-- ==== what a tree says of its nodes
 
 module _ {T : Type 0} where
   -- a live node has the family of its slot, and one that is gone is alone
@@ -13,7 +13,7 @@ module _ {T : Type 0} where
   pub gone_family : (t : TreeState T) (n : Node T) → is_live t n ≡ false → family_of t n ≡ alone
   gone_family t n gone = ap (λ b. cond b (family_at t.families (slot_in n)) alone) gone
 
-  -- a part of a node's family is what it was, where it is so of a live node
+  -- a part of a node's family is unchanged, if it is so for a live node
   pub part_with : {X : Type 0} (part : Family T → X) (t u : TreeState T) (n : Node T)
       → value_of u n ≡ value_of t n
       → (is_live t n ≡ true
@@ -21,13 +21,13 @@ module _ {T : Type 0} where
       → part (family_of u n) ≡ part (family_of t n)
   part_with part t u n value same = grind arith
 
-  -- a node is left that shows what it showed, and has the family that it had where it is live
+  -- a node is unchanged that has the same value, and the same family if it is live
   pub left_with : (t u : TreeState T) (n : Node T) → value_of u n ≡ value_of t n
       → (is_live t n ≡ true → family_at u.families (slot_in n) ≡ family_at t.families (slot_in n))
       → NodeIsUnchanged t n u
   left_with t u n value family = grind arith
 
--- what a test told of a node of a tree that is shown
+-- the result of a test of a node of a tree's model
 pub told_live : {T : Type 0} {t u : TreeState T} (n : Node T) {b : Bool} → t ≡ u → b ≡ is_live u n
     → b ≡ true → is_live t n ≡ true
 told_live n same is live = cc
@@ -168,7 +168,7 @@ module _ {T : Type 0} where
     pub others : (s : ℕ) → s ≢ slot_in node → noted new s ≡ noted links s
     pub noted : noted new (slot_in node) ≡ Some node
 
-  -- with a link more at the end
+  -- with another link at the end
   noted_last : (links : List (Link T)) (l : Link T) (s : ℕ) → s ≡ length links
       → noted (links ++ l ∷ []) s ≡ Some l.node
   noted_last [] l s is = grind arith
@@ -225,12 +225,12 @@ module _ {T : Type 0} where
   none_noted S none = grind arith
 
   module _ {S R : State T} {old new : List (Link T)} (k : AreNoted S old) where
-    -- where the same nodes are noted, and none is live that wasn't
+    -- if the same nodes are recorded, and none is live that wasn't
     pub noted_left : ((s : ℕ) → noted new s ≡ noted old s) → ((n : Node T) → IsLiveIn R n → IsLiveIn S n)
         → AreNoted R new
     noted_left same lives = grind arith
 
-    -- where one is noted at its slot, and each live one is this, or was live, and has another slot
+    -- if one is recorded at its slot, and each live one is this, or was live, and has another slot
     pub noted_put : (child : Node T) → noted new (slot_in child) ≡ Some child
         → ((s : ℕ) → s ≢ slot_in child → noted new s ≡ noted old s)
         → ((n : Node T) → IsLiveIn R n → slot_in n ≡ slot_in child → IsSame child n)
@@ -246,7 +246,7 @@ module _ {T : Type 0} where
         (λ n now ne. sym (ap is_some (same_value S R (Make None v l) (Made m.0) s m.1 (pointer_in n) tt
         (λ is. ne (sym (ap (λ q. q.slot) is) ∙ sym (ap (λ i. i.slot) m.2))))) ∙ now)
 
-    -- and after the ends of nodes
+    -- and after nodes are removed
     pub noted_lost : {list : List (Node T)} → HasLost S list R → ((s : ℕ) → noted new s ≡ noted old s)
         → AreNoted R new
     noted_lost {list} lost same = grind arith
@@ -330,7 +330,7 @@ module _ {T : Type 0} where
         (sym (after_is s up is) ∙ next) there in
         let left = left_is s up is in grind (arith, behind)
 
-    -- where no sibling follows, what follows the parent does
+    -- if no sibling follows, what follows the parent does
     pub no_sibling : (d s : ℕ) → after_at s ≡ None
         → behind links (suc d) (Some s) ≡ behind links d (above fs s)
     no_sibling d s none = grind arith
@@ -363,7 +363,7 @@ module _ {T : Type 0} where
     after_within s up at is next =
         head_within up at (part s up is).2 (over s up is) (sym (after_is s up is) ∙ next)
 
--- a slot that is some steps below another has a parent, where these aren't none
+-- a slot that is some steps below another has a parent, unless the steps are 0
 pub under_has : {T : Type 0} (fs : List (Family T)) (top d s : ℕ) → 0 < d → IsUnder fs top d s
     → (up : ℕ) × (above fs s ≡ Some up)
 under_has fs top d s lt under = grind arith
@@ -421,7 +421,7 @@ module _ {T : Type 0} (fs : List (Family T)) where
   unfolding rows
   rows_end left = grind arith
 
--- rows of live nodes are those that the told_tree shows
+-- rows of live nodes are those of told_tree
 module _ {T : Type 0} {S : State T} {fs : List (Family T)} (sound : IsSound S) (k : IsKept S fs)
     (sites : List Location) where
   abbrev told_tree : TreeState T

@@ -3,7 +3,7 @@ pub mod Forests
 use Rattle.scene_tree.specs.declared.spot.Spot.TheVariants as spot
 unfoldable pub use Forests.*
 
--- ==== chains of children in the links, after each write, and as a child comes or goes
+-- ==== chains of children in the links, after each write, and as a child is added or removed
 
 module _ {T : Type 0} where
   -- ---- one link is changed
@@ -25,7 +25,7 @@ module _ {T : Type 0} where
   changed_kept part [] slot f same s = grind arith
   changed_kept part (l ∷ links) slot f same s = grind (arith, changed_kept part links)
 
-  -- a link more that a part doesn't tell from none
+  -- another link that a part doesn't distinguish from none
   pub pushed_kept : {X : Type 0} (part : Option (Link T) → X) (l : Link T) → part (Some l) ≡ part None
       → (links : List (Link T)) (s : ℕ) → part (slice_get (links ++ l ∷ []) s) ≡ part (slice_get links s)
   pushed_kept part l same [] s = grind arith
@@ -78,7 +78,7 @@ module _ {T : Type 0} where
     pub beside_length : length beside ≡ length links
     beside_length = grind (arith, changed_length)
 
-    -- what neither an end nor a neighbour is stays
+    -- what is neither an end nor a neighbour stays
     pub beside_kept : {X : Type 0} (part : Option (Link T) → X)
         → ((l : Link T) (f e b a : Option ℕ)
         → part (Some (record l { first = f; last = e; before = b; after = a })) ≡ part (Some l))
@@ -94,7 +94,7 @@ module _ {T : Type 0} where
         below None = changed_kept p half up _ (λ l. free l l.first previous l.before l.after) s
         below (Some i) = changed_kept p half i _ (λ l. free l l.first l.last previous l.after) s
 
-    -- ties stay but for the neighbours', and ends but for the slot's
+    -- ties stay except for the neighbours', and ends except for the slot's
     beside_ties : (s : ℕ) → at ≢ Some s → by ≢ Some s
         → tie_of (slice_get beside s) ≡ tie_of (slice_get links s)
     beside_ties s ne other = grind (arith, changed_get)
@@ -105,7 +105,7 @@ module _ {T : Type 0} where
     beside_last : (s : ℕ) → s ≢ up → last_of (slice_get beside s) ≡ last_of (slice_get links s)
     beside_last s ne = grind (arith, changed_get)
 
-    -- an end is put where there is no neighbour
+    -- an end is set if there is no neighbour
     abbrev unless : Option ℕ → Option ℕ → Option ℕ → Option ℕ
     unless None new old = new
     unless (Some i) new old = old
@@ -229,7 +229,7 @@ module _ {T : Type 0} where
         → tie_of (slice_get new s) ≡ tie_of (slice_get links s)
     ties = beside_ties links up _ _ _ _
 
-    -- what stands in one part stands in no other
+    -- what is in one part is in no other
     last_behind : (s : ℕ) → 0 < count_at s ns + count_at s ys → last_or None xs ≢ Some s
     last_behind s lt is = grind (arith, last_counted s xs is, once s)
 
@@ -300,7 +300,7 @@ module _ {T : Type 0} where
         (λ is. let some = head_counted s ys is in omega (arith, none, some)))
         (beside_first links up _ _ _ _ slot other) (beside_last links up _ _ _ _ slot other) held
 
--- ==== links whose children are linked: what they hold, and after a child comes or goes
+-- ==== links whose children are linked: what they have, and after a child is added or removed
 
 module _ {T : Type 0} where
   -- ---- what links say
@@ -336,7 +336,7 @@ module _ {T : Type 0} where
       → family_at (families new_links) s ≡ family_at (families old) s
   family_like old new_links s le held same = grind (arith, parent_from new_links s, parent_from old s, children_like)
 
-  -- they are linked where they hold so what these have of each slot, or another list of one
+  -- they are linked if they have the same for each slot, or another list of one
   pub linked_like : (old new_links : List (Link T)) → length old ≤ length new_links
       → ((s : ℕ) → IsHeld new_links s (children_at (families old) s)) → IsLinked new_links
   linked_like old new_links le held s = subst (IsHeld new_links s) (sym (children_like old new_links s le (held s))) (held s)
@@ -347,7 +347,7 @@ module _ {T : Type 0} where
   linked_but old new_links up here le held short others s =
       grind (arith, children_held new_links up here held short, children_like, cases_eq s up)
 
-  -- they hold what they held where one link is changed in no end, and in no tie of a listed slot
+  -- they have the same if one link is changed in no end, and in no tie of a listed slot
   pub changed_held : (links : List (Link T)) → IsLinked links → (slot : ℕ) (f : Link T → Link T)
       → ((l : Link T) → (f l).first ≡ l.first) → ((l : Link T) → (f l).last ≡ l.last)
       → ((s : ℕ) → (count_at slot (children_at (families links) s) ≡ 0)
@@ -391,7 +391,7 @@ module _ {T : Type 0} where
 
   -- ---- lists in two parts
 
-  -- what stands in a list stands there behind others too
+  -- what is in a list is in it behind others too
   pub get_behind : (xs ys : List (Node T)) (k : ℕ) (y : Node T) → slice_get ys k ≡ Some y
       → (j : ℕ) × (slice_get (xs ++ ys) j ≡ Some y)
   get_behind [] ys k y at = (k, at)
@@ -494,7 +494,7 @@ module _ {T : Type 0} where
       → (chain links (length links) next ≡ l.node ∷ chain links (length links) l.after) × IsRest links l.after
   rest_read links next s l rest is read = grind (arith, walk_next, chain_short)
 
-  -- ---- a slot more
+  -- ---- another slot
 
   module _ (links : List (Link T)) (linked : IsLinked links) (l : Link T) (root : l.parent ≡ None)
       (first : l.first ≡ None) (last : l.last ≡ None) where
@@ -636,7 +636,7 @@ module _ {T : Type 0} where
       let all = ap (count_at s) whole ∙ count_parts s xs ms ys in
       child_within links f up s (grind (arith, last_counted s xs, head_counted s ys))
 
-  -- ---- a child more
+  -- ---- another child
 
   pub gap_within : (links : List (Link T)) → IsForest (families links) → (up : ℕ) (at : Spot T)
       (gap : Option ℕ × Option ℕ) → IsGap (kids links up) at gap → (s : ℕ)

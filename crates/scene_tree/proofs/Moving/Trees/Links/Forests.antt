@@ -1,4 +1,4 @@
--- Forests, how often a slot stands in a list, and the stores below them.
+-- Forests, how often a slot is in a list, and the stores below them.
 pub mod Common
 use Rattle.std.specs.FinMap as map
 unfoldable pub use Common.*
@@ -10,7 +10,7 @@ abbrev pub Each : {X : Type 0} → (X → Type 0) → List X → Type 0
 Each {X} P xs = (i : ℕ) (x : X) → slice_get xs i ≡ Some x → P x
 
 module _ {T : Type 0} where
-  -- with a node more before the others
+  -- with another node before the others
   pub count_here : (s : ℕ) (c : Node T) (xs : List (Node T)) → slot_in c ≡ s
       → count_at s (c ∷ xs) ≡ count_at s xs + 1
   count_here s c xs is = grind (arith, sum_by-cons (λ n. cond (nat_eq (slot_in n) s) 1 0) c xs)
@@ -35,7 +35,7 @@ module _ {T : Type 0} where
       → count_at s (insert xs i c) ≡ count_at s (c ∷ xs)
   count_inserted s xs i c = search (arith, sum_by-cons, sum_by-take-drop, count_both)
 
-  -- with a node more at a spot, it is counted as with one more before the others
+  -- with another node at a spot, it is counted as with one before the others
   pub count_placed : (s : ℕ) (at : Spot T) (xs : List (Node T)) (c : Node T)
       → count_at s (placed at c xs) ≡ count_at s (c ∷ xs)
   count_placed s at xs c =
@@ -57,7 +57,7 @@ module _ {T : Type 0} where
   pub count_take : (s : ℕ) (xs : List (Node T)) (n : ℕ) → count_at s (take n xs) ≤ count_at s xs
   count_take s xs n = sum_by-take-le (λ m. cond (nat_eq (slot_in m) s) 1 0) xs n
 
-  -- what is counted stands there, and what stands there is counted
+  -- what is counted is there, and what is there is counted
   pub counted : (s : ℕ) (xs : List (Node T)) → 0 < count_at s xs
       → (k : ℕ) × (x : Node T) × (slice_get xs k ≡ Some x) × (slot_in x ≡ s)
   counted s [] lt = absurd (omega (arith, lt))
@@ -101,7 +101,7 @@ module _ {T : Type 0} where
   pub same_id : (a b : Node T) → IsSame a b → is_same a b ≡ true
   same_id a b same = grind arith
 
-  -- how many times a node stands in a list, with one more before the others
+  -- how many times a node is in a list, with another before the others
   pub times_more : (n x : Node T) (xs : List (Node T)) → is_same x n ≡ true
       → times n (x ∷ xs) ≡ times n xs + 1
   times_more n x xs same = grind (arith, sum_by-cons (λ c. cond (is_same c n) 1 0) x xs)
@@ -114,7 +114,7 @@ module _ {T : Type 0} where
       → times n (xs ++ ys) ≡ times n xs + times n ys
   times_both n xs ys = sum_by-append (λ c. cond (is_same c n) 1 0) xs ys
 
-  -- where handles in a list are of a node just where they are at its slot, it is counted so
+  -- if handles in a list are of a node exactly if they are at its slot, it is counted so
   pub times_at : (n : Node T) (xs : List (Node T))
       → ((k : ℕ) (x : Node T) → slice_get xs k ≡ Some x → slot_in x ≡ slot_in n → is_same x n ≡ true)
       → times n xs ≡ count_at (slot_in n) xs
@@ -124,7 +124,7 @@ module _ {T : Type 0} where
       let here = count_here (slot_in n) x xs in
       grind (arith, times_more n x xs, times_apart n x xs, count_apart, same_slot, alike 0 x refl)
 
-  -- and not at all where none is of it
+  -- and not at all if none is of it
   pub times_none : (n : Node T) (xs : List (Node T))
       → ((k : ℕ) (x : Node T) → slice_get xs k ≡ Some x → is_same x n ≡ false) → times n xs ≡ 0
   times_none n [] none = grind arith
@@ -136,7 +136,7 @@ module _ {T : Type 0} where
   count_without s n ne (x ∷ xs) =
       grind (arith, count_without s n ne xs, count_here s x xs, count_here s x (without n xs), count_apart, same_slot x n)
 
-  -- a list without a node that doesn't stand there is the list
+  -- a list without a node that isn't there is the list
   pub same_without : (n : Node T) (xs : List (Node T)) → count_at (slot_in n) xs ≡ 0
       → without n xs ≡ xs
   same_without n [] none = grind arith
@@ -150,7 +150,7 @@ module _ {T : Type 0} where
       let rest = none_without s n at xs (λ k. alike (suc k)) in
       grind (arith, count_apart s x (without n xs), alike 0 x refl, cases_Bool (is_same x n))
 
-  -- one node more of a list, which is read elsewhere, is left alone
+  -- another node of a list, which is read elsewhere, is unchanged
   pub clear_more : (old here new : List (Family T)) (nodes items : List (Node T)) (i slot : ℕ)
       (d : Node T) → items ≡ nodes → i < length items → slot ≡ slot_in (get_or items i d)
       → IsCleared old here (take i nodes) → family_at new slot ≡ alone
@@ -187,7 +187,7 @@ module _ {T : Type 0} (fs : List (Family T)) where
   pub no_cycle : (d s up e : ℕ) → IsRooted fs d s → above fs s ≡ Some up → IsUnder fs s e up → ⊥
   no_cycle d s up e r is under = grind (arith, rooted_under s d e up under r, rooted_once)
 
-  -- one step more below
+  -- another step below
   pub step_under : (top e s up : ℕ) → above fs s ≡ Some up → IsUnder fs top e up
       → IsUnder fs top (suc e) s
   step_under top e s up is under = (up, is, under)
@@ -279,7 +279,7 @@ module _ {T : Type 0} (fs : List (Family T)) where
         let same = depths_length (length fs) in omega (arith, long, same)
 
 module _ {T : Type 0} (fs gs : List (Family T)) where
-  -- where each slot has the parent that it had, or a way to a root, each has a way
+  -- if each slot has the same parent, or a way to a root, each has a way
   ways : ((s : ℕ) → (above gs s ≡ above fs s) ⊎ ((e : ℕ) × IsRooted gs e s)) → (d s : ℕ)
       → IsRooted fs d s → (e : ℕ) × IsRooted gs e s
   ways new zero s r = ⊎_elim (λ same. (0, same ∙ r)) (λ way. way) (new s)
@@ -315,7 +315,7 @@ module _ {T : Type 0} (fs gs : List (Family T)) where
     at_child s is = let up = f.rooted (slot_in parent) in
         (suc up.0, (slot_in parent, grind (arith, new.here), far up.0 (slot_in parent) apart up.1))
 
-    -- how often a node stands in a list
+    -- how often a node is in a list
     more : (s : ℕ) → count_at s (children_at gs (slot_in parent))
         ≡ count_at s (child ∷ children_at fs (slot_in parent))
     more s = ap (count_at s) new.listed ∙ count_placed s spot (children_at fs (slot_in parent)) child
@@ -433,12 +433,12 @@ module _ {T : Type 0} (fs : List (Family T)) where
         whole : (s : ℕ) → count_at s list ≡ count_at s (top ∷ all_children (take next list))
         whole s = ap (count_at s) p.level
 
-        -- a slot above the first node's isn't there, where what is there is below
+        -- a slot above the first node's isn't there, if what is there is below
         unlisted : (d s : ℕ) (r : IsRooted fs (suc d) s) → slot_in top ≡ s
             → (0 < count_at r.0 list → IsUnderTop top r.0) → count_at r.0 list ≤ 0
         unlisted d s r here below = grind (arith, no_cycle fs (suc d) s r.0, cases_lt 0 (count_at r.0 list))
 
-        -- each stands there once, and is below
+        -- each is there once, and is below
         listed_under : (d s : ℕ) → IsRooted fs d s
             → (count_at s list ≤ 1) × (0 < count_at s list → IsUnderTop top s)
         listed_under zero s r =
@@ -471,7 +471,7 @@ module _ {T : Type 0} (fs : List (Family T)) where
         pub list_short : slot_in top < length fs → length list ≤ length fs
         list_short lt = short list (length fs) listed_once (λ s some. below_within lt s (listed_below s some))
 
-      -- where the children of all are listed_under, all that are below are
+      -- if the children of all are listed_under, all that are below are
       pub all_listed : (list : List (Node T)) → IsInLevels fs top list → (e s : ℕ)
           → IsUnder fs (slot_in top) e s → 0 < count_at s list
       all_listed list level zero s is = grind (arith, count_here s top (all_children list) (sym is))
@@ -494,10 +494,10 @@ pub same_length : {T : Type 0} (xs ys : List (Link T)) → length xs ≡ length 
     → length (families xs) ≡ length (families ys)
 same_length xs ys same = length-map xs (family_in xs) ∙ (same ∙ sym (length-map ys (family_in ys)))
 
--- ==== a tree's store: its live nodes and its slots, and what the ends of nodes leave of them
+-- ==== a tree's store: its live nodes and its slots, and these after nodes are removed
 
 module _ {T : Type 0} where
-  -- handles of one node show the same
+  -- handles of one node have the same value
   pub same_shown : (S : State T) (a b : Node T) → IsSame a b
       → value_in S (pointer_in a) ≡ value_in S (pointer_in b)
   unfolding value_in reach
@@ -561,14 +561,14 @@ module _ {T : Type 0} where
       → Meets S (SetValue b v) (Old old) R → map.len R.cells ≡ map.len S.cells
   set_count {S} {R} b v old m = grind (arith, true≢false, meets_cases, len_change)
 
-  -- ---- an end
+  -- ---- a node that is removed
 
   -- the cell of what is seen has a value, and is no reference
   value_cell : (S : State T) (b : GenerationalPointer) → IsSimple S → is_some (value_in S b) ≡ true
       → (c : Content T) × (l : Location) × (map.get S.cells (name_of b) ≡ Some (Value c l))
   value_cell S b k seen = grind (arith, some_live, seen_reached, reaches)
 
-  -- with its end there is one live node less
+  -- there is one live node less then
   pub ended_count : {S R : State T} → IsSound S → IsSimple S → (b : GenerationalPointer)
       → is_some (value_in S b) ≡ true → Meets S (End b) Done R → map.len R.cells + 1 ≡ map.len S.cells
   ended_count {S} {R} s k b seen m =
