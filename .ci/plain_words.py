@@ -25,8 +25,8 @@ MEANT = {
     "tally.rt|recorded.rt|recorder.rt": r"refused",  # a kind of steps
 }
 # The crates and the pages that aren't written so yet.
-LATER = {"reactive", "document_tree", "generational_workers", "saved_bytes",
-         "example_workers", "example_files", "test_files", "documents.md", "reactive.md",
+LATER = {"reactive", "generational_workers", "saved_bytes",
+         "example_workers", "example_files", "test_files", "reactive.md",
          "PERFORMANCE.md", "threads.md", "saving.md", "planted.md"}
 
 

@@ -86,19 +86,19 @@ module _ {X : Type 0} (same : (x y : X) → (x ≡ y) ⊎ (x ≢ y)) where
         (λ x is. let lt = below x is in let apart = off x is in omega (arith, lt, apart)) one k in omega (arith, fits))
         (found (suc n) P m k)
 
--- ==== what a document keeps, as one of its places comes to lead elsewhere
+-- ==== what a document stores, as one of its places comes to refer to another part
 
 pub one_or_two : (a b : GenerationalBoxId) → (a ≡ b) ⊎ (a ≢ b)
 one_or_two a b = grind arith
 
--- one place comes to lead from a part, or from none, to another, or to none; each other leads where it led
+-- one place comes to refer to another part, from a part or none, or to none; each other is unchanged
 pub record Moves (S R : State ℕ) (x : GenerationalBoxId) (old new : Option ℕ) : Type 0 where
   pub was : key_in S x ≡ old
   pub is : key_in R x ≡ new
   pub others : (y : GenerationalBoxId) → y ≢ x → key_in R y ≡ key_in S y
 
 module _ {S R : State ℕ} {x : GenerationalBoxId} {old new : Option ℕ} (m : Moves S R x old new) (key : ℕ) where
-  -- what each other leads to, before and after
+  -- what each other refers to, before and after
   after : (y : GenerationalBoxId) → y ≢ x → Leads S key y → Leads R key y
   after y other is = m.others y other ∙ is
 
@@ -148,7 +148,7 @@ pub record IsReading {X : Type 0} (children : X → List X) (read : ℕ → List
 
 module _ {X : Type 0} {children : X → List X} {read : ℕ → List X → List X}
     (r : IsReading children read) where
-  -- at the limit, and where nothing waits, what was read is all
+  -- at the limit, and if nothing is pending, what was listed is all
   pub limit_read : (limit : ℕ) (places waiting : List X) {all : List X} → limit ≤ length places
       → places ++ read (limit - length places) waiting ≡ all → places ≡ all
   limit_read limit places waiting within is = grind (arith, append-nil)
@@ -299,7 +299,7 @@ pub still_small : {S R : State ℕ} {x : GenerationalBoxId} {old new : Option �
 still_small {x = x} m small all id key is = ⊎_elim (λ one. rw one small)
     (λ two. all id key (sym (m.others id two) ∙ is)) (one_or_two id x)
 
--- no more places lead to a part than there are slots
+-- no more places refer to a part than there are slots
 pub counted_fits : {S : State ℕ} → IsSound S → IsSimple S
     → ((id : GenerationalBoxId) (key : ℕ) → Leads S key id → id.slot < 4294967295)
     → (n key : ℕ) → IsCounted n (Leads S key) → n ≤ 4294967295
@@ -354,7 +354,7 @@ module _ {T : Type 0} where
     told = λ key. tt;
   }
 
-  -- a place leads to a part
+  -- a place refers to a part
   pub led_part : {S : State ℕ} {parts : List (Option (Part T))} {sites : List Location} → IsKept S parts sites
       → (id : GenerationalBoxId) (key : ℕ) → Leads S key id → (part : Part T) × (row_in parts key ≡ Some part)
   led_part {S} {parts} k id key is = by_option (row_in parts key)
@@ -414,7 +414,7 @@ module _ {T : Type 0} where
         site : IsTold told (left part)
         site = left_told told part (told_more_sites sites told more (Some part) (subst (IsTold sites) had (k.told key)))
 
-  -- a place that led to a part leads to another
+  -- a place that referred to a part refers to another
   module _ {S R : State ℕ} {parts mid new : List (Option (Part T))} {sites : List Location} (k : IsKept S parts sites) where
     pub kept_led : IsSimple R → (x : GenerationalBoxId) (old key : ℕ) → Moves S R x (Some old) (Some key)
         → old ≢ key → x.slot < 4294967295
@@ -455,7 +455,7 @@ module _ {T : Type 0} where
         more = subst (λ n. IsCounted n (Leads R key)) one_more
             (counted_gain m key _ (λ e. apart (same_Some old key e)) refl (k.counted key))
 
-  -- a part has come to show something else
+  -- a part has changed
   pub kept_set : {S : State ℕ} {parts new : List (Option (Part T))} {sites : List Location} → IsKept S parts sites
       → (key : ℕ) (old part : Part T) → row_in parts key ≡ Some old → part.places ≡ old.places → part.site ≡ old.site
       → Rewrites parts new key (Some part) → IsKept S new sites
@@ -474,9 +474,9 @@ module _ {T : Type 0} where
         (key_cases by_number other key);
   }
 
-  -- ---- what places show
+  -- ---- what places have
 
-  -- a place that leads where it led is left, if what is shown there is
+  -- a place that refers to the same part is unchanged, if that part is
   pub left_by : {D E : DocumentState T} (q : Place) → part_in E q ≡ part_in D q
       → ((key : ℕ) → part_in D q ≡ Some key → shown_of (row_in E.parts key) ≡ shown_of (row_in D.parts key))
       → Leaves D q E
@@ -488,7 +488,7 @@ module _ {T : Type 0} where
         ∙ (here key is ∙ sym (ap (λ o. shown_of (part_at D.parts o)) is)));
   }
 
-  -- handles of one place show the same
+  -- handles of one place have the same
   pub same_place_part : (D : DocumentState T) (p q : Place) → IsSame p q → part_in D q ≡ part_in D p
   same_place_part D p q same = sym (same_id_sees D.state (pointer_in p) (pointer_in q) same)
 
@@ -496,7 +496,7 @@ module _ {T : Type 0} where
       → shown_in D q ≡ shown_in D p
   same_part_shown D p q same = ap (λ o. shown_of (part_at D.parts o)) same
 
-  -- a place shows something exactly where it leads to a part
+  -- a place has content exactly if it refers to a part
   pub live_shows : {S : State ℕ} {parts : List (Option (Part T))} {sites : List Location} → IsKept S parts sites
       → (p : Place) → is_some (shown_of (part_at parts (value_in S (pointer_in p)))) ≡ is_some (value_in S (pointer_in p))
   live_shows {S} {parts} k p = by_option (value_in S (pointer_in p))
@@ -504,7 +504,7 @@ module _ {T : Type 0} where
       (λ key is. let to = led_part k (id_in p) key is in
       ap (λ o. is_some (shown_of (part_at parts o))) is ∙ (ap (λ row. is_some (shown_of row)) to.1 ∙ sym (ap is_some is)))
 
-  -- what a part shows that was changed
+  -- a changed part's content and children
   pub set_changes : {D E : DocumentState T} (p : Place) (key : ℕ) (old part : Part T) → part_in D p ≡ Some key
       → E.state ≡ D.state → row_in D.parts key ≡ Some old → Rewrites D.parts E.parts key (Some part)
       → Changes D p (shown_by part) E
@@ -523,7 +523,7 @@ module _ {T : Type 0} where
       → Changes D p x E → Changes E p y F → Changes D p y F
   changed_twice {D} {E} {F} {p} first second = grind (arith, first.parts p)
 
-  -- where a part's children were taken out and put back each place is left
+  -- if a part's children were removed and put back each place is unchanged
   pub put_back : {D E F : DocumentState T} {p : Place} (list rest after : List Place)
       → Changes D p (with_children (λ xs. rest) (shown_in D p)) E
       → Changes E p (with_children (λ xs. after) (shown_in E p)) F → after ≡ list
@@ -531,7 +531,7 @@ module _ {T : Type 0} where
   put_back list rest after first second same old q =
       grind (arith, changed_twice, key_or_none, same_part_shown)
 
-  -- what a part shows whose children were looked through while they were out
+  -- a part's content and children, after these were filtered while they were out
   pub shows_live : {D E F : DocumentState T} {p : Place} (list rest after : List Place)
       → Changes D p (with_children (λ xs. rest) (shown_in D p)) E → after ≡ live_among E list
       → Changes E p (with_children (λ xs. after) (shown_in E p)) F
@@ -557,7 +557,7 @@ module _ {T : Type 0} where
         (ap shown_of w.at ∙ here (is ∙ ap Some one)))
         (λ two. ap shown_of (w.others k two)) (key_cases by_number k key))
 
-  -- a part to which another place comes shows what it showed
+  -- a part that another place refers to has the same content and children
   pub led_shows : {parts mid new : List (Option (Part T))} {row : Option (Part T)} (old key : ℕ) (part : Part T)
       → row_in parts key ≡ Some part → old ≢ key → Rewrites parts mid key (Some (met part)) → Rewrites mid new old row
       → shown_of (row_in new key) ≡ shown_of (row_in parts key)
@@ -570,7 +570,7 @@ module _ {T : Type 0} where
     counted_gone : IsCounted gone.places (Leads S old)
     counted_gone = subst (λ row. IsCounted (places_of row) (Leads S old)) lost (k.counted old)
 
-    -- what is left of the part from which a place goes shows what it showed, if another place leads there
+    -- a part that loses a place has the same content and children, if another place refers to it
     left_shows : (q : Place) → IsOther p q → value_in S (pointer_in q) ≡ Some old
         → shown_of (left gone) ≡ shown_of (row_in parts old)
     left_shows q other is = ap shown_of (left_some gone
@@ -620,7 +620,7 @@ pub rewritten : {T : Type 0} {old new : Slab (Part T)} {key : ℕ} {row : Option
     → Rewrites old.slots new.slots key row
 rewritten u = record { at = u.changed; others = u.others }
 
--- ==== the locations that a document tells
+-- ==== the locations of a document
 
 pub told_length : (s : SiteState) → length (told_in s) ≡ min s.told (length s.all)
 told_length s = length-take s.told s.all
@@ -635,7 +635,7 @@ pub told_within : (s : SiteState) (site : ℕ) (l : Location) → site < s.told 
     → site < length (told_in s)
 told_within s site l lt is = rw (told_length s) (let within = slice_get_within s.all site l is in omega (arith, lt, within))
 
--- what is told of the number and the locations, it is told when more are
+-- what is said of the number and the locations stays so when more are added
 pub still_told : (n m : ℕ) (s t : SiteState) (old : List Location) (p : Place) (l : Location) → m ≡ n
     → s.told ≤ t.told → t.all ≡ s.all → told_in s ≡ old → told_at n old p ≡ Some l → told_at m (told_in t) p ≡ Some l
 still_told n m s t old p l number le same was is =
@@ -665,7 +665,7 @@ pub handed : {S R : State ℕ} (p : Place) (b : GenerationalPointer) (key : ℕ)
     → Moves S R b.id None (Some key) → Moves S R (id_in p) None (Some key)
 handed {S} {R} p b key own m = subst (λ x. Moves S R x None (Some key)) (sym own) m
 
--- a place that was given before is another
+-- a place that was issued before is another
 pub given_apart : {S R : State ℕ} (call_key : ℕ) (l : Location) (b : GenerationalPointer) (p q : Place) → id_in p ≡ b.id
     → Meets S (Make None call_key l) (Made b) R → IsGiven S (name_of (pointer_in q)) → id_in q ≢ id_in p
 given_apart {S} {R} call_key l b p q own met given one =

@@ -1,4 +1,4 @@
--- What a caller sees of a document: to which part each place leads, and what it shows.
+-- The model of a document: which part each place refers to, and its content and children.
 use Rattle.std.specs.Prelude.{◌≡◌, ◌≢◌, ◌++◌, ◌∷◌, ℕ, Bool, [], List, Option, None, Some, filter, is_some}
 use Rattle.std.specs.Prelude.{slice_get, slice_index_or}
 use Rattle.std.specs.Borrow.{MutBor}
@@ -25,7 +25,7 @@ pub record DocumentState (T : Type 0) : Type 0 where
   pub next : ℕ
   pub sites : List Location
 
--- what a place shows: the content of its part, and that part's children
+-- what a place has: the content of its part, and that part's children
 pub record Shown (T : Type 0) : Type 0 where
   pub content : T
   pub children : List Place
@@ -38,7 +38,7 @@ module _ {T : Type 0} where
   shown_of None = None
   shown_of (Some part) = shown_by part
 
-  -- the part to which a place leads, by its key
+  -- the part that a place refers to, by its key
   abbrev pub part_in : DocumentState T → Place → Option ℕ
   part_in D p = value_in D.state (pointer_in p)
 
@@ -47,11 +47,12 @@ module _ {T : Type 0} where
   part_at parts None = None
   part_at parts (Some key) = slice_index_or parts key None
 
-  -- what a place shows in a document, or nothing once it is gone
+  -- what a place has in a document, or None once it was removed
   abbrev pub shown_in : DocumentState T → Place → Option (Shown T)
   shown_in D p = shown_of (part_at D.parts (part_in D p))
 
-  -- where a place's part was added at first, as the document tells it: nothing of another document's place
+  -- where a place's part was added at first, by the document's locations: None for another document's
+  -- place
   abbrev pub created_at : DocumentState T → Place → Option Location
   created_at D p = told_at D.state.number D.sites p
 
@@ -59,12 +60,12 @@ module _ {T : Type 0} where
   abbrev pub is_site : DocumentState T → Location → Bool
   is_site D here = is_among D.sites here
 
-  -- what a document tells of where a place's part was added, it tells for good
+  -- the document keeps each location of a place's part
   abbrev pub KeepsTelling : DocumentState T → DocumentState T → Type 0
   KeepsTelling old new =
       (p : Place) (l : Location) → created_at old p ≡ Some l → created_at new p ≡ Some l
 
-  -- where the part was added to which a place leads now
+  -- where the part was added that a place refers to now
   abbrev pub site_told : List Location → Option (Part T) → Option Location
   site_told sites None = None
   site_told sites (Some part) = slice_get sites part.site
@@ -72,7 +73,7 @@ module _ {T : Type 0} where
   abbrev pub added_in : DocumentState T → Place → Option Location
   added_in D p = site_told D.sites (part_at D.parts (part_in D p))
 
-  -- the content that a place shows, and the children
+  -- a place's content, and its children
   abbrev pub content_of : Option (Shown T) → Option T
   content_of None = None
   content_of (Some shown) = Some shown.content
@@ -81,7 +82,7 @@ module _ {T : Type 0} where
   children_of None = None
   children_of (Some shown) = Some shown.children
 
-  -- what is shown with another content, and with one child more
+  -- the same with another content, and with another child
   abbrev pub with_content : T → Option (Shown T) → Option (Shown T)
   with_content c None = None
   with_content c (Some shown) = Some (record shown { content = c })
@@ -90,31 +91,31 @@ module _ {T : Type 0} where
   with_child p None = None
   with_child p (Some shown) = Some (record shown { children = shown.children ++ p ∷ [] })
 
-  -- what is shown with other children, as a function of those that there were
+  -- the same with other children, as a function of the old ones
   abbrev pub with_children : (List Place → List Place) → Option (Shown T) → Option (Shown T)
   with_children f None = None
   with_children f (Some shown) = Some (record shown { children = f shown.children })
 
-  -- a call of a closure on a part's content, with what it answers and leaves there
+  -- a call of a closure on a part's content, with its result and the content afterwards
   abbrev pub ChangesContent : {F R : Type 0} → Once F (MutBor T × Unit {0}) (R × (MutBor T × Unit {0}))
       → F → Part T → R → Part T → Type 0
   ChangesContent g f old r new = (changed : T) × FnOnceReturnsAtMut g f old.content r changed
       × (shown_by new ≡ with_content changed (shown_by old))
 
-  -- a list of places without those that lead to no part
+  -- a list of places without those that refer to no part
   abbrev pub live_among : DocumentState T → List Place → List Place
   live_among D list = filter (λ p. is_some (part_in D p)) list
 
-  -- a place that the document gave, once
+  -- a place that the document has issued
   abbrev pub WasMade : DocumentState T → Place → Type 0
   WasMade D p = IsGiven D.state (name_of (pointer_in p))
 
-  -- from D to E a place is left: it leads to the part to which it led, and shows what it showed
+  -- from D to E a place is unchanged: it refers to the same part, and has the same content and children
   pub record Leaves (D : DocumentState T) (p : Place) (E : DocumentState T) : Type 0 where
     pub part : part_in E p ≡ part_in D p
     pub shown : shown_in E p ≡ shown_in D p
 
-  -- from D to E the part of a place comes to show something else, and all else is left
+  -- from D to E the part of a place changes, and all else is unchanged
   pub record Changes (D : DocumentState T) (p : Place) (shown : Option (Shown T)) (E : DocumentState T)
       : Type 0 where
     pub here : (q : Place) → part_in D q ≡ part_in D p → shown_in E q ≡ shown
@@ -122,15 +123,15 @@ module _ {T : Type 0} where
     pub parts : (q : Place) → part_in E q ≡ part_in D q
     pub kept : (q : Place) → WasMade D q → WasMade E q
 
-  -- no other place leads to a place's part
+  -- no other place refers to a place's part
   abbrev pub IsOnlyPlace : DocumentState T → Place → Type 0
   IsOnlyPlace D p = (q : Place) → IsOther p q → part_in D q ≢ part_in D p
 
-  -- from D to E a place's part has ended
+  -- from D to E a place's part was dropped
   abbrev pub EndsPart : DocumentState T → Place → DocumentState T → Type 0
   EndsPart D p E = (key : ℕ) → part_in D p ≡ Some key → part_at E.parts (Some key) ≡ None
 
-  -- the first of two places that is gone, by what the first shows
+  -- the first of two places that was removed, by what the first has
   abbrev pub first_gone : Option (Shown T) → Place → Place → Place
   first_gone None p q = p
   first_gone (Some shown) p q = q

@@ -21,22 +21,22 @@ IsCounted {X} (suc n) P = (x : X) × P x × IsCounted n (without P x)
 abbrev pub key_in : State ℕ → GenerationalBoxId → Option ℕ
 key_in S id = value_in S (record { id = id; created_at = nowhere })
 
--- an id is of a place that leads to the part under a key
+-- an id is of a place that refers to the part under a key
 abbrev pub Leads : State ℕ → ℕ → GenerationalBoxId → Type 0
 Leads S key id = key_in S id ≡ Some key
 
 module _ {T : Type 0} where
-  -- how many places lead to a part, as it says; none where there is no part
+  -- how many places refer to a part, by its count; none if there is no part
   abbrev pub places_of : Option (Part T) → ℕ
   places_of None = 0
   places_of (Some part) = part.places
 
-  -- a part was added at a location that is told
+  -- a part was added at a location of the document's
   abbrev pub IsTold : List Location → Option (Part T) → Type 0
   IsTold sites None = Unit {0}
   IsTold sites (Some part) = part.site < length sites
 
-  -- each place leads to a part, and each part says how many places lead to it
+  -- each place refers to a part, and each part counts the places that refer to it
   pub record IsKept (S : State ℕ) (parts : List (Option (Part T))) (sites : List Location) : Type 0 where
     pub simple : IsSimple S
     pub small : (id : GenerationalBoxId) (key : ℕ) → Leads S key id → id.slot < too_many

@@ -4,7 +4,7 @@ use Rattle.std.specs.List.{Contains}
 use Rattle.document_tree.specs.Documents.{children_of, DocumentState, Place, shown_in}
 
 module _ {T : Type 0} where
-  -- the children of a place's part, or none where the place is gone
+  -- the children of a place's part, or none if the place was removed
   abbrev pub children_in : DocumentState T → Place → List Place
   children_in D p = unwrap_or (children_of (shown_in D p)) []
 

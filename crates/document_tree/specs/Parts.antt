@@ -1,4 +1,4 @@
--- Parts: what a place more or less leaves of one, and whether each key has one.
+-- Parts: one with a place more or less, and whether each key has one.
 use Rattle.std.specs.Prelude.{ℕ, Bool, ◌+◌, ◌-◌, List, Option, None, Some, if◌then◌else◌, is_some, nat_lt}
 use Rattle.std.specs.List.{list_all}
 use Rattle.document_tree.specs.declared.part.Part.{Part}
@@ -8,7 +8,7 @@ abbrev pub too_many : ℕ
 too_many = 4294967295
 
 module _ {T : Type 0} where
-  -- a part to which one place more leads
+  -- a part that another place refers to
   abbrev pub met : Part T → Part T
   met part = record part { places = part.places + 1 }
 

@@ -30,11 +30,11 @@ use std::marker::Model;
 use std::mem;
 use store_room::reserve_more;
 
-// No place has a slot, and no part a key, from this one on.
+// Places have lower slots than this, and parts lower keys.
 const LIMIT: usize = 4294967295;
 
-/// A document. Contracts see the machine's state, which says to which part each place leads, the parts, and
-/// the locations where they were added.
+/// A document. Contracts model it as the machine's state, which says which part each place refers to,
+/// the parts, and the locations where they were added.
 #[derive(Drop)]
 pub struct Document<T, S: Storage<u32>> {
     // the key of the part of each place
@@ -66,7 +66,7 @@ impl<T, S: Storage<u32>> Model for Document<T, S> {
 }
 
 impl<T, S: Storage<u32>> Document<T, S> {
-    /// A document without parts, over a fresh store (`is_fresh` is the test). Doesn't allocate.
+    /// Creates a document without parts, over a fresh store (see `is_fresh`). Doesn't allocate.
     ///
     /// ```rust
     /// let store = UnsyncStorage::<u32>::new(rt.alloc(), 1);
@@ -85,7 +85,7 @@ impl<T, S: Storage<u32>> Document<T, S> {
         }
     }
 
-    /// The number of the document's store, which its places bear. Doesn't allocate.
+    /// The number of the document's store, which is part of its places. Doesn't allocate.
     ///
     /// ```rust
     /// let number = document.number();
@@ -96,15 +96,15 @@ impl<T, S: Storage<u32>> Document<T, S> {
         self.store.number()
     }
 
-    /// Adds a part with this content and without children, and returns its first place. The place was never
-    /// given before, it leads to a part to which no other leads, and every other place shows what it showed.
-    /// The document says where the part was added as long as it lasts. Amortised O(1).
+    /// Adds a part with this content and without children, and returns its first place, which was never
+    /// issued before. No other place refers to the new part, and every other place is unchanged. The
+    /// document says for its whole lifetime where the part was added. Amortised O(1).
     ///
     /// # Errors
     ///
-    /// `OutOfMemory` alone: only if no slot is free, no dropped part's key is vacant, no part was added at
-    /// this location yet, or there are too many places or parts (4294967295). The content comes back, and
-    /// the document is unchanged.
+    /// `OutOfMemory` is the only possible error: only if no slot is free, no dropped part's key is
+    /// vacant, no part was added at this location yet, or there are too many places or parts
+    /// (4294967295). The content comes back, and the document is unchanged.
     ///
     /// ```rust
     /// let page = document.add(1, here)?;
@@ -155,13 +155,16 @@ impl<T, S: Storage<u32>> Document<T, S> {
         Ok(place)
     }
 
-    /// Another place that leads to the same part, and tells where that was added. It was never given
-    /// before, and every other place shows what it showed. Amortised O(1).
+    /// Returns another place that refers to the same part, with the location where that was added. It
+    /// was never issued before, and every other place is unchanged. Amortised O(1). Allocates only if no
+    /// slot is free.
     ///
     /// # Errors
     ///
-    /// In this order: `Stale` if the place is gone, or is another document's; `OutOfMemory`. The document is
-    /// unchanged then. It allocates only if no slot is free.
+    /// - `Stale` if the place was removed, or belongs to another document.
+    /// - `OutOfMemory`, only if no slot is free, or there are too many places (4294967295).
+    ///
+    /// The document is unchanged then.
     ///
     /// ```rust
     /// let again = document.repeat(heading)?;
@@ -197,11 +200,11 @@ impl<T, S: Storage<u32>> Document<T, S> {
         Ok(handle_at(raw.id, site))
     }
 
-    /// The content of a place's part. The document is borrowed meanwhile. Doesn't allocate, and is O(1).
+    /// Borrows the content of a place's part. Doesn't allocate, and is O(1).
     ///
     /// # Errors
     ///
-    /// `Stale` if the place is gone, or is another document's.
+    /// `Stale` if the place was removed, or belongs to another document.
     ///
     /// ```rust
     /// let content = *document.get(heading)?;
@@ -218,7 +221,7 @@ impl<T, S: Storage<u32>> Document<T, S> {
         }
     }
 
-    /// Whether a place shows a part: false if it was removed, or if it is of another document whose
+    /// Whether a place refers to a part: false if it was removed, or if it is of another document whose
     /// store has another number. Doesn't allocate, and is O(1).
     ///
     /// ```rust
@@ -231,12 +234,11 @@ impl<T, S: Storage<u32>> Document<T, S> {
         peek(&self.store, place).is_some()
     }
 
-    /// The children of a place's part, in order. The document is borrowed meanwhile. Doesn't allocate, and
-    /// is O(1).
+    /// Borrows the children of a place's part, in order. Doesn't allocate, and is O(1).
     ///
     /// # Errors
     ///
-    /// `Stale` if the place is gone, or is another document's.
+    /// `Stale` if the place was removed, or belongs to another document.
     ///
     /// ```rust
     /// for child in document.children(page)?.iter() {
@@ -255,12 +257,12 @@ impl<T, S: Storage<u32>> Document<T, S> {
         }
     }
 
-    /// The place and those that stand below it, in the order in which they are read: each before its
-    /// children, and these in their order. A part is gone over at each place that leads to it, and a
-    /// place that is gone is there without children.
+    /// Returns a list of the place and those below it, depth-first: each before its children, and these
+    /// in their order. A part is listed at each place that refers to it, and a removed place is listed
+    /// without children.
     ///
-    /// Returns at most `limit` places, also if the document has a cycle. Allocates the list, and one of the
-    /// places that wait. O(n) for n places that are returned and their children.
+    /// Lists at most `limit` places, even if the document has a cycle. Allocates the list, and one of
+    /// the pending places. O(n) for n listed places and their children.
     ///
     /// # Errors
     ///
@@ -286,8 +288,8 @@ impl<T, S: Storage<u32>> Document<T, S> {
         Ok(places)
     }
 
-    /// The places of `outline`, each with how many steps it stands below the first: 0 for the first, 1
-    /// for its children. Allocates and takes time like `outline`.
+    /// Returns the places of `outline`, each with its depth below the first: 0 for the first, 1 for its
+    /// children. Allocates and takes time like `outline`.
     ///
     /// # Errors
     ///
@@ -318,14 +320,14 @@ impl<T, S: Storage<u32>> Document<T, S> {
         Ok(places)
     }
 
-    /// Replaces the content of a place's part, and drops the old one. It shows at each place that leads to the
-    /// part, with the children that there were; every other place shows what it showed. Doesn't allocate, and
-    /// is O(1), but for dropping the old content.
+    /// Replaces the content of a place's part, and drops the old one. The part keeps its children;
+    /// places that refer to other parts are unchanged. Doesn't allocate, and is O(1) except for dropping
+    /// the old content.
     ///
     /// # Errors
     ///
-    /// `Stale` if the place is gone, or is another document's. The content comes back, and the document is
-    /// unchanged.
+    /// `Stale` if the place was removed, or belongs to another document. The content comes back, and the
+    /// document is unchanged.
     ///
     /// ```rust
     /// if let Err(refusal) = document.set(heading, 11) {
@@ -365,15 +367,14 @@ impl<T, S: Storage<u32>> Document<T, S> {
         Ok(())
     }
 
-    /// Changes the content of a place's part in place by a closure, which is called once on it, and returns
-    /// what that returns. What the closure leaves shows at each place that leads to the part, with the children
-    /// that there were; every other place shows what it showed. Doesn't allocate itself, and is O(1), but for
-    /// the closure.
+    /// Calls a closure once on the content of a place's part, mutably, and returns the closure's result.
+    /// The part keeps its children; places that refer to other parts are unchanged. Doesn't allocate
+    /// itself, and is O(1) except for the closure.
     ///
     /// # Errors
     ///
-    /// `Stale` if the place is gone, or is another document's. The closure isn't called then, and the document
-    /// is unchanged.
+    /// `Stale` if the place was removed, or belongs to another document. The closure isn't called then,
+    /// and the document is unchanged.
     ///
     /// ```rust
     /// document.update(
@@ -406,18 +407,20 @@ impl<T, S: Storage<u32>> Document<T, S> {
         ))
     }
 
-    /// The child becomes the last child of the parent's part, at each place that leads there. Every
-    /// other place shows what it showed.
+    /// Adds the child as the last child of the parent's part. Places that refer to other parts are
+    /// unchanged.
     ///
-    /// The child may be anything's child already, this part's as well. A document may have cycles:
-    /// nothing keeps a part from standing below itself.
+    /// The child may already be a child of any part, even of this one. A document may have cycles: a
+    /// part may be below itself.
     ///
     /// Amortised O(1).
     ///
     /// # Errors
     ///
-    /// In this order: `Stale` if the parent is gone, or is another document's, and then if the child is;
-    /// `OutOfMemory`. Every place shows what it showed then.
+    /// - `Stale` if the parent was removed, or belongs to another document; then the same for the child.
+    /// - `OutOfMemory`.
+    ///
+    /// Every place is unchanged then.
     ///
     /// ```rust
     /// document.append(page, heading)?;
@@ -452,16 +455,18 @@ impl<T, S: Storage<u32>> Document<T, S> {
         Ok(())
     }
 
-    /// The child becomes a child of the parent's part at an index, at each place that leads there:
-    /// those behind move up by one. Every other place shows what it showed.
+    /// Adds the child as a child of the parent's part at an index: those after it move up by one. Places
+    /// that refer to other parts are unchanged.
     ///
-    /// O(c) for c children behind.
+    /// O(c) for c children after it.
     ///
     /// # Errors
     ///
-    /// In this order: `Stale` if the parent is gone, or is another document's, and then if the child is;
-    /// `OutOfRange` if the part has fewer children than the index; `OutOfMemory`. Every place shows what it
-    /// showed then.
+    /// - `Stale` if the parent was removed, or belongs to another document; then the same for the child.
+    /// - `OutOfRange` if the part has fewer children than the index.
+    /// - `OutOfMemory`.
+    ///
+    /// Every place is unchanged then.
     ///
     /// ```rust
     /// document.insert(page, 0, again)?;
@@ -506,16 +511,18 @@ impl<T, S: Storage<u32>> Document<T, S> {
         Ok(())
     }
 
-    /// Takes the child at an index out of the children of the parent's part, at each place that leads
-    /// there, and returns it: those behind move down by one. The child shows what it showed, as does
-    /// every other place.
+    /// Removes the child at an index from the children of the parent's part, and returns it: those after
+    /// it move down by one. The child's own part is unchanged, and so are places that refer to other
+    /// parts than the parent's.
     ///
-    /// Doesn't allocate, and O(c) for c children behind.
+    /// Doesn't allocate, and is O(c) for c children after it.
     ///
     /// # Errors
     ///
-    /// In this order: `Stale` if the parent is gone, or is another document's; `OutOfRange` if the part has no
-    /// child at the index. The document is unchanged then.
+    /// - `Stale` if the parent was removed, or belongs to another document.
+    /// - `OutOfRange` if the part has no child at the index.
+    ///
+    /// The document is unchanged then.
     ///
     /// ```rust
     /// let taken = document.take_child(page, 0)?;
@@ -556,14 +563,15 @@ impl<T, S: Storage<u32>> Document<T, S> {
         }
     }
 
-    /// Takes those that are gone out of the children of the parent's part, at each place that leads
-    /// there. The others stay, in their order, and every other place shows what it showed.
+    /// Removes the removed places from the children of the parent's part. The other children keep their
+    /// order, and places that refer to other parts are unchanged.
     ///
-    /// Doesn't allocate, and O(c) for c children.
+    /// Doesn't allocate, and is O(c) for c children.
     ///
     /// # Errors
     ///
-    /// `Stale` if the parent is gone, or is another document's. The document is unchanged then.
+    /// `Stale` if the parent was removed, or belongs to another document. The document is unchanged
+    /// then.
     ///
     /// ```rust
     /// document.clear_gone(page)?;
@@ -591,14 +599,14 @@ impl<T, S: Storage<u32>> Document<T, S> {
         Ok(())
     }
 
-    /// Lets a place lead to the part to which another leads: it shows that part from then on, wherever it
-    /// stands as a child. Every other place shows what it showed. The part to which it led before is dropped
-    /// if no other place leads there. Doesn't allocate, and is O(1), but for dropping the old part.
+    /// Makes a place refer to another place's part, in every list of children that has it. Every other
+    /// place is unchanged. The old part is dropped if no other place refers to it. Doesn't allocate, and is
+    /// O(1) except for dropping the old part.
     ///
     /// # Errors
     ///
-    /// `Stale` if the place is gone, or is another document's, and then if the other is. The document is
-    /// unchanged then.
+    /// `Stale` if the place was removed, or belongs to another document; then the same for the other
+    /// place. The document is unchanged then.
     ///
     /// ```rust
     /// let other = document.add(20, here)?;
@@ -628,12 +636,12 @@ impl<T, S: Storage<u32>> Document<T, S> {
         Ok(())
     }
 
-    /// Removes a place: it shows nothing from then on, and its part is dropped if no other place leads there.
-    /// Every other place shows what it showed. Doesn't allocate, and is O(1), but for dropping the part.
+    /// Removes a place, and drops its part if no other place refers to it. Every other place is
+    /// unchanged. Doesn't allocate, and is O(1) except for dropping the part.
     ///
     /// # Errors
     ///
-    /// `Stale` if the place is gone, or is another document's. The document is unchanged then.
+    /// `Stale` if the place was removed, or belongs to another document. The document is unchanged then.
     ///
     /// ```rust
     /// document.remove(heading)?;
@@ -660,7 +668,7 @@ impl<T, S: Storage<u32>> Document<T, S> {
         Ok(())
     }
 
-    // Puts the children of a place at the end of a list, the first one last.
+    // Appends the children of a place to a list, the first one last.
     fn put_children(&self, places: &mut Vec<Place>, place: Place) -> Result<(), AllocError>
         ensures { OnOk result (
             places.new.items ≡ places.old.items ++ reverse (children_in self.now place)) }
@@ -671,7 +679,7 @@ impl<T, S: Storage<u32>> Document<T, S> {
         }
     }
 
-    // Puts the children of a place at the end of a list, each with a depth, the first one last.
+    // Appends the children of a place to a list, each with a depth, the first one last.
     fn put_children_at(
         &self,
         places: &mut Vec<(usize, Place)>,
@@ -687,14 +695,14 @@ impl<T, S: Storage<u32>> Document<T, S> {
         }
     }
 
-    // Takes those that lead to no part out of a list.
+    // Removes from a list those that refer to no part.
     fn retain_live(&self, places: &mut Vec<Place>)
         ensures { places.new.items ≡ live_among self.now places.old.items }
     {
         places.retain(|place| peek(&self.store, *place).is_some());
     }
 
-    // Lets a place lead from one part to another.
+    // Makes a place refer to another part.
     fn lead(&mut self, place: Place, old: u32, new: u32)
     where
         T: Drop,
@@ -714,7 +722,7 @@ impl<T, S: Storage<u32>> Document<T, S> {
         }
     }
 
-    // Puts other children in the place of a part's, which are returned.
+    // Replaces a part's children, and returns the old ones.
     fn swap_children(&mut self, key: u32, children: Vec<Place>) -> Vec<Place>
         requires { (place : Place) × (part_in self.old place ≡ Some key) }
         ensures old { (place : Place) → part_in self.old place ≡ Some key →
@@ -750,7 +758,7 @@ impl<T, S: Storage<u32>> Document<T, S> {
         }
     }
 
-    // The key of a place's part, and the site at which that was added.
+    // The key of a place's part, and the site where that was added.
     fn find_added(&self, place: Place) -> Result<(u32, u32), Stale>
         ensures key { IfOk result (λ found. part_in self.now place ≡ Some found.0) }
         ensures site { IfOk result (λ found. added_in self.now place ≡ slice_get self.now.sites found.1) }
@@ -764,9 +772,9 @@ impl<T, S: Storage<u32>> Document<T, S> {
         }
     }
 
-    /// Where the part was added to which a place was made, also once the place is gone; None of another
-    /// document's. An exchange leaves it as it is: it tells of the first part to which the place led.
-    /// Doesn't allocate, and is O(1).
+    /// Where the part was added that a place was made for, even after the place was removed; None for a
+    /// place of another document. An exchange doesn't change it: it is about the first part that the
+    /// place referred to. Doesn't allocate, and is O(1).
     ///
     /// ```rust
     /// if let Some(created_at) = document.created_at(heading) {
@@ -782,7 +790,7 @@ impl<T, S: Storage<u32>> Document<T, S> {
         self.sites.get(site_of(place))
     }
 
-    // That a place is gone, and where its part was added.
+    // The error for a removed place, with the location where its part was added.
     #[cold]
     #[inline(never)]
     fn stale(&self, place: Place) -> Stale
@@ -794,7 +802,7 @@ impl<T, S: Storage<u32>> Document<T, S> {
     }
 }
 
-// That memory runs out before a content is kept.
+// The error for a content that couldn't be stored because memory ran out.
 fn lacking<T>(content: T) -> Refusal<T>
     ensures value { result.value ≡ content }
     ensures cause { result.cause ≡ OutOfMemory }
@@ -805,7 +813,7 @@ fn lacking<T>(content: T) -> Refusal<T>
     }
 }
 
-// Puts a place at the end of a list. Whether there was room.
+// Appends a place to a list. Whether there was capacity.
 fn push_place(places: &mut Vec<Place>, place: Place) -> bool
     ensures pushed { IsTrue result → places.new.items ≡ places.old.items ++ place ∷ [] }
     ensures same { IsFalse result → places.new.items ≡ places.old.items }
@@ -817,7 +825,7 @@ fn push_place(places: &mut Vec<Place>, place: Place) -> bool
     true
 }
 
-// Puts a place at an index of a list. Whether there was room.
+// Inserts a place at an index of a list. Whether there was capacity.
 fn insert_place(places: &mut Vec<Place>, index: usize, place: Place) -> bool
     requires { index ≤ length places.old.items }
     ensures inserted { IsTrue result → places.new.items ≡ insert places.old.items index place }
@@ -826,7 +834,7 @@ fn insert_place(places: &mut Vec<Place>, index: usize, place: Place) -> bool
     reserve_more(places, 1).is_ok() && places.insert(index, place).is_ok()
 }
 
-// Takes the child at an index out of a part's, if there is one.
+// Removes the child at an index of a part, if there is one.
 fn remove_child<T>(part: &mut Part<T>, index: usize) -> Option<Place>
     ensures removed { IfSome result (λ child.
         (slice_get part.old.children.items index ≡ Some child)
@@ -841,7 +849,7 @@ fn remove_child<T>(part: &mut Part<T>, index: usize) -> Option<Place>
     Some(part.children.remove(index))
 }
 
-// Puts other children in the place of a part's, which are answered.
+// Replaces a part's children, and returns the old ones.
 fn replace_children<T>(part: &mut Part<T>, children: Vec<Place>) -> Vec<Place>
     ensures old { result ≡ part.old.children }
     ensures shown { shown_by part.new
@@ -852,7 +860,7 @@ fn replace_children<T>(part: &mut Part<T>, children: Vec<Place>) -> Vec<Place>
     mem::replace(&mut part.children, children)
 }
 
-// Puts another content in the place of a part's.
+// Replaces a part's content.
 fn put_content<T: Drop>(part: &mut Part<T>, content: T)
     ensures shown { shown_by part.new ≡ with_content content (shown_by part.old) }
     ensures places { part.new.places ≡ part.old.places }
@@ -861,7 +869,7 @@ fn put_content<T: Drop>(part: &mut Part<T>, content: T)
     part.content = content;
 }
 
-// Changes the content of a part by a closure, which is called once.
+// Calls a closure once on the content of a part, mutably.
 fn change_content<T, R, F: FnOnce(&mut T) -> R>(part: &mut Part<T>, f: F) -> R
     requires { (content : MutBor T) → part.old.content ≡ content.now → F.pre f content }
     ensures changed { ChangesContent F.FnOnce f part.old result part.new }

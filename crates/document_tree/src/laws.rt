@@ -5,8 +5,7 @@ ghost use Rattle.std.specs.List.{All};
 ghost use Rattle.document_tree.specs.Documents.{DocumentState, Place};
 ghost use Rattle.document_tree.specs.Outlines.{IsBelow, IsBelowBy, deep_outline_of, outline_of};
 
-/// An outline has no more places than its limit says, and none but its first place and those that
-/// stand below it.
+/// An outline has at most as many places as its limit, and all but its first place are below it.
 pub fn outlines_stay_below<T>()
     ensures within { (D : DocumentState T) (limit : ℕ) (waiting : List Place) →
         length (outline_of D limit waiting) ≤ limit }
@@ -14,8 +13,8 @@ pub fn outlines_stay_below<T>()
         All (IsBelow D top) (outline_of D limit (top ∷ [])) }
 {}
 
-/// An outline with depths has the places of the outline, and each stands as many steps below the first
-/// place as its depth says.
+/// An outline with depths has the places of the outline, and each is as many steps below the first place
+/// as its depth.
 pub fn depths_are_steps<T>()
     ensures places { (D : DocumentState T) (limit : ℕ) (waiting : List (ℕ × Place)) →
         map (λ p. p.1) (deep_outline_of D limit waiting)

@@ -1,10 +1,10 @@
-//! A tree of document parts above the boxes, in which one part may stand in several places.
+//! A tree of document parts, built on boxes, in which a part may be at several places.
 //!
-//! A [`Place`] is a handle of 24 bytes that is copied freely and outlives what it names. A part has content
-//! and the places of its children, and lives as long as a place leads to it. The store has a number for
-//! each place, the key of its part; the parts stand in a list of the document's own. A call with a place
-//! that was removed fails with [`Stale`], which says where its part was added. Each call's contract says
-//! what every place shows afterwards.
+//! A [`Place`] is a `Copy` handle of 24 bytes that may outlive its part. A part has content and the
+//! places of its children, and lives as long as some place refers to it. The store has a number for each
+//! place, the key of its part; the parts are in a list of the document's own. A call with a removed
+//! place fails with [`Stale`], which says where its part was added. Each call's contract says which
+//! content and children every place has afterwards.
 #![tactic(auto)]
 
 mod document;

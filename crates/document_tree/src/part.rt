@@ -14,13 +14,13 @@ use slab::Slab;
 pub struct Part<T> {
     pub(crate) content: T,
     pub(crate) children: Vec<Place>,
-    // how many places lead to it
+    // how many places refer to it
     pub(crate) places: u32,
     // where it was added, in the document's list of locations
     pub(crate) site: u32,
 }
 
-// Makes room for a part. False if memory runs out, and each key has a part: each stays where it is.
+// Reserves capacity for a part. False if memory runs out and each key has a part. No part changes.
 pub(crate) fn make_room<T>(parts: &mut Slab<Part<T>>) -> bool
     ensures room { IsTrue result → HasRoomFor parts.new 1 }
     ensures slots { parts.new.slots ≡ parts.old.slots }
@@ -30,7 +30,7 @@ pub(crate) fn make_room<T>(parts: &mut Slab<Part<T>>) -> bool
     parts.len() < parts.capacity() || parts.reserve(1).is_ok() || parts.reserve_exact(1).is_ok()
 }
 
-// Changes the part under a key in its place, by a closure that is called once on it.
+// Calls a closure once on the part under a key, mutably.
 pub(crate) fn change_part<T, R, F: FnOnce(&mut Part<T>) -> R>(
     parts: &mut Slab<Part<T>>,
     key: usize,
@@ -47,7 +47,7 @@ pub(crate) fn change_part<T, R, F: FnOnce(&mut Part<T>) -> R>(
     }
 }
 
-// One place more leads to the part under a key.
+// Adds one to the number of places that refer to the part under a key.
 pub(crate) fn meet<T>(parts: &mut Slab<Part<T>>, key: usize)
     requires there { is_some (get parts.old key) ≡ true }
     requires fits { (part : Part T) → get parts.old key ≡ Some part → part.places < 4294967295 }
@@ -60,7 +60,7 @@ pub(crate) fn meet<T>(parts: &mut Slab<Part<T>>, key: usize)
     }
 }
 
-// One place less leads to the part under a key, which is dropped if that was the last one.
+// Subtracts one from the number of places that refer to the part under a key, and drops the part at 0.
 pub(crate) fn leave<T: Drop>(parts: &mut Slab<Part<T>>, key: usize)
     requires there { is_some (get parts.old key) ≡ true }
     ensures { (part : Part T) → get parts.old key ≡ Some part →

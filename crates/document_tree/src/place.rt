@@ -1,4 +1,4 @@
-//! Places, and why one wasn't made or wasn't taken up.
+//! Places, and why a call with one fails.
 
 use handles::{Handle, Stale};
 use std::error::Error;
@@ -7,22 +7,22 @@ use std::fmt;
 /// What marks a handle as a place's.
 pub enum PlaceKind {}
 
-/// A place in a document: a handle that is copied freely, owns nothing, and outlives what it names. No
-/// later place is mistaken for it. Places are equal if their ids are: two that lead to one part aren't.
+/// A place in a document: a handle that is `Copy`, owns nothing, and may outlive its part. It never
+/// refers to a later place's part. Places are equal if their ids are: two that refer to one part aren't.
 pub type Place = Handle<u32, PlaceKind>;
 
-/// Why a place wasn't made, or wasn't taken up as a child.
+/// Why a place can't be made, or can't be added as a child.
 #[derive(Clone, Copy, Debug, PartialEq, Eq)]
 pub enum PlaceError {
-    /// A place is gone, or is another document's.
+    /// The place was removed, or belongs to another document.
     Stale(Stale),
-    /// Memory ran out, or there are too many places.
+    /// Out of memory, or too many places.
     OutOfMemory,
-    /// The part has fewer children than the index, or none at it.
+    /// The part has fewer children than the index, or no child at it.
     OutOfRange,
 }
 
-/// Prints what `Stale` prints, `out of memory`, or `the index is past the children`.
+/// Prints the text of `Stale`, `out of memory`, or `the index is past the children`.
 impl fmt::Display for PlaceError {
     ghost use Rattle.std.specs.Prelude.{Some};
     ghost use Rattle.document_tree.specs.Texts.{place_error_text};
@@ -40,7 +40,7 @@ impl fmt::Display for PlaceError {
 
 impl Error for PlaceError {}
 
-/// A place that is gone, or is another document's.
+/// Converts with `?`, and keeps where the place's part was added. Doesn't allocate.
 impl From<Stale> for PlaceError {
     ghost use Rattle.std.specs.Prelude.{◌≡◌};
     ghost use Rattle.document_tree.specs.declared.place.PlaceError.TheVariants.{Stale};

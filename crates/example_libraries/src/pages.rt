@@ -26,7 +26,7 @@ fn write<R: Print, S: Storage<u32>>(rt: &R, document: &mut Document<u64, S>) -> 
     Ok(())
 }
 
-// The heading shows another part, on both pages.
+// Makes the heading refer to another part, on both pages.
 fn change<S: Storage<u32>>(document: &mut Document<u64, S>, heading: Place) -> Result<()> {
     let next = document.add(20, Location::new("pages.rt", 31, 16))?;
     document.exchange(heading, next)?;
