@@ -25,8 +25,8 @@ MEANT = {
     "tally.rt|recorded.rt|recorder.rt": r"refused",  # a kind of steps
 }
 # The crates and the pages that aren't written so yet.
-LATER = {"reactive", "generational_workers", "saved_bytes",
-         "example_workers", "example_files", "test_files", "reactive.md",
+LATER = {"generational_workers", "saved_bytes",
+         "example_workers", "example_files", "test_files",
          "PERFORMANCE.md", "threads.md", "saving.md", "planted.md"}
 
 

@@ -7,7 +7,7 @@ use generational_box::{Location, Storage, UnsyncStorage};
 use reactive::{Effects, Key, Node, Reactive, Reads, Rule};
 use std::alloc::Global;
 
-/// What a memo computes of two nodes.
+/// What a memo computes from two nodes.
 #[derive(Clone, Copy)]
 enum Formula {
     Sum(Key, Key),
@@ -44,7 +44,7 @@ fn order<R: Print, S: Storage<Node<u64, Formula>>>(
     alloc: Global,
     graph: &mut Reactive<u64, Formula, S>,
 ) -> Result<()> {
-    // Sources are set, and memos follow from other nodes.
+    // Sources are set, and memos are computed from other nodes.
     let here = Location::new("prices.rt", 48, 16);
     let pieces = graph.source(3, here)?;
     let price = graph.source(20, here)?;
@@ -64,14 +64,14 @@ fn change<R: Print, S: Storage<Node<u64, Formula>>>(
     total: Key,
 ) -> Result<()> {
     println!(rt; "total {}", graph.get(total)?)?;
-    // Several sets are a batch: no rule is run before something is asked for.
+    // Several sets are a batch: no rule is run before something is read.
     graph.set(pieces, 4)?;
     graph.set(price, 18)?;
     println!(rt; "total {}, {} runs", graph.get(total)?, graph.runs())?;
     Ok(())
 }
 
-// An effect reports where its node means something else.
+// An effect reports the changes of its node.
 fn watch<R: Print, S: Storage<Node<u64, Formula>>>(
     rt: &R,
     alloc: Global,
@@ -92,7 +92,7 @@ fn watch<R: Print, S: Storage<Node<u64, Formula>>>(
     Ok(())
 }
 
-// What needs a node that has ended says so.
+// Without a node that it needs, a memo is an error.
 fn end<R: Print, S: Storage<Node<u64, Formula>>>(
     rt: &R,
     graph: &mut Reactive<u64, Formula, S>,

@@ -2,16 +2,16 @@
 pub mod Known
 unfoldable pub use Known.*
 
--- ==== what holds of a table when nodes are made, set or ended
+-- ==== what holds of a table when nodes are added, set or removed
 
--- a node keeps no questions, and no value but a source's, and has changed in this revision
+-- a node has no cached reads, and no value unless it is a source, and has changed in this revision
 pub record IsReset {T R : Type 0} (now : ℕ) (n : Node T R) : Type 0 where
   pub asked : vec_items n.reads ≡ []
   pub plain : (v : T) → n.value ≡ Some v → n.rule ≡ None
   pub changed : n.changed ≡ now
   pub checked : n.checked ≤ now
 
--- so what it keeps is what its plan gives
+-- so what is cached is what its plan yields
 reset_gives : {T R : Type 0} (plan : R → Plan T) (now : ℕ) (n : Node T R) → IsReset now n → (v : T) → n.value ≡ Some v
     → plan_by plan n.rule n.value ≡ Give v
 reset_gives plan now n reset v is = rw (reset.plain v is, is) refl
@@ -20,7 +20,7 @@ some_in : {X : Type 0} (o : Option X) → o ≢ None → (x : X) × (o ≡ Some 
 some_in (Some x) live = (x, refl)
 some_in None live = absurd (live refl)
 
--- ---- whoever is known still after some nodes were forgotten reads what is as it was
+-- ---- each memo that is still known after some nodes were forgotten reads only what is unchanged
 
 in_rest : {X : Type 0} (x : X) (xs : List X) (y : X) → Contains xs y → Contains (x ∷ xs) y
 in_rest x xs y (k, lt, is) = (suc k, omega (arith, lt), is)
@@ -65,7 +65,7 @@ module _ {T R : Type 0} {plan : R → Plan T} {G : Graph T} {now : ℕ} {old : B
   plan_still : (k : Key) → new.nodes k ≡ old.nodes k → G k ≡ graph_of plan new.nodes k
   plan_still k same = sym (s.same k) ∙ sym (ap (plan_at plan) same)
 
-  -- what a plan gives by what is known still, it gives still
+  -- what a plan yields by what is still known, it still yields
   over : (p : Plan T) (v : T) → Gives G p v → (answers : List (Asked T)) (w : T)
       → Follows p answers (Give w) → AllMean G answers → AreKnown new answers → Gives (graph_of plan new.nodes) p v
   over _ _ (gives v) answers w lead all known = gives v
@@ -112,8 +112,8 @@ module _ {T R : Type 0} {plan : R → Plan T} {G : Graph T} {now : ℕ} {old : B
         known = known;
       }
 
--- Each node is as it was, or was reset; no answer that is meant is that of a node which was reset, and
--- answers that were meant are.
+-- Each node is unchanged, or was reset; no result that is meant is that of a node which was reset, and
+-- results that were meant are.
 module _ {T R : Type 0} {plan : R → Plan T} {G : Graph T} {now : ℕ} (next : ℕ) {old : Book T R} (new : Book T R)
     (s : IsSound plan G now old) (f : AreForgotten old new) (later : now ≤ next) (New : Key → Type 0)
     (each : (j : Key) (m : Node T R) → new.nodes j ≡ Some m
@@ -207,7 +207,7 @@ module _ {T R : Type 0} {plan : R → Plan T} {G : Graph T} {now : ℕ} {old : B
         (λ since a le mean is_new low. omega (arith, le, low, later))
         (λ since answers le e mean. absurd (let wrong : ⊥ = omega (arith, le, e, later) in wrong))
 
-    -- a node was made, where none was
+    -- a node was added, where none was
     pub made_sound : old.nodes k ≡ None → IsReset now n → IsSound plan (graph_of plan new.nodes) now new
     made_sound none reset = changed_sound now new s f (omega arith) (λ j. G j ≡ Stop)
         (each_put now (λ j. G j ≡ Stop) reset (none_stops s k none))
@@ -216,7 +216,7 @@ module _ {T R : Type 0} {plan : R → Plan T} {G : Graph T} {now : ℕ} {old : B
         (λ since answers le e mean. grown_all G (graph_of plan new.nodes)
         (λ j. grind (arith, key_cases j k, s.same j, put.others j)) answers (mean e))
 
-  -- nodes have ended, in a later revision
+  -- nodes were removed, in a later revision
   pub ended_sound : (next : ℕ) → now < next → ((j : Key) → (new.nodes j ≡ None) ⊎ (new.nodes j ≡ old.nodes j))
       → IsSound plan (graph_of plan new.nodes) next new
   ended_sound next later left = changed_sound next new s f (omega (arith, later)) (λ j. ⊥)
@@ -304,14 +304,14 @@ module _ {T R : Type 0} {G : Graph T} {now : ℕ} {old new : Book T R} (l : Leav
     known = known_left h.answers h.known;
   }
 
--- what is known stands at any time
+-- what is known holds at any time
 known_stand : {T R : Type 0} (b : Book T R) (since : ℕ) (answers : List (Asked T))
     → AreKnown b answers → AllStand b.nodes since answers
 known_stand b since [] all = tt
 known_stand b since (a ∷ rest) ((m, at, (has, known)), all) =
     (λ n is le. cc, known_stand b since rest all)
 
--- ---- nothing is lost where memory ran out
+-- ---- nothing is lost if memory ran out
 
 module _ {T R : Type 0} {plan : R → Plan T} {G : Graph T} {now : ℕ} {old new : Book T R}
     (s : IsSound plan G now old) (left : IsLeft old new) where
@@ -590,11 +590,11 @@ module _ {T : Type 0} (G : Graph T) where
   chain_reaches start (p ∷ rest) top goal (e, (k, m, c)) r =
       rw e (comes_by p.key k goal m (chain_reaches k rest top goal c r))
 
-  -- a node leads to another by one step or more
+  -- a node reaches another by one step or more
   abbrev Leads : Key → Key → Type 0
   Leads goal j = (k : Key) × ((path : List Frame) × (Needs G j k × Chain G k path goal))
 
-  -- each node of a chain does so to its end
+  -- each node of a chain reaches its end
   leads_member : (goal start : Key) (path : List Frame) → Chain G start path goal → (i : ℕ) (f : Frame)
       → slice_get path i ≡ Some f → Leads goal f.key
   leads_member goal start [] c i f is = absurd (none-some f is)
@@ -693,12 +693,12 @@ module _ {T R : Type 0} {plan : R → Plan T} {G : Graph T} {now : ℕ} {start :
 -- ==== what calls leave of a graph that is kept
 
 module _ {T R : Type 0} where
-  -- a node that was put where one of its kind was leaves what each key is
+  -- a node that replaces one of its kind changes no key's kind
   pub put_kinds : (old new : Table T R) (k : Key) (n m : Node T R) → old k ≡ Some n
       → kind_by_rule m.rule ≡ kind_by_rule n.rule → IsPut old k m new → kinds_of new ≡ kinds_of old
   put_kinds old new k n m is same put = grind (arith, key_cases)
 
-  -- from one graph to another a node was put in the place of a key's, in a later revision
+  -- from one graph to another a key's node was replaced, in a later revision
   abbrev pub IsRenewed : GraphState T R → Key → Option R → Option T → GraphState T R → Type 0
   IsRenewed old k rule value new = (n : Node T R) × IsResetTo rule value new.revision n
       × (old.revision < new.revision) × IsPut (nodes_in old.state) k n (nodes_in new.state)
@@ -819,7 +819,7 @@ module _ {T R : Type 0} {plan : R → Plan T} where
   kept_reset (Err e) old new web after k rule value put kept simple f refused shows =
       kept_same old new web after kept refused
 
-  -- ---- nodes that have ended, or not
+  -- ---- nodes that were removed, or not
 
   pub kept_lost : {E : Type 0} (r : Result (Unit {0}) E) (old new : GraphState T R) (web after : Web) (gone : List Key)
       → OnOk r (HasLost (nodes_in old.state) gone (nodes_in new.state))
@@ -871,7 +871,7 @@ module _ {T R : Type 0} (old mid new : Book T R) (keys : List Key) (i : ℕ) (d 
 
 module _ {T R : Type 0} {plan : R → Plan T} {G : Graph T} {now : ℕ} {b : Book T R}
     (s : IsSound plan G now b) (one : (k : Key) → b.nodes k ≢ None → IsApart b.nodes k) where
-  -- the answer to a question of a list
+  -- the result of a read of a list
   answer_of : (answers : List (Asked T)) (a : Key) → Contains (list_map (λ x. x.key) answers) a → AreKnown b answers
       → (place : ℕ) × (x : Asked T) × (slice_get answers place ≡ Some x) × (x.key ≡ a) × Shows b x.key x.value
   answer_of [] a (k, lt, is) known = absurd (omega (arith, lt))

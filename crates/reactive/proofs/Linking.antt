@@ -91,7 +91,7 @@ pub stays : (owners : List Owner) (edge e : Edge) → (is_current owners e ≡ t
 stays owners edge e (inl now) = rw now refl
 stays owners edge e (inr is) = grind (arith, like_itself)
 
--- a slot's edges were put in the place of others
+-- a slot's edges were replaced
 pub put_edges : (rs : List (Vec Edge)) (to s : ℕ) (v : Vec Edge) (e : Edge) → to < length rs
     → (Contains (edges_by (slice_get rs to)) e → Contains (vec_items v) e)
     → Contains (edges_by (slice_get rs s)) e → Contains (edges_by (slice_get (set rs to v) s)) e

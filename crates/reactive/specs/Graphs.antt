@@ -1,4 +1,4 @@
--- What a caller sees of a graph.
+-- The model of a graph.
 use Rattle.std.specs.Prelude.{◌≡◌, ◌≢◌, ◌+◌, ◌^◌, ℕ, List, Option, None, Some}
 use Rattle.generational_core.specs.State.{State}
 use Rattle.generational_errors.specs.declared.error.StoreError.TheVariants.{NumbersExhausted}

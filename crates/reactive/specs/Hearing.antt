@@ -1,4 +1,4 @@
--- Effects: nodes that are watched, each with what was last told of it.
+-- Effects: nodes that are watched, each with what was last reported of it.
 use Rattle.std.specs.Prelude.{◌≡◌, ℕ, suc, zero, Bool, true, false, List, [], ◌∷◌, ◌++◌, Option, None, Some, Result, Ok, Err}
 use Rattle.reactive.specs.declared.effects.Effect.{Effect}
 use Rattle.reactive.specs.declared.effects.Told.{Told}
@@ -7,18 +7,18 @@ use Rattle.reactive.specs.declared.key.Key.{Key}
 use Rattle.reactive.specs.Meaning.{Graph, Means, IsMute}
 
 module _ {T : Type 0} where
-  -- an answer says what a node means: this value, or nothing
+  -- a report says what a node means: this value, or nothing
   abbrev pub Says : Graph T → Key → Result T Fault → Type 0
   Says G k (Ok v) = Means G k v
   Says G k (Err f) = IsMute G k
 
-  -- what was last told says the same: this value, or that there is none
+  -- the last report says the same: this value, or that there is none
   abbrev pub WasTold : Option (Result T Fault) → Result T Fault → Type 0
   WasTold told (Ok v) = told ≡ Some (Ok v)
   WasTold told (Err f) = (g : Fault) × (told ≡ Some (Err g))
 
 module _ {T : Type 0} (same : T → T → Bool) where
-  -- whether an answer needn't be told again, by what was last told
+  -- whether a result needn't be reported again, by the last report
   abbrev pub is_old : Option (Result T Fault) → Result T Fault → Bool
   is_old None a = false
   is_old (Some (Ok v)) (Ok w) = same v w
@@ -26,8 +26,8 @@ module _ {T : Type 0} (same : T → T → Bool) where
   is_old (Some (Err f)) (Ok w) = false
   is_old (Some (Err f)) (Err g) = true
 
-  -- An effect hears an answer. It is told, and noted, if it is new; or else the effect stays, and this
-  -- was told.
+  -- An effect gets a result. It is reported, and recorded, if it is new; otherwise the effect is
+  -- unchanged, and this was reported.
   abbrev pub Hears : Effect T → Result T Fault → Effect T → List (Told T) → Type 0
   Hears e a f [] = (f ≡ e) × WasTold e.told a
   Hears e a f (t ∷ []) = (is_old e.told a ≡ false)

@@ -88,7 +88,8 @@ pub data Leans (w : Web) (known : ℕ → Option ℕ) : ℕ → ℕ → Type 0 w
   leans_itself : (s : ℕ) → Leans w known s s
   leans_by : (r s t g : ℕ) → known r ≡ Some g → IsLinked w r s → Leans w known s t → Leans w known r t
 
--- From one state to another a slot was forgotten: whoever is known still reads nothing but what is as it was.
+-- From one state to another a slot was forgotten: each memo that is still known reads only what is
+-- unchanged.
 pub record HasForgotten (w : Web) (old : List Mark) (slot : ℕ) (new : List Mark) : Type 0 where
   pub fewer : (s g : ℕ) → known_at new s ≡ Some g → known_at old s ≡ Some g
   pub here : known_at new slot ≡ None

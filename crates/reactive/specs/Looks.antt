@@ -17,7 +17,7 @@ use Rattle.reactive.specs.Chains.{GoesOn}
 use Rattle.reactive.specs.Tables.{AreKnown, Book, Shows}
 
 module _ {T R : Type 0} (b : Book T R) where
-  -- the question at a place is that for a node, and the answers before it are right
+  -- the read at an index is of that node, and the results before it are right
   pub record IsAsked (answers : List (Asked T)) (k : Key) (place : ℕ) : Type 0 where
     pub answer : Asked T
     pub there : slice_get answers place ≡ Some answer
@@ -31,7 +31,7 @@ module _ {T R : Type 0} (b : Book T R) where
   Verified answers (verdict.Gone k) = (b.nodes k ≡ None) × ((place : ℕ) × IsAsked answers k place)
 
 module _ {T R : Type 0} (G : Graph T) (now : ℕ) (b : Book T R) (k : Key) where
-  -- a memo's plan leads to a value by answers that are known to be right
+  -- a memo's plan leads to a value by results that are known to be right
   pub record LeadsTo (n : Node T R) (v : T) (reads : List Key) : Type 0 where
     pub rule : R
     pub has : n.rule ≡ Some rule

@@ -3,19 +3,19 @@ use Rattle.std.specs.Prelude.{List, [], ◌∷◌, Option, None, Some}
 use Rattle.reactive.specs.declared.key.Key.{Key}
 use Rattle.reactive.specs.Plans.{Plan, Give, Stop, Ask, Asked, Follows}
 
--- A graph has a plan for each node: a source's gives its value, a memo's is its rule's, and that of
--- a node that has ended stops.
+-- A graph has a plan for each node: a source's yields its value, a memo's is its rule's, and that of a
+-- removed node fails.
 abbrev pub Graph : Type 0 → Type 0
 Graph T = Key → Plan T
 
--- A plan gives a value in a graph: at once, or by what the node that it asks for gives there.
+-- A plan yields a value in a graph: at once, or by what the node that it reads yields there.
 pub data Gives {T : Type 0} (G : Graph T) : Plan T → T → Type 0 where
   gives : (v : T) → Gives G (Give v) v
   goes_on : (k : Key) (next : T → Plan T) (a v : T)
       → Gives G (G k) a → Gives G (next a) v → Gives G (Ask k next) v
 
 module _ {T : Type 0} (G : Graph T) where
-  -- a node means what its plan gives
+  -- a node means what its plan yields
   abbrev pub Means : Key → T → Type 0
   Means k v = Gives G (G k) v
 
@@ -23,12 +23,12 @@ module _ {T : Type 0} (G : Graph T) where
   abbrev pub IsMute : Key → Type 0
   IsMute k = (v : T) → Means k v → ⊥
 
-  -- each question was answered by what its node means
+  -- each read returned what its node means
   abbrev pub AllMean : List (Asked T) → Type 0
   AllMean [] = Unit {0}
   AllMean (a ∷ rest) = Means a.key a.value × AllMean rest
 
-  -- a node needs another: it asks for it, after questions whose answers are what those nodes mean
+  -- a node needs another: it reads it, after reads whose results are what those nodes mean
   abbrev pub Needs : Key → Key → Type 0
   Needs j k = (answers : List (Asked T)) × (next : T → Plan T)
       × AllMean answers × Follows (G j) answers (Ask k next)
@@ -46,11 +46,11 @@ module _ {T : Type 0} (G : Graph T) where
   abbrev pub NeedsItself : Key → Type 0
   NeedsItself j = (k : Key) × Needs G j k × Reaches G k j
 
-  -- a node's rule gives no value, by what the nodes that it asks for mean
+  -- a node's rule yields no value, by what the nodes that it reads mean
   abbrev pub GivesNone : Key → Type 0
   GivesNone j = (answers : List (Asked T)) × AllMean G answers × Follows (G j) answers Stop
 
--- what a plan that asks for a node goes on with, if that is a source
+-- how a plan that reads a node continues, if that is a source
 abbrev pub value_from : {T : Type 0} → Plan T → (T → Option T) → Option T
 value_from (Give a) goes = goes a
 value_from Stop goes = None

@@ -1,4 +1,4 @@
--- What the answer to a question for a node says of its meaning.
+-- What the result of a read of a node says of its meaning.
 use Rattle.std.specs.Prelude.{◌≡◌, ◌⊎◌, ℕ, List, Option, None, Some, Result, Ok, Err}
 use Rattle.generational_errors.specs.declared.error.StoreError.{StoreError}
 use Rattle.generational_errors.specs.declared.error.StoreError.TheVariants.{NumbersExhausted, OutOfMemory}
@@ -21,8 +21,8 @@ abbrev pub IsShort : StoreError → Type 0
 IsShort e = (e ≡ OutOfMemory) ⊎ (e ≡ NumbersExhausted)
 
 module _ {T : Type 0} (G : Graph T) (kind : Key → Kind) (k : Key) where
-  -- That a node has ended, needs itself, or gives no value is true of it, and says that the node that was
-  -- asked for comes to it and means nothing. That memory or numbers ran out says nothing of it.
+  -- That a node was removed, needs itself, or yields no value is true of it, and says that the node that
+  -- was read depends on it and means nothing. That memory or numbers ran out says nothing of it.
   abbrev pub Blames : Fault → Type 0
   Blames (fault.Gone j) = IsMute G k × Reaches G k j × (kind j ≡ NoNode)
   Blames (fault.Cycle j) = IsMute G k × Reaches G k j × NeedsItself G j
@@ -55,7 +55,7 @@ module _ {T R : Type 0} (plan : R → Plan T) (G : Graph T) (now : ℕ) where
     pub others : AllGoOn G now b path
     pub last : GoesOn G now b top.key top.place
 
-  -- the way goes on, or has come to its end
+  -- the path goes on, or has come to its end
   abbrev pub Went : Book T R → Key → List Frame → Result (Option Frame) Fault → Type 0
   Went b start path (Ok (Some top)) = IsOnTheWay b start path top
   Went b start path (Ok None) = IsSound plan G now b × ((v : T) × Shows b start v)

@@ -9,7 +9,7 @@ use Rattle.reactive.specs.Links.{Keeps}
 use Rattle.reactive.specs.Tables.{Book, Shows, Stands}
 
 module _ {T R : Type 0} where
-  -- a node keeps a value and the questions by which its rule came to it, checked now: either the
+  -- a node has a cached value and the reads that its rule computed it from, checked now: either the
   -- value that it had, or one that has changed now
   pub record IsSettled (old : Node T R) (v : T) (asked : Vec Key) (now : ℕ) (new : Node T R) : Type 0 where
     pub rule : new.rule ≡ old.rule
@@ -18,8 +18,8 @@ module _ {T R : Type 0} where
     pub checked : new.checked ≡ now
     pub changed : (new.changed ≡ now) ⊎ ((new.changed ≡ old.changed) × (old.value ≡ Some v))
 
--- What a step leaves of a book: what was known is known, answers that stood stand, and each node is as
--- it was, or known.
+-- What a step changes in a book: what was known is known, results that were valid are, and each node is
+-- unchanged, or known.
 pub record Leaves {T R : Type 0} (G : Graph T) (now : ℕ) (old new : Book T R) : Type 0 where
   pub known : (k : Key) (v : T) → Shows old k v → Shows new k v
   pub stand : (since : ℕ) (a : Asked T) → since ≤ now → (since ≡ now → Means G a.key a.value)

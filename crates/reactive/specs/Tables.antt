@@ -20,14 +20,14 @@ use Rattle.reactive.specs.Meaning.{Graph, AllMean}
 abbrev pub Table : Type 0 → Type 0 → Type 0
 Table T R = Key → Option (Node T R)
 
--- the box of a key; what it reaches doesn't depend on where it was made
+-- the box of a key; what it refers to doesn't depend on where it was made
 abbrev pub nowhere : Location
 nowhere = record { file = record { ref_ptr = (0, 0); now = [] }; line = 0; column = 0 }
 
 abbrev pub pointer_in : Key → GenerationalPointer
 pointer_in k = record { id = k.id; created_at = nowhere }
 
--- these questions, answered by what their nodes show
+-- these reads, with their nodes' values
 abbrev pub answered : {T : Type 0} → Key → Option T → List (Asked T) → List (Asked T)
 answered k None rest = rest
 answered k (Some v) rest = record { key = k; value = v } ∷ rest
@@ -68,7 +68,7 @@ module _ {T R : Type 0} where
   abbrev pub Shows : Book T R → Key → T → Type 0
   Shows b k v = (n : Node T R) × (b.nodes k ≡ Some n) × IsKnown (knows b.known k) n v
 
-  -- each question was answered by what its node is known to mean
+  -- each read returned what its node is known to mean
   abbrev pub AreKnown : Book T R → List (Asked T) → Type 0
   AreKnown b [] = Unit {0}
   AreKnown b (a ∷ rest) = Shows b a.key a.value × AreKnown b rest
@@ -87,7 +87,7 @@ module _ {T R : Type 0} where
 
   -- ---- what is kept
 
-  -- an answer stands: its node has that value still, if that hasn't changed since a revision
+  -- a result is valid: its node still has that value, if that hasn't changed since a revision
   abbrev pub Stands : Table T R → ℕ → Asked T → Type 0
   Stands nodes since a =
       (n : Node T R) → nodes a.key ≡ Some n → n.changed ≤ since → n.value ≡ Some a.value
@@ -96,8 +96,8 @@ module _ {T R : Type 0} where
   AllStand nodes since [] = Unit {0}
   AllStand nodes since (a ∷ rest) = Stands nodes since a × AllStand nodes since rest
 
-  -- What a node keeps is a walk of its plan: the answers to its questions lead to its value. They
-  -- stand since the node was checked, and are what those nodes mean if that was in this revision.
+  -- What is cached of a node is a walk of its plan: the results of its reads lead to its value. They are
+  -- valid since the node was checked, and are what those nodes mean if that was in this revision.
   pub record IsWalk (G : Graph T) (now : ℕ) (nodes : Table T R) (k : Key) (n : Node T R) (v : T) : Type 0 where
     pub answers : List (Asked T)
     pub asked : list_map (λ a. a.key) answers ≡ vec_items n.reads
@@ -105,8 +105,8 @@ module _ {T R : Type 0} where
     pub stand : AllStand nodes n.checked answers
     pub fresh : n.checked ≡ now → AllMean G answers
 
-  -- What is known of a memo: the answers to its questions, which are what those nodes mean and are known
-  -- to, lead to its value.
+  -- What is known of a memo: the results of its reads, which are what those nodes mean and are known to,
+  -- lead to its value.
   pub record IsHeld (G : Graph T) (b : Book T R) (k : Key) (n : Node T R) (v : T) : Type 0 where
     pub answers : List (Asked T)
     pub asked : list_map (λ a. a.key) answers ≡ vec_items n.reads
@@ -114,21 +114,21 @@ module _ {T R : Type 0} where
     pub mean : AllMean G answers
     pub known : AreKnown b answers
 
-  -- Each node whose links are its own is linked to what it reads, and a memo that keeps a value to nothing
-  -- else. The links of known memos are their own.
+  -- Each node whose links are its own is linked to what it reads, and a memo with a cached value to
+  -- nothing else. The links of known memos are their own.
   pub record AreLinked (b : Book T R) : Type 0 where
     pub linked : (k : Key) (n : Node T R) → b.nodes k ≡ Some n → Owns b.web k
         → (a : Key) → Contains (vec_items n.reads) a → IsLinked b.web k.id.slot a.id.slot
     pub exact : (k : Key) (n : Node T R) → b.nodes k ≡ Some n → n.rule ≢ None → n.value ≢ None → Owns b.web k
         → (s : ℕ) → IsLinked b.web k.id.slot s → (a : Key) × Contains (vec_items n.reads) a × (a.id.slot ≡ s)
     pub owned : (s g : ℕ) → b.known s ≡ Some g → (owner_at (vec_items b.web.owners) s).generation ≡ Some g
-    -- what is known of a slot is known of the node that has it, which is a memo and keeps a value
+    -- what is known of a slot is known of its node, which is a memo with a cached value
     pub whole : (k : Key) (n : Node T R) (g : ℕ) → b.nodes k ≡ Some n → b.known k.id.slot ≡ Some g
         → (k.id.generation ≡ g) × (n.rule ≢ None) × (n.value ≢ None)
     pub numbered : AreNumbered b.web
 
 module _ {T R : Type 0} (plan : R → Plan T) where
-  -- a memo's plan is its rule's, and a source's gives its value
+  -- a memo's plan is its rule's, and a source's yields its value
   abbrev pub plan_by : Option R → Option T → Plan T
   plan_by (Some r) kept = plan r
   plan_by None (Some v) = Give v
@@ -141,8 +141,8 @@ module _ {T R : Type 0} (plan : R → Plan T) where
   abbrev pub graph_of : Table T R → Graph T
   graph_of nodes k = plan_at (nodes k)
 
-  -- A book is sound for a graph: it has this graph's plans, each node keeps a walk of its plan, what is
-  -- known is held, and nothing was changed or checked later than now.
+  -- A book is sound for a graph: it has this graph's plans, each node has a cached walk of its plan,
+  -- what is known is true, and nothing was changed or checked later than now.
   pub record IsSound (G : Graph T) (now : ℕ) (b : Book T R) : Type 0 where
     pub same : (k : Key) → graph_of b.nodes k ≡ G k
     pub walks : (k : Key) (n : Node T R) → b.nodes k ≡ Some n

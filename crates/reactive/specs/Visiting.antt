@@ -16,7 +16,7 @@ count_known marks = count_by (λ m. is_some m.generation) marks
 abbrev pub HasRoom : Marks → Type 0
 HasRoom m = count_known (vec_items m.known) + m.left ≤ length (vec_items m.known)
 
--- from a slot on, the marks lead through these, of which nothing is known
+-- from a slot on, the marks list these, of which nothing is known
 abbrev pub LeadThrough : List Mark → ℕ → List ℕ → Type 0
 LeadThrough marks first [] = Unit {0}
 LeadThrough marks first (s ∷ rest) = (first ≡ s) × (s < length marks) × (known_at marks s ≡ None)

@@ -1,4 +1,4 @@
-//! Effects: nodes that are watched, and told of where they mean something else.
+//! Effects: nodes that are watched, and whose changes are reported.
 
 ghost use Rattle.std.specs.Prelude.{◌≡◌, ℕ, List, [], ◌∷◌, ◌++◌, length, IsTrue, IfErr, OnOk, OnErr, Result, Ok, Err, None, Some, filter, not};
 ghost use Rattle.reactive.specs.declared.effects.Told.{Told};
@@ -25,7 +25,7 @@ pub struct Effect<T> {
     pub(crate) told: Option<Result<T, Fault>>,
 }
 
-/// What a flush reports: a node that is watched, and what it means now, or why it means nothing.
+/// A report of a flush: a node that is watched, and what it means now, or why it means nothing.
 #[derive(Drop)]
 pub struct Told<T> {
     pub key: Key,
@@ -33,7 +33,7 @@ pub struct Told<T> {
 }
 
 impl<T: Value + Drop> Effect<T> {
-    // Whether a value is what was last told.
+    // Whether a value is the one that was last reported.
     fn has_heard(&self, value: &T) -> bool
         ensures old { result ≡ is_old T.is_same self.now.told (Ok value.now) }
         ensures told { IsTrue result → WasTold self.now.told (Ok value.now) }
@@ -44,7 +44,7 @@ impl<T: Value + Drop> Effect<T> {
         }
     }
 
-    // Tells an answer, and notes that it was told.
+    // Reports a value or a fault, and records that it was reported.
     fn tell(
         &mut self,
         noted: Result<T, Fault>,
@@ -67,7 +67,7 @@ impl<T: Value + Drop> Effect<T> {
         Ok(())
     }
 
-    // Tells a value, unless it was the last that was told.
+    // Reports a value, unless it is the one that was last reported.
     fn hear_value(&mut self, value: &T, told: &mut Vec<Told<T>>) -> Result<(), StoreError>
         ensures heard { OnOk result ((news : List (Told T)) × (told.new.items ≡ told.old.items ++ news)
             × Hears T.is_same self.old (Ok value.now) self.new news) }
@@ -87,7 +87,7 @@ impl<T: Value + Drop> Effect<T> {
         self.tell(Ok(noted), Ok(answer), told)
     }
 
-    // Tells that there is no value, unless that was told.
+    // Reports that there is no value, unless that was last reported.
     fn hear_fault(&mut self, fault: Fault, told: &mut Vec<Told<T>>) -> Result<(), StoreError>
         ensures heard { OnOk result ((news : List (Told T)) × (told.new.items ≡ told.old.items ++ news)
             × Hears T.is_same self.old (Err fault) self.new news) }
@@ -102,7 +102,7 @@ impl<T: Value + Drop> Effect<T> {
         self.tell(Err(fault), answer, told)
     }
 
-    // Brings the node up to date, and tells what it means, unless that was told.
+    // Brings the node up to date, and reports what it means, unless that was last reported.
     fn hear<R: Rule<T>, S: Storage<Node<T, R>>>(
         &mut self,
         graph: &mut Reactive<T, R, S>,
@@ -129,15 +129,15 @@ impl<T: Value + Drop> Effect<T> {
     }
 }
 
-/// Nodes that are watched, in the order in which they were. Contracts see them as effects: each a node,
-/// with what was last reported of it. A node that is watched twice has two effects.
+/// Nodes that are watched, in the order in which they were added. Contracts model it as effects: each a
+/// node, with what was last reported of it. A node that is watched twice has two effects.
 #[derive(Drop)]
 pub struct Effects<T> {
     effects: Vec<Effect<T>>,
 }
 
 impl<T: Value + Drop> Effects<T> {
-    /// No effects. Takes no memory.
+    /// Creates an empty list of effects. Doesn't allocate.
     ///
     /// ```rust
     /// let mut effects = Effects::new(alloc);
@@ -151,9 +151,11 @@ impl<T: Value + Drop> Effects<T> {
     }
 
     /// Watches a node: the next flush reports what it means, and each later one what it means if that
-    /// has changed.
+    /// has changed. Amortised O(1).
     ///
-    /// Refused if memory runs out: the effects are unchanged. O(1), but for finding room.
+    /// # Errors
+    ///
+    /// If memory runs out. The effects are unchanged then.
     ///
     /// ```rust
     /// effects.watch(total)?;
@@ -171,7 +173,7 @@ impl<T: Value + Drop> Effects<T> {
         }
     }
 
-    /// Watches a node no longer: its effects go, and the others are unchanged, in order. Takes no memory,
+    /// Stops watching a node: removes its effects. The others are unchanged, in order. Doesn't allocate,
     /// and is O(n).
     ///
     /// ```rust
@@ -185,15 +187,18 @@ impl<T: Value + Drop> Effects<T> {
     }
 
     /// Brings each watched node up to date, in order, and pushes one entry for each that means another
-    /// value than was last reported, or no longer means one. No node means something else afterwards.
+    /// value than was last reported, or that no longer means one. No node's meaning changes.
     ///
-    /// Of a node that means nothing, since it has ended, needs itself, or its rule gives no value, the
-    /// fault is reported once, and nothing more until it means something. Its effect stays until
+    /// If a node means nothing, since it was removed, needs itself, or its rule returns no value, the
+    /// fault is reported once, and nothing more until the node means something. Its effect stays until
     /// `unwatch`.
     ///
-    /// Refused by `OutOfMemory`, or after 2^64 steps by `NumbersExhausted`: what was pushed until then is
-    /// right, and a later flush reports the rest. Takes the time of a `refresh` of each watched node, and
-    /// memory for what is reported.
+    /// Takes the time of a `refresh` of each watched node, and allocates for what is reported.
+    ///
+    /// # Errors
+    ///
+    /// `OutOfMemory`, or after 2^64 steps `NumbersExhausted`. The entries that were pushed by then are
+    /// right, and a later flush reports the rest.
     ///
     /// ```rust
     /// graph.set(postage, 0)?;

@@ -6,8 +6,8 @@ ghost use Rattle.generational_core.specs.Texts.{id_text};
 use generational_core::GenerationalBoxId;
 use std::fmt;
 
-/// A handle to a node: a source or a memo. It is copied freely, owns nothing, and outlives
-/// its node: no later node is mistaken for it.
+/// A handle of a node: a source or a memo. It is `Copy`, owns nothing, and may outlive its node: it
+/// never refers to a later one.
 #[derive(Clone, Copy, PartialEq, Eq, PartialOrd, Ord, Hash, Debug)]
 pub struct Key {
     pub(crate) id: GenerationalBoxId,

@@ -1,4 +1,4 @@
-//! What meanings are, for callers. It is the contract of a function that does nothing.
+//! What nodes mean, for callers. It is the contract of a function that does nothing.
 
 ghost use Rattle.std.specs.Prelude.{◌≡◌, ◌≢◌, ℕ, Bool, List, [], ◌∷◌, length, slice_get, None, Some, IfOk, Result};
 ghost use Rattle.reactive.specs.declared.effects.Effect.{Effect};
@@ -15,10 +15,10 @@ ghost use Rattle.reactive.specs.Plans.{Ask, Give, Plan};
 
 use crate::rule::Rule;
 
-/// A node means at most one value: so two questions for it, and two memos of one rule, never show
-/// different ones. A source means its value, and a memo that asks for one node means what its rule
-/// makes of what that node means. A `get` of a memo that asks for sources alone, however many, returns
-/// what its rule makes of their values.
+/// A node means at most one value: so two reads of it, and two memos of one rule, never yield different
+/// ones. A source means its value, and a memo that reads one node means what its rule computes from that
+/// node's value. A `get` of a memo that reads only sources, however many, returns what its rule computes
+/// from their values.
 pub fn nodes_mean_one_value<T>()
     ensures one { (G : Graph T) (k : Key) (v w : T) → Means G k v → Means G k w → v ≡ w }
     ensures alike { (G H : Graph T) (j k : Key) (v w : T) → H ≡ G → G j ≡ G k → Means G j v → Means H k w → v ≡ w }
@@ -29,21 +29,22 @@ pub fn nodes_mean_one_value<T>()
         value_by G (G k) ≡ Some v → Answers G kind k r → IfOk r (λ w. w ≡ v) }
 {}
 
-/// A source of a value is known, so that a `get` of it isn't refused where copies take no memory.
+/// A source with a value is known, so a `get` of it doesn't fail if copies don't allocate.
 pub fn sources_are_known<T, R: Rule<T>>()
     ensures { (g : GraphState T R) (k : Key) (v : T) → kind_in g k ≡ Source → plans_in R.plan g k ≡ Give v →
         shown_in g k ≡ Some v }
 {}
 
-/// What a memo of one source means after that was set: what its rule makes of the value that was set.
+/// What a memo of one source means after a set of that source: what its rule computes from the new
+/// value.
 pub fn sets_show_in_memos<T, R: Rule<T>>()
     ensures { (old new : GraphState T R) (source memo : Key) (next : T → Plan T) (a v w : T) →
         HasPlan R.plan old source (Give a) new → plans_in R.plan old memo ≡ Ask source next →
         memo ≢ source → next a ≡ Give v → Means (plans_in R.plan new) memo w → w ≡ v }
 {}
 
-/// What a flush reports that is Ok. Of an effect of which nothing was reported before, it is what its
-/// node means; and what was last reported of each effect, by this flush or one before, is what its node
+/// What a successful flush reports. For an effect that nothing was reported of before, it is what its
+/// node means; and the last report of each effect, by this flush or an earlier one, is what its node
 /// means.
 pub fn flushes_tell_what_is_meant<T>()
     ensures first { (same : T → T → Bool) (G : Graph T) (n : ℕ) (k : Key) (old new : List (Effect T))

@@ -1,10 +1,10 @@
-//! Sources, memos and effects above the boxes: what a memo shows is what its rule gives on the sources
-//! as they are now, whatever was kept and in whatever order they were set.
+//! Sources, memos and effects, built on boxes: a memo's value is what its rule computes from the current
+//! values of the sources, whatever is cached and in whatever order they were set.
 //!
-//! A [`Key`] is a handle to a node. A [`Rule`] says what a memo computes from other nodes, which it reads
-//! through a [`Reads`]. A [`Reactive`] has the nodes in a store, and [`Effects`] report which of those that
-//! are watched mean something else. A set runs no rule: a memo is brought up to date when it is asked for,
-//! and its rule is run only if something that it read has another value.
+//! A [`Key`] is a handle of a node. A [`Rule`] says what a memo computes from other nodes, which it
+//! reads through a [`Reads`]. A [`Reactive`] has the nodes in a store, and [`Effects`] report which of
+//! the watched nodes have changed. A set runs no rule: a memo is brought up to date when it is read, and
+//! its rule is run only if something that it read has another value.
 #![tactic(auto)]
 
 mod effects;

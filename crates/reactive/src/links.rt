@@ -1,4 +1,4 @@
-//! Which nodes read which, and of which memos it is known what they mean.
+//! Which nodes read which, and which memos are known.
 
 ghost use Rattle.std.specs.Prelude.{◌≡◌, ◌≢◌, ◌<◌, ◌≤◌, ◌+◌, ◌⊎◌, ◌++◌, ◌∷◌, [], ℕ, List, Option, None, Some, Bool, true, false, length, IsTrue, ◌||◌};
 ghost use Rattle.std.specs.List.{Contains, filter};
@@ -10,27 +10,27 @@ ghost use Rattle.reactive.specs.Visiting.{AreListed, Drops, HasRoom, IsDropped, 
 use crate::key::Key;
 use std::alloc::Global;
 
-/// A node that reads another: its slot, and the number that its links had when it did.
+/// A node that reads another: its slot, and the number of its links at that time.
 #[derive(Clone, Copy)]
 pub(crate) struct Edge {
     pub(crate) slot: usize,
     pub(crate) number: u64,
 }
 
-/// Whose the links of a slot are, and their number. Edges of other numbers are old.
+/// The owner of a slot's links, and their number. Edges with other numbers are old.
 #[derive(Clone, Copy)]
 pub(crate) struct Owner {
     pub(crate) generation: Option<u64>,
     pub(crate) number: u64,
 }
 
-/// Of each slot the owner of its links, and the nodes that read its node.
+/// Each slot's owner of its links, and the nodes that read its node.
 #[derive(Drop)]
 pub(crate) struct Web {
     pub(crate) alloc: Global,
     pub(crate) owners: Vec<Owner>,
     pub(crate) readers: Vec<Vec<Edge>>,
-    // the number of the next links: no links have had it, or one above it
+    // the number of the next links: no links have had it, or a higher one
     pub(crate) number: u64,
 }
 
@@ -42,7 +42,7 @@ pub(crate) struct Mark {
     pub(crate) next: usize,
 }
 
-/// Of each slot its mark. The slots that are to be visited are a list through the marks.
+/// Each slot's mark. The slots that are to be visited are a linked list through the marks.
 #[derive(Drop)]
 pub(crate) struct Marks {
     pub(crate) known: Vec<Mark>,
@@ -78,7 +78,7 @@ fn add(owners: &Vec<Owner>, edges: &mut Vec<Edge>, edge: Edge) -> bool
     make_room(owners, edges, edge) && edges.push(edge).is_ok()
 }
 
-// Makes room for a reader. Old ones are removed before the list grows. False if memory runs out.
+// Reserves capacity for a reader. Old ones are removed before the list grows. False if memory runs out.
 fn make_room(owners: &Vec<Owner>, edges: &mut Vec<Edge>, edge: Edge) -> bool
     ensures kept { (e : Edge) → Contains edges.old.items e →
         (is_current owners.now.items e ≡ true) ⊎ (e ≡ edge) → Contains edges.new.items e }
@@ -92,7 +92,7 @@ fn make_room(owners: &Vec<Owner>, edges: &mut Vec<Edge>, edge: Edge) -> bool
     edges.reserve(more).is_ok()
 }
 
-// Removes old edges, but for those that are as this one.
+// Removes old edges, except for those that are the same as this one.
 fn clean(owners: &Vec<Owner>, edges: &mut Vec<Edge>, edge: Edge)
     ensures { edges.new.items
         ≡ filter (λ e. is_current owners.now.items e || is_same e edge) edges.old.items }
@@ -100,7 +100,7 @@ fn clean(owners: &Vec<Owner>, edges: &mut Vec<Edge>, edge: Edge)
     edges.retain(|old: &Edge| is_current(owners, *old) || is_same(*old, edge));
 }
 
-// Whether two edges are one.
+// Whether two edges are the same.
 fn is_same(edge: Edge, other: Edge) -> bool
     ensures { result ≡ is_same edge other }
 {
@@ -108,7 +108,7 @@ fn is_same(edge: Edge, other: Edge) -> bool
 }
 
 impl Web {
-    // Makes room for a slot's owner. False if memory runs out.
+    // Reserves capacity for a slot's owner. False if memory runs out.
     fn reserve(&mut self, slot: usize) -> bool
         ensures owners { (s : ℕ) → owner_at self.new.owners.items s ≡ owner_at self.old.owners.items s }
         ensures readers { self.new.readers ≡ self.old.readers }
@@ -128,7 +128,7 @@ impl Web {
         self.owners.resize(room, nobody).is_ok()
     }
 
-    // Makes room for a slot's readers. False if memory runs out.
+    // Reserves capacity for a slot's readers. False if memory runs out.
     fn reserve_readers(&mut self, slot: usize) -> bool
         ensures owners { self.new.owners ≡ self.old.owners }
         ensures number { self.new.number ≡ self.old.number }
@@ -159,7 +159,7 @@ impl Web {
         add(&self.owners, &mut self.readers[to], edge)
     }
 
-    // Makes the links of its slot a node's, which reads these. False if memory runs out, or numbers do: then
+    // Makes the links of its slot a node's, which reads these. False if memory or numbers run out: then
     // no link is lost.
     pub(crate) fn relink(&mut self, key: Key, reads: &[Key]) -> bool
         ensures relinked { IsTrue result → IsRelinked self.old key reads.now self.new }
@@ -203,7 +203,7 @@ impl Marks {
         }
     }
 
-    // The reader of an edge is forgotten, if the edge isn't old, and is to be visited.
+    // Forgets the reader of an edge, unless the edge is old, and lists it to be visited.
     fn drop_reader(&mut self, web: &Web, edge: Edge)
         requires room { HasRoom self.old }
         ensures room { HasRoom self.new }
@@ -226,7 +226,7 @@ impl Marks {
         self.left += 1;
     }
 
-    // The readers of a slot are forgotten, and are to be visited.
+    // Forgets the readers of a slot, and lists them to be visited.
     fn drop_readers(&mut self, web: &Web, slot: usize)
         requires room { HasRoom self.old }
         ensures room { HasRoom self.new }
@@ -257,7 +257,7 @@ impl Marks {
         }
     }
 
-    // Forgets what the memo of a slot means, and what those mean that read it.
+    // Forgets what the memo of a slot means, and what those mean that read it, directly or by others.
     pub(crate) fn forget(&mut self, web: &Web, slot: usize)
         ensures forgotten { HasForgotten web.now self.old.known.items slot self.new.known.items }
         ensures spared { (s : ℕ) → (known_at self.new.known.items s ≡ known_at self.old.known.items s)
@@ -273,7 +273,8 @@ impl Marks {
         }
     }
 
-    // Makes room to note that a memo is known. False if memory runs out, or another node has the slot.
+    // Reserves capacity to record that a memo is known. False if memory runs out, or if another node has
+    // the slot.
     pub(crate) fn reserve(&mut self, slot: usize) -> bool
         ensures same { (s : ℕ) → known_at self.new.known.items s ≡ known_at self.old.known.items s }
         ensures room { IsTrue result → slot < length self.new.known.items }
@@ -292,7 +293,7 @@ impl Marks {
         self.known.resize(room, unknown).is_ok()
     }
 
-    // Notes that it is known what a memo means. There is room for that.
+    // Records that it is known what a memo means. There must be capacity for it.
     pub(crate) fn learn(&mut self, key: Key)
         requires { key.id.slot < length self.old.known.items }
         ensures here { known_at self.new.known.items key.id.slot ≡ Some key.id.generation }

@@ -44,11 +44,11 @@ use std::marker::PhantomData;
 pub struct Nodes<T, R, S: Storage<Node<T, R>>> {
     pub(crate) alloc: Global,
     pub(crate) store: S,
-    // how often a source was set, a rule was put, or nodes have ended
+    // how often a source was set, a rule was set, or nodes were removed
     pub(crate) revision: u64,
-    // how often a rule has come to a value
+    // how often a rule has computed a value
     pub(crate) runs: u64,
-    // of each slot the place at which its node stood on a path: a hint, to find cycles at once
+    // each slot's index on a path at which its node was: a hint, to find cycles at once
     pub(crate) places: Vec<usize>,
     pub(crate) links: Links,
     pub(crate) marker: PhantomData<(T, R)>,
@@ -78,7 +78,7 @@ pub(crate) fn known_value<'a, T: 'a, R: 'a, S: Storage<Node<T, R>>>(
     }
 }
 
-// What a run finds that came to a value.
+// The result of a run that computed a value.
 fn value_found<'a, T: Drop>(value: T, questions: Questions<'a>, is_kept: bool) -> Found<T>
     ensures { IsFoundBy value (asked_by questions.entry) questions.entry.kept.now is_kept result }
 {
@@ -93,8 +93,8 @@ fn value_found<'a, T: Drop>(value: T, questions: Questions<'a>, is_kept: bool) -
 }
 
 impl<T: Value + Drop, R: Rule<T>, S: Storage<Node<T, R>>> Nodes<T, R, S> {
-    // Changes a key's node in its place, by a closure. None if there is no such node: the closure isn't
-    // called then.
+    // Calls a closure on a key's node, mutably. None if there is no such node: the closure isn't called
+    // then.
     fn change<U, F: FnOnce(&mut Node<T, R>) -> U>(&mut self, key: Key, f: F) -> Option<U>
         requires simple { IsSimple (S.state self.old.store) }
         requires callable { F.IsAlwaysCallable f }
@@ -115,7 +115,7 @@ impl<T: Value + Drop, R: Rule<T>, S: Storage<Node<T, R>>> Nodes<T, R, S> {
         Some(self.store.change_value(pointer, f))
     }
 
-    // Notes that what a key's node keeps was found to be right. False if memory runs out.
+    // Records that what is cached of a key's node was found to be right. False if memory runs out.
     fn confirm(&mut self, key: Key) -> bool
         requires simple { IsSimple (S.state self.old.store) }
         ensures simple { IsSimple (S.state self.new.store) }
@@ -138,7 +138,8 @@ impl<T: Value + Drop, R: Rule<T>, S: Storage<Node<T, R>>> Nodes<T, R, S> {
         true
     }
 
-    // Keeps what a key's node was found to mean, and the questions by which. False if memory runs out.
+    // Caches what a key's node was found to mean, and the reads that it came from. False if memory runs
+    // out.
     fn keep(&mut self, key: Key, value: T, reads: Vec<Key>) -> bool
         requires simple { IsSimple (S.state self.old.store) }
         ensures simple { IsSimple (S.state self.new.store) }
@@ -168,7 +169,7 @@ impl<T: Value + Drop, R: Rule<T>, S: Storage<Node<T, R>>> Nodes<T, R, S> {
         true
     }
 
-    // Keeps what a key's node was found to mean by the questions that it keeps. False if memory runs out.
+    // Caches what a key's node was found to mean by the same reads as before. False if memory runs out.
     fn keep_again(&mut self, key: Key, value: T) -> bool
         requires simple { IsSimple (S.state self.old.store) }
         ensures simple { IsSimple (S.state self.new.store) }
@@ -195,7 +196,7 @@ impl<T: Value + Drop, R: Rule<T>, S: Storage<Node<T, R>>> Nodes<T, R, S> {
         true
     }
 
-    // Whether the answers to these questions stand since a revision, from a place on.
+    // Whether these reads have the same results as in a revision, from an index on.
     fn verify(&self, reads: &[Key], since: u64, from: usize) -> Verdict
         ensures { (answers : List (Asked T)) → list_map (λ a. a.key) answers ≡ reads.now →
             AllStand (nodes_in (S.state self.now.store)) since answers →
@@ -217,7 +218,7 @@ impl<T: Value + Drop, R: Rule<T>, S: Storage<Node<T, R>>> Nodes<T, R, S> {
         Verdict::Same
     }
 
-    // Runs a rule over what is known, and counts along the questions that were kept.
+    // Runs a rule over what is known, and counts along the cached reads.
     fn run<'a>(&'a self, rule: &R, kept: &'a [Key]) -> Run<'a, T>
         ensures { (answers : List (Asked T)) × (list_map (λ a. a.key) answers ≡ asked_by result.questions)
             × (result.questions.kept.now ≡ kept.now)
@@ -253,7 +254,7 @@ impl<T: Value + Drop, R: Rule<T>, S: Storage<Node<T, R>>> Nodes<T, R, S> {
         }
     }
 
-    // What a run of a key's rule finds.
+    // The result of running a key's rule.
     fn rerun(&self, key: Key) -> Found<T>
         ensures finds { (G : Graph T) (n : Node T R) (r : R) →
             IsSound R.plan G self.now.revision (book (S.state self.now.store) self.now.links) →
@@ -288,7 +289,7 @@ impl<T: Value + Drop, R: Rule<T>, S: Storage<Node<T, R>>> Nodes<T, R, S> {
         }
     }
 
-    // Whether a node keeps a value, and its links are its own.
+    // Whether a node has a cached value, and its links are its own.
     fn is_kept(&self, key: Key, node: &Node<T, R>) -> bool
         ensures value { IsTrue result → is_some node.now.value ≡ true }
         ensures owned { IsTrue result → Owns self.now.links.web key }
@@ -299,7 +300,7 @@ impl<T: Value + Drop, R: Rule<T>, S: Storage<Node<T, R>>> Nodes<T, R, S> {
         }
     }
 
-    // A look at a node.
+    // Checks a node.
     fn judge(&self, key: Key, node: &Node<T, R>, place: Option<usize>) -> Look
         ensures looked { (G : Graph T) →
             IsSound R.plan G self.now.revision (book (S.state self.now.store) self.now.links) →
@@ -330,7 +331,7 @@ impl<T: Value + Drop, R: Rule<T>, S: Storage<Node<T, R>>> Nodes<T, R, S> {
         }
     }
 
-    // A look at a key's node, which goes on at a place of its kept questions.
+    // Checks a key's node, from an index of its cached reads on.
     fn look(&self, key: Key, place: Option<usize>) -> Look
         ensures looked { (G : Graph T) →
             IsSound R.plan G self.now.revision (book (S.state self.now.store) self.now.links) →
@@ -346,7 +347,7 @@ impl<T: Value + Drop, R: Rule<T>, S: Storage<Node<T, R>>> Nodes<T, R, S> {
         }
     }
 
-    // Runs a key's rule, and keeps what is found.
+    // Runs a key's rule, and caches the result.
     fn renew(&mut self, key: Key) -> Step
         requires simple { IsSimple (S.state self.old.store) }
         ensures simple { IsSimple (S.state self.new.store) }
@@ -380,7 +381,7 @@ impl<T: Value + Drop, R: Rule<T>, S: Storage<Node<T, R>>> Nodes<T, R, S> {
         }
     }
 
-    // Looks at a key's node, and keeps what is found.
+    // Checks a key's node, and caches the result.
     pub(crate) fn advance(&mut self, key: Key, place: Option<usize>) -> Step
         requires simple { IsSimple (S.state self.old.store) }
         ensures simple { IsSimple (S.state self.new.store) }
@@ -410,7 +411,7 @@ impl<T: Value + Drop, R: Rule<T>, S: Storage<Node<T, R>>> Nodes<T, R, S> {
         }
     }
 
-    // Notes at which place of a path a node stands. It is a hint alone.
+    // Records a node's index on a path. It is only a hint.
     fn note(&mut self, key: Key, place: usize) -> bool
         ensures store { self.new.store ≡ self.old.store }
         ensures links { self.new.links ≡ self.old.links }
@@ -434,7 +435,7 @@ impl<T: Value + Drop, R: Rule<T>, S: Storage<Node<T, R>>> Nodes<T, R, S> {
         }
     }
 
-    // Whether a node is noted to stand on a path, and does.
+    // Whether a node is recorded to be on a path, and is.
     fn is_on(&self, path: &Vec<Frame>, key: Key) -> bool
         ensures { IsTrue result → (place : ℕ) × (f : Frame)
             × (slice_get path.now.items place ≡ Some f) × (f.key ≡ key) }
@@ -448,8 +449,8 @@ impl<T: Value + Drop, R: Rule<T>, S: Storage<Node<T, R>>> Nodes<T, R, S> {
         }
     }
 
-    // Goes on by one step: back to the node that needs this one, or on to one that it needs. None where
-    // the first node is known.
+    // Makes one step: back to the node that needs this one, or on to one that it needs. None if the
+    // first node is known.
     fn go_on(&mut self, path: &mut Vec<Frame>, top: Frame) -> Result<Option<Frame>, Fault>
         requires simple { IsSimple (S.state self.old.store) }
         ensures simple { IsSimple (S.state self.new.store) }
@@ -520,7 +521,7 @@ impl<T: Value + Drop, R: Rule<T>, S: Storage<Node<T, R>>> Nodes<T, R, S> {
         Err(Fault::Store(StoreError::NumbersExhausted))
     }
 
-    // Makes a node. It comes back where memory runs out.
+    // Makes a node. It comes back if memory runs out.
     pub(crate) fn insert(
         &mut self,
         node: Node<T, R>,
@@ -549,7 +550,7 @@ impl<T: Value + Drop, R: Rule<T>, S: Storage<Node<T, R>>> Nodes<T, R, S> {
         }
     }
 
-    // Ends a node, if it hasn't ended.
+    // Removes a node, unless it was removed already.
     fn remove(&mut self, key: Key)
         requires simple { IsSimple (S.state self.old.store) }
         ensures simple { IsSimple (S.state self.new.store) }
@@ -573,7 +574,7 @@ impl<T: Value + Drop, R: Rule<T>, S: Storage<Node<T, R>>> Nodes<T, R, S> {
         self.links.marks.forget(&self.links.web, key.id.slot);
     }
 
-    // Gives a key's node a rule or a value, in a new revision.
+    // Sets the rule or the value of a key's node, in a new revision.
     pub(crate) fn reset(&mut self, key: Key, rule: Option<R>, value: Option<T>) -> Result<(), Fault>
         requires simple { IsSimple (S.state self.old.store) }
         ensures simple { IsSimple (S.state self.new.store) }
@@ -607,7 +608,7 @@ impl<T: Value + Drop, R: Rule<T>, S: Storage<Node<T, R>>> Nodes<T, R, S> {
         Ok(())
     }
 
-    // Ends nodes, in a new revision.
+    // Removes nodes, in a new revision.
     pub(crate) fn remove_all(&mut self, keys: &[Key]) -> Result<(), Fault>
         requires simple { IsSimple (S.state self.old.store) }
         ensures simple { IsSimple (S.state self.new.store) }

@@ -25,11 +25,11 @@ use generational_core::{Location, Storage, StoreError};
 use std::alloc::Global;
 use std::marker::{Model, PhantomData};
 
-/// Sources and memos over a store. Contracts see the machine's state, and with it the plan of each
-/// node: a source's gives its value, a memo's is its rule's, and that of a node that has ended stops.
+/// Sources and memos over a store. Contracts model it as the machine's state, and with it the plan of
+/// each node: a source's yields its value, a memo's is its rule's, and that of a removed node fails.
 ///
-/// A node *means* what its plan gives (`Meaning.antt`): at once, or by what the node that it asks for
-/// means. What is kept of a memo has no part in that.
+/// A node *means* what its plan yields (`Meaning.antt`): at once, or by what the node that it reads
+/// means. What is cached of a memo isn't part of that.
 #[derive(Drop)]
 pub struct Reactive<T: Value + Drop, R: Rule<T>, S: Storage<Node<T, R>>> {
     nodes: Nodes<T, R, S>,
@@ -59,7 +59,7 @@ impl<T: Value + Drop, R: Rule<T>, S: Storage<Node<T, R>>> Model for Reactive<T, 
 }
 
 impl<T: Value + Drop, R: Rule<T>, S: Storage<Node<T, R>>> Reactive<T, R, S> {
-    /// A graph without nodes, over a fresh store (`is_fresh` is the test). Takes no memory.
+    /// Creates a graph without nodes, over a fresh store (see `is_fresh`). Doesn't allocate.
     ///
     /// ```rust
     /// let store = UnsyncStorage::<Node<u64, Formula>>::new(rt.alloc(), 1);
@@ -93,8 +93,8 @@ impl<T: Value + Drop, R: Rule<T>, S: Storage<Node<T, R>>> Reactive<T, R, S> {
         }
     }
 
-    /// How often a rule has come to a value, modulo 2^64: from that a test knows what was computed. Takes
-    /// no memory.
+    /// How often a rule has computed a value, modulo 2^64: a test can use it to see what was computed.
+    /// Doesn't allocate.
     ///
     /// ```rust
     /// println!(rt; "total {}, {} runs", graph.get(total)?, graph.runs())?;
@@ -103,9 +103,12 @@ impl<T: Value + Drop, R: Rule<T>, S: Storage<Node<T, R>>> Reactive<T, R, S> {
         self.nodes.runs
     }
 
-    /// A source of a value. Its key was never given before, and each other node's plan is unchanged.
+    /// Adds a source with a value, and returns its key, which was never issued before. Every other
+    /// node's plan is unchanged. Amortised O(1).
     ///
-    /// Refused by `OutOfMemory` alone: the graph is unchanged. O(1), but for finding room.
+    /// # Errors
+    ///
+    /// `OutOfMemory` is the only possible error. The graph is unchanged then.
     ///
     /// ```rust
     /// let pieces = graph.source(3, here)?;
@@ -132,10 +135,12 @@ impl<T: Value + Drop, R: Rule<T>, S: Storage<Node<T, R>>> Reactive<T, R, S> {
         }
     }
 
-    /// A memo of a rule, which is run when the memo is first asked for. Its key was never given before, and
-    /// each other node's plan is unchanged.
+    /// Adds a memo with a rule, which is run when the memo is first read, and returns its key, which was
+    /// never issued before. Every other node's plan is unchanged. Amortised O(1).
     ///
-    /// Refused by `OutOfMemory` alone: the graph is unchanged. O(1), but for finding room.
+    /// # Errors
+    ///
+    /// `OutOfMemory` is the only possible error. The graph is unchanged then.
     ///
     /// ```rust
     /// let goods = graph.memo(Formula::Product(pieces, price), here)?;
@@ -163,16 +168,23 @@ impl<T: Value + Drop, R: Rule<T>, S: Storage<Node<T, R>>> Reactive<T, R, S> {
     }
 
     /// Brings a node up to date: its value, if it means one, is known from then on until something is
-    /// set. No node's plan changes, so none means something else.
+    /// set. No node's plan changes, and so no node's meaning. A node that is known already, like every
+    /// source, is O(1) and never fails.
     ///
-    /// Refused, and then the node means nothing, by `Gone`, where it or a node that it needs has ended;
-    /// by `Cycle`, where one of them needs itself; by `NoValue`, where a rule gives none. Refused too
-    /// if memory runs out, and after 2^64 steps by `NumbersExhausted`. A later call begins again. A
-    /// node that is known already, as a source always is, is never refused, and that is O(1).
+    /// A rule is run only if something that it read has changed since its last run. The time is linear
+    /// in the reads of the nodes that are checked, none of which is known. Allocates for a path of them,
+    /// and for links of those that read other nodes than before.
     ///
-    /// A rule is run only where something that it read has changed since its last run. Time is linear in
-    /// the questions of the nodes that are looked at, of which none is known. Takes memory for a path of
-    /// them, and for links of those that ask for other nodes than before.
+    /// # Errors
+    ///
+    /// The first three mean that the node has no value.
+    ///
+    /// - `Gone` if it or a node that it needs was removed.
+    /// - `Cycle` if one of them needs itself.
+    /// - `NoValue` if a rule returns none.
+    /// - `Store` of `OutOfMemory`, or of `NumbersExhausted` after 2^64 steps.
+    ///
+    /// A later call starts again.
     ///
     /// ```rust
     /// graph.refresh(key)?;
@@ -193,9 +205,9 @@ impl<T: Value + Drop, R: Rule<T>, S: Storage<Node<T, R>>> Reactive<T, R, S> {
         self.nodes.refresh(key)
     }
 
-    /// The value of a node, if it is known without a step, as a source's always is: what the node means. A
-    /// memo is known from a call that returned its value until something that it needs is changed.
-    /// It is borrowed from the graph. Takes no memory, and is O(1).
+    /// Borrows the value of a node, if it is known without a step, like every source's: what the node
+    /// means. A memo is known from a call that returned its value until something that it needs is
+    /// changed. Doesn't allocate, and is O(1).
     ///
     /// ```rust
     /// match graph.peek(key) {
@@ -210,10 +222,12 @@ impl<T: Value + Drop, R: Rule<T>, S: Storage<Node<T, R>>> Reactive<T, R, S> {
         known_value(&self.nodes.store, &self.nodes.links.marks, key)
     }
 
-    /// Brings a node up to date, and copies what it means now. No node means something else afterwards.
+    /// Brings a node up to date, and returns a copy of what it means now. No node's meaning changes.
     ///
-    /// Refused as `refresh` is, and if memory runs out for the copy: so a node that is known, as a source
-    /// always is, is never refused where copies take no memory.
+    /// # Errors
+    ///
+    /// Those of `refresh`, and `Store` of `OutOfMemory` for the copy. So for a node that is known, like
+    /// every source, it never fails if copies don't allocate.
     ///
     /// ```rust
     /// let twice = scope.memo(graph, Formula::Add(source, source), here)?;
@@ -240,12 +254,17 @@ impl<T: Value + Drop, R: Rule<T>, S: Storage<Node<T, R>>> Reactive<T, R, S> {
         }
     }
 
-    /// Sets a source, unless it has the value already. No rule is run: several sets are a batch. The memos
-    /// that need the source are known no longer, in time linear in the links between those that were; every
-    /// other node shows what it did. Doesn't allocate.
+    /// Sets a source, unless it has the value already. No rule is run: several sets are a batch. The
+    /// memos that need the source are no longer known, in time linear in the links between those that
+    /// were; every other node is unchanged. Doesn't allocate.
     ///
-    /// Refused, in this order: `Gone`, where the node has ended, or is another graph's; `NoSource`, where
-    /// it has a rule; `NumbersExhausted`, after 2^64 sets. The graph is unchanged then.
+    /// # Errors
+    ///
+    /// - `Gone` if the node was removed, or belongs to another graph.
+    /// - `NoSource` if it has a rule.
+    /// - `Store` of `NumbersExhausted`, after 2^64 sets.
+    ///
+    /// The graph is unchanged then.
     ///
     /// ```rust
     /// graph.set(pieces, 4)?;
@@ -284,11 +303,15 @@ impl<T: Value + Drop, R: Rule<T>, S: Storage<Node<T, R>>> Reactive<T, R, S> {
         }
     }
 
-    /// Gives a memo another rule, or makes a source a memo. No rule is run; what needs the node is known
-    /// no longer, as with `set`, and every other node shows what it did. Doesn't allocate.
+    /// Replaces a memo's rule, or makes a source a memo. No rule is run; what needs the node is no
+    /// longer known, like after `set`, and every other node is unchanged. Doesn't allocate.
     ///
-    /// Refused, in this order: `NumbersExhausted`, after 2^64 sets; `Gone`, where the node has ended, or
-    /// is another graph's. The graph is unchanged then.
+    /// # Errors
+    ///
+    /// - `Store` of `NumbersExhausted`, after 2^64 sets.
+    /// - `Gone` if the node was removed, or belongs to another graph.
+    ///
+    /// The graph is unchanged then.
     ///
     /// ```rust
     /// graph.set_rule(node, Formula::Same(to))
@@ -304,12 +327,14 @@ impl<T: Value + Drop, R: Rule<T>, S: Storage<Node<T, R>>> Reactive<T, R, S> {
         self.nodes.reset(key, Some(rule), None)
     }
 
-    /// Ends the nodes of these keys, where they haven't ended, and no other. What needs one of them means
-    /// nothing from then on, and its refusals name the one that is gone. It is known no longer, as with
-    /// `set`, and every other node shows what it did.
+    /// Removes the nodes of these keys, except those that were removed already, and no others. What
+    /// needs one of them means nothing from then on, and its errors name the removed node. It is no
+    /// longer known, like after `set`, and every other node is unchanged. O(n), and linear in the links
+    /// of what is no longer known. Doesn't allocate.
     ///
-    /// Refused by `NumbersExhausted` alone, after 2^64 sets: the graph is unchanged. O(n), and linear in
-    /// the links of what is known no longer. Doesn't allocate.
+    /// # Errors
+    ///
+    /// `NumbersExhausted` is the only possible error, after 2^64 sets. The graph is unchanged then.
     ///
     /// ```rust
     /// graph.end_all(&[price])?;

@@ -19,9 +19,10 @@ use generational_core::{Location, Storage, StoreError};
 use std::alloc::Global;
 use std::marker::Model;
 
-/// Nodes that end together. Contracts see it as their keys, in the order in which they were made.
+/// Nodes that are removed together. Contracts model it as their keys, in the order in which they were
+/// made.
 ///
-/// It has no `Drop`: `end` or `leak` must spend it.
+/// It has no `Drop`: `end` or `leak` must consume it.
 pub struct Scope {
     keys: Vec<Key>,
 }
@@ -36,7 +37,7 @@ impl Model for Scope {
 }
 
 impl Scope {
-    /// A scope without nodes. Takes no memory.
+    /// Creates a scope without nodes. Doesn't allocate.
     ///
     /// ```rust
     /// let mut scope = Scope::new(alloc);
@@ -54,9 +55,11 @@ impl Scope {
         }
     }
 
-    /// A source of a value, as `Reactive::source`, which ends with the scope.
+    /// Adds a source like `Reactive::source`, which is removed with the scope.
     ///
-    /// Refused by `OutOfMemory` alone: the graph and the scope are unchanged.
+    /// # Errors
+    ///
+    /// `OutOfMemory` is the only possible error. The graph and the scope are unchanged then.
     ///
     /// ```rust
     /// let source = scope.source(graph, number, here)?;
@@ -87,9 +90,11 @@ impl Scope {
         }
     }
 
-    /// A memo of a rule, as `Reactive::memo`, which ends with the scope.
+    /// Adds a memo like `Reactive::memo`, which is removed with the scope.
     ///
-    /// Refused by `OutOfMemory` alone: the graph and the scope are unchanged.
+    /// # Errors
+    ///
+    /// `OutOfMemory` is the only possible error. The graph and the scope are unchanged then.
     ///
     /// ```rust
     /// let twice = scope.memo(graph, Formula::Add(source, source), here)?;
@@ -120,10 +125,12 @@ impl Scope {
         }
     }
 
-    /// Ends the scope: its nodes end, and no other.
+    /// Ends the scope: removes its nodes, and no others. Takes time like `Reactive::end_all`.
     ///
-    /// Refused by `NumbersExhausted` alone, after 2^64 sets: the scope comes back, and the graph is
-    /// unchanged. Time as `Reactive::end_all` takes.
+    /// # Errors
+    ///
+    /// `NumbersExhausted` is the only possible error, after 2^64 sets. The scope comes back, and the
+    /// graph is unchanged.
     ///
     /// ```rust
     /// match scope.end(graph) {
@@ -153,7 +160,7 @@ impl Scope {
         }
     }
 
-    /// Spends the scope, and leaves its nodes as they are.
+    /// Consumes the scope, and leaves its nodes unchanged.
     ///
     /// ```rust
     /// match scope.end(graph) {

@@ -7,20 +7,20 @@ use std::alloc::{AllocError, Global};
 use std::fmt;
 use std::marker::Model;
 
-/// Values of nodes: they are copied and compared.
+/// Values of nodes: they can be copied and compared.
 pub trait Value: Sized {
     /// What `same` returns.
     ghost is_same: { Self → Self → Bool };
 
-    /// Whether the two are one value. False is always allowed, and costs runs of rules.
+    /// Whether the two are one value. False is always allowed, and causes more runs of rules.
     fn same(&self, other: &Self) -> bool
         ensures is { result ≡ is_same self.now other.now }
         ensures right { IsTrue result → self.now ≡ other.now };
 
-    /// A copy of the value doesn't allocate. A type may leave this out: then it is said of none.
+    /// A copy of the value doesn't allocate. A type may leave this out: then it holds for none.
     ghost is_plain: { Self → Type 0 } = { λ _. ⊥ };
 
-    /// The value once more. Fails if memory runs out.
+    /// Returns a copy of the value. Fails if memory runs out.
     fn copy(&self) -> Result<Self, AllocError>
         ensures copy { IfOk result (λ v. v ≡ self.now) }
         ensures plain { is_plain self.now → IsOk result };
@@ -93,7 +93,7 @@ impl<A: Value + Drop, B: Value> Value for (A, B) {
     }
 }
 
-/// A text. Contracts see its bytes.
+/// A text. Contracts model it as its bytes.
 #[derive(Drop)]
 pub struct Text {
     text: String,
@@ -109,7 +109,7 @@ impl Model for Text {
 }
 
 impl Text {
-    /// An empty text. Doesn't allocate.
+    /// Creates an empty text. Doesn't allocate.
     ///
     /// ```rust
     /// let mut text = Text::new(*alloc);
@@ -123,7 +123,7 @@ impl Text {
         }
     }
 
-    /// The text of a `&str`. Fails if memory runs out.
+    /// Creates a text from a `&str`. Fails if memory runs out.
     ///
     /// ```rust
     /// if let Ok(text) = Text::from_str(self.alloc, text) {
@@ -148,7 +148,7 @@ impl Text {
         self.text.as_str()
     }
 
-    /// Adds to the end. Fails if memory runs out: the text is unchanged then.
+    /// Appends a string. Fails if memory runs out: the text is unchanged then.
     ///
     /// ```rust
     /// reader.kept(text.push_str(once.as_str()))?;
@@ -161,7 +161,7 @@ impl Text {
     }
 }
 
-/// Prints the text as it is.
+/// Prints the text.
 impl fmt::Display for Text {
     ghost use Rattle.std.specs.Prelude.{Some};
 
@@ -187,7 +187,7 @@ impl Value for Text {
     }
 }
 
-/// A list of values. Contracts see their list.
+/// A list of values. Contracts model it as their list.
 #[derive(Drop)]
 pub struct Items<T> {
     items: Vec<T>,
@@ -202,7 +202,7 @@ impl<T> Model for Items<T> {
 }
 
 impl<T> Items<T> {
-    /// An empty list. Doesn't allocate.
+    /// Creates an empty list. Doesn't allocate.
     ///
     /// ```rust
     /// let mut lengths = Items::new(*alloc);
@@ -228,8 +228,7 @@ impl<T> Items<T> {
 }
 
 impl<T: Drop> Items<T> {
-    /// Adds an item at the end. Fails if memory runs out: the list is unchanged then, and the item is
-    /// dropped.
+    /// Appends an item. Fails if memory runs out: the list is unchanged then, and the item is dropped.
     ///
     /// ```rust
     /// reader.kept(items.push(*last))?;
@@ -258,7 +257,7 @@ impl<T: Value + Drop> Value for Items<T> {
     }
 }
 
-// Whether two lists are one by one the same.
+// Whether two lists have the same values, item by item.
 fn are_same<T: Value>(xs: &[T], ys: &[T]) -> bool
     ensures is { result ≡ pointwise T.is_same xs.now ys.now }
     ensures right { IsTrue result → xs.now ≡ ys.now }
@@ -274,7 +273,7 @@ fn are_same<T: Value>(xs: &[T], ys: &[T]) -> bool
     true
 }
 
-// Copies of these items, in order.
+// Returns copies of these items, in order.
 fn copies<T: Value + Drop>(alloc: Global, xs: &[T]) -> Result<Vec<T>, AllocError>
     ensures { IfOk result (λ made. made.items ≡ xs.now) }
 {

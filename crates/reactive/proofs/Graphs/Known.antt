@@ -14,7 +14,7 @@ live_node (Some x) live = (x, refl)
 live_node None live = absurd (live refl)
 
 module _ {T : Type 0} (shown : Key → Option T) where
-  -- ---- questions that were answered by what is shown, with one more
+  -- ---- reads that returned what their nodes have, with another
 
   pub asked_more : (keys : List Key) (k : Key) (v : T) → shown k ≡ Some v
       → asked_of shown (keys ++ k ∷ []) ≡ asked_of shown keys ++ record { key = k; value = v } ∷ []
@@ -88,7 +88,7 @@ module _ {T R : Type 0} {plan : R → Plan T} {G : Graph T} {now : ℕ} {b : Boo
   all_mean [] all = tt
   all_mean (a ∷ rest) (h, all) = (known_means a.key a.value h, all_mean rest all)
 
--- where answers stand one by one in another table too, they stand there all
+-- if results are valid one by one in another table too, they are all valid there
 pub stand_all : {T R : Type 0} (G : Graph T) (now since : ℕ) (old new : Table T R)
     → ((a : Asked T) → (since ≡ now → Means G a.key a.value) → Stands old since a → Stands new since a)
     → (answers : List (Asked T)) → (since ≡ now → AllMean G answers) → AllStand old since answers
@@ -135,12 +135,12 @@ module _ {T : Type 0} (same : T → T → Bool) (G : Graph T) where
       → AllHear same G k old (take n (now ++ drop (length now) old)) told
   all_kept n k old now told is h = grind (arith, all_length, take-append_seam)
 
-  -- all of them have heard in the end
+  -- all of them were reported at the end
   pub all_heard : (k : ℕ) (old now : List (Effect T)) (told : List (Told T)) → AllHear same G k old now told
       → length now ≤ k → k ≡ length old
   all_heard k old now told h past = let long = all_length k old now told h in omega arith
 
-  -- an effect that was never told is told
+  -- an effect without a report is reported
   told_first : (k : Key) (a : Result T Fault) (f : Effect T) (one : List (Told T))
       → Hears same (record { key = k; told = None }) a f one
       → (f ≡ record { key = k; told = Some a }) × (one ≡ record { key = k; answer = a } ∷ [])
@@ -156,7 +156,7 @@ module _ {T : Type 0} (same : T → T → Bool) (G : Graph T) where
       → (a : Result T Fault) × Says G k a × (told ≡ record { key = k; answer = a } ∷ [])
   first_told n k old new told is len h = first_heard k new told (rw (len, is) at h)
 
-  -- what an effect was last told when it has heard is what its node means
+  -- the last report of an effect is what its node means
   heard_says : (e f : Effect T) (a : Result T Fault) (one : List (Told T)) → Says G e.key a
       → Hears same e a f one → (b : Result T Fault) × Says G f.key b × (f.told ≡ Some b)
   heard_says e f (Ok v) [] says (stays, told) = (Ok v, rw stays says, rw stays told)
@@ -192,7 +192,7 @@ pub same_key : (j k : Key) → j.id ≡ k.id → j ≡ k
 same_key j k e = λ i. record { id = e i }
 
 module _ {T R : Type 0} where
-  -- a making puts a node where none was
+  -- an addition puts a node where none was
   module _ {S Q : State (Node T R)} (s : IsSoundStore S) (n : Node T R) (l : Location)
       (b : GenerationalBox (Node T R)) (k : Key) (is : (pointer_of b).id ≡ k.id)
       (m : Meets S (Make None n l) (Made (pointer_of b)) Q) where
@@ -206,7 +206,7 @@ module _ {T R : Type 0} where
           (same_value _ _ _ _ s m (pointer_in j) tt) (λ e. ne (same_key j k (sym e ∙ is)));
     }
 
-  -- where a key's box was seen_found
+  -- the index where a key's box was found
   module _ {S : State (Node T R)} (s : IsSoundStore S) (simple : IsSimple S) (k : Key) (b : GenerationalPointer)
       (seen_found : Some b ≡ box_with S k.id) {can : Bool} (writes : can ≡ can_write S b) where
     is : b.id ≡ k.id
@@ -219,7 +219,7 @@ module _ {T R : Type 0} where
       own : b.id.store ≡ S.number
       own = seen_store S b s (free_seen b s simple writes free)
 
-      -- a set puts a node in the place of one
+      -- a set replaces a node
       pub set_had : {Q : State (Node T R)} (new old : Node T R) → Meets S (SetValue b new) (Old old) Q
           → nodes_in S k ≡ Some old
       set_had new old m = same_id_sees S (pointer_in k) b (sym is) ∙ (sets b new old m).0
@@ -239,7 +239,7 @@ module _ {T R : Type 0} where
       written_lives none = true≢false (sym (free_seen b s simple writes free)
           ∙ ap is_some (sym (same_id_sees S (pointer_in k) b (sym is)) ∙ none))
 
-      -- an end leaves no node
+      -- a removal leaves no node
       pub end_none : {Q : State (Node T R)} → Meets S (End b) Done Q → nodes_in Q k ≡ None
       end_none {Q} m = same_id_sees Q (pointer_in k) b (sym is) ∙ unseen Q b (ends b {U = Unit {0}} (Ok tt) m)
 
@@ -248,7 +248,7 @@ module _ {T R : Type 0} where
       end_others m j ne = others_left _ _ m b (pointer_in j) own
           (λ apart. same_value _ _ _ _ s m (pointer_in j) apart tt) (λ e. ne (same_key j k (sym e ∙ is)))
 
--- ==== what holds of a table when some of its nodes have ended
+-- ==== what holds of a table when some of its nodes were removed
 
 among_last : (xs : List Key) (x k : Key) → IsAmong k (xs ++ x ∷ []) → IsAmong k xs ⊎ (x ≡ k)
 among_last [] x k e = grind arith
@@ -269,10 +269,10 @@ module _ {T R : Type 0} where
   lost_more old mid new keys i d lt lost none same =
       rw (take_more keys i d lt) (lost_last old mid new (take i keys) (get_or keys i d) lost none same)
 
--- ==== what runs and kept answers say of a node
+-- ==== what runs and cached results say of a node
 
 module _ {T : Type 0} where
-  -- the answer to the question at a place
+  -- the result of the read at an index
   answer_at : (answers : List (Asked T)) (place : ℕ) (d : Key) → place < length (list_map (λ a. a.key) answers)
       → (a : Asked T) × (slice_get answers place ≡ Some a)
       × (a.key ≡ slice_index_or (list_map (λ a. a.key) answers) place d)
@@ -301,7 +301,7 @@ module _ {T R : Type 0} (b : Book T R) where
   known_next (b ∷ rest) zero a is all h = (rw (same_Some b a is) h, tt)
   known_next (b ∷ rest) (suc place) a is (g, all) h = (g, known_next rest place a is all h)
 
-  -- an answer that stands, of a node that is known and hasn't changed, is right
+  -- a valid result, of a node that is known and hasn't changed, is right
   pub known_more_at : (since : ℕ) (answers : List (Asked T)) (reads : List Key) (place : ℕ) (d : Key) (n : Node T R)
       → list_map (λ a. a.key) answers ≡ reads → place < length reads → AllStand b.nodes since answers
       → AreKnown b (take place answers) → b.nodes (slice_index_or reads place d) ≡ Some n
@@ -319,7 +319,7 @@ module _ {T R : Type 0} (b : Book T R) where
 
 module _ {T R : Type 0} {plan : R → Plan T} {G : Graph T} {now : ℕ} {b : Book T R}
     (s : IsSound plan G now b) (k : Key) where
-  -- a node that needs one which has ended means nothing
+  -- a node that needs a removed one means nothing
   pub needs_gone : (j : Key) → Needs G k j → b.nodes j ≡ None → IsMute G k
   needs_gone j n none = needs_mute G k j n (λ v d. stopped G v (rw (none_stops s j none) at d))
 
@@ -329,7 +329,7 @@ module _ {T R : Type 0} {plan : R → Plan T} {G : Graph T} {now : ℕ} {b : Boo
         let v = some_live (known_by (knows b.known k) (Some n)) hit in
         (v.0, known_shows (knows b.known k) (b.nodes k) v.0 (ap (known_by (knows b.known k)) at ∙ v.1))
 
-    -- a node without a rule and a value gives none
+    -- a node without a rule and a value yields none
     stops : (o : Option T) → is_some o ≡ false → plan_by plan None o ≡ Stop
     stops None none = refl
     stops (Some v) none = absurd (true≢false none)
@@ -378,9 +378,9 @@ module _ {T R : Type 0} {plan : R → Plan T} {G : Graph T} {now : ℕ} {b : Boo
       found_by v asked kept is its ran is_kept has_value found.NoValue h = absurd h
       found_by v asked kept is its ran is_kept has_value found.Full h = tt
 
-    -- ---- what the kept answers come to
+    -- ---- what the cached results lead to
 
-    -- a look that goes on finds the walk, unless the node is known
+    -- a check that goes on finds the walk, unless the node is known
     pub kept_walk : (place : ℕ) → GoesOn G now b k (Some place)
         → is_some (known_by (knows b.known k) (Some n)) ≡ false
         → is_some n.value ≡ true → (v : T) × (n.value ≡ Some v)
@@ -392,7 +392,7 @@ module _ {T R : Type 0} {plan : R → Plan T} {G : Graph T} {now : ℕ} {b : Boo
           → LeadsTo G now b k n v (vec_items n.reads)
       kept_leads rule has known = let asked = w.asked in let leads = w.leads in search
 
-      -- a kept answer's node is needed, where those before it are what their nodes mean
+      -- the node of a cached read is needed, if the results before it are what their nodes mean
       pub asked_needs : (j : Key) (place : ℕ) → IsAsked b w.answers j place → Needs G k j
       asked_needs j place a =
           let to = asked_to (G k) w.answers place a.answer (Give v) w.leads a.there in (

@@ -2,16 +2,16 @@
 pub mod Common
 unfoldable pub use Common.*
 
--- ==== keys are told apart
+-- ==== keys are distinguished
 
 pub key_cases : (j k : Key) → (j ≡ k) ⊎ (j ≢ k)
 key_cases j k = grind (arith, cases_eq)
 
--- ==== a node means at most one value, a node on a cycle means none, answers that are meant may be
--- put for questions, and a new node leaves what others mean
+-- ==== a node means at most one value, a node on a cycle means none, results that are meant may replace
+-- reads, and a new node doesn't change what others mean
 
 module _ {T : Type 0} where
-  -- a plan that some answers follow asks for the first, and the others follow what it goes on with
+  -- a plan that some results follow reads the first, and the others follow its continuation
   pub first_asked : (p : Plan T) (a : Asked T) (rest : List (Asked T)) (q : Plan T) → Follows p (a ∷ rest) q
       → (next : T → Plan T) × (p ≡ Ask a.key next) × Follows (next a.value) rest q
   first_asked p a rest q f = grind arith
@@ -27,13 +27,13 @@ module _ {T : Type 0} where
       let got = asked_to (n.0 b.value) rest place a q n.2 is in
       (got.0, subst (λ x. Follows x (b ∷ take place rest) (Ask a.key got.0)) (sym n.1) (refl, got.1))
 
-  -- a plan that asks for this node, gives this value, or stops
+  -- a plan that reads this node, yields this value, or fails
   abbrev pub Comes : Option Key → Option T → Plan T → Type 0
   Comes (Some k) result q = (next : T → Plan T) × (q ≡ Ask k next)
   Comes None (Some v) q = q ≡ Give v
   Comes None None q = q ≡ Stop
 
-  -- what a run's answers lead to
+  -- where a run's results lead
   pub ran_to : (p : Plan T) (answers : List (Asked T)) (lacks : Option Key) (result : Option T)
       → Ran p answers lacks result → (q : Plan T) × Follows p answers q × Comes lacks result q
   ran_to (Give v) [] l r h = (Give v, refl, rw (h.0, h.1) refl)
@@ -42,18 +42,18 @@ module _ {T : Type 0} where
   ran_to (Ask k next) (a ∷ rest) l r h = grind (arith, ran_to (next a.value) rest l r h.1)
   ran_to p (a ∷ rest) l r h = absurd h
 
--- each of some nodes needs one of them: they are on a cycle, or lead to one
+-- each of some nodes needs one of them: they are on a cycle, or reach one
 abbrev pub IsCyclic : {T : Type 0} → Graph T → (Key → Type 0) → Type 0
 IsCyclic G C = (j : Key) → C j → (k : Key) × C k × Needs G j k
 
 module _ {T : Type 0} (G : Graph T) where
-  -- a plan gives at most one value, so a node means at most one
+  -- a plan yields at most one value, so a node means at most one
   pub same : (p : Plan T) (v : T) → Gives G p v → (w : T) → Gives G p w → v ≡ w
   same _ _ (gives v) w (gives _) = refl
   same _ _ (goes_on k next a v d e) w (goes_on _ _ b _ f g) =
       same (next b) v (rw (same (G k) a d b f) at e) w g
 
-  -- what a plan comes to by the values of sources it gives
+  -- what is left of a plan by the values of sources it yields
   from_source : (k : Key) (next : T → Plan T) (v : T) (p : Plan T) → G k ≡ p
       → ((a : T) → value_by G (next a) ≡ Some v → Gives G (next a) v)
       → value_from p (λ a. value_by G (next a)) ≡ Some v → Gives G (Ask k next) v
@@ -66,13 +66,13 @@ module _ {T : Type 0} (G : Graph T) where
   valued Stop v is = absurd (none-some v is)
   valued (Ask k next) v is = from_source k next v (G k) refl (λ a. valued (next a) v) is
 
-  -- an answer is the value that a node means
+  -- a result is the value that a node means
   pub answered_by : (kind : Key → Kind) (k : Key) (v : T) → Means G k v
       → (r : Result T Fault) → Answers G kind k r → IfOk r (λ w. w ≡ v)
   answered_by kind k v d (Ok w) h = same (G k) w h v d
   answered_by kind k v d (Err f) h = tt
 
-  -- a plan gives what is left of it gives, after answers that are meant
+  -- a plan yields what its rest yields, after results that are meant
   pub walked : (p : Plan T) (answers : List (Asked T)) (q : Plan T) (v : T)
       → Follows p answers q → AllMean G answers → Gives G q v → Gives G p v
   walked p [] q v e all h = rw e h
@@ -80,7 +80,7 @@ module _ {T : Type 0} (G : Graph T) where
       let n = first_asked p a rest q f in
       rw n.1 (goes_on a.key n.0 a.value v m (walked (n.0 a.value) rest q v n.2 all h))
 
-  -- what stands in a derivation of a plan that asks
+  -- what is in a derivation of a plan that reads
   inside : (k : Key) (next : T → Plan T) (v : T) → Gives G (Ask k next) v
       → (a : T) × Means G k a × Gives G (next a) v
   inside _ _ _ (goes_on k next a v d e) = (a, d, e)
@@ -97,7 +97,7 @@ module _ {T : Type 0} (G : Graph T) where
   pub stopped : (v : T) → Gives G Stop v → ⊥
   stopped v h = grind arith
 
-  -- a node whose rule gave up means nothing; nor does one that needs a node which means nothing
+  -- a node whose rule failed means nothing; nor does one that needs a node which means nothing
   pub gave_up : (j : Key) (answers : List (Asked T)) → AllMean G answers → Follows (G j) answers Stop
       → IsMute G j
   gave_up j answers all f v d = stopped v (left (G j) answers Stop v f all d)
@@ -121,7 +121,7 @@ module _ {T : Type 0} (G : Graph T) where
     pub cyclic_mute : (j : Key) → C j → IsMute G j
     cyclic_mute j c v d = let on = cyclic j c in around (G j) v d on.2.0 on.0 on.2.1 on.1 on.2.2 on.2.3
 
--- where a plan is put for one that stopped, what meant something means it still
+-- if a plan replaces one that failed, what meant something still means it
 module _ {T : Type 0} (G H : Graph T) (more : (k : Key) → (G k ≡ Stop) ⊎ (G k ≡ H k)) where
   more_at : (k : Key) (v : T) → Means G k v → Gives H (G k) v → Means H k v
   more_at k v d h = ⊎_elim (λ stops. absurd (stopped G v (rw stops at d))) (λ e. rw e at h) (more k)

@@ -3,7 +3,7 @@ use Rattle.reactive.proofs.{[], ◌≡◌}
 use Rattle.reactive.specs.Settling.{Lasts}
 use Rattle.reactive.proofs.nodes.Nodes.refresh.Given as goal
 
--- It is on the way from the node that was asked for; where that was known, this is the first step.
+-- It is on the path from the node that was read; if that was known, this is the first step.
 abbrev pub invariant-loop-step : goal.invariant-loop-step
 invariant-loop-step g l = IsSimple (g.S.AnyStorage.state l.self.store) × (l.self.revision ≡ l.fn.self.revision)
     × ((G : Graph _) → IsSound g.R.Rule.plan G l.fn.self.revision (book (g.S.AnyStorage.state l.fn.self.store) l.fn.self.links)

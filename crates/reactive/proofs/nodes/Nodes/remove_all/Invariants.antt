@@ -1,7 +1,7 @@
 use Rattle.reactive.proofs.{AreForgotten, AreSpared, book, HasLost, IsSimple, nodes_in, take}
 use Rattle.reactive.proofs.nodes.Nodes.remove_all.Given as goal
 
--- The nodes of the keys before this one have ended, and no other has.
+-- The nodes of the keys before this one were removed, and no others.
 abbrev pub invariant-loop-key : goal.invariant-loop-key
 invariant-loop-key g l = IsSimple (g.S.AnyStorage.state l.self.store)
     × HasLost (nodes_in (g.S.AnyStorage.state l.fn.self.store)) (take l.key-index l.keys)

@@ -1,7 +1,7 @@
 use Rattle.reactive.proofs.{AllStand, AreKnown, Asked, book, List, list_map, nodes_in, take, ◌≡◌}
 use Rattle.reactive.proofs.nodes.Nodes.verify.Given as goal
 
--- The answers before the place are known to be right.
+-- The results before the index are known to be right.
 abbrev pub invariant-loop-place : goal.invariant-loop-place
 invariant-loop-place g l = (answers : List (Asked _)) → list_map (λ a. a.key) answers ≡ l.reads
     → AllStand (nodes_in (g.S.AnyStorage.state l.self.store)) l.since answers
