@@ -25,9 +25,9 @@ MEANT = {
     "tally.rt|recorded.rt|recorder.rt": r"refused",  # a kind of steps
 }
 # The crates and the pages that aren't written so yet.
-LATER = {"generational_workers", "saved_bytes",
+LATER = {"saved_bytes",
          "example_workers", "example_files", "test_files",
-         "PERFORMANCE.md", "threads.md", "saving.md", "planted.md"}
+         "PERFORMANCE.md", "saving.md", "planted.md"}
 
 
 def prose(path, lines):

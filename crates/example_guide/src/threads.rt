@@ -39,7 +39,7 @@ struct Worker<M: Count, L: Count, C: Count, R: Count> {
     tally: Tally<M, L, C, R>,
 }
 
-// Makes the store, starts a thread for each worker, and audits what they did. The answer is what
+// Makes the store, starts a thread for each worker, and audits what they did. Returns what
 // they added up, and how many steps the store took.
 fn serve_all<
     M: Count + Send + Sync,

@@ -10,7 +10,7 @@ use Rattle.generational_workers.specs.Runs.{HaveServed, IsRun, all_merged}
 use Rattle.shared_history.specs.Bases.{BaseState, IsCounted}
 use Rattle.shared_history.specs.Counts.{Counts, new_tally, new_tallies}
 
--- lists that are the same, each with one element more at its end, were the same
+-- lists that are the same, each with another element at its end, were the same
 snoc_same : {A : Type 0} (xs ys : List A) (a b : A) → xs ++ a ∷ [] ≡ ys ++ b ∷ []
     → (xs ≡ ys) × (a ≡ b)
 snoc_same [] [] a b e = (refl, grind (arith, common_steps))
@@ -39,7 +39,7 @@ length-new_tallies (suc n) =
     omega (arith, so_far, length-append (new_tallies n) (new_tally n ∷ []))
 
 module _ {A : Type 0} (tally : A → Counts) (n : ℕ) where
-  -- of one tally more than n the last is numbered n
+  -- of n + 1 tallies the last is numbered n
   pub last_tally : (xs : List A) (x : A) → map tally (xs ++ x ∷ []) ≡ new_tallies (n + 1)
       → (map tally xs ≡ new_tallies n) × (tally x ≡ new_tally n)
   last_tally xs x e =

@@ -19,8 +19,8 @@ pub record IsReadThrough (T : Type 0) (number : ℕ) (old : Counts) (asked : Gen
   pub begun : IsUnseenStep {T = T} number old (Read asked at) (Reads guard) between
   pub ended : IsUnseenStep {T = T} number between (ReleaseReader guard) (Flag known) new
 
--- a write of this box began, and gave its value; its own guard was released with what has become of
--- the value, and the release was answered so
+-- a write of this box began, and returned its value; its own guard was released with the changed value,
+-- and the release had this reply
 pub record IsWriteThrough {T : Type 0} (number : ℕ) (old : Counts) (asked : GenerationalPointer)
     (at : Location) (value changed : T) (released : Answer T) (new : Counts) : Type 0 where
   pub guard : Guard
@@ -28,6 +28,6 @@ pub record IsWriteThrough {T : Type 0} (number : ℕ) (old : Counts) (asked : Ge
   pub begun : IsUnseenStep number old (Write asked at) (Writes guard value) between
   pub ended : IsUnseenStep number between (ReleaseWriter guard changed) released new
 
--- the answer that this box's value is gone
+-- the reply that this box's value was dropped
 abbrev pub IsOwnDropped : (T : Type 0) → GenerationalPointer → Answer T → Type 0
 IsOwnDropped T asked answer = answer ≡ BorrowRefused (Dropped asked.created_at)

@@ -1,4 +1,4 @@
--- What came of a run: what its workers did, and what they counted.
+-- The result of a run: what its workers did, and what they counted.
 use Rattle.std.specs.Prelude.{ℕ, List, [], ◌∷◌, fold}
 use Rattle.shared_records.specs.declared.step.Step.{Step}
 use Rattle.shared_history.specs.Bases.{BaseState, IsCounted}
@@ -9,16 +9,15 @@ abbrev pub all_merged : Counts → List Counts → Counts
 all_merged whole tallies = fold merged whole tallies
 
 module _ {Answer : Type 0} (serves : Counts → Answer → Counts → Type 0) where
-  -- workers with these tallies have served, one after the other in these lists: each has returned
-  -- its answer, and counts so much then
+  -- workers with these tallies have served, one after the other in these lists: each has returned its
+  -- result, and has these counts then
   abbrev pub HaveServed : List Counts → List Answer → List Counts → Type 0
   HaveServed [] [] [] = Unit {0}
   HaveServed (old ∷ before) (answer ∷ answers) (new ∷ after) =
       serves old answer new × HaveServed before answers after
   HaveServed before answers after = ⊥
 
--- What came of a service that so many workers served: what it returned, what they returned, and the
--- history of the store.
+-- The result of a service with so many workers: what it and they returned, and the history of the store.
 pub record IsRun {Shared Answer End : Type 0} (begins : Counts → Shared → Counts → Type 0)
     (serves : Shared → Counts → Answer → Counts → Type 0)
     (ends : Shared → Counts → End → Counts → Type 0) (workers : ℕ) (end : End)

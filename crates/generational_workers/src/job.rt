@@ -9,15 +9,14 @@ use generational_box::StoreError;
 /// What each worker does, in a thread of its own.
 ///
 /// Nothing has to be proved of a job. A job that wants its callers to know what its workers counted
-/// defines `serves`: how a worker's counts before and after, what it was given and what it returned
-/// hang together.
+/// defines `serves`: how a worker's counts before and after, its input and its result are related.
 pub trait Job<T>: Sync {
     /// After how many of its calls each worker makes a checkpoint, which drops the steps so far: so the
-    /// history of a run that goes on for long stays short. None are made if it is 0. A worker counts all
-    /// calls that are steps, but for the releases of guards.
+    /// history of a long run stays short. None are made if it is 0. A worker counts all calls that are
+    /// steps, except for the releases of guards.
     const CHECKPOINT_EVERY: u64 = 0;
 
-    /// What each worker is given, like boxes that were made before the threads started.
+    /// What each worker gets, like boxes that were made before the threads started.
     type Shared: Copy + Send + Sync;
     /// What each worker returns.
     type Answer: Send + Drop;
@@ -30,8 +29,7 @@ pub trait Job<T>: Sync {
             (W.counts worker.new) };
 }
 
-/// A job with a beginning and an end, which run in the thread that calls
-/// [`run_workers`](crate::run_workers).
+/// A job with `begin` and `end`, which run in the thread that calls [`run_workers`](crate::run_workers).
 pub trait Service<T>: Job<T> {
     /// What the service returns at its end.
     type End: Drop;

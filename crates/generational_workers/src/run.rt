@@ -22,15 +22,15 @@ use std::thread::Threads;
 /// The number of each store that [`run_workers`] creates: a box of one run means nothing in another.
 pub const STORE_NUMBER: u64 = u64::MAX;
 
-/// What a service returned, what each of its workers did, in their order, and the history of the
-/// store: the base from which it goes on, and its steps.
+/// What a service and each of its workers returned, in their order, and the history of the store: the
+/// base that it starts from, and its steps.
 #[derive(Drop)]
 pub struct Served<E, A> {
     /// What the service returned at its end.
     pub end: E,
     /// What each worker returned: the first is that of worker 0.
     pub answers: Vec<A>,
-    /// Where the history begins.
+    /// The state that the history starts from.
     pub base: Base,
     /// The steps from there on.
     pub steps: Vec<Step>,
@@ -121,7 +121,7 @@ fn run_named<
     })
 }
 
-/// What a worker is given.
+/// What a worker gets.
 #[derive(Drop)]
 struct Desk<T, const NUMBER: u64, M: Count, L: Count, C: Count, R: Count> {
     store: SyncStorage<T, NUMBER, M, L, C, R>,

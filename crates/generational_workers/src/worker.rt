@@ -24,11 +24,11 @@ use generational_box::{
 /// A worker of a store: each call of the store as a method.
 ///
 /// A call that takes `&mut self` is a step of the store, like the call of the same name of
-/// `SyncStorage`, by whose words its contract is stated. Which state the store is in isn't known
-/// here, since other workers call it too: a step leads from some state to another, raises the
-/// worker's own count of its kind by one, and goes by boxes, guards and owners of this store alone.
-/// `OutOfMemory` may come instead of any result, if there is no room for the step: nothing changes
-/// then, and no count is raised.
+/// `SyncStorage`, in whose terms its contract is stated. Which state the store is in isn't known here,
+/// since other workers call it too: a step leads from some state to another, adds one to the worker's
+/// own count of its kind, and uses only boxes, guards and owners of this store. Any call may return
+/// `OutOfMemory` instead, if there is no room for the step: nothing changes then, and no count is
+/// raised.
 pub trait Worker<T> {
     ghost number: { ℕ };
 
@@ -68,8 +68,9 @@ pub trait Worker<T> {
     /// manually. Waits while the value has a writer, and wakes those that wait.
     ///
     /// # Errors
-    /// `Dropped` with the location at which the box was created, if its cell has ended or is of another
-    /// store, or if its value isn't shared. Allocates a slot if none is free, and room for the step.
+    /// `Dropped` with the location at which the box was created, if its cell was dropped or is of
+    /// another store, or if its value isn't shared. Allocates a slot if none is free, and room for the
+    /// step.
     fn leak_reference(&mut self, asked: GenerationalBox<T>) -> BorrowResult<GenerationalBox<T>>
         ensures step { IsUnseenStep {T = T} number (counts self.old) (Refer None (pointer_of asked))
             (reference_box_answer result) (counts self.new) };
@@ -129,9 +130,9 @@ pub trait Worker<T> {
     ///
     /// # Errors
     /// In this order: `UnknownOwner`, if the owner is of another store, without waiting; `Dropped` with
-    /// the location at which the box was created, if its cell has ended or is of another store, or if its
-    /// value isn't shared. Allocates a slot if none is free, room on the owner's list, and room for the
-    /// step.
+    /// the location at which the box was created, if its cell was dropped or is of another store, or if
+    /// its value isn't shared. Allocates a slot if none is free, room on the owner's list, and room for
+    /// the step.
     fn insert_reference(
         &mut self,
         owner: &Owner,
@@ -156,9 +157,9 @@ pub trait Worker<T> {
     /// number, and must be released.
     ///
     /// # Errors
-    /// In this order: `Dropped` with the location at which the box was created, if its cell has ended or
-    /// is of another store; `NumbersExhausted`, if no ticket is left. Allocates room for two steps, and
-    /// for a reader next to another.
+    /// In this order: `Dropped` with the location at which the box was created, if its cell was dropped
+    /// or is of another store; `NumbersExhausted`, if no ticket is left. Allocates room for two steps,
+    /// and for a reader in addition to another.
     fn try_read(
         &mut self,
         asked: GenerationalBox<T>,
@@ -171,8 +172,8 @@ pub trait Worker<T> {
     /// meanwhile, has the store's number, and must be released.
     ///
     /// # Errors
-    /// In this order: `Dropped` with the location at which the box was created, if its cell has ended or
-    /// is of another store; `NumbersExhausted`, if no ticket is left. Allocates room for two steps.
+    /// In this order: `Dropped` with the location at which the box was created, if its cell was dropped
+    /// or is of another store; `NumbersExhausted`, if no ticket is left. Allocates room for two steps.
     fn try_write(
         &mut self,
         asked: GenerationalBox<T>,
@@ -187,9 +188,9 @@ pub trait Worker<T> {
         ensures step { IsUnseenStep {T = T} number (counts self.old) (ReleaseReader guard) (Flag result)
             (counts self.new) };
 
-    /// Runs `f` on the value of a reader's guard, under the store's lock, and returns what `f`
-    /// returns; None if the store doesn't know the guard. It isn't a step. `f` must not call the
-    /// store: it would wait for ever. Allocates only what `f` allocates.
+    /// Runs `f` on the value of a reader's guard, under the store's lock, and returns what `f` returns;
+    /// None if the store doesn't know the guard. It isn't a step. `f` must not call the store: that
+    /// would deadlock. Allocates only what `f` allocates.
     fn open<A, F: FnOnce(&T) -> A>(&self, guard: &GenerationalRef<T>, f: F) -> Option<A>
         requires { F.IsAlwaysCallable f }
         ensures answer { IfSome result (λ answer. (value : _) × F.post f value answer) }
@@ -208,8 +209,8 @@ pub trait Worker<T> {
     /// the value then refers to the new one.
     ///
     /// # Errors
-    /// `Dropped` with the location at which the box was created, if its cell has ended or is of another
-    /// store. Returns the new value then. Allocates room for the step.
+    /// `Dropped` with the location at which the box was created, if its cell was dropped or is of
+    /// another store. Returns the new value then. Allocates room for the step.
     fn set(
         &mut self,
         asked: GenerationalBox<T>,
@@ -220,10 +221,11 @@ pub trait Worker<T> {
         ensures back { IfErr result (λ e. e.0 ≡ value) };
 
     /// Drops the box's cell, and the value with it. Waits while the value is borrowed, and wakes those
-    /// that wait. A box whose cell has ended or is of another store is Ok, and nothing changes.
+    /// that wait. For a box whose cell was dropped or is of another store it returns Ok, and nothing
+    /// changes.
     ///
     /// # Errors
-    /// `OutOfMemory` alone. Allocates room for the step.
+    /// `OutOfMemory` is the only possible error. Allocates room for the step.
     fn manually_drop(&mut self, asked: GenerationalBox<T>) -> BorrowMutResult<()>
         ensures step { IsUnseenStep {T = T} number (counts self.old) (End (pointer_of asked))
             (end_answer result) (counts self.new) };
@@ -234,8 +236,8 @@ pub trait Worker<T> {
     ///
     /// # Errors
     /// `Dropped`: with the other box's location, if that refers to no value; with this box's own, if its
-    /// cell has ended or is of another store; with that of the other's value, if this box is no reference
-    /// or that value isn't shared. Allocates room for the step.
+    /// cell was dropped or is of another store; with that of the other's value, if this box is no
+    /// reference or that value isn't shared. Allocates room for the step.
     fn point_to(
         &mut self,
         asked: GenerationalBox<T>,
@@ -244,9 +246,9 @@ pub trait Worker<T> {
         ensures step { IsUnseenStep {T = T} number (counts self.old)
             (Point (pointer_of asked) (pointer_of other)) (end_answer result) (counts self.new) };
 
-    /// Makes the store's present state the base from which its history goes on, drops the steps so
-    /// far, and returns how many steps were ever dropped. It isn't a step, and raises no count.
-    /// Takes time for each slot, twice, and for each borrow and each box that an owner has.
+    /// Makes the store's present state the base that its history starts from, drops the steps so far,
+    /// and returns how many steps were ever dropped. It isn't a step, and raises no count. Takes time
+    /// for each slot, twice, and for each borrow and each box that an owner has.
     ///
     /// # Errors
     /// In this order: `NumbersExhausted`, if that number doesn't fit into 64 bits; `OutOfMemory`.
@@ -257,13 +259,13 @@ pub trait Worker<T> {
 
     /// Reads a box's value by a closure: begins a read, runs `f` on the value, ends the read, and
     /// returns what `f` returns. Waits while the value has a writer. `f` runs under the store's lock and
-    /// must not call the store: it would wait for ever. Two steps.
+    /// must not call the store: that would deadlock. Two steps.
     ///
     /// # Errors
-    /// In this order: `Dropped` with the location at which the box was created, if its cell has ended or
-    /// is of another store; `NumbersExhausted`, if no ticket is left. Allocates room for two steps, and
-    /// for a reader next to another. `Dropped` with that location also comes after the two steps, if the
-    /// store didn't know the read's own guard.
+    /// In this order: `Dropped` with the location at which the box was created, if its cell was dropped
+    /// or is of another store; `NumbersExhausted`, if no ticket is left. Allocates room for two steps,
+    /// and for a reader in addition to another. `Dropped` with that location is also returned after the
+    /// two steps, if the store didn't know the read's own guard.
     final fn with<A: Drop, F: FnOnce(&T) -> A>(
         &mut self,
         asked: GenerationalBox<T>,
@@ -293,10 +295,10 @@ pub trait Worker<T> {
     /// the write, and returns what `f` returns. Waits while the value is borrowed. Two steps.
     ///
     /// # Errors
-    /// In this order: `Dropped` with the location at which the box was created, if its cell has ended or
-    /// is of another store; `NumbersExhausted`, if no ticket is left. Allocates room for two steps.
-    /// `Dropped` with that location also comes after `f`, if the store didn't know the write's own guard:
-    /// the value is dropped then.
+    /// In this order: `Dropped` with the location at which the box was created, if its cell was dropped
+    /// or is of another store; `NumbersExhausted`, if no ticket is left. Allocates room for two steps.
+    /// `Dropped` with that location is also returned after `f`, if the store didn't know the write's own
+    /// guard: the value is dropped then.
     final fn with_mut<A: Drop, F: FnOnce(&mut T) -> A>(
         &mut self,
         asked: GenerationalBox<T>,
@@ -326,12 +328,12 @@ pub trait Worker<T> {
     }
 
     /// Runs `f` with a new owner, releases the owner, and returns what `f` returns. Waits at the end
-    /// while a value that would be dropped is borrowed. Two steps, beside those of `f`.
+    /// while a value that would be dropped is borrowed. Two steps, in addition to those of `f`.
     ///
     /// # Errors
     /// `NumbersExhausted`, if no ticket is left. Allocates what [`owner`](Worker::owner) and
-    /// [`release_owner`](Worker::release_owner) allocate. `OutOfMemory` also comes if the owner's release
-    /// fails, after the steps of `f`: the owner is leaked then.
+    /// [`release_owner`](Worker::release_owner) allocate. `OutOfMemory` is also returned if the owner's
+    /// release fails, after the steps of `f`: the owner is leaked then.
     final fn with_owner<A: Drop, F: FnOnce(&mut Self, &Owner) -> A>(
         &mut self,
         f: F,
@@ -367,7 +369,7 @@ fn change<T, A, F: FnOnce(&mut T) -> A>(guard: &mut GenerationalRefMut<T>, f: F)
     f(&mut *guard.deref_mut())
 }
 
-// That the value of a box is gone.
+// The error for a box whose value was dropped.
 fn dropped<T>(asked: GenerationalBox<T>) -> ValueDroppedError
     ensures { result.created_at ≡ (pointer_of asked).created_at }
 {

@@ -3,7 +3,7 @@ use Rattle.generational_workers.specs.Runs.{all_merged}
 use Rattle.generational_workers.proofs.own.gather.Given as goal
 
 -- no part is missing of those that are merged and those that are left, and all that was counted and
--- answered stands there or there
+-- returned is there or there
 abbrev pub invariant-loop-own : goal.invariant-loop-own
 invariant-loop-own g l =
     (goal.iterator-loop-own g).can_next l.own-iterator
