@@ -1,4 +1,4 @@
--- Cells as they stand in a file.
+-- Cells in the form of a file.
 use Rattle.std.proofs.Common.{◌≡◌, ℕ, List, refl, ap, arith, Ok, Err}
 use Rattle.std.specs.Int.{w8, w64}
 use Rattle.store_images.specs.declared.image.CellImage.{CellImage}
@@ -17,7 +17,7 @@ apart : (m n : ℕ) → Number w8 m ≡ Number w8 n → m ≡ n
 apart m n e = cc
 
 module _ {T : Type 0} where
-  -- the cell as it stands in a file with these names
+  -- the cell in the form of a file with these names
   abbrev pub saved_of : List (List ℕ) → CellImage T → SavedCell T
   saved_of names saved.Empty = file.Empty
   saved_of names (saved.Value v l) = file.Value ((place_of names l.file.now, (l.line, l.column)), v)
@@ -30,7 +30,7 @@ module _ {T : Type 0} where
   saved_same names form (saved.Shared v l) = refl
   saved_same names form (saved.Reference s g l) = refl
 
-  -- ---- the variant that a byte tells
+  -- ---- the variant of a byte
 
   module _ (form : T → Form) where
     abbrev value_form : (ℕ × (ℕ × ℕ)) × T → Form

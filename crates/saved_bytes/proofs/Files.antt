@@ -137,7 +137,7 @@ place_most (name ∷ names) text = let rest = place_most names text in elim (cas
   | inr not ↦ rw not (omega arith)
 ]
 
--- a name more is spelled after the others
+-- another name is written after the others
 pub text_more : (names : List (Bor (List ℕ))) (i : ℕ) (d : Bor (List ℕ)) (old mid new : List ℕ) → i < length names
     → Appends (items_form Text (texts (take i names))) old mid → Appends (Text (get_or names i d).now) mid new
     → Appends (items_form Text (texts (take (i + 1) names))) old new

@@ -8,7 +8,7 @@ use Rattle.saved_bytes.specs.declared.decode.DecodeError.{DecodeError}
 use Rattle.saved_bytes.specs.declared.decode.DecodeError.TheVariants.{OutOfMemory}
 
 module _ {X : Type 0} (form : X → Form) where
-  -- one more item at the end is spelled after the others
+  -- another item at the end is written after the others
   pub spell_push : (xs : List X) (x : X) (rest : List ℕ)
       → spell (items_form form (xs ++ x ∷ [])) rest ≡ spell (items_form form xs) (spell (form x) rest)
   spell_push [] x rest = refl
@@ -54,7 +54,7 @@ module _ {X : Type 0} (form : X → Form) where
   all_may [] = tt
   all_may (x ∷ xs) = (tt, all_may xs)
 
--- lists with a pair more at their ends
+-- lists with another pair at their ends
 pairs_push : {X Y : Type 0} (R : X → Y → Type 0) (xs : List X) (ys : List Y) (x : X) (y : Y) → ArePairwise R xs ys → R x y
     → ArePairwise R (xs ++ x ∷ []) (ys ++ y ∷ [])
 pairs_push R [] [] x y p r = (r, tt)

@@ -14,7 +14,8 @@ use Rattle.saved_bytes.specs.declared.file.TheConstants.{MAGIC, VERSION}
 abbrev pub word : List ℕ → ℕ → ℕ
 word bytes k = from_le_bytes w64 (drop (8 * k) bytes)
 
--- A step of the sum. Each number and each sum before it can be told from the result and the other one.
+-- A step of the checksum. Each number and each earlier sum is determined by the result and the other
+-- one.
 abbrev pub mixed : ℕ → ℕ → ℕ
 mixed sum n = rotate_left w64 ((bit_xor sum n * FACTOR) % 2 ^ 64) 31
 

@@ -29,7 +29,7 @@ IsForm (Form.Both f g) = IsForm f × IsForm g
 
 -- ---- forms of values
 
--- a byte that tells variants apart, and what the variant has
+-- a byte for the variant, and the variant's fields
 abbrev pub variant_form : ℕ → Form → Form
 variant_form tag fields = Form.Both (Form.Number w8 tag) fields
 

@@ -64,7 +64,7 @@ module _ {T : Type 0} where
     abbrev pub image_form : Image T → Form
     image_form i = Form.Both (list_form Form.Text names) (Form.Both (numbers_form i) (list_form slot_form i.slots.items))
 
-  -- ---- a cell as it stands in a file
+  -- ---- a cell in the form of a file
 
   abbrev pub saved_cell_tag : SavedCell T → ℕ
   saved_cell_tag file.Empty = 0
@@ -103,7 +103,7 @@ module _ {T : Type 0} where
       pub peak : new.peak ≡ old.peak
       pub slots : ArePairwise IsSlotAgain old.slots.items new.slots.items
 
-  -- A cell that stands in a file for another one is that one again, once it has a location.
+  -- A cell in a file's form for another one is that one again, once it has a location.
   abbrev pub IsCellPlaced : List (Option (Bor (List ℕ))) → Location → SavedCell T → Option (CellImage T) → Type 0
   IsCellPlaced places here cell result = (form : T → Form) (files : List (Bor (List ℕ))) (names : List (List ℕ)) (c : CellImage T)
       → ArePairwise (IsFound files) names places → IsCellNamed names c → saved_cell_form form cell ≡ cell_form names form c

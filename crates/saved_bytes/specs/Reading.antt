@@ -44,8 +44,8 @@ ArePairwise R [] (y ∷ ys) = ⊥
 ArePairwise R (x ∷ xs) [] = ⊥
 ArePairwise R (x ∷ xs) (y ∷ ys) = R x y × ArePairwise R xs ys
 
--- What is read stands for what was spelled, and may be of another type: X is what was spelled, and Here
--- says for which of its values this holds.
+-- What is read corresponds to what was written, and may be of another type: X is what was written, and
+-- Here says for which of its values this holds.
 module _ {X Y : Type 0} (Here : X → Type 0) (form : X → Form) (Same : X → Y → Type 0) where
   abbrev pub IsReadAs : X → List ℕ → Result Y DecodeError → List ℕ → Type 0
   IsReadAs x rest (Ok y) new = Same x y × (new ≡ rest)

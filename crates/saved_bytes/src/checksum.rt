@@ -1,4 +1,4 @@
-//! The sum of bytes by which damage is seen.
+//! The checksum of a file's bytes, which finds damage.
 
 ghost use Rattle.std.specs.Prelude.{◌≡◌, ◌*◌, ◌≤◌, length, slice_index};
 ghost use Rattle.saved_bytes.specs.Files.{checksum, mixed, sum_upto, word};
@@ -7,8 +7,8 @@ const START: u64 = 0x243f_6a88_85a3_08d3;
 
 const FACTOR: u64 = 0x9e37_79b9_7f4a_7c15;
 
-/// The bytes' sum: eight bytes at a time, each number mixed in by a step that turns other numbers
-/// into other sums. So a change within eight bytes always changes the sum.
+/// The bytes' checksum: eight bytes at a time, each number mixed in by a step that maps different
+/// numbers to different sums. So a change within eight bytes always changes the sum.
 pub fn checksum(bytes: &[u8]) -> u64
     ensures { result ≡ checksum bytes.now }
 {
@@ -26,7 +26,7 @@ fn mix(sum: u64, word: u64) -> u64
     (sum ^ word).wrapping_mul(FACTOR).rotate_left(31)
 }
 
-// The k-th eight bytes, as a number. Those that aren't there count as zeros.
+// The k-th eight bytes, as a number. Missing ones count as zeros.
 fn word_at(bytes: &[u8], k: usize) -> u64
     requires { 8 * k ≤ length bytes.now }
     ensures { result ≡ word bytes.now k }

@@ -1,4 +1,4 @@
-//! What bytes are read from.
+//! Reading values from bytes.
 
 ghost use Rattle.std.specs.Prelude.{◌≡◌, ◌==◌, length};
 ghost use Rattle.std.specs.Int.{w8, w16, w32, w64};
@@ -11,12 +11,12 @@ use std::alloc::{AllocError, AllocFailed, Global};
 use std::error::Error;
 use std::fmt;
 
-/// What is wrong with bytes that spell no value.
+/// Why bytes encode no value.
 #[derive(Clone, Copy, Debug, PartialEq, Eq)]
 pub enum Fault {
     /// They end within the value.
     Short,
-    /// A byte that tells variants apart has another value than theirs.
+    /// A byte for the variant has none of their numbers.
     Variant,
     /// A text isn't UTF-8.
     Text,
@@ -26,9 +26,9 @@ pub enum Fault {
     Magic,
     /// The file has another version than this one.
     Version,
-    /// The bytes have another sum than the file says.
+    /// The bytes have another checksum than the file says.
     Sum,
-    /// Bytes stand behind the values.
+    /// There are bytes after the values.
     Long,
 }
 
@@ -49,12 +49,12 @@ impl fmt::Display for Fault {
 
 impl Error for Fault {}
 
-/// Why a value isn't read.
+/// Why a value can't be read.
 #[derive(Clone, Copy, Debug, PartialEq, Eq)]
 pub enum DecodeError {
-    /// Memory ran out.
+    /// Out of memory.
     OutOfMemory,
-    /// What is wrong, and the index of the byte at which it is seen.
+    /// The fault, and the index of the byte where it was found.
     Damaged(usize, Fault),
 }
 
@@ -85,7 +85,7 @@ impl<T: Drop> From<AllocFailed<T>> for DecodeError {
     }
 }
 
-/// Bytes that are read one value after the other. A call that fails may have read some.
+/// Bytes from which values are read one after the other. A call that fails may have consumed some.
 #[derive(Debug, Drop)]
 pub struct Decoder<'a> {
     alloc: Global,
@@ -94,7 +94,7 @@ pub struct Decoder<'a> {
 }
 
 impl<'a> Decoder<'a> {
-    /// All of these bytes. What is read allocates by `alloc`.
+    /// Reads from these bytes. Values allocate from `alloc`.
     pub fn new(alloc: Global, bytes: &'a [u8]) -> Decoder<'a>
         ensures { unread result ≡ bytes.now }
     {
@@ -105,7 +105,7 @@ impl<'a> Decoder<'a> {
         }
     }
 
-    /// What allocates the values that are read.
+    /// The allocator of the values that are read.
     pub fn alloc(&self) -> Global {
         self.alloc
     }
@@ -115,7 +115,7 @@ impl<'a> Decoder<'a> {
         self.len.saturating_sub(self.rest.len())
     }
 
-    /// The bytes that are left.
+    /// The remaining bytes.
     pub fn rest(&self) -> &'a [u8]
         ensures { result.now ≡ unread self.now }
     {
@@ -189,7 +189,7 @@ impl<'a> Decoder<'a> {
         ]))
     }
 
-    /// Reads a text, which is a part of the bytes: it isn't copied.
+    /// Reads a text, which borrows from the bytes: it isn't copied.
     pub fn take_text(&mut self) -> Result<&'a str, DecodeError>
         ensures again { TextReadsAgain (λ text. text.now) (unread self.old) result (unread self.new) }
         ensures only { ReadsOnly (λ text. Text text.now) (unread self.old) result (unread self.new) }

@@ -1,4 +1,4 @@
-//! Where bytes are written.
+//! Writing values as bytes.
 
 ghost use Rattle.std.specs.Prelude.{◌≡◌, [], OnOk};
 ghost use Rattle.std.specs.Int.{w8, w16, w32, w64};
@@ -7,15 +7,15 @@ ghost use Rattle.saved_bytes.specs.Forms.{Appends, written};
 
 use std::alloc::{AllocError, Global};
 
-/// Bytes that are written one value after the other, in memory. If a call fails for lack of memory, a part
-/// of the value may have been appended.
+/// A buffer to which values are written one after the other. If a call fails because memory ran out, a
+/// part of the value may have been appended.
 #[derive(Debug, Drop)]
 pub struct Encoder {
     bytes: Vec<u8>,
 }
 
 impl Encoder {
-    /// No bytes yet. Doesn't allocate.
+    /// Creates an empty buffer. Doesn't allocate.
     pub fn new(alloc: Global) -> Encoder
         ensures { written result ≡ [] }
     {
@@ -24,14 +24,14 @@ impl Encoder {
         }
     }
 
-    /// What was written.
+    /// The bytes written so far.
     pub fn bytes(&self) -> &[u8]
         ensures { result.now ≡ written self.now }
     {
         self.bytes.as_slice()
     }
 
-    /// Forgets what was written, and keeps its memory.
+    /// Drops the bytes written so far, and keeps the capacity.
     pub fn clear(&mut self)
         ensures { written self.new ≡ [] }
     {
@@ -45,21 +45,21 @@ impl Encoder {
         self.bytes.extend_from_slice(&number.to_le_bytes())
     }
 
-    /// Appends the number's two bytes, the lowest first.
+    /// Appends the number's two bytes, little-endian.
     pub fn put_u16(&mut self, number: u16) -> Result<(), AllocError>
         ensures { OnOk result (Appends (Number w16 number) (written self.old) (written self.new)) }
     {
         self.bytes.extend_from_slice(&number.to_le_bytes())
     }
 
-    /// Appends the number's four bytes, the lowest first.
+    /// Appends the number's four bytes, little-endian.
     pub fn put_u32(&mut self, number: u32) -> Result<(), AllocError>
         ensures { OnOk result (Appends (Number w32 number) (written self.old) (written self.new)) }
     {
         self.bytes.extend_from_slice(&number.to_le_bytes())
     }
 
-    /// Appends the number's eight bytes, the lowest first.
+    /// Appends the number's eight bytes, little-endian.
     pub fn put_u64(&mut self, number: u64) -> Result<(), AllocError>
         ensures { OnOk result (Appends (Number w64 number) (written self.old) (written self.new)) }
     {

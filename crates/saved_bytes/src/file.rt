@@ -26,12 +26,12 @@ pub const MAGIC: u64 = 0x6576_6153_6c6f_6f50;
 /// The version of the format, which follows.
 pub const VERSION: u32 = 1;
 
-/// Why a file isn't written.
+/// Why a file can't be written.
 #[derive(Debug, Drop)]
 pub enum WriteError {
     /// The writer failed.
     Io(io::Error),
-    /// Memory ran out.
+    /// Out of memory.
     OutOfMemory,
 }
 
@@ -58,12 +58,12 @@ impl From<io::Error> for WriteError {
     }
 }
 
-/// Why a file isn't read.
+/// Why a file can't be read.
 #[derive(Debug, Drop)]
 pub enum ReadError {
     /// The reader failed.
     Io(io::Error),
-    /// The bytes are no file of such an image, or memory ran out.
+    /// The bytes aren't a file of such an image, or memory ran out.
     Decode(DecodeError),
 }
 
@@ -86,7 +86,7 @@ impl From<io::Error> for ReadError {
     }
 }
 
-// Appends what stands before these bytes in a file.
+// Appends the header of these bytes.
 fn encode_header(bytes: &[u8], out: &mut Encoder) -> Result<(), AllocError>
     ensures { OnOk result (Appends (header bytes.now) (written out.old) (written out.new)) }
 {
@@ -143,15 +143,16 @@ fn decode_file<T: Saved>(
     }
 }
 
-/// Writes an image as a file: a header of 28 bytes, and then the image. The files' names of its locations
-/// are written once each.
+/// Writes an image as a file: a header of 28 bytes, and then the image. Each file name of its locations
+/// is written once.
 ///
-/// The whole file is put together in memory first, and then written by two calls of `write_all`. Takes
-/// O(n) for n slots and few files.
+/// Builds the whole file in memory first, and then writes it by two calls of `write_all`. O(n) for n
+/// slots and few files.
 ///
 /// # Errors
 ///
-/// `OutOfMemory`, or `Io` with the writer's error; then a part of the file may have been written.
+/// `OutOfMemory`, or `Io` with the writer's error; in that case a part of the file may have been
+/// written.
 pub fn write_image<T: Saved, W: Write>(
     alloc: Global,
     image: &Image<T>,
@@ -170,17 +171,20 @@ pub fn write_image<T: Saved, W: Write>(
     Ok(())
 }
 
-/// Reads a file of an image to the reader's end. A location whose file isn't among `files` becomes `here`.
+/// Reads a file of an image to the reader's end. A location whose file isn't among `files` becomes
+/// `here`.
 ///
-/// Any bytes may be read. All are read into memory first; what is allocated beside them is in proportion to
-/// the values that are there, whatever lengths the file claims. The image needn't be one that a store can
-/// have: `Store::from_image` checks that.
+/// The input may be any bytes. All are read into memory first; what is allocated in addition is in
+/// proportion to the values that are there, whatever lengths the file claims. The image needn't be one
+/// that a store can have: `Store::from_image` checks that.
 ///
 /// # Errors
 ///
-/// `Io` with the reader's error; `Decode` with the first fault, checked in this order: the header's length,
-/// magic and version, the length and the sum of what follows, and then the image from its beginning to its
-/// end; or with `OutOfMemory`. A fault of a location's place is told at its slot's first byte.
+/// - `Io` with the reader's error.
+/// - `Decode` with the first fault, checked in this order: the header's length, magic and version, the
+///   length and the checksum of what follows, and then the image from its beginning to its end. A
+///   `Place` fault has the index of its slot's first byte.
+/// - `Decode` with `OutOfMemory`.
 pub fn read_image<T: Saved, R: Read>(
     alloc: Global,
     input: &mut R,

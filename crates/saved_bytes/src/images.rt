@@ -19,7 +19,7 @@ use generational_core::Location;
 use std::alloc::{AllocError, Global};
 use store_images::{CellImage, Image, SlotImage};
 
-// The location at which the cell was made.
+// The location where the cell was made.
 fn location_in<T>(cell: &CellImage<T>) -> Option<Location>
     ensures { result ≡ location_in cell.now }
 {
@@ -97,7 +97,7 @@ fn encode_slots<T: Saved>(
     Ok(())
 }
 
-/// Appends an image, with these names of files.
+/// Appends an image, with these file names.
 pub fn encode_image<T: Saved>(
     image: &Image<T>,
     names: &[&'static str],
@@ -112,7 +112,7 @@ pub fn encode_image<T: Saved>(
     encode_slots(image.slots.as_slice(), names, out)
 }
 
-// A cell as it stands in a file: each location with the index of its file's name.
+// A cell in the form of a file: each location with the index of its file's name.
 #[derive(Drop)]
 enum SavedCell<T> {
     Empty,
@@ -207,7 +207,7 @@ fn decode_slots<T: Saved>(
     Ok(slots)
 }
 
-/// Reads an image. A location whose file isn't among these is `here`.
+/// Reads an image. A location whose file isn't among these becomes `here`.
 pub fn decode_image<T: Saved>(
     input: &mut Decoder,
     files: &[&'static str],

@@ -1,8 +1,8 @@
 //! Values and images of stores as bytes, and back.
 //!
-//! A type is saved if it has the trait `Saved`: numbers, truth values, texts, options, pairs and lists
-//! are, and so is each type of yours for which you write `encode` and `decode`. An image of a store of
-//! such values is written to a file by `write_image`, and read by `read_image`.
+//! A type can be saved if it implements `Saved`: integers, `bool`, `String`, `Option`, pairs and `Vec`
+//! do, and so does each type of yours for which you write `encode` and `decode`. `write_image` writes an
+//! image of a store of such values to a file, and `read_image` reads it.
 #![tactic(auto)]
 
 mod checksum;

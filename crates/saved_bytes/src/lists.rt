@@ -50,8 +50,8 @@ pub fn encode_items<T: Saved>(items: &[T], out: &mut Encoder) -> Result<(), Allo
     Ok(())
 }
 
-/// Reads this number of items. A number that is too great for the bytes costs no memory beyond that of
-/// the items that are there.
+/// Reads this number of items. A number that is too large for the bytes allocates no more than the items
+/// that are there.
 pub fn decode_items<T: Saved>(input: &mut Decoder, count: u64) -> Result<Vec<T>, DecodeError>
     ensures again { ItemsReadAgain T.form (λ v. v.items) count (unread input.old) result (unread input.new) }
     ensures only { ItemsReadOnly T.form (λ v. v.items) count (unread input.old) result (unread input.new) }

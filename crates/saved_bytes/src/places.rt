@@ -13,7 +13,7 @@ use crate::encode::Encoder;
 use generational_core::Location;
 use std::alloc::AllocError;
 
-/// The index of the first of these names that is this text, or their number.
+/// The index of the first of these names that equals this text, or their number if there is none.
 pub fn place_of(names: &[&'static str], file: &str) -> usize
     ensures { result ≡ place_of (texts names.now) file.now }
 {
@@ -25,7 +25,7 @@ pub fn place_of(names: &[&'static str], file: &str) -> usize
     names.len()
 }
 
-/// Adds a name, unless it is there.
+/// Adds a name, unless it is in the list.
 pub fn add_name(names: &mut Vec<&'static str>, file: &'static str) -> Result<(), AllocError>
     ensures there { OnOk result (IsKnown (texts names.new.items) file.entry.now) }
     ensures kept { (text : List ℕ) → IsKnown (texts names.old.items) text → IsKnown (texts names.new.items) text }

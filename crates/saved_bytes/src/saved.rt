@@ -1,4 +1,4 @@
-//! Types whose values are written as bytes, and read again.
+//! Types whose values are written as bytes, and read back.
 
 ghost use Rattle.std.specs.Prelude.{OnOk};
 ghost use Rattle.saved_bytes.specs.Forms.{Appends, written, unread, Form};
@@ -8,9 +8,9 @@ use crate::decode::{DecodeError, Decoder};
 use crate::encode::Encoder;
 use std::alloc::AllocError;
 
-/// A type whose values are written as bytes, and read again.
+/// A type whose values are written as bytes, and read back.
 ///
-/// A struct writes its fields one after the other, and reads them in the same order. `form` names the
+/// A struct writes its fields one after the other, and reads them in the same order. `form` lists the
 /// forms of its fields, and needs no proof:
 ///
 /// ```rust
@@ -30,7 +30,7 @@ use std::alloc::AllocError;
 /// }
 /// ```
 pub trait Saved: Drop {
-    /// What a value comes down to: the numbers and texts that are written of it.
+    /// What is written of a value: its numbers and texts.
     ghost form: { Self → Form };
 
     /// Appends the value's bytes.
@@ -41,13 +41,16 @@ pub trait Saved: Drop {
     fn encode(&self, out: &mut Encoder) -> Result<(), AllocError>
         ensures { OnOk result (Appends (form self.now) (written out.old) (written out.new)) };
 
-    /// Reads a value. If the bytes begin with those that `encode` appends for a value, then one with the
-    /// same form is read, and the bytes behind it are left.
+    /// Reads a value. If the bytes begin with those that `encode` appends for a value, it reads one with
+    /// the same form, and leaves the bytes after it.
     ///
     /// # Errors
     ///
-    /// `Damaged` if the bytes don't begin with those of a value, with the byte at which this is seen;
-    /// `OutOfMemory`. Some bytes may have been read.
+    /// - `Damaged` if the bytes don't begin with those of a value, with the index of the byte where this
+    ///   was found.
+    /// - `OutOfMemory`.
+    ///
+    /// Some bytes may have been consumed.
     fn decode(input: &mut Decoder) -> Result<Self, DecodeError>
         ensures again { ReadsAgain form (unread input.old) result (unread input.new) }
         ensures only { ReadsOnly form (unread input.old) result (unread input.new) };
