@@ -43,7 +43,7 @@ use Rattle.live_cells.specs.declared.cells.CellFault.TheVariants as fault
 
 -- ==== lists
 
--- what one of two lists has, both have together
+-- what one of two lists has, their concatenation has
 get_left : {X : Type 0} (xs ys : List X) (k : ℕ) (x : X) → slice_get xs k ≡ Some x
     → (j : ℕ) × (slice_get (xs ++ ys) j ≡ Some x)
 get_left [] ys k x is = cc
@@ -121,13 +121,13 @@ same_number : (a b : ℕ) → nat_eq a b ≡ true → a ≡ b
 same_number a b is = grind arith
 
 module _ {T : Type 0} where
-  -- a value at which no borrow stands, or nothing
+  -- a value without a borrow, or nothing
   abbrev IsPlainCell : Option (Cell T) → Type 0
   IsPlainCell None = Unit {0}
   IsPlainCell (Some (Value (Here v []) l)) = Unit {0}
   IsPlainCell _ = ⊥
 
-  -- a fault is so of the cell of a name
+  -- the fault is true of the cell of a name
   abbrev IsFaultAt : Name → Option (Cell T) → CellFault → Type 0
   IsFaultAt n x (Borrowed slot) = (n.slot ≡ slot) × (tickets_of (content_of x) ≢ [])
   IsFaultAt n x (fault.Shared slot) = (n.slot ≡ slot) × IsSharing x

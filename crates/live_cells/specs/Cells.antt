@@ -1,4 +1,4 @@
--- The cells that a store's rows list, and what in them no table can have.
+-- The cells that a store's rows list, and those of them that no table can have.
 use Rattle.std.specs.Prelude.{◌≡◌, ◌≢◌, ℕ, List, [], ◌∷◌, Option, None, Some}
 use Rattle.std.specs.FinMap as map
 use Rattle.generational_core.specs.Cells.{Cell}
@@ -46,7 +46,7 @@ module _ {T : Type 0} where
   IsSharing (Some (Ref m l)) = Unit {0}
   IsSharing _ = ⊥
 
-  -- what is said of a store is so
+  -- the fault is true of a store
   abbrev pub IsCellFault : State T → CellFault → Type 0
   IsCellFault S (Borrowed slot) = (n : Name) × (n.slot ≡ slot) × (tickets_at S.cells n ≢ [])
   IsCellFault S (fault.Shared slot) = (n : Name) × (n.slot ≡ slot) × IsSharing (map.get S.cells n)

@@ -14,14 +14,14 @@ use std::alloc::Global;
 use std::error::Error;
 use std::fmt;
 
-/// Why a store can't be a table's or a tree's.
+/// Why a table or a tree can't be made of a store.
 #[derive(Clone, Copy, Debug, PartialEq, Eq)]
 pub enum CellFault {
     /// The value in this slot is borrowed.
     Borrowed(usize),
     /// This slot has a shared value, or a reference to one.
     Shared(usize),
-    /// Memory ran out.
+    /// Out of memory.
     OutOfMemory,
 }
 
@@ -38,14 +38,15 @@ impl fmt::Display for CellFault {
 
 impl Error for CellFault {}
 
-/// The live cells of a store, each by its pointer with the location where it was made, in the order of
-/// their slots. The store is unchanged. O(n) for n slots and records of owners.
+/// Returns the live cells of a store, each as its pointer with the location where it was made, in the
+/// order of their slots. The store is unchanged. O(n) for n slots and records of owners. Allocates two
+/// lists, of some 50 bytes for each slot.
 ///
 /// # Errors
 ///
-/// The first of these in the order of slots: `Shared` if a slot has a shared value or a reference;
-/// `Borrowed` if its value is borrowed. `OutOfMemory` if the two lists, of some 50 bytes for each slot,
-/// can't be allocated.
+/// - `Shared` or `Borrowed`, for the first slot that has a shared value or a reference, or whose value
+///   is borrowed.
+/// - `OutOfMemory` if the lists can't be allocated.
 pub fn plain_cells<T, S: Storage<T>>(
     alloc: Global,
     store: &S,
