@@ -25,9 +25,7 @@ MEANT = {
     "tally.rt|recorded.rt|recorder.rt": r"refused",  # a kind of steps
 }
 # The crates and the pages that aren't written so yet.
-LATER = {
-         "example_workers", "example_files", "test_files",
-         "PERFORMANCE.md", "planted.md"}
+LATER = {"PERFORMANCE.md", "planted.md"}
 
 
 def prose(path, lines):

@@ -1,4 +1,4 @@
--- The variants of an item: the byte that tells each, and what it has.
+-- The variants of an item: the byte for each, and its fields.
 use Rattle.std.specs.Prelude.{ℕ}
 use Rattle.std.specs.Int.{w32}
 use Rattle.std.specs.String.{string_bytes}

@@ -1,4 +1,4 @@
-//! What was saved is read again.
+//! What was saved is read back.
 
 ghost use Rattle.std.specs.Prelude.{◌≡◌, IfOk};
 ghost use Rattle.std.specs.String.{string_bytes};
@@ -12,16 +12,16 @@ use saved_bytes::{
 use std::alloc::Global;
 use store_images::Image;
 
-/// Why it isn't.
+/// Why it can't be.
 #[derive(Debug, Drop)]
 pub enum NotAgain {
-    /// It isn't written.
+    /// It can't be written.
     Write(WriteError),
-    /// It isn't read.
+    /// It can't be read.
     Read(ReadError),
 }
 
-/// A value, written as bytes and read again: its form is the same.
+/// A value, written as bytes and read back: its form is the same.
 pub fn value_again<T: Saved>(alloc: Global, value: &T) -> Result<T, DecodeError>
     ensures { IfOk result (λ again. T.form again ≡ T.form value.now) }
 {
@@ -31,7 +31,7 @@ pub fn value_again<T: Saved>(alloc: Global, value: &T) -> Result<T, DecodeError>
     T::decode(&mut input)
 }
 
-/// A number, written and read again, is the same number.
+/// A number, written and read back, is the same number.
 pub fn number_again(alloc: Global, number: u64) -> Result<u64, DecodeError>
     ensures { IfOk result (λ again. again ≡ number) }
 {
@@ -39,7 +39,7 @@ pub fn number_again(alloc: Global, number: u64) -> Result<u64, DecodeError>
     Ok(again)
 }
 
-/// A hero, written and read again, has the same name and strength.
+/// A hero, written and read back, has the same name and strength.
 pub fn hero_again(alloc: Global, hero: &Hero) -> Result<Hero, DecodeError>
     ensures name { IfOk result (λ again. string_bytes again.name ≡ string_bytes hero.now.name) }
     ensures strength { IfOk result (λ again. again.strength ≡ hero.now.strength) }
@@ -48,7 +48,7 @@ pub fn hero_again(alloc: Global, hero: &Hero) -> Result<Hero, DecodeError>
     Ok(again)
 }
 
-/// An image, written as a file and read again: it is the same image, but for the locations whose files
+/// An image, written as a file and read back: it is the same image, except for the locations whose files
 /// aren't known.
 pub fn saved_again<T: Saved>(
     alloc: Global,

@@ -1,4 +1,4 @@
-//! Types that are saved, and an image that is saved and read again.
+//! Types that can be saved, and an image that is saved and read back.
 #![tactic(auto)]
 
 mod again;

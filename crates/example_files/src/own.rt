@@ -1,4 +1,4 @@
-//! A struct and an enum of one's own that are saved.
+//! A struct and an enum of one's own that can be saved.
 
 ghost use Rattle.saved_bytes.specs.Forms.Form.{Both};
 ghost use Rattle.saved_bytes.specs.Forms.{variant_form};
@@ -31,12 +31,12 @@ impl Saved for Hero {
     }
 }
 
-/// An enum is saved as a byte that tells the variant, and what the variant has.
+/// An enum is saved as a byte for the variant, and the variant's fields.
 #[derive(Debug, Drop)]
 pub enum Item {
     /// A key that opens everything.
     Key,
-    /// So many coins.
+    /// This many coins.
     Coins(u32),
     /// A potion, and what it heals.
     Potion((String, u32)),

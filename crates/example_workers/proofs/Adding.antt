@@ -1,4 +1,4 @@
--- What workers count together, where each counts what it answers.
+-- What workers count together, if each counts what it returns.
 use Rattle.std.proofs.Common.{◌≡◌, ℕ, zero, suc, ◌+◌, ◌∙◌, sym, refl, ap, arith}
 use Rattle.std.proofs.Common.{List, [], ◌∷◌, ◌++◌, length, sum, sum_by, length-append}
 use Rattle.std.proofs.lemmas.Grind.{common_steps}
@@ -12,7 +12,7 @@ use Rattle.generational_errors.specs.declared.error.StoreError.TheVariants.{Numb
 use Rattle.generational_errors.specs.declared.error.StoreError.TheVariants.{UnknownOwner}
 use Rattle.generational_workers.specs.Runs.{HaveServed, all_merged}
 
--- a refused step isn't counted as one that makes something
+-- a failed step isn't counted as one that makes something
 pub kept_made : {T : Type 0} (number : ℕ) (c : Counts) (action : Action T) (cause : StoreError)
     (d : Counts) → IsUnseenStep number c action (Refused cause) d → d.made ≡ c.made
 kept_made number c action OutOfMemory d it = ap (λ x. x.made) it.step.tally
@@ -58,14 +58,14 @@ long zero = refl
 long (suc n) =
     let so_far = long n in omega (arith, so_far, length-append (new_tallies n) (new_tally n ∷ []))
 
--- each worker has answered
+-- each worker has returned
 pub all_answer : (serves : Counts → ℕ → Counts → Type 0) (n : ℕ) (answers : List ℕ)
     (tallies : List Counts) → HaveServed serves (new_tallies n) answers tallies
     → length answers ≡ n
 all_answer serves n answers tallies served =
     many_answers serves (new_tallies n) answers tallies served ∙ long n
 
--- what is added up of all answers
+-- the sum of all results
 pub all_made : (serves : Counts → ℕ → Counts → Type 0)
     → ((old : Counts) (x : ℕ) (new : Counts) → serves old x new → new.made ≡ old.made + x)
     → (n : ℕ) (answers : List ℕ) (ended : Counts) (tallies : List Counts) → ended.made ≡ 0

@@ -1,4 +1,4 @@
-//! Workers whose answers are proved to be what the history of their store has.
+//! Workers whose results are proved to agree with the history of their store.
 
 ghost use Rattle.std.specs.Prelude.{◌≡◌, ◌+◌, true, false, IfOk, length, sum};
 ghost use Rattle.shared_history.specs.Bases.{trimmed_of};
@@ -11,7 +11,7 @@ use std::alloc::Global;
 use std::sync::Wait;
 use std::thread::Threads;
 
-/// Each worker stores so many numbers.
+/// Each worker stores this many numbers.
 #[derive(Drop)]
 struct Filling {
     each: u32,
@@ -69,7 +69,7 @@ impl Service<u64> for Filling {
     }
 }
 
-/// Has so many workers store numbers, and returns how many were stored, with the history. The history
+/// Runs this many workers that store numbers, and returns how many were stored, with the history, which
 /// has as many steps that create a box.
 pub fn fill<H: Threads + Wait + Sync>(
     rt: &H,
@@ -84,7 +84,7 @@ pub fn fill<H: Threads + Wait + Sync>(
     Ok((stored, served.base, served.steps))
 }
 
-// What all answers are together.
+// The sum of all workers' results.
 fn total(workers: u32, answers: Vec<u32>) -> u64
     requires { length answers.items ≡ workers }
     ensures { result ≡ sum answers.items }

@@ -1,4 +1,4 @@
-//! Damaged and hostile files: each is refused, with the byte at which it is seen.
+//! Damaged and hostile files: each is an error, with the index of the byte where it was found.
 
 use crate::files::{FILES, assert_reads, read};
 use crate::stored::{MAGIC, NAMES, PLACE, SLOTS, STORED, TAIL, TEXT, UTF8, VARIANT, VERSION};
@@ -6,7 +6,7 @@ use saved_bytes::{DecodeError, Fault, ReadError};
 use std::alloc::Global;
 use std::process::Abort;
 
-/// Whether these bytes are refused as damaged.
+/// Whether these bytes are an error for a damaged file.
 fn is_refused(alloc: Global, bytes: &[u8]) -> bool {
     matches!(
         read(alloc, bytes, &FILES),
@@ -54,7 +54,7 @@ fn hostile_files_are_refused(rt: HostRuntime) {
     assert_reads(&rt, alloc, &[], "at byte 0: the bytes end too early");
 }
 
-/// Whether the first bytes of the stored file are refused where they end, or in the header.
+/// Whether the first bytes of the stored file are an error at their end, or in the header.
 fn is_refused_at_its_end(alloc: Global, len: usize) -> bool {
     if len > STORED.len() {
         return false;
@@ -74,7 +74,7 @@ fn cut_files_are_refused(rt: HostRuntime) {
     }
 }
 
-/// Whether the stored file is refused with this bit flipped.
+/// Whether the stored file is an error with this bit flipped.
 fn is_refused_flipped(alloc: Global, index: usize, bit: u32) -> bool {
     let mut bytes = STORED;
     if index < bytes.len() && bit < 8 {
@@ -93,7 +93,7 @@ fn flipped_files_are_refused(rt: HostRuntime) {
     }
 }
 
-/// Whether the stored file is refused with this byte behind it.
+/// Whether the stored file is an error with this byte after it.
 fn is_refused_with(rt: &impl Abort, alloc: Global, byte: u8) -> bool {
     let mut bytes = Vec::from_slice(alloc, &STORED).expect(rt, "memory");
     bytes.push(byte).expect(rt, "memory");
@@ -108,7 +108,7 @@ fn longer_files_are_refused(rt: HostRuntime) {
     }
 }
 
-/// The next of a row of numbers that look drawn.
+/// The next of a sequence of pseudorandom numbers.
 fn drawn(state: &mut u64) -> usize {
     *state = state
         .wrapping_mul(6_364_136_223_846_793_005)
@@ -116,7 +116,7 @@ fn drawn(state: &mut u64) -> usize {
     (*state >> 33) as usize
 }
 
-/// The stored file with up to four drawn bytes, and its end cut off or not.
+/// The stored file with up to four random bytes, and truncated or not.
 fn mutated(rt: &impl Abort, alloc: Global, state: &mut u64) -> Vec<u8> {
     let mut bytes = Vec::from_slice(alloc, &STORED).expect(rt, "memory");
     for _ in 0..drawn(state) % 4 + 1 {
@@ -132,7 +132,7 @@ fn mutated(rt: &impl Abort, alloc: Global, state: &mut u64) -> Vec<u8> {
     bytes
 }
 
-/// Whether the bytes are the stored file, or are refused.
+/// Whether the bytes are the stored file, or an error.
 fn is_known_or_refused(alloc: Global, bytes: &[u8]) -> bool {
     bytes == STORED.as_slice() || is_refused(alloc, bytes)
 }

@@ -1,5 +1,5 @@
-//! Memory runs out while a file is written or read. Each test passes whichever one allocation is
-//! refused, and what lacked memory is tried again.
+//! Memory runs out while a file is written or read. Each test passes if any one allocation fails, and a
+//! call that failed because of that is tried again.
 
 use crate::files::{FILES, read};
 use crate::stored::STORED;
@@ -11,7 +11,7 @@ use store_images::Image;
 // How often a file is read or written.
 const TRIES: u32 = 8;
 
-/// What is read of the stored file, in one of the tries.
+/// The image that is read from the stored file, in one of the tries.
 fn read_in_tries(rt: &impl Abort, alloc: Global) -> Image<u64> {
     for _ in 0..TRIES {
         if let Ok(image) = read(alloc, &STORED, &FILES) {

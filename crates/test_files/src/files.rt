@@ -1,4 +1,4 @@
-//! A stored file, and the image that it has.
+//! A stored file, and its image.
 
 use crate::stored::STORED;
 use generational_core::Location;
@@ -10,7 +10,7 @@ use store_images::{CellImage, Image, SlotImage};
 /// The files that a reader knows.
 pub(crate) const FILES: [&'static str; 2] = ["b.rs", "a.rs"];
 
-/// Where other files' locations are.
+/// The location that replaces those in other files.
 pub(crate) fn here() -> Location {
     Location::new("here.rs", 1, 2)
 }
@@ -50,7 +50,7 @@ pub(crate) fn read(
     read_image(alloc, &mut input, files, here())
 }
 
-/// What is printed of what was read.
+/// What is printed of the result of a read.
 pub(crate) fn text_of(
     rt: &impl Abort,
     alloc: Global,
@@ -63,7 +63,7 @@ pub(crate) fn text_of(
     text.expect(rt, "memory")
 }
 
-/// Asserts what is read of these bytes.
+/// Asserts the result of reading these bytes.
 pub(crate) fn assert_reads(rt: &impl Abort, alloc: Global, bytes: &[u8], wanted: &str) {
     let answer = read(alloc, bytes, &FILES);
     let text = text_of(rt, alloc, &answer);

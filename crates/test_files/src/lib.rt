@@ -1,4 +1,4 @@
-//! Files of images: what is written and read byte for byte, and damaged ones.
+//! Files of images, written and read byte for byte, and damaged ones.
 #![tactic(auto)]
 
 #[cfg(test)]

@@ -1,4 +1,5 @@
-//! Files as they were written by a program in another language, by the format's description alone.
+//! Files as they were written by a program in another language, from the description of the format
+//! alone.
 
 /// Store 7 with a value, a free slot, and a shared value with two references.
 pub(crate) const STORED: [u8; 241] = [
@@ -57,7 +58,7 @@ pub(crate) const PLACE: [u8; 114] = [
     1, 0, 0, 0, 0, 0, 0, 0, 1, 1, 0, 0, 0, 3, 0, 0, 0, 5, 0, 0, 0, 12, 0, 0, 0, 0, 0, 0, 0,
 ];
 
-/// A byte behind the slots.
+/// A byte after the slots.
 pub(crate) const TAIL: [u8; 77] = [
     80, 111, 111, 108, 83, 97, 118, 101, 1, 0, 0, 0, 49, 0, 0, 0, 0, 0, 0, 0, 165, 234, 14, 35,
     252, 49, 188, 172, 0, 0, 0, 0, 0, 0, 0, 0, 7, 0, 0, 0, 0, 0, 0, 0, 1, 0, 0, 0, 0, 0, 0, 0, 3,
