@@ -25,7 +25,7 @@ MEANT = {
     "tally.rt|recorded.rt|recorder.rt": r"refused",  # a kind of steps
 }
 # The crates and the pages that aren't written so yet.
-LATER = {"planted.md"}
+LATER = set()
 
 
 def prose(path, lines):
