@@ -512,8 +512,8 @@ impl<T, S: Storage<u32>> Document<T, S> {
     }
 
     /// Removes the child at an index from the children of the parent's part, and returns it: those after
-    /// it move down by one. The child's own part is unchanged, and so are places that refer to other
-    /// parts than the parent's.
+    /// it move down by one. The child still refers to its part, and places that refer to other parts than
+    /// the parent's are unchanged.
     ///
     /// Doesn't allocate, and is O(c) for c children after it.
     ///

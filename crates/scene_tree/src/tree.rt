@@ -583,7 +583,7 @@ impl<T, S: Storage<T>> SceneTree<T, S> {
     /// # Errors
     ///
     /// - `Stale` if the node was removed, or is of a store with another number.
-    /// - `Stale` of the parent, if that was removed.
+    /// - `Stale` for the parent, in the same cases.
     /// - `Cycle` if the parent is the node or below it.
     ///
     /// The tree is unchanged then.
@@ -626,7 +626,7 @@ impl<T, S: Storage<T>> SceneTree<T, S> {
     /// # Errors
     ///
     /// - `Stale` if the node was removed, or is of a store with another number.
-    /// - `Stale` of the spot's node, if that was removed.
+    /// - `Stale` for the spot's node, in the same cases.
     /// - `Cycle` if the spot's node is the node or below it.
     /// - `NoParent` if the spot is beside a sibling that has no parent.
     ///
