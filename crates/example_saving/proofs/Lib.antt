@@ -1,0 +1,2 @@
+pub mod Reloading
+unfoldable pub use Reloading.*
