@@ -1,5 +1,5 @@
-//! Stores that are saved as images and loaded again, and images that no store can have. The expected
-//! values are worked out by hand.
+//! Stores that are saved as images and loaded again, tables of entities that are taken apart and made again,
+//! and images, stores and rows that don't fit. The expected values are worked out by hand.
 #![tactic(auto)]
 
 #[cfg(test)]
@@ -14,3 +14,5 @@ mod images;
 mod refused;
 #[cfg(test)]
 mod scene;
+#[cfg(test)]
+mod tables;
