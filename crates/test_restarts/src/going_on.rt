@@ -53,7 +53,7 @@ pub(crate) fn go_on<A: Count, B: Count, C: Count, D: Count>(
     assert_eq!(rt; steps.len(), 3);
 }
 
-/// Asserts the same of a state, but for the calls, and saves it again.
+/// Asserts the same of a state, except for the calls, and saves it again.
 pub(crate) fn save_again<A: Count, B: Count, C: Count, D: Count>(
     rt: &impl Abort,
     state: &mut SyncState<u64, 7, A, B, C, D>,
