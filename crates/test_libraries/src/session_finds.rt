@@ -15,6 +15,7 @@ struct TextsFind;
 
 impl Scene<u64> for TextsFind {
     fn play<R: Abort, S: Storage<u64> + Drop>(&self, rt: &R, alloc: Global, store: S) {
+        assert!(rt; store.is_fresh());
         let mut table: SessionTable<String, String, u64, S> = SessionTable::new(alloc, store);
         assert!(rt; table.is_empty());
         let ada = text(rt, alloc, "ada");
