@@ -14,13 +14,13 @@ import sys
 
 ROOT = pathlib.Path(__file__).resolve().parent.parent
 FOLDER = ROOT / "docs" / "api"
-CRATES = ["generational_box", "generational_sync", "generational_workers", "saved_bytes", "signals", "reactive",
-          "entity_table", "session_table", "scene_tree", "document_tree"]
-# Crates that users take through generational_box.
-HANDED_ON = {"generational_errors", "generational_core", "generational_sessions"}
+CRATES = ["generational_box", "generational_sync", "generational_workers", "saved_bytes", "saved_json", "signals", "reactive",
+          "entity_table", "session_table", "scene_tree", "document_tree", "generational_dot"]
+# Crates that users take through generational_box or reactive.
+HANDED_ON = {"generational_errors", "generational_core", "generational_laws", "generational_sessions", "reactive_values"}
 TAKEN = "# What users take."
 ITEM = re.compile(r"pub (?:const |unsafe )?(fn|struct|enum|trait|type|const) (\w+)")
-METHOD = re.compile(r"    (?:pub )?(?:const )?fn (\w+)")
+METHOD = re.compile(r"    (?:pub )?(?:final |const )*fn (\w+)")
 CLAUSE = re.compile(r"(requires|ensures)\*? ?(\w+)? ?\{")
 # How much of a clause without a name a page shows.
 LONGEST = 200
@@ -271,6 +271,10 @@ def module_lines(sources, module, crate):
     """What a page says of a public module of functions."""
     lines = sources.lines(crate, module)
     yield from ["", f"## The module {module}", "", *linked_to(crate, module, root_comment(lines))]
+    handed_on = re.findall(r"(?m)^pub use (\w+)::(\w+)::\{([^}]*)\};", "\n".join(lines))
+    for where, its, listed in handed_on:
+        for name in re.findall(r"\w+", listed):
+            yield from item_lines(sources, name, where, its, f"### {module}::")
     for at, line in enumerate(lines):
         used = re.match(r"pub use crate::([\w:]+)::(\w+);", line)
         if used:
@@ -320,6 +324,7 @@ def linked(text):
     titles = set(re.findall(r"(?m)^##+ ([\w:]+)$", text))
     anchor = lambda name: f"(#{name.replace(':', '').lower()})"
     text = re.sub(r"\]\(crate::([\w:]+)\)", lambda it: f"]{anchor(it[1])}", text)
+    text = re.sub(r"\]\((\w+::\w+)\)", lambda it: f"]{anchor(it[1])}" if it[1] in titles else it[0], text)
     return re.sub(r"\[(`([\w:]+)`)\](?!\()", lambda it: f"[{it[1]}]{anchor(it[2])}" if it[2] in titles else it[1], text)
 
 
@@ -363,7 +368,8 @@ def change(old, new):
 
 
 # A source with what is easily missed, and what a page says of its functions: a clause with a `;` inside,
-# those after it, a comment with a list, an example and a paragraph after them, and a function of a trait.
+# those after it, a comment with a list, an example and a paragraph after them, and a trait's functions, of
+# which one is final.
 SAMPLE = """
     /// Adds a node, and
     /// returns it.
@@ -397,6 +403,15 @@ SAMPLE = """
         ensures { result < 9 };
 
     fn clear(&mut self);
+
+    /// Adds a node by a closure. No type may write this one anew.
+    final fn add_by<F: FnOnce() -> u64>(&mut self, f: F) -> Node
+    where
+        Self: Sized,
+        requires { F.IsAlwaysCallable f }
+    {
+        self.add(f())
+    }
 """
 SAMPLE_PAGE = """
 add
@@ -432,7 +447,19 @@ clear
 fn clear(&mut self)
 ```
 
-No clause beyond safety."""
+No clause beyond safety.
+
+add_by
+
+```rust
+final fn add_by<F: FnOnce() -> u64>(&mut self, f: F) -> Node
+where
+    Self: Sized,
+```
+
+Adds a node by a closure. No type may write this one anew.
+
+Requires: `F.IsAlwaysCallable f`."""
 # Sources that say otherwise than the pages: a signature, a clause's name, a clause without one, a
 # comment, a function that is private, and a name that isn't re-exported any more.
 CHANGES = [

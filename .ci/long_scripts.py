@@ -189,6 +189,7 @@ TESTS = [
     ("growth::entries", 1),
     ("growth::children", 1),
     ("growth::parts", 1),
+    ("growth::watchers", 1),
 ]
 
 

@@ -3,6 +3,7 @@
 
     .ci/map.py                   compares, and fails where the pages and the sources differ
     .ci/map.py --try             does so, and shows that pages with a wrong line are refused
+    .ci/map.py --homonyms        prints each name that stands in two crates or more, with where it does
     .ci/map.py --files CRATE..   prints each file of these crates with its first line; of a source what it
                                  uses, and of a file of lemmas the headings of its sections
 
@@ -10,8 +11,10 @@ The page has the crates of crates.txt in lists, one for each kind; a crate's nam
 users take, and what stores are made of, stands there with its sources, in the order in which they are
 read. Each source, definition and file of lemmas says in its first line what it is, also one with a folder
 of its name. A clause reaches each definition of specs/, by its name, or by that of one that it reaches:
-what proofs alone cite stands with them. And each function in which .ci/planted.md has a bug is there, and
-each test that it names as what refuses one.
+what proofs alone cite stands with them. A name of a definition or of a public type says one thing: at most
+25 of them stand in two crates or more. And each function in which .ci/planted.md has a bug is there, and
+each test that it names as what refuses one. The files and functions of docs/maintaining/walks.md are there,
+with its counts of files and questions, and so are the files that CONTRIBUTING.md lists for a new call.
 """
 import functools
 import os
@@ -21,12 +24,14 @@ import sys
 ROOT = os.path.join(os.path.dirname(os.path.abspath(__file__)), "..")
 PAGE = os.path.join(ROOT, "docs", "maintaining", "map.md")
 PLANTED = os.path.join(ROOT, ".ci", "planted.md")
+WALKS = os.path.join(ROOT, "docs", "maintaining", "walks.md")
+NEW_CALL = os.path.join(ROOT, "docs", "maintaining", "CONTRIBUTING.md")
 # The kinds of crates, each by the heading of its list and what its names are.
 KINDS = {
-    "### What users take": r"generational_\w+|saved_bytes|signals|reactive|\w+_table|\w+_tree",
-    "### What stores are made of": r"(store|shared)_\w+|location_list|live_cells|handles",
-    "### Programs": r"boxes(_\w+)?|sheet",
-    "### Proved callers": r"example_\w+",
+    "### What users take": r"generational_\w+|saved_\w+|signals|reactive(?:_values)?|\w+_table|\w+_tree",
+    "### What stores are made of": r"(store|shared)_\w+|location_list|live_cells|dirty_slots|stamped_values|handles",
+    "### Programs": r"boxes(_\w+)?|example_sheet|todo_list",
+    "### Proved callers": r"example_(?!sheet$)\w+",
     "### Tests": r"test_\w+",
     "### What is measured": r"bench_\w+",
 }
@@ -40,6 +45,19 @@ WORD = re.compile(r"[\w'-]+")
 HEADING = re.compile(r" *-- (====|----) (.+)")
 # The functions in which a bug is planted: the names right behind the crate's.
 PLANT = re.compile(r"`(\w+)`:((?:(?: |, | or |, then )`[\w:]+`)+)")
+# The heading of a walk, and one of its files with the functions.
+WALK = re.compile(r"(?m)^## (.+): (\d+) files, (\d+) questions$")
+WALK_FILE = re.compile(r"(?m)^- `([\w/]+\.rt)`: (.+)$")
+# A public definition at the top of a file or of a module in it: the keyword of a record or a data, and the
+# name. What stands deeper is a field.
+PUBLIC = re.compile(r"(?:unfoldable )?(?:abbrev pub|pub (record|data)|pub(?! (?:use|mod|open|import)\b)) ([A-Za-z][\w'-]*)")
+BLOCK = re.compile(r"(?:pub )?(?:record|data)\b")
+# A public type or trait.
+TYPE = re.compile(r"(?m)^pub (?:struct|enum|trait|type) (\w+)")
+# How many names may stand in two crates or more.
+MOST_HOMONYMS = 25
+# The kinds of crates whose types are named for themselves alone.
+OUTER = ("example_", "test_", "bench_")
 # What only imports names.
 IMPORT = re.compile(r"\s*(ghost |pub )?use ")
 # Files that only name others, or answer the goals of one function.
@@ -223,6 +241,40 @@ def compare_definitions(defined):
     wanted(not left, f"no clause reaches {' '.join(sorted(left))}")
 
 
+def public_names(text):
+    """The definitions of a file of specs/ that others may import, without the fields of records."""
+    block = None
+    for line in text.splitlines():
+        said = line.lstrip()
+        depth = len(line) - len(said)
+        if not said or said.startswith("--") or (block is not None and depth > block):
+            continue
+        block = depth if BLOCK.match(said) else None
+        found = PUBLIC.match(said)
+        if found:
+            yield found[2]
+
+
+def homonyms():
+    """Each name of a definition or of a public type that two crates or more have, with these crates."""
+    crates = {}
+    for crate in all_crates():
+        specs = [it for it in files_of(crate, "specs") if it.endswith(".antt")]
+        found = {name for file in specs for name in public_names(read(crate, file))}
+        if not crate.startswith(OUTER):
+            sources = [it for it in files_of(crate, "src") if it.endswith(".rt")]
+            found |= {name for file in sources for name in TYPE.findall(read(crate, file))}
+        for name in found:
+            crates.setdefault(name, []).append(crate)
+    return {name: there for name, there in sorted(crates.items()) if len(there) > 1}
+
+
+def compare_homonyms(found):
+    """The names that stand in two crates or more: few enough."""
+    said = ", ".join(found)
+    wanted(len(found) <= MOST_HOMONYMS, f"{len(found)} names stand in two crates or more: {said}")
+
+
 def tests_there():
     """Each function of the crates of tests, as `module::function`."""
     found = set()
@@ -265,6 +317,34 @@ def compare_planted(page):
     wanted(not gone, f"planted.md names tests that aren't there: {' '.join(gone)}")
 
 
+def compare_walks(page):
+    """The walks: each file is there and has each function, and their counts are true."""
+    _, *walks = re.split(r"(?m)^(?=## )", page)
+    wanted(walks, "walks.md has no walk")
+    for walk in walks:
+        heading, files = WALK.match(walk), WALK_FILE.findall(walk)
+        wanted(heading, f"walks.md has a heading without its counts: {walk.splitlines()[0]}")
+        counts = f"{len(files)} files, {walk.count('?')} questions"
+        wanted(heading[0].endswith(f": {counts}"), f"{heading[1]} of walks.md has {counts}")
+        for file, said in files:
+            path = os.path.join(ROOT, "crates", file)
+            there = set(re.findall(r"\bfn (\w+)", text_of(path))) if os.path.isfile(path) else set()
+            gone = [it for it in names(said) if it not in there]
+            wanted(not gone, f"{heading[1]} of walks.md names {', '.join(gone)}, which {file} hasn't")
+
+
+def compare_new_call(page):
+    """The files that a new call changes, in a numbered list: each is there, in the crate named before it."""
+    steps = re.findall(r"(?m)^\d+\. (.+)$", section(page, "## To add a call"))
+    wanted(steps, "CONTRIBUTING.md has no list of files for a new call")
+    for step in steps:
+        crate = None
+        for name in names(step):
+            crate = name if name in all_crates() else crate
+            path = os.path.join(ROOT, "crates", crate or "", name)
+            wanted("/" not in name or crate and os.path.exists(path), f"CONTRIBUTING.md: {crate} has no {name}")
+
+
 def print_files(crate):
     for file in told_files(crate):
         text = read(crate, file)
@@ -279,7 +359,7 @@ def wrong_pages(page):
     twice, one that isn't there."""
     yield re.sub(r"(\n- `boxes`:[^\n]*)(.*\n- `example_callers`:[^\n]*)", r"\2\1", page, count=1, flags=re.S)
     yield re.sub(r"(\n- `example_callers`:[^\n]*)", r"\1\1", page, count=1)
-    yield re.sub(r"\n- `boxes_parts`:[^\n]*", "", page, count=1)
+    yield re.sub(r"\n- `example_files`:[^\n]*", "", page, count=1)
     yield page.replace("`borrow`, ", "", 1)
     yield page.replace("`borrow`, ", "`borrow`, `borrow`, ", 1)
     yield page.replace("`borrow`, ", "`borrow`, `lent`, ", 1)
@@ -314,17 +394,45 @@ lemma : A
 SAMPLE_HEADINGS = [("====", "one, and two"), ("----", "three of a lemma")]
 
 
+# A file of specs/, and the names that it defines.
+SAMPLE_SPECS = """-- What is said.
+use Rattle.one.specs.Two.{three}
+pub record Four : Type 0 where
+  pub field : A
+
+module _ (p : A) where
+  -- pub record Left : Type 0
+  pub data Five : Type 0 where
+    One : A
+
+  abbrev pub six : A
+  six = field
+
+unfoldable pub seven : A
+private : A
+pub use Rattle.one.specs.Two.{eight}
+"""
+SAMPLE_NAMES = ["Four", "Five", "six", "seven"]
+
+
 def main():
     words = sys.argv[1:]
+    if words == ["--homonyms"]:
+        for name, crates in homonyms().items():
+            print(f"{name}: {', '.join(crates)}")
+        return
     if words[:1] == ["--files"]:
         for crate in words[1:]:
             print_files(crate)
         return
     page, planted, defined = text_of(PAGE), text_of(PLANTED), definitions()
+    walks, new_call = text_of(WALKS), text_of(NEW_CALL)
     compare(page)
     compare_files(read)
     compare_definitions(defined)
     compare_planted(planted)
+    compare_walks(walks)
+    compare_new_call(new_call)
     if words == ["--try"]:
         for wrong in wrong_pages(page):
             refuse(compare, page, wrong)
@@ -334,9 +442,15 @@ def main():
         refuse(compare_planted, planted, planted.replace("`Queue::push`", "`Queue::shove`"))
         refuse(compare_planted, planted, planted.replace("`Queue::push`", "`Row::push`"))
         refuse(compare_planted, planted, planted.replace("| `store_parts`: `Queue::push`", "| `Queue::push`"))
+        for right, wrong in ("`own`", "`foreign`"), (" Ticket?", ""), ("6 files", "7 files"), ("/boxes.rt", "/box.rt"):
+            refuse(compare_walks, walks, walks.replace(right, wrong, 1))
+        refuse(compare_new_call, new_call, new_call.replace("`specs/Machine.antt`", "`specs/Machines.antt`"))
+        wanted(list(public_names(SAMPLE_SPECS)) == SAMPLE_NAMES, "a sample has other definitions")
+        compare_homonyms(homonyms())
+        refuse(compare_homonyms, {}, {f"name_{it}": ["one", "two"] for it in range(MOST_HOMONYMS + 1)})
         refuse(compare_definitions, defined, {**defined, "named_by_itself": {"named_by_itself"}})
         refuse(compare_planted, planted, planted.replace("::words_that_are_no_list`", "::words_that_are_none`"))
-    print("docs/maintaining/map.md and .ci/planted.md are what the sources say; clauses reach each definition")
+    print("the pages of docs/maintaining and .ci/planted.md are what the sources say; clauses reach each definition")
 
 
 if __name__ == "__main__":

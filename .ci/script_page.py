@@ -104,16 +104,16 @@ def faults():
     """The program's faults, each its text with its status, by its name."""
     text = (PROGRAM / "fault.rt").read_text(encoding="utf-8")
     texts = {name: said for said, name in re.findall(r'#\[error\("([^"]+)"\)\]\n    (\w+),', text)}
-    arms = re.findall(r"^ +((?:Fault::\w+(?: \| )?)+) => (\d+),", text, re.M)
+    arms = re.findall(r"^ +((?:ScriptFault::\w+(?: \| )?)+) => (\d+),", text, re.M)
     return {name: (texts[name], status) for names, status in arms for name in re.findall(r"::(\w+)", names)}
 
 
 def verdicts():
     """The lines of a comparison, each with the status."""
-    text = (ROOT / "crates/boxes_parts/src/verdict.rt").read_text(encoding="utf-8")
+    text = (ROOT / "crates/boxes_script/src/verdict.rt").read_text(encoding="utf-8")
     lines = dict(re.findall(r'Verdict::(\w+)(?:\(\w+\))? => write!\(f, "([^"]+)"\)', text))
     text, known = (PROGRAM / "run.rt").read_text(encoding="utf-8"), faults()
-    ends = re.findall(r"Verdict::(\w+)(?:\(_\))? => (?:Ok\((\d+)\)|Err\(Fault::(\w+)\))", text)
+    ends = re.findall(r"Verdict::(\w+)(?:\(_\))? => (?:Ok\((\d+)\)|Err\(ScriptFault::(\w+)\))", text)
     return {(lines[name].replace("{place}", "N"), status or known[fault][1]) for name, status, fault in ends}
 
 

@@ -24,15 +24,19 @@ import sys
 
 HERE = pathlib.Path(__file__).resolve().parent
 COUNTED = 20_000
+# The works of the table of memos, each a list of its own. A round is a call of each node.
+WORKS = ["chain", "unrelated", "fan", "watched", "ladder", "unchanged", "last", "first", "sums"]
+ROUNDS = 10
 # How many calls each operation makes of n things, where it isn't one for each.
 CALLS = {
     ("entities", "get"): 10, ("entities", "iter"): 10, ("entities", "update"): 10, ("entities", "replace"): 5,
     ("entities", "part"): 10, ("entities", "parts_iter"): 10, ("entities", "join"): 10,
     ("trees", "get"): 10, ("trees", "children"): 5, ("trees", "outline"): 10,
     ("sessions", "login"): 0.1, ("sessions", "get"): 10, ("sessions", "entry"): 5, ("sessions", "entries"): 5,
-    ("sessions", "logout"): 0.1,
+    ("sessions", "touch"): 0.1, ("sessions", "expire"): 0.001, ("sessions", "logout"): 0.1,
     ("documents", "add"): 0.1, ("documents", "repeat"): 0.9, ("documents", "get"): 10,
 }
+CALLS |= {(f"memo-{work}", "rounds"): ROUNDS for work in WORKS}
 # The tables: a list, and its peers by the name of each in the table. Where there are two, the ratio is to
 # the faster one.
 TABLES = [
@@ -41,6 +45,7 @@ TABLES = [
     ("sessions", {"maps of maps": "sessions"}),
     ("documents", {"two slotmaps": "documents-slots"}),
     ("documents", {"`Rc`": "documents"}),
+    ("files", {"a plain loop": "files"}),
 ]
 
 
@@ -121,21 +126,43 @@ def cell(list_name, operation, things, times):
     peer = min(times.values(), key=statistics.median)
     ratio = statistics.median(own / other for own, other in zip(ours, peer))
     nanos = statistics.median(peer) / things / CALLS.get((list_name, operation), 1)
-    return f"{ratio:.1f} of {nanos:.1f} ns"
+    return f"{ratio:.1f} ({nanos:.1f})"
+
+
+def subjects_of(list_name, peers, program, arguments):
+    """The words that run each subject of a list."""
+    subjects = {"": [arguments.program, list_name]}
+    return subjects | {name: [str(program), word] for name, word in peers.items()}
+
+
+def heading(name, peers, arguments):
+    heads = ["this", *peers, *(f"{n:,}" for n in arguments.things)]
+    print(f"\n| {name} | " + " | ".join(heads) + " |\n|" + "---|" * (len(heads) + 1))
 
 
 def table(list_name, peers, program, arguments, environment):
     """Prints the table of a list beside its peers."""
-    subjects = {"": [arguments.program, list_name]}
-    subjects |= {name: [str(program), word] for name, word in peers.items()}
+    subjects = subjects_of(list_name, peers, program, arguments)
     counts = {name: counted(words, list_name, arguments.build) for name, words in subjects.items()}
     times = {n: rounds_of(subjects, n, arguments.rounds, environment) for n in arguments.things}
-    heads = ["this", *peers, *(f"{n:,}" for n in arguments.things)]
-    print(f"\n| {list_name} | " + " | ".join(heads) + " |\n|" + "---|" * (len(heads) + 1))
+    heading(list_name, peers, arguments)
     for operation in counts[""]:
         cells = ["" if it[operation] is None else f"{it[operation]:.0f}" for it in counts.values()]
         cells += [cell(list_name, operation, n, times[n][operation]) for n in arguments.things]
         print(f"| `{operation}` | " + " | ".join(cells) + " |", flush=True)
+
+
+def memo_table(program, arguments, environment):
+    """Prints the table of memos: a row for each work, of which the rounds are timed."""
+    heading("memos", ["pull", "marks"], arguments)
+    for work in WORKS:
+        name = f"memo-{work}"
+        peers = {graph: f"{graph}:{name}" for graph in ("pull", "marks")}
+        subjects = subjects_of(name, peers, program, arguments)
+        counts = [counted(words, name, arguments.build)["rounds"] for words in subjects.values()]
+        times = {n: rounds_of(subjects, n, arguments.rounds, environment)["rounds"] for n in arguments.things}
+        cells = [f"{count:.1f}" for count in counts] + [cell(name, "rounds", n, times[n]) for n in arguments.things]
+        print(f"| `{work}` | " + " | ".join(cells) + " |", flush=True)
 
 
 def numbers_in(text):
@@ -149,12 +176,14 @@ def main():
     parser.add_argument("build", type=pathlib.Path)
     parser.add_argument("--things", type=numbers_in, default=[1_000, 100_000, 1_000_000])
     parser.add_argument("--rounds", type=int, default=5)
-    parser.add_argument("--lists", default=",".join(dict.fromkeys(list_name for list_name, _ in TABLES)))
+    parser.add_argument("--lists", default=",".join([*dict.fromkeys(list_name for list_name, _ in TABLES), "memos"]))
     arguments = parser.parse_args()
     program, environment = build(arguments.crates.resolve(), arguments.build.resolve())
     for list_name, peers in TABLES:
         if list_name in arguments.lists.split(","):
             table(list_name, peers, program, arguments, environment)
+    if "memos" in arguments.lists.split(","):
+        memo_table(program, arguments, environment)
 
 
 if __name__ == "__main__":

@@ -33,7 +33,7 @@ where it wasn't a call that lacked memory, and `same` where none did. As no repl
 in `drawn_memory` run the same lists, and compare all replies before the refusal with those of a run
 that is refused nothing.
 
-The tests in the modules `memory`, `scarcity` and `shortage`, and in `entity_memory` and its like, are run so.
+The tests in modules named `memory`, or with a name that ends so, like `entity_memory`, are run so.
 They ask again what lacked memory, and pass. Those in `steps` ask once: where one allocation is refused a smaller step
 follows, and every call is carried out.
 
@@ -106,7 +106,7 @@ FRUGAL_TESTS = {
     "growth::entries": (210, 53_000_000),
     "growth::children": (210, 27_000_000),
     "growth::parts": (280, 75_000_000),
-    "memory::makings_in_reserved_room": (60, 50_000),
+    "box_memory::makings_in_reserved_room": (60, 50_000),
     "beside::a_crowd_of_workers": (4_200, 9_300_000),
     "unshared::calls_without_threads": (33, 8_000),
     "chunks::again::chunks_serve_again": (540, 1_215_000),
@@ -115,7 +115,7 @@ FRUGAL_TESTS = {
 # at once, and not with more than these less.
 TIGHT_TESTS = {"chunks::tight::room_for_what_is_needed": 3_000 * 8}
 LITTLE_MORE = 64
-MODULES = ("memory", "scarcity", "shortage")
+MEMORY = "memory"
 STEPS = "steps"
 WRONG = "every_command.row"
 # A line that is no command, and in what steps a row has less and less memory, in bytes.
@@ -384,9 +384,8 @@ def kind_of(name):
 
 
 def refuse_in_tests(tests):
-    found = [(it, name) for it in tests for name in names_of(it) if kind_of(name) in MODULES]
-    for module in MODULES:
-        wanted(any(kind_of(name) == module for _, name in found), f"no test of lack of memory is listed in {module}")
+    found = [(it, name) for it in tests for name in names_of(it) if kind_of(name) == MEMORY]
+    wanted(found, "no test of lack of memory is listed")
     for it, name in found:
         met = refuse_in_test(it, name), refuse_in_test(it, name, less=1)
         wanted(min(met) > 0, f"{name}: nothing was refused")

@@ -1,7 +1,7 @@
 #!/usr/bin/env python3
 """Times the shared store's workload: nanoseconds a call by the wall and of processor time, and bytes a step.
 
-    .ci/bench_shared.py PROGRAM [--beside NAME=PROGRAM].. [--rounds N] [--calls N] [--lists WORD..] [--live N..]
+    bench/shared.py PROGRAM [--beside NAME=PROGRAM].. [--rounds N] [--calls N] [--lists WORD..] [--live N..]
 
 PROGRAM is what `rt run` makes of crates/bench_shared. A program that stands beside it takes the same
 words, whichever store it has, and prints the same line. Each round runs each store with each list and 1,

@@ -1,8 +1,8 @@
 #!/usr/bin/env python3
 """Draws docs/instructions.svg and docs/shared.svg from tables of docs/PERFORMANCE.md.
 
-    .ci/bars.py          writes the pictures
-    .ci/bars.py --try    compares them with the tables
+    bench/bars.py          writes the pictures
+    bench/bars.py --try    compares them with the tables
 """
 import dataclasses
 import os
@@ -114,7 +114,7 @@ def main(words):
             with open(os.path.join(DOCS, picture.file), "w", encoding="utf-8") as out:
                 out.write(drawn)
         elif read(picture.file) != drawn:
-            sys.exit(f"bars: docs/{picture.file} isn't the table's: run .ci/bars.py")
+            sys.exit(f"bars: docs/{picture.file} isn't the table's: run bench/bars.py")
 
 
 if __name__ == "__main__":
