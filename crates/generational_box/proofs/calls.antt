@@ -15,54 +15,54 @@ name_equal : IsEquivalence is_name
 unfolding is_name
 name_equal = eq_by_cmp_equiv name_total
 
-pub counted_empty : (next : ℕ) → AreCounted next map.empty
+pub counted_empty : (next : ℕ) → AreOwnersCounted next map.empty
 counted_empty next = record { each = λ k. rw (map.get-empty nat_cmp k) tt }
 
-module _ {next : ℕ} {owners : Owners} (counted : AreCounted next owners) where
-  pub counted_more : AreCounted (next + 1) owners
+module _ {next : ℕ} {owners : Owners} (counted : AreOwnersCounted next owners) where
+  pub counted_more : AreOwnersCounted (next + 1) owners
   counted_more = record { each = λ k. let c = counted.each k in grind arith }
 
-  pub counted_insert : (k : ℕ) (h : Ownership) → IsCounted next k (Some h)
-      → AreCounted next (map.insert owners k h)
+  pub counted_insert : (k : ℕ) (h : Ownership) → IsOwnerCounted next k (Some h)
+      → AreOwnersCounted next (map.insert owners k h)
   counted_insert k h one = record {
     each = λ q. let is = map.get-insert nat_cmp_total owners k h q in
         grind (arith, key_same by_number q k, counted.each q);
   }
 
-  pub counted_remove : (k : ℕ) → AreCounted next (map.remove owners k)
+  pub counted_remove : (k : ℕ) → AreOwnersCounted next (map.remove owners k)
   counted_remove k = record {
     each = λ q. grind (arith, map.get-remove nat_cmp_total owners k q, counted.each q);
   }
 
   counted_changed : (k : ℕ) (f : Ownership → Ownership)
-      → ((h : Ownership) → map.get owners k ≡ Some h → IsCounted next k (Some h)
-      → IsCounted next k (Some (f h)))
-      → AreCounted next (change owners k f)
+      → ((h : Ownership) → map.get owners k ≡ Some h → IsOwnerCounted next k (Some h)
+      → IsOwnerCounted next k (Some (f h)))
+      → AreOwnersCounted next (change owners k f)
   unfolding change
   counted_changed k f keeps = at (map.get owners k) refl
     where
-      at : (o : Option Ownership) → map.get owners k ≡ o → AreCounted next (change_if owners k f o)
+      at : (o : Option Ownership) → map.get owners k ≡ o → AreOwnersCounted next (change_if owners k f o)
       at None is = counted
       at (Some h) is = counted_insert k (f h) (keeps h is (rw is at (counted.each k)))
 
-  pub counted_down : (k : ℕ) → 1 < count_under owners k → AreCounted next (change owners k one_less)
+  pub counted_down : (k : ℕ) → 1 < count_under owners k → AreOwnersCounted next (change owners k one_less)
   counted_down k several = counted_changed k one_less (λ h is c. grind arith)
 
   -- the records after the listing of a new name are as counted
   pub counted_listed : (o : Option OwnerName) (n : Name)
       → ((k : ℕ) → among (names_under owners k) n ≡ false)
-      → AreCounted next (add_to_list_in owners o n)
+      → AreOwnersCounted next (add_to_list_in owners o n)
   counted_listed None n apart = counted
   counted_listed (Some o) n apart = counted_changed o.key (one_listed n) (λ h is c.
       (c.0, c.1, c.2, IsDistinct-push name_equal h.names n c.3 (rw is at (apart o.key))))
 
-module _ {next : ℕ} {owners : Owners} (counted : AreCounted next owners) where
+module _ {next : ℕ} {owners : Owners} (counted : AreOwnersCounted next owners) where
   pub counted_new : (h : Ownership) → h.count ≡ 1 → h.names ≡ []
-      → AreCounted (next + 1) (map.insert owners next h)
+      → AreOwnersCounted (next + 1) (map.insert owners next h)
   unfolding IsDistinct
   counted_new h one none = counted_insert (counted_more counted) next h (grind arith)
 
-  pub counted_up : (k : ℕ) → AreCounted (next + 1) (change owners k one_more)
+  pub counted_up : (k : ℕ) → AreOwnersCounted (next + 1) (change owners k one_more)
   counted_up k = counted_changed (counted_more counted) k one_more (λ h is c.
       let old = rw is at (counted.each k) in grind arith)
 
@@ -72,7 +72,7 @@ pub record_held : (number : ℕ) (owners : Owners) (o : OwnerName) (h : Ownershi
 record_held number owners o h is = grind arith
 
 -- it has no more owner values than tickets were issued
-pub counted_within : {next : ℕ} {owners : Owners} → AreCounted next owners → (number : ℕ)
+pub counted_within : {next : ℕ} {owners : Owners} → AreOwnersCounted next owners → (number : ℕ)
     (o : OwnerName) (h : Ownership) → Some h ≡ record_of number owners o → h.count ≤ next
 counted_within {next} {owners} counted number o h is =
     let each = rw (record_held number owners o h is) at (counted.each o.key) in each.1
@@ -146,7 +146,7 @@ module _ {T : Type 0} where
     reaches b m to = grind (arith, sound.targets)
 
     -- the readers' tickets are below the next one
-    pub readers_below : (m : Name) → AreBelow S.next (readers_of (content_at S m))
+    pub readers_below : (m : Name) → AreTicketsBelow S.next (readers_of (content_at S m))
     readers_below m t stands = let below = sound.below m t in grind (arith, any_ticket)
 
   -- the content that is at a name, put there again, changes nothing
@@ -210,9 +210,9 @@ module _ {T : Type 0} where
       all (m ∷ ns) boxed = grind (arith, name_apart, all ns boxed.1)
 
   -- the records after a making are as counted
-  pub made_counted : (S : State T) → IsSound S → AreCounted S.next S.owners → (n : Name)
+  pub made_counted : (S : State T) → IsSound S → AreOwnersCounted S.next S.owners → (n : Name)
       → set.contains S.given n ≡ false → (o : Option OwnerName)
-      → AreCounted S.next (add_to_list_in S.owners o n)
+      → AreOwnersCounted S.next (add_to_list_in S.owners o n)
   made_counted S sound counted n fresh o = counted_listed counted o n (unlisted S sound n fresh)
 
   -- each reference still names a shared cell after another was made
@@ -298,7 +298,7 @@ module _ {T : Type 0} where
       (own : Some n ≡ own_of S.number b.id) where
     -- the name of a box ends unless a borrow is in the way
     pub end_own : (Y : State T) (result : Result (Unit {0}) (Refused BorrowMutError))
-        → HasEnded X Y (n ∷ []) result
+        → IsEndReply X Y (n ∷ []) result
         → Meets S (End b) (end_answer result) (with_records Y number owners next)
     unfolding hindrance_to may_lack
     end_own Y (Ok u) ended = inl (no_names, tt, grind (arith, nat_tests))

@@ -23,7 +23,8 @@ pub use generational_core::{
     GenerationalPointer, GenerationalRef, GenerationalRefMut, HandedBack, Location, Mut, MutPart,
     Owner, OwnerId, Ref, Refusal, Refused, StepCall, Storage, StoreError, ValueDroppedError,
 };
-pub use generational_sessions::{BoxAt, Call, Reply, Session, caller_laws, laws};
+pub use generational_laws::caller_laws;
+pub use generational_sessions::{BoxAt, Call, Reply, Session, laws};
 pub use store_images::{
     CellImage, Image, ImageFault, LoadError, LoadRefusal, Loaded, SaveError, SlotImage,
 };

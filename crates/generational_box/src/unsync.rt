@@ -12,8 +12,8 @@ ghost use Rattle.generational_core.specs.Sound.{IsSound-prop, IsBounded-prop};
 ghost use Rattle.store_parts.specs.CellNames.{name_of_cell};
 ghost use Rattle.store_cells.specs.Data.{data_in};
 ghost use Rattle.store_cells.specs.Entry.{cell_of};
-ghost use Rattle.store_cells.specs.Entries.{IsUnborrowed, kept_data, named_by};
-ghost use Rattle.store_slots.specs.SlotsState.{Finds, IsMade, with_records};
+ghost use Rattle.store_cells.specs.Entries.{IsUnborrowed, kept_data, target_name_of};
+ghost use Rattle.store_slots.specs.SlotsState.{FindsCell, IsMade, with_records};
 
 mod images;
 
@@ -29,7 +29,7 @@ use generational_core::{
 use std::alloc::Global;
 use std::fmt;
 use std::marker::Model;
-use store_cells::entry::{Kind, StorageEntryData};
+use store_cells::entry::{CellKind, StorageEntryData};
 use store_parts::names::CellName;
 use store_parts::owners::{OwnerRecord, OwnerRecords};
 use store_parts::pool::{LastFirst, SlotPool};
@@ -63,7 +63,7 @@ impl<T, P: SlotPool> Model for Store<T, P> {
     ghost use Rattle.std.specs.FinMap as map;
     ghost use Rattle.generational_core.specs.Sound.{SoundState, same_sound};
     ghost use Rattle.store_slots.specs.SlotsState.{with_records};
-    ghost use Rattle.store_parts.specs.OwnerRecords.{AreCounted};
+    ghost use Rattle.store_parts.specs.OwnerRecords.{AreOwnersCounted};
 
     ghost Value = { SoundState T };
 
@@ -75,7 +75,7 @@ impl<T, P: SlotPool> Model for Store<T, P> {
       bounded = s.bounded;
     } };
 
-    ghost invariant = { λ s. AreCounted s.next s.owners.owners };
+    ghost invariant = { λ s. AreOwnersCounted s.next s.owners.owners };
 }
 
 // A store is dropped in a separate function: LLVM follows few uses of a local variable, and it knows
@@ -317,9 +317,9 @@ impl<T: Drop, P: SlotPool> AnyStorage<T> for Store<T, P> {
             return Err(StoreError::NumbersExhausted);
         }
         match self.owners.add(self.alloc, key) {
-            Ok(place) => {
+            Ok(position) => {
                 self.next = key + 1;
-                Ok(owner_at(self.number, key, place))
+                Ok(owner_at(self.number, key, position))
             }
             Err(_) => Err(StoreError::OutOfMemory),
         }
@@ -327,32 +327,32 @@ impl<T: Drop, P: SlotPool> AnyStorage<T> for Store<T, P> {
 
     fn clone_owner(&mut self, owner: &Owner) -> Result<Owner, StoreError> {
         let ticket = self.next;
-        let place = match self.owners.find(self.number, owner) {
-            Some((place, _)) => place,
+        let position = match self.owners.find(self.number, owner) {
+            Some((position, _)) => position,
             None => return Err(StoreError::UnknownOwner),
         };
         if ticket == u64::MAX {
             return Err(StoreError::NumbersExhausted);
         }
-        self.owners.count_up(place);
+        self.owners.count_up(position);
         self.next = ticket + 1;
-        Ok(owner_at(self.number, owner.id().key, place))
+        Ok(owner_at(self.number, owner.id().key, position))
     }
 
     fn release_owner(&mut self, owner: Owner) -> Result<(), (Owner, Refused<BorrowMutError>)> {
-        let (place, record) = match self.owners.find(self.number, &owner) {
+        let (position, record) = match self.owners.find(self.number, &owner) {
             Some(found) => found,
             None => return Err((owner, Refused::Store(StoreError::UnknownOwner))),
         };
         if record.count() > 1 {
-            self.owners.count_down(place);
+            self.owners.count_down(position);
             owner.leak();
             return Ok(());
         }
         if let Err(refused) = self.slots.end_all(record.boxes()) {
             return Err((owner, refused));
         }
-        self.owners.remove(place);
+        self.owners.remove(position);
         owner.leak();
         Ok(())
     }
@@ -450,8 +450,8 @@ impl<T: Drop, P: SlotPool> Storage<T> for Store<T, P> {
         location: Location,
         owner: Option<&Owner>,
     ) -> Result<GenerationalPointer, Refusal<T>> {
-        let place = match self.owners.reserve(self.number, owner) {
-            Ok(place) => place,
+        let position = match self.owners.reserve(self.number, owner) {
+            Ok(position) => position,
             Err(cause) => return Err(Refusal { value, cause }),
         };
         let content = StorageEntryData::Data(value);
@@ -462,7 +462,7 @@ impl<T: Drop, P: SlotPool> Storage<T> for Store<T, P> {
                 return Err(Refusal { value, cause });
             }
         };
-        self.owners.list(place, name);
+        self.owners.list(position, name);
         Ok(pointer_in(self.number, name, location))
     }
 
@@ -472,8 +472,8 @@ impl<T: Drop, P: SlotPool> Storage<T> for Store<T, P> {
         location: Location,
         owner: Option<&Owner>,
     ) -> Result<GenerationalPointer, Refusal<T>> {
-        let place = match self.owners.reserve(self.number, owner) {
-            Ok(place) => place,
+        let position = match self.owners.reserve(self.number, owner) {
+            Ok(position) => position,
             Err(cause) => return Err(Refusal { value, cause }),
         };
         if let Err(cause) = self.slots.reserve_two() {
@@ -483,7 +483,7 @@ impl<T: Drop, P: SlotPool> Storage<T> for Store<T, P> {
         let shared = make_reserved(&mut self.slots, content, location);
         let content = self.slots.reference_to(shared);
         let reference = make_reserved(&mut self.slots, content, location);
-        self.owners.list(place, reference);
+        self.owners.list(position, reference);
         Ok(pointer_in(self.number, reference, location))
     }
 
@@ -502,8 +502,8 @@ impl<T: Drop, P: SlotPool> Storage<T> for Store<T, P> {
             Ok(shared) => shared,
             Err(error) => return Err(Refused::Borrow(error)),
         };
-        let place = match self.owners.reserve(self.number, owner) {
-            Ok(place) => place,
+        let position = match self.owners.reserve(self.number, owner) {
+            Ok(position) => position,
             Err(cause) => return Err(Refused::Store(cause)),
         };
         let created_at = self.slots.created_at(shared);
@@ -512,7 +512,7 @@ impl<T: Drop, P: SlotPool> Storage<T> for Store<T, P> {
             Ok(name) => name,
             Err(_) => return Err(Refused::Store(StoreError::OutOfMemory)),
         };
-        self.owners.list(place, name);
+        self.owners.list(position, name);
         // Read from the new cell, so that the location needn't be kept while the cell is made.
         Ok(pointer_in(self.number, name, self.slots.created_at(name)))
     }
@@ -665,7 +665,7 @@ impl<T: Drop, P: SlotPool> Store<T, P> {
     // What the box refers to, and its borrow.
     #[inline(always)]
     fn look(&self, pointer: GenerationalPointer) -> Found
-        ensures { Finds self.now.state.cells (reach self.now.state pointer) result }
+        ensures { FindsCell self.now.state.cells (reach self.now.state pointer) result }
     {
         match self.own(pointer.id) {
             Some(name) => self.slots.look(name),
@@ -841,7 +841,7 @@ fn make_reserved<T: Drop, P: SlotPool>(
 ) -> CellName
     requires room { 0 < slots.old.spare }
     requires unborrowed { IsUnborrowed (data_in content) }
-    requires target { IfSome (named_by (data_in content))
+    requires target { IfSome (target_name_of (data_in content))
         (λ m. is_shared (map.get slots.old.state.cells m) ≡ true) }
     requires linked { HasTargets slots.old.state.cells }
     ensures { IsMade slots.old slots.new (cell_of (kept_data [] created_at (data_in content)))

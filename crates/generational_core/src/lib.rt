@@ -3,7 +3,7 @@
 //!
 //! Its definitions, in `specs/`, are those of the abstract machine that `docs/machine.md` describes. The
 //! clauses of [`AnyStorage`] and [`Storage`] say that each call is a step of that machine; the crate
-//! `generational_sessions` states what holds of all steps. Users of boxes import the crate
+//! `generational_laws` states what holds of all steps. Users of boxes import the crate
 //! `generational_box`, which exports all of this except [`parts`], and provides the stores.
 #![tactic(auto)]
 

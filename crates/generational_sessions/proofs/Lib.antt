@@ -1,2 +1,2 @@
-pub mod callers
-unfoldable pub use callers.*
+pub mod Numbering
+unfoldable pub use Numbering.*

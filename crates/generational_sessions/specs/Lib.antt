@@ -1,13 +1,6 @@
-pub mod BoxRows
-pub mod Carrying
 pub mod Disturbance
-pub mod History
-pub mod Lacking
-pub mod ListedOnce
 pub mod Numbered
 pub mod Places
-pub mod PlainStores
 pub mod Replies
 pub mod Session
 pub mod SoundSession
-pub mod Wrapping

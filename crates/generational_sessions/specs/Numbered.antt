@@ -18,8 +18,8 @@ use Rattle.generational_sessions.specs.Session.{Held, ask, settle, swap}
 use Rattle.generational_sessions.specs.Session.Request.{Asks, Tells, Swaps}
 use Rattle.generational_sessions.specs.Session.Held.{Boxed, Reading, Writing, Owning, Nothing}
 use Rattle.generational_sessions.specs.Session.SessionReply.{ABox, TheOld, TheSlot, TheId}
-use Rattle.generational_sessions.specs.Carrying.{KnowsGuard, rename_box, rename_guard, shift_owner}
-use Rattle.generational_sessions.specs.Carrying.{Carries, KnowsBox}
+use Rattle.generational_laws.specs.Carrying.{KnowsGuard, rename_box, rename_guard, shift_owner}
+use Rattle.generational_laws.specs.Carrying.{Carries, KnowsBox}
 
 -- a name of the numbered machine
 abbrev pub number : ℕ → Name
@@ -35,8 +35,8 @@ pub record AreNumbersBelow (n : ℕ) (given : Names) : Type 0 where
   pub only : (k : Name) → set.contains given k ≡ true → IsNumberBelow n k
 
 -- the name in a list that a number represents
-abbrev pub named_by : List Name → Name → Name
-named_by order k = slice_index_or order k.slot k
+abbrev pub name_numbered : List Name → Name → Name
+name_numbered order k = slice_index_or order k.slot k
 
 module _ {T : Type 0} (f : Name → Name) (d : ℕ) (store : ℕ) where
   abbrev pub rename_held : Held T → Held T
@@ -69,7 +69,7 @@ pub record AreListed (order : List Name) (given : Names) : Type 0 where
 pub record Matches {T : Type 0} (s a : SessionState T) : Type 0 where
   pub order : List Name
   pub difference : ℕ
-  pub carries : CarriesSession (named_by order) difference (IsNumberBelow (length order)) s a
+  pub carries : CarriesSession (name_numbered order) difference (IsNumberBelow (length order)) s a
   pub names : AreListed order s.state.given
   pub numbers : AreNumbersBelow (length order) a.state.given
 
@@ -120,10 +120,10 @@ module _ {T : Type 0} where
   answers a (c ∷ calls) [] = let out = numbered_act a c None in out.0 ∷ answers out.1 calls []
 
   -- the numbered session after the calls
-  abbrev pub after : SessionState T → List (Call T) → List (Option StoreError) → SessionState T
-  after a [] refusals = a
-  after a (c ∷ calls) (e ∷ refusals) = after (numbered_act a c e).1 calls refusals
-  after a (c ∷ calls) [] = after (numbered_act a c None).1 calls []
+  abbrev pub session_after : SessionState T → List (Call T) → List (Option StoreError) → SessionState T
+  session_after a [] refusals = a
+  session_after a (c ∷ calls) (e ∷ refusals) = session_after (numbered_act a c e).1 calls refusals
+  session_after a (c ∷ calls) [] = session_after (numbered_act a c None).1 calls []
 
   -- The replies to calls are those of a numbered session, ids aside, that meets the errors in them; and
   -- the session after the calls matches the numbered session after them.
@@ -131,7 +131,7 @@ module _ {T : Type 0} where
       (calls : List (Call T)) (replies : List (SessionReply T)) (r : SessionState T) : Type 0 where
     pub same : list_map erase replies
         ≡ list_map erase (answers a calls (list_map refusal_in replies))
-    pub matches : Matches r (after a calls (list_map refusal_in replies))
+    pub matches : Matches r (session_after a calls (list_map refusal_in replies))
 
   -- the numbered session of a store's number in which nothing was called
   abbrev pub empty_session : ℕ → SessionState T

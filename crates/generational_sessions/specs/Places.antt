@@ -72,8 +72,8 @@ module _ {T : Type 0} where
   as_making (Err r) = (HandedBack r.value r.cause, Nothing)
 
   -- the session of a store's state and its places
-  abbrev pub session_in : State T → List (Thing T) → SessionState T
-  session_in S things = record { state = S; table = list_map as_held things }
+  abbrev pub as_session : State T → List (Thing T) → SessionState T
+  as_session S things = record { state = S; table = list_map as_held things }
 
   -- the reply when a writer's value is replaced, and what its place holds then
   abbrev pub exchange : Held T → T → SessionReply T × Held T

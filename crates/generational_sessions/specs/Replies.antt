@@ -94,17 +94,17 @@ module _ {T : Type 0} where
   TellsExhaustion s c x = (refusal_in x ≡ Some NumbersExhausted) ↔ LacksTicket s c
 
   -- whether a reply is an error
-  abbrev pub refuses : SessionReply T → Bool
-  refuses (Error t) = true
-  refuses (Lacking e) = true
-  refuses (HandedBack v e) = true
-  refuses (Unready back) = true
-  refuses (NoSuch back) = true
-  refuses _ = false
+  abbrev pub tells_error : SessionReply T → Bool
+  tells_error (Error t) = true
+  tells_error (Lacking e) = true
+  tells_error (HandedBack v e) = true
+  tells_error (Unready back) = true
+  tells_error (NoSuch back) = true
+  tells_error _ = false
 
   -- a call that fails leaves all unchanged, and its place holds nothing
   abbrev pub RefusalLeavesAll : SessionState T → SessionReply T → SessionState T → Type 0
-  RefusalLeavesAll s x r = refuses x ≡ true → r ≡ add_place s Nothing
+  RefusalLeavesAll s x r = tells_error x ≡ true → r ≡ add_place s Nothing
 
   -- what each call of a session promises
   pub record KeepsPromises (s : SessionState T) (c : Call T) (x : SessionReply T)

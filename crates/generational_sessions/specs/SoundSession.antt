@@ -12,12 +12,12 @@ use Rattle.generational_sessions.specs.Session.Held.{Boxed, Reading, Writing, Ow
 module _ {T : Type 0} where
   -- What is held is the store's own: the name of a box was issued there and is no Shared cell's, the
   -- store knows a guard, and an owner is of this store.
-  unfoldable pub IsOwn : State T → Held T → Type 0
-  IsOwn S (Boxed b) = (b.id.store ≡ S.number) × IsBoxed S (name_of b)
-  IsOwn S (Reading g) = knows_reader S g ≡ true
-  IsOwn S (Writing g v) = knows_writer S g ≡ true
-  IsOwn S (Owning o) = o.store ≡ S.number
-  IsOwn S Nothing = Unit {0}
+  unfoldable pub IsStoresOwn : State T → Held T → Type 0
+  IsStoresOwn S (Boxed b) = (b.id.store ≡ S.number) × IsBoxed S (name_of b)
+  IsStoresOwn S (Reading g) = knows_reader S g ≡ true
+  IsStoresOwn S (Writing g v) = knows_writer S g ≡ true
+  IsStoresOwn S (Owning o) = o.store ≡ S.number
+  IsStoresOwn S Nothing = Unit {0}
 
   -- two boxes have one name, or two guards of one kind have one ticket
   unfoldable pub AreOne : Held T → Held T → Type 0
@@ -35,7 +35,7 @@ module _ {T : Type 0} where
     pub sound : IsSound s.state
     -- a slot is made only if none is free
     pub bounded : IsBounded s.state
-    pub own : (p : ℕ) → IsOwn s.state (at_place s.table p)
+    pub own : (p : ℕ) → IsStoresOwn s.state (at_place s.table p)
     -- boxes at different places have different names, and each guard is held at one place
     pub apart : (p q : ℕ) → AreOne (at_place s.table p) (at_place s.table q) → p ≡ q
     -- no more owners are held than their record counts

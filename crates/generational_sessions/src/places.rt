@@ -9,7 +9,7 @@ ghost use Rattle.generational_core.specs.Answers.{pointer_of};
 ghost use Rattle.generational_sessions.specs.Session.{Held, box_in, at_place, owner_held};
 ghost use Rattle.generational_sessions.specs.Session.{release_held};
 ghost use Rattle.generational_sessions.specs.Session.Held.{Nothing};
-ghost use Rattle.generational_sessions.specs.Places.{as_held, as_reply, as_refusal, session_in};
+ghost use Rattle.generational_sessions.specs.Places.{as_held, as_reply, as_refusal, as_session};
 ghost use Rattle.generational_sessions.specs.Places.{as_read_refusal, as_making};
 ghost use Rattle.generational_sessions.specs.Places.{exchange, Gives};
 
@@ -35,9 +35,9 @@ pub(crate) fn answer<T: Drop, S: Storage<T>>(
     things: &mut Vec<Thing<T>>,
     call: Call<T>,
 ) -> (Reply<T>, Thing<T>)
-    ensures step { Gives (session_in (S.state store.old) things.old.items) call
+    ensures step { Gives (as_session (S.state store.old) things.old.items) call
         (as_reply result.0) (as_held result.1)
-        (session_in (S.state store.new) things.new.items) }
+        (as_session (S.state store.new) things.new.items) }
     ensures len { vec_len things.new ≡ vec_len things.old }
     ensures capacity { vec_capacity things.new ≡ vec_capacity things.old }
 {
@@ -82,7 +82,7 @@ fn resolve<T, S: Storage<T>>(
     things: &[Thing<T>],
     at: BoxAt<T>,
 ) -> Option<GenerationalBox<T>>
-    ensures { option_map pointer_of result ≡ box_in (session_in (S.state store.now) things.now) at }
+    ensures { option_map pointer_of result ≡ box_in (as_session (S.state store.now) things.now) at }
 {
     match at {
         BoxAt::Place(place) => match things.get(place) {
@@ -136,8 +136,8 @@ fn leak_reference<T, S: Storage<T>>(
     things: &[Thing<T>],
     at: BoxAt<T>,
 ) -> (Reply<T>, Thing<T>)
-    ensures { Gives (session_in (S.state store.old) things.now) (call.LeakReference at)
-        (as_reply result.0) (as_held result.1) (session_in (S.state store.new) things.now) }
+    ensures { Gives (as_session (S.state store.old) things.now) (call.LeakReference at)
+        (as_reply result.0) (as_held result.1) (as_session (S.state store.new) things.now) }
 {
     let Some(shared) = resolve(store, things, at) else {
         return (Reply::NoSuch(None), Thing::Nothing);
@@ -166,8 +166,8 @@ fn insert<T, S: Storage<T>>(
     value: T,
     location: Location,
 ) -> (Reply<T>, Thing<T>)
-    ensures { Gives (session_in (S.state store.old) things.now) (call.Insert place value location)
-        (as_reply result.0) (as_held result.1) (session_in (S.state store.new) things.now) }
+    ensures { Gives (as_session (S.state store.old) things.now) (call.Insert place value location)
+        (as_reply result.0) (as_held result.1) (as_session (S.state store.new) things.now) }
 {
     let Some(owner) = owner_at(things, place) else {
         return (Reply::NoSuch(Some(value)), Thing::Nothing);
@@ -183,8 +183,8 @@ fn insert_rc<T, S: Storage<T>>(
     value: T,
     location: Location,
 ) -> (Reply<T>, Thing<T>)
-    ensures { Gives (session_in (S.state store.old) things.now) (call.InsertRc place value location)
-        (as_reply result.0) (as_held result.1) (session_in (S.state store.new) things.now) }
+    ensures { Gives (as_session (S.state store.old) things.now) (call.InsertRc place value location)
+        (as_reply result.0) (as_held result.1) (as_session (S.state store.new) things.now) }
 {
     let Some(owner) = owner_at(things, place) else {
         return (Reply::NoSuch(Some(value)), Thing::Nothing);
@@ -199,8 +199,8 @@ fn insert_reference<T, S: Storage<T>>(
     place: usize,
     at: BoxAt<T>,
 ) -> (Reply<T>, Thing<T>)
-    ensures { Gives (session_in (S.state store.old) things.now) (call.InsertReference place at)
-        (as_reply result.0) (as_held result.1) (session_in (S.state store.new) things.now) }
+    ensures { Gives (as_session (S.state store.old) things.now) (call.InsertReference place at)
+        (as_reply result.0) (as_held result.1) (as_session (S.state store.new) things.now) }
 {
     let Some(owner) = owner_at(things, place) else {
         return (Reply::NoSuch(None), Thing::Nothing);
@@ -233,8 +233,8 @@ fn clone_owner<T, S: Storage<T>>(
     things: &[Thing<T>],
     place: usize,
 ) -> (Reply<T>, Thing<T>)
-    ensures { Gives (session_in (S.state store.old) things.now) (call.CloneOwner place)
-        (as_reply result.0) (as_held result.1) (session_in (S.state store.new) things.now) }
+    ensures { Gives (as_session (S.state store.old) things.now) (call.CloneOwner place)
+        (as_reply result.0) (as_held result.1) (as_session (S.state store.new) things.now) }
 {
     let Some(owner) = owner_at(things, place) else {
         return (Reply::NoSuch(None), Thing::Nothing);
@@ -251,9 +251,9 @@ fn release_owner<T, S: Storage<T>>(
     things: &mut Vec<Thing<T>>,
     place: usize,
 ) -> (Reply<T>, Thing<T>)
-    ensures step { Gives (session_in (S.state store.old) things.old.items) (call.ReleaseOwner place)
+    ensures step { Gives (as_session (S.state store.old) things.old.items) (call.ReleaseOwner place)
         (as_reply result.0) (as_held result.1)
-        (session_in (S.state store.new) things.new.items) }
+        (as_session (S.state store.new) things.new.items) }
     ensures len { vec_len things.new ≡ vec_len things.old }
     ensures capacity { vec_capacity things.new ≡ vec_capacity things.old }
 {
@@ -275,9 +275,9 @@ fn leak_owner<T, S: Storage<T>>(
     things: &mut Vec<Thing<T>>,
     place: usize,
 ) -> (Reply<T>, Thing<T>)
-    ensures step { Gives (session_in (S.state store.now) things.old.items) (call.LeakOwner place)
+    ensures step { Gives (as_session (S.state store.now) things.old.items) (call.LeakOwner place)
         (as_reply result.0) (as_held result.1)
-        (session_in (S.state store.now) things.new.items) }
+        (as_session (S.state store.now) things.new.items) }
     ensures len { vec_len things.new ≡ vec_len things.old }
     ensures capacity { vec_capacity things.new ≡ vec_capacity things.old }
 {
@@ -351,8 +351,8 @@ fn try_read<T, S: Storage<T>>(
     at: BoxAt<T>,
     location: Location,
 ) -> (Reply<T>, Thing<T>)
-    ensures { Gives (session_in (S.state store.old) things.now) (call.TryRead at location)
-        (as_reply result.0) (as_held result.1) (session_in (S.state store.new) things.now) }
+    ensures { Gives (as_session (S.state store.old) things.now) (call.TryRead at location)
+        (as_reply result.0) (as_held result.1) (as_session (S.state store.new) things.now) }
 {
     let Some(from) = resolve(store, things, at) else {
         return (Reply::NoSuch(None), Thing::Nothing);
@@ -370,8 +370,8 @@ fn try_write<T, S: Storage<T>>(
     at: BoxAt<T>,
     location: Location,
 ) -> (Reply<T>, Thing<T>)
-    ensures { Gives (session_in (S.state store.old) things.now) (call.TryWrite at location)
-        (as_reply result.0) (as_held result.1) (session_in (S.state store.new) things.now) }
+    ensures { Gives (as_session (S.state store.old) things.now) (call.TryWrite at location)
+        (as_reply result.0) (as_held result.1) (as_session (S.state store.new) things.now) }
 {
     let Some(from) = resolve(store, things, at) else {
         return (Reply::NoSuch(None), Thing::Nothing);
@@ -389,8 +389,8 @@ fn read<T, S: Storage<T>>(
     at: BoxAt<T>,
     location: Location,
 ) -> (Reply<T>, Thing<T>)
-    ensures { Gives (session_in (S.state store.old) things.now) (call.Read at location)
-        (as_reply result.0) (as_held result.1) (session_in (S.state store.new) things.now) }
+    ensures { Gives (as_session (S.state store.old) things.now) (call.Read at location)
+        (as_reply result.0) (as_held result.1) (as_session (S.state store.new) things.now) }
 {
     let Some(from) = resolve(store, things, at) else {
         return (Reply::NoSuch(None), Thing::Nothing);
@@ -411,8 +411,8 @@ fn write<T, S: Storage<T>>(
     at: BoxAt<T>,
     location: Location,
 ) -> (Reply<T>, Thing<T>)
-    ensures { Gives (session_in (S.state store.old) things.now) (call.Write at location)
-        (as_reply result.0) (as_held result.1) (session_in (S.state store.new) things.now) }
+    ensures { Gives (as_session (S.state store.old) things.now) (call.Write at location)
+        (as_reply result.0) (as_held result.1) (as_session (S.state store.new) things.now) }
 {
     let Some(from) = resolve(store, things, at) else {
         return (Reply::NoSuch(None), Thing::Nothing);
@@ -433,8 +433,8 @@ fn set<T: Drop, S: Storage<T>>(
     at: BoxAt<T>,
     value: T,
 ) -> Reply<T>
-    ensures { Gives (session_in (S.state store.old) things.now) (call.Set at value)
-        (as_reply result) Nothing (session_in (S.state store.new) things.now) }
+    ensures { Gives (as_session (S.state store.old) things.now) (call.Set at value)
+        (as_reply result) Nothing (as_session (S.state store.new) things.now) }
 {
     let Some(from) = resolve(store, things, at) else {
         return Reply::NoSuch(Some(value));
@@ -448,8 +448,8 @@ fn set<T: Drop, S: Storage<T>>(
 
 // Whether a value may be read.
 fn can_read<T, S: Storage<T>>(store: &S, things: &[Thing<T>], at: BoxAt<T>) -> Reply<T>
-    ensures { Gives (session_in (S.state store.now) things.now) (call.CanRead at)
-        (as_reply result) Nothing (session_in (S.state store.now) things.now) }
+    ensures { Gives (as_session (S.state store.now) things.now) (call.CanRead at)
+        (as_reply result) Nothing (as_session (S.state store.now) things.now) }
 {
     match resolve(store, things, at) {
         Some(named) => Reply::Flag(named.can_read(store)),
@@ -459,8 +459,8 @@ fn can_read<T, S: Storage<T>>(store: &S, things: &[Thing<T>], at: BoxAt<T>) -> R
 
 // Whether a value may be written.
 fn can_write<T, S: Storage<T>>(store: &S, things: &[Thing<T>], at: BoxAt<T>) -> Reply<T>
-    ensures { Gives (session_in (S.state store.now) things.now) (call.CanWrite at)
-        (as_reply result) Nothing (session_in (S.state store.now) things.now) }
+    ensures { Gives (as_session (S.state store.now) things.now) (call.CanWrite at)
+        (as_reply result) Nothing (as_session (S.state store.now) things.now) }
 {
     match resolve(store, things, at) {
         Some(named) => Reply::Flag(named.can_write(store)),
@@ -475,9 +475,9 @@ fn replace<T, S: Storage<T>>(
     place: usize,
     value: T,
 ) -> (Reply<T>, Thing<T>)
-    ensures step { Gives (session_in (S.state store.now) things.old.items)
+    ensures step { Gives (as_session (S.state store.now) things.old.items)
         (call.Replace place value) (as_reply result.0) (as_held result.1)
-        (session_in (S.state store.now) things.new.items) }
+        (as_session (S.state store.now) things.new.items) }
     ensures len { vec_len things.new ≡ vec_len things.old }
     ensures capacity { vec_capacity things.new ≡ vec_capacity things.old }
 {
@@ -504,8 +504,8 @@ fn manually_drop<T, S: Storage<T>>(
     things: &[Thing<T>],
     at: BoxAt<T>,
 ) -> (Reply<T>, Thing<T>)
-    ensures { Gives (session_in (S.state store.old) things.now) (call.ManuallyDrop at)
-        (as_reply result.0) (as_held result.1) (session_in (S.state store.new) things.now) }
+    ensures { Gives (as_session (S.state store.old) things.now) (call.ManuallyDrop at)
+        (as_reply result.0) (as_held result.1) (as_session (S.state store.new) things.now) }
 {
     let Some(from) = resolve(store, things, at) else {
         return (Reply::NoSuch(None), Thing::Nothing);
@@ -523,8 +523,8 @@ fn point_to<T, S: Storage<T>>(
     from: BoxAt<T>,
     to: BoxAt<T>,
 ) -> (Reply<T>, Thing<T>)
-    ensures { Gives (session_in (S.state store.old) things.now) (call.PointTo from to)
-        (as_reply result.0) (as_held result.1) (session_in (S.state store.new) things.now) }
+    ensures { Gives (as_session (S.state store.old) things.now) (call.PointTo from to)
+        (as_reply result.0) (as_held result.1) (as_session (S.state store.new) things.now) }
 {
     let Some(from) = resolve(store, things, from) else {
         return (Reply::NoSuch(None), Thing::Nothing);
@@ -545,8 +545,8 @@ fn ptr_eq<T, S: Storage<T>>(
     one: BoxAt<T>,
     other: BoxAt<T>,
 ) -> Reply<T>
-    ensures { Gives (session_in (S.state store.now) things.now) (call.PtrEq one other)
-        (as_reply result) Nothing (session_in (S.state store.now) things.now) }
+    ensures { Gives (as_session (S.state store.now) things.now) (call.PtrEq one other)
+        (as_reply result) Nothing (as_session (S.state store.now) things.now) }
 {
     let Some(one) = resolve(store, things, one) else {
         return Reply::NoSuch(None);
@@ -559,8 +559,8 @@ fn ptr_eq<T, S: Storage<T>>(
 
 // The id of a box.
 fn id<T, S: Storage<T>>(store: &S, things: &[Thing<T>], at: BoxAt<T>) -> Reply<T>
-    ensures { Gives (session_in (S.state store.now) things.now) (call.Id at)
-        (as_reply result) Nothing (session_in (S.state store.now) things.now) }
+    ensures { Gives (as_session (S.state store.now) things.now) (call.Id at)
+        (as_reply result) Nothing (as_session (S.state store.now) things.now) }
 {
     match resolve(store, things, at) {
         Some(named) => Reply::Id(named.id()),
@@ -570,8 +570,8 @@ fn id<T, S: Storage<T>>(store: &S, things: &[Thing<T>], at: BoxAt<T>) -> Reply<T
 
 // The number of a box's slot.
 fn raw_ptr<T, S: Storage<T>>(store: &S, things: &[Thing<T>], at: BoxAt<T>) -> Reply<T>
-    ensures { Gives (session_in (S.state store.now) things.now) (call.RawPtr at)
-        (as_reply result) Nothing (session_in (S.state store.now) things.now) }
+    ensures { Gives (as_session (S.state store.now) things.now) (call.RawPtr at)
+        (as_reply result) Nothing (as_session (S.state store.now) things.now) }
 {
     match resolve(store, things, at) {
         Some(named) => Reply::Slot(named.raw_ptr()),
@@ -581,8 +581,8 @@ fn raw_ptr<T, S: Storage<T>>(store: &S, things: &[Thing<T>], at: BoxAt<T>) -> Re
 
 // The location at which a box was made.
 fn created_at<T, S: Storage<T>>(store: &S, things: &[Thing<T>], at: BoxAt<T>) -> Reply<T>
-    ensures { Gives (session_in (S.state store.now) things.now) (call.CreatedAt at)
-        (as_reply result) Nothing (session_in (S.state store.now) things.now) }
+    ensures { Gives (as_session (S.state store.now) things.now) (call.CreatedAt at)
+        (as_reply result) Nothing (as_session (S.state store.now) things.now) }
 {
     match resolve(store, things, at) {
         Some(named) => Reply::Created(named.created_at()),
@@ -596,9 +596,9 @@ fn release<T: Drop, S: Storage<T>>(
     things: &mut Vec<Thing<T>>,
     place: usize,
 ) -> (Reply<T>, Thing<T>)
-    ensures step { Gives (session_in (S.state store.old) things.old.items) (call.Release place)
+    ensures step { Gives (as_session (S.state store.old) things.old.items) (call.Release place)
         (as_reply result.0) (as_held result.1)
-        (session_in (S.state store.new) things.new.items) }
+        (as_session (S.state store.new) things.new.items) }
     ensures len { vec_len things.new ≡ vec_len things.old }
     ensures capacity { vec_capacity things.new ≡ vec_capacity things.old }
 {

@@ -45,9 +45,9 @@ unfoldable pub use Rattle.std.specs.List.{IsDistinct}
 pub use Rattle.store_cells.specs.Entry.{cell_of, FoundBorrowed, less_read, readers_of}
 pub use Rattle.store_cells.specs.{Data.data_in, Entries.kept_data, Data.SlotData}
 pub use Rattle.store_parts.proofs.records.lists.{none_left}
-pub use Rattle.store_parts.specs.OwnerRecords.{add_to_list_in, AreCounted, IsCounted, IsRefusal}
+pub use Rattle.store_parts.specs.OwnerRecords.{add_to_list_in, AreOwnersCounted, IsOwnerCounted, IsRefusal}
 pub use Rattle.store_parts.specs.OwnerRecords.{permits, record_of}
-pub use Rattle.store_parts.specs.{Borrows.AreBelow, CellNames.name_of_cell}
+pub use Rattle.store_parts.specs.{Borrows.AreTicketsBelow, CellNames.name_of_cell}
 pub use Rattle.store_slots.specs.SlotRows.{all_slot_rows, ReadSlots}
-pub use Rattle.store_slots.specs.SlotsState.{change_content, HasEnded, IsMade, IsTurned, reached}
+pub use Rattle.store_slots.specs.SlotsState.{change_content, IsEndReply, IsMade, IsTurned, reached}
 pub use Rattle.store_slots.specs.SlotsState.{refusal_to_write_at, SlotsState, with_records}

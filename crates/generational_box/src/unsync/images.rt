@@ -7,7 +7,7 @@ ghost use Rattle.generational_core.specs.Names.{Name};
 ghost use Rattle.generational_core.specs.State.{content_at};
 ghost use Rattle.generational_core.specs.declared.boxes.GenerationalBoxId.{GenerationalBoxId};
 ghost use Rattle.store_images.specs.Adopting.{adopted, id_adopted};
-ghost use Rattle.store_images.specs.Images.{told, IsLoadError, IsWhole};
+ghost use Rattle.store_images.specs.Images.{told, IsLoadError, IsWholeImage};
 ghost use Rattle.store_images.specs.Saving.{IsSaveError, IsStateCopy};
 
 use crate::unsync::Store;
@@ -25,12 +25,12 @@ impl<T: Drop, P: SlotPool> Store<T, P> {
     ///
     /// The store, unchanged, with `Owned` if it has an owner's record, `Borrowed` with the first slot
     /// whose value is borrowed, or `OutOfMemory`. Allocates the image's list of slots, before a value is
-    /// moved. Takes O(n) for n slots and places of owners' records.
+    /// moved. Takes O(n) for n slots and owners' records.
     ///
     /// Upstream has no such call.
     pub fn into_image(self) -> Result<Image<T>, (Self, SaveError)>
         ensures state { IfOk result (λ image. told image ≡ self.state) }
-        ensures whole { IfOk result IsWhole }
+        ensures whole { IfOk result IsWholeImage }
         ensures back { IfErr result (λ error. error.0.state ≡ self.state) }
         ensures cause { IfErr result (λ error. IsSaveError self.state error.1) }
     {
@@ -64,7 +64,7 @@ impl<T: Drop, P: SlotPool> Store<T, P> {
     where
         T: Clone,
         ensures copy { IfOk result (λ image. IsStateCopy T.is_clone self.now.state (told image)) }
-        ensures whole { IfOk result IsWhole }
+        ensures whole { IfOk result IsWholeImage }
         ensures cause { IfErr result (λ cause. IsSaveError self.now.state cause) }
     {
         if let Some(cause) = self.save_error() {
@@ -159,7 +159,7 @@ impl<T: Drop, P: SlotPool> Store<T, P> {
     // The store of a whole image, for whose slots there is room.
     fn fill(alloc: Global, room: Room<T, P>, image: Image<T>) -> Self
         requires room { room ≡ length image.slots.items }
-        requires whole { IsWhole image }
+        requires whole { IsWholeImage image }
         ensures { result.state ≡ told image }
     {
         let number = image.number;
@@ -178,7 +178,7 @@ impl<T: Drop, P: SlotPool> Store<T, P> {
 
 // Checks an image, and makes room for its slots.
 fn room_for<T: Drop, P: SlotPool>(alloc: Global, image: &Image<T>) -> Result<Room<T, P>, LoadError>
-    ensures whole { IfOk result (λ room. IsWhole image.now) }
+    ensures whole { IfOk result (λ room. IsWholeImage image.now) }
     ensures room { IfOk result (λ room. room ≡ length image.now.slots.items) }
     ensures cause { IfErr result (λ cause. IsLoadError image.now cause) }
 {

@@ -1,0 +1,2 @@
+pub mod callers
+unfoldable pub use callers.*

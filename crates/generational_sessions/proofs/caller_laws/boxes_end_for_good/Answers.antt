@@ -1,6 +1,0 @@
-use Rattle.generational_core.proofs.machine.Calls.{ended, ended_owned, reached_boxed}
-use Rattle.generational_sessions.proofs.{boxed_stays, held_boxed, made_boxed}
-use Rattle.generational_sessions.proofs.caller_laws.boxes_end_for_good.Goals as goal
-
-pub returns : goal.returns
-returns g c = search (made_boxed, boxed_stays, reached_boxed, held_boxed, ended, ended_owned)

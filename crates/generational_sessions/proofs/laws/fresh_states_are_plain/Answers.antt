@@ -1,5 +1,0 @@
-use Rattle.generational_sessions.proofs.{plain_fresh}
-use Rattle.generational_sessions.proofs.laws.fresh_states_are_plain.Goals as goal
-
-pub returns : goal.returns
-returns g c = plain_fresh _

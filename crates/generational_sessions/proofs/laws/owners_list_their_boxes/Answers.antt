@@ -1,5 +1,0 @@
-use Rattle.generational_sessions.proofs.{owned, lists, listed_last}
-use Rattle.generational_sessions.proofs.laws.owners_list_their_boxes.Goals as goal
-
-pub returns : goal.returns
-returns g c = search (owned, lists, listed_last)

@@ -1,5 +1,0 @@
-use Rattle.generational_sessions.proofs.{plain_act, plain_meets}
-use Rattle.generational_sessions.proofs.laws.plain_states_step.Goals as goal
-
-pub returns : goal.returns
-returns g c = search (plain_act, plain_meets)

@@ -1,6 +1,0 @@
-use Rattle.generational_core.proofs.machine.{slots_are}
-use Rattle.generational_sessions.proofs.{arith, fresh_bounded, meets_bounded}
-use Rattle.generational_sessions.proofs.laws.slots_are_bounded.Goals as goal
-
-pub returns : goal.returns
-returns g c = search (arith, fresh_bounded, meets_bounded, slots_are)

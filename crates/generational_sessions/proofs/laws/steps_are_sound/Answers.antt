@@ -1,5 +1,0 @@
-use Rattle.generational_sessions.proofs.{fresh_sound, meets_sound}
-use Rattle.generational_sessions.proofs.laws.steps_are_sound.Goals as goal
-
-pub returns : goal.returns
-returns g c = search (fresh_sound, meets_sound)
