@@ -5,7 +5,7 @@ use Rattle.std.proofs.lemmas.List.Folds.{list_any-append}
 use Rattle.std.proofs.lemmas.List.{take-append-drop, take-append-le}
 use Rattle.generational_errors.specs.Texts.{same_location}
 use Rattle.generational_errors.specs.declared.error.Location.{Location}
-use Rattle.generational_sessions.proofs.callers.{get_take, take_within}
+use Rattle.generational_laws.proofs.callers.{get_take, take_within}
 use Rattle.location_list.specs.Locations.{is_among, with_location}
 use Rattle.handles.specs.Sites.{SiteState, told_in}
 

@@ -20,5 +20,5 @@ module _ {T K : Type 0} where
   told_at number sites h = if nat_eq h.store number then slice_get sites h.site else None
 
 -- a location with the same letters, line and column is published
-abbrev pub Tells : Option Location → Location → Type 0
-Tells told here = (l : Location) × (told ≡ Some l) × (same_location here l ≡ Bool.true)
+abbrev pub TellsLocation : Option Location → Location → Type 0
+TellsLocation told here = (l : Location) × (told ≡ Some l) × (same_location here l ≡ Bool.true)

@@ -24,7 +24,7 @@ use Rattle.generational_core.specs.Rows.{borrow_rows, cell_rows, owner_rows, rea
 use Rattle.generational_core.specs.Rows.{content_rows}
 use Rattle.generational_core.specs.Seeing.{value_in, value_reached}
 use Rattle.generational_core.specs.Borrowing.{leads_to, reach}
-use Rattle.generational_sessions.proofs.callers.{seen_reach}
+use Rattle.generational_laws.proofs.callers.{seen_reach}
 use Rattle.std.specs.Prelude.{nat_eq}
 use Rattle.std.proofs.lemmas.List.{append-nil}
 use Rattle.generational_core.specs.Slots.{slots_of}
@@ -35,7 +35,7 @@ use Rattle.generational_core.specs.declared.boxes.GenerationalPointer.{Generatio
 use Rattle.generational_core.specs.declared.rows.BaseRow.{BaseRow}
 use Rattle.generational_core.specs.declared.rows.BaseRow.TheVariants as row
 use Rattle.generational_errors.specs.declared.error.Location.{Location}
-use Rattle.generational_sessions.specs.PlainStores.{IsPlain, IsSimple}
+use Rattle.generational_laws.specs.PlainStores.{HasNoReferences, IsSimple}
 use Rattle.live_cells.specs.Cells.{fault_of, first_fault, IsCellFault, IsSharing, listed_cells, or_else}
 use Rattle.live_cells.specs.declared.cells.CellFault.{CellFault}
 use Rattle.live_cells.specs.declared.cells.CellFault.TheVariants.{Borrowed, OutOfMemory}

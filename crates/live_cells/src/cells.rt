@@ -4,7 +4,7 @@ ghost use Rattle.std.specs.Prelude.{◌≡◌, ◌⊎◌, ℕ, None, Some, IfErr
 ghost use Rattle.generational_core.specs.Keeping.{box_with};
 ghost use Rattle.generational_core.specs.Seeing.{value_in};
 ghost use Rattle.generational_core.specs.declared.boxes.GenerationalPointer.{GenerationalPointer};
-ghost use Rattle.generational_sessions.specs.PlainStores.{IsSimple};
+ghost use Rattle.generational_laws.specs.PlainStores.{IsSimple};
 ghost use Rattle.live_cells.specs.Cells.{IsCellFault, fault_of, first_fault, listed_cells};
 ghost use Rattle.live_cells.specs.declared.cells.CellFault.TheVariants.{OutOfMemory};
 

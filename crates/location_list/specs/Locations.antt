@@ -3,11 +3,11 @@ use Rattle.std.specs.Prelude.{◌≡◌, ℕ, Bool, List, [], ◌∷◌, ◌++�
 use Rattle.std.specs.List.{list_any}
 use Rattle.generational_errors.specs.Texts.{same_location}
 use Rattle.generational_errors.specs.declared.error.Location.{Location}
-use Rattle.location_list.specs.declared.list.Key.{Key}
+use Rattle.location_list.specs.declared.list.LocationKey.{LocationKey}
 
 -- the location of these parts
-abbrev pub location_of : Key → Location
-location_of k = record { file = k.file; line = k.line; column = k.column }
+abbrev pub key_location : LocationKey → Location
+key_location k = record { file = k.file; line = k.line; column = k.column }
 
 -- whether a location with the same letters, line and column is among these
 abbrev pub is_among : List Location → Location → Bool

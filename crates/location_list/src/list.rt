@@ -3,8 +3,8 @@
 ghost use Rattle.std.specs.Prelude.{◌≡◌, ◌+◌, ◌≤◌, false, length, map, slice_get, [], OnOk, OnErr, IfOk};
 ghost use Rattle.std.specs.Bool.{OnTrue};
 ghost use Rattle.generational_errors.specs.Texts.{same_location};
-ghost use Rattle.location_list.specs.Locations.{IsAt, is_among, location_of, with_location};
-ghost use Rattle.location_list.specs.declared.list.Key.{Key};
+ghost use Rattle.location_list.specs.Locations.{IsAt, is_among, key_location, with_location};
+ghost use Rattle.location_list.specs.declared.list.LocationKey.{LocationKey};
 
 use generational_errors::Location;
 use indexmap::IndexSet;
@@ -18,14 +18,14 @@ use std::marker::Model;
 /// Each takes 40 to 80 bytes, and is found in the same time however many there are.
 #[derive(Drop)]
 pub struct LocationList<const LAST: u32> {
-    kept: IndexSet<Key>,
+    kept: IndexSet<LocationKey>,
     // where a location is looked for first, by its line and column; a guess may be wrong
     guesses: [u32; 64],
 }
 
 // A location's parts.
 #[derive(Clone, Copy, PartialEq, Eq, Hash, Drop)]
-struct Key {
+struct LocationKey {
     file: &'static str,
     line: u32,
     column: u32,
@@ -37,9 +37,9 @@ impl<const LAST: u32> Model for LocationList<LAST> {
 
     ghost Value = { List Location };
 
-    ghost use Rattle.location_list.specs.Locations.{location_of};
+    ghost use Rattle.location_list.specs.Locations.{key_location};
 
-    ghost view = { λ l. map location_of l.kept.keys };
+    ghost view = { λ l. map key_location l.kept.keys };
 
     ghost invariant = { λ l. length l.kept.keys ≤ LAST + 1 };
 }
@@ -99,8 +99,8 @@ impl<const LAST: u32> LocationList<LAST> {
         ensures err { OnErr result (self.new ≡ self.old) }
         ensures absent { OnErr result (is_among self.old at ≡ false) }
     {
-        let place = ((at.line() ^ at.column()) & 63) as usize;
-        let guess = &mut self.guesses[place];
+        let bucket = ((at.line() ^ at.column()) & 63) as usize;
+        let guess = &mut self.guesses[bucket];
         if is_at(self.kept.as_slice(), *guess, at) {
             return Ok(*guess);
         }
@@ -108,13 +108,13 @@ impl<const LAST: u32> LocationList<LAST> {
     }
 }
 
-impl Key {
+impl LocationKey {
     // The parts of a location.
     #[inline(always)]
-    fn of(at: Location) -> Key
-        ensures { location_of result ≡ at }
+    fn of(at: Location) -> LocationKey
+        ensures { key_location result ≡ at }
     {
-        Key {
+        LocationKey {
             file: at.file(),
             line: at.line(),
             column: at.column(),
@@ -124,7 +124,7 @@ impl Key {
     // The location of these parts.
     #[inline(always)]
     fn location(&self) -> Location
-        ensures { result ≡ location_of self.now }
+        ensures { result ≡ key_location self.now }
     {
         Location::new(self.file, self.line, self.column)
     }
@@ -132,8 +132,8 @@ impl Key {
 
 // Whether the location with this number is this one by its letters.
 #[inline(always)]
-fn is_at(kept: &[Key], number: u32, at: Location) -> bool
-    ensures { OnTrue result (IsAt (map location_of kept.now) number at) }
+fn is_at(kept: &[LocationKey], number: u32, at: Location) -> bool
+    ensures { OnTrue result (IsAt (map key_location kept.now) number at) }
 {
     match kept.get(number as usize) {
         Some(key) => is_same(at, key.location()),
@@ -154,19 +154,19 @@ fn is_same(one: Location, other: Location) -> bool
 #[cold]
 #[inline(never)]
 fn find_or_add<const LAST: u32>(
-    kept: &mut IndexSet<Key>,
+    kept: &mut IndexSet<LocationKey>,
     guess: &mut u32,
     at: Location,
 ) -> Result<u32, AllocError>
     requires { length kept.old.keys ≤ LAST + 1 }
     ensures most { length kept.new.keys ≤ LAST + 1 }
     ensures added { OnOk result
-        (map location_of kept.new.keys ≡ with_location (map location_of kept.old.keys) at) }
-    ensures found { IfOk result (λ number. IsAt (map location_of kept.new.keys) number at) }
+        (map key_location kept.new.keys ≡ with_location (map key_location kept.old.keys) at) }
+    ensures found { IfOk result (λ number. IsAt (map key_location kept.new.keys) number at) }
     ensures fits { IfOk result (λ number. number ≤ LAST) }
     ensures guessed { IfOk result (λ number. guess.new ≡ number) }
     ensures err { OnErr result (kept.new.keys ≡ kept.old.keys) }
-    ensures absent { OnErr result (is_among (map location_of kept.old.keys) at ≡ false) }
+    ensures absent { OnErr result (is_among (map key_location kept.old.keys) at ≡ false) }
 {
     let number = number_of::<LAST>(kept, at)?;
     *guess = number;
@@ -174,17 +174,20 @@ fn find_or_add<const LAST: u32>(
 }
 
 // The number of such a location, which is added if there is none.
-fn number_of<const LAST: u32>(kept: &mut IndexSet<Key>, at: Location) -> Result<u32, AllocError>
+fn number_of<const LAST: u32>(
+    kept: &mut IndexSet<LocationKey>,
+    at: Location,
+) -> Result<u32, AllocError>
     requires { length kept.old.keys ≤ LAST + 1 }
     ensures most { length kept.new.keys ≤ LAST + 1 }
     ensures added { OnOk result
-        (map location_of kept.new.keys ≡ with_location (map location_of kept.old.keys) at) }
-    ensures found { IfOk result (λ number. IsAt (map location_of kept.new.keys) number at) }
+        (map key_location kept.new.keys ≡ with_location (map key_location kept.old.keys) at) }
+    ensures found { IfOk result (λ number. IsAt (map key_location kept.new.keys) number at) }
     ensures fits { IfOk result (λ number. number ≤ LAST) }
     ensures err { OnErr result (kept.new.keys ≡ kept.old.keys) }
-    ensures absent { OnErr result (is_among (map location_of kept.old.keys) at ≡ false) }
+    ensures absent { OnErr result (is_among (map key_location kept.old.keys) at ≡ false) }
 {
-    let key = Key::of(at);
+    let key = LocationKey::of(at);
     if let Some(number) = kept.get_index_of(&key) {
         return Ok(number as u32);
     }

@@ -75,7 +75,7 @@ module _ {T : Type 0} where
   })
 
   pub noted_none : {r : LastBorrow} {lists : List (List Borrow)} {es : List (StorageEntry T)} → es ≡ []
-      → r.noted ≡ noted.Nobody → AreNoted r lists es
+      → r.noted ≡ noted.Nobody → AreBorrowsNoted r lists es
   noted_none none nobody = rw none (record { noted = λ is. absurd (cc (ap is_noted nobody)); written = λ k. tt })
 
 -- ==== the table of borrows when a slot is written, and what that leaves of the store
@@ -181,7 +181,7 @@ module _ {T : Type 0} {r : LastBorrow} {t : Table} {es : List (StorageEntry T)} 
       (λ index. close_step is index (some index) free) (cases_eq x no_index)
 
   -- a reader is removed from a value
-  module _ {kd : Kind} {x : ℕ} {v : T} (is : data_in e.content ≡ slot.Read kd x v) where
+  module _ {kd : CellKind} {x : ℕ} {v : T} (is : data_in e.content ≡ slot.Read kd x v) where
     pub release_step : {t' : Table} (y : ℕ) (left : List Borrow) → Releases t t' x y left → {e' : StorageEntry T}
         → data_in e'.content ≡ unread_data (slot.Read kd y v) → Steps t t' es i e'
     release_step y [] r e'_is =
@@ -271,7 +271,7 @@ module _ {T : Type 0} {r : LastBorrow} {t : Table} {es : List (StorageEntry T)} 
 
   -- a reference is changed
   pub redirected : {k : StorageEntryData T} {q g : ℕ}
-      → IfSome (slice_get now.slots i) (λ e. is_some (target_in (cell_of e.kept)) ≡ true)
+      → IfSome (slice_get now.slots i) (λ e. is_some (target_name_in (cell_of e.kept)) ≡ true)
       → k ≡ content.Reference q g → Rewrites a r t k (referring (record { slot = q; generation = g }))
   redirected refers is =
       let has = rw (seen a) at refers in
@@ -310,7 +310,7 @@ module _ {T : Type 0} {r : LastBorrow} {t : Table} {es : List (StorageEntry T)} 
       × Reborrows a (cleared r) t (without_reader_in n)
   read_ended n reads unread =
       let is = reads_at r i n reads in
-      let own : (kd : Kind) × (v : T) × (data_in e.content ≡ slot.Data kd v) = grind arith in (
+      let own : (kd : CellKind) × (v : T) × (data_in e.content ≡ slot.Data kd v) = grind arith in (
         rw (seen a, own.2, is.0, eq-eqb r.borrow.ticket n is.1) refl,
         borrowed a (same_step a.at refl (rw own.2 tt)) (ends refl is.0) (rw own.2 tt) _
             (rw (own.2, is.0, eq-eqb r.borrow.ticket n is.1) refl),
@@ -333,7 +333,7 @@ module _ {T : Type 0} {r : LastBorrow} {t : Table} {es : List (StorageEntry T)} 
     away = rw nobody refl
 
     -- a listed reader ends
-    pub released : {kd : Kind} {q : ℕ} {v : T} → data_in e.content ≡ slot.Read kd q v
+    pub released : {kd : CellKind} {q : ℕ} {v : T} → data_in e.content ≡ slot.Read kd q v
         → (p n : ℕ) {t' : Table} (k : StorageEntryData T)
         → Releases t t' q p (filter (λ b. not (nat_eq b.ticket n)) (list_at t.lists q))
         → data_in k ≡ unread_data (slot.Read kd p v) → Rewrites a r t' k (without_reader_in n)
@@ -355,7 +355,7 @@ module _ {T : Type 0} {r : LastBorrow} {t : Table} {es : List (StorageEntry T)} 
         )
 
     -- a listed writer ends
-    pub written_back : {kd : Kind} {q : ℕ} {w : Borrow} → data_in e.content ≡ slot.Lent kd q → q ≢ no_index
+    pub written_back : {kd : CellKind} {q : ℕ} {w : Borrow} → data_in e.content ≡ slot.Lent kd q → q ≢ no_index
         → slice_get (list_at t.lists q) 0 ≡ Some w → {t' : Table} → IsClosed t t' q → (v : T) (k : StorageEntryData T)
         → data_in k ≡ slot.Data kd v → Rewrites a r t' k (with_value v)
     written_back is some first gone v k back =
@@ -364,7 +364,7 @@ module _ {T : Type 0} {r : LastBorrow} {t : Table} {es : List (StorageEntry T)} 
         (rw (was, back, away) refl)
 
     module _ (g : ℕ) (free : IsAlone g (slice_get now.slots i)) where
-      pub lone : (is_noted_at r i ≡ false) × ((kd : Kind) × (v : T) × (data_in e.content ≡ slot.Data kd v))
+      pub lone : (is_noted_at r i ≡ false) × ((kd : CellKind) × (v : T) × (data_in e.content ≡ slot.Data kd v))
       lone = alone a (rw (seen a) at free).1
 
       -- the value is lent to a writer that is noted
@@ -385,13 +385,13 @@ module _ {T : Type 0} {r : LastBorrow} {t : Table} {es : List (StorageEntry T)} 
 module _ {T : Type 0} {r : LastBorrow} {t : Table} {es : List (StorageEntry T)} {ds : List EntryDetails}
     {now : EntryList T} {room x y i : ℕ} {e : StorageEntry T} {d : EntryDetails}
     (a : IsAt r t es ds now room x y i e d) (g : ℕ) (there : IsReadable g (slice_get now.slots i)) where
-  readable_here : ((kd : Kind) × (v : T) × (data_in e.content ≡ slot.Data kd v))
-      ⊎ ((kd : Kind) × (q : ℕ) × (v : T) × (data_in e.content ≡ slot.Read kd q v))
+  readable_here : ((kd : CellKind) × (v : T) × (data_in e.content ≡ slot.Data kd v))
+      ⊎ ((kd : CellKind) × (q : ℕ) × (v : T) × (data_in e.content ≡ slot.Read kd q v))
   readable_here = let has = (rw (seen a) at there).1 in grind arith
 
   -- its ticket is beyond those of the listed readers
-  pub listed_below : {n : ℕ} → IfSome (slice_get now.slots i) (λ e. AreBelow n (readers_of (content_in e.kept)))
-      → index_of (data_in e.content) ≢ no_index → AreBelow n (list_at t.lists (index_of (data_in e.content)))
+  pub listed_below : {n : ℕ} → IfSome (slice_get now.slots i) (λ e. AreTicketsBelow n (readers_of (content_in e.kept)))
+      → index_of (data_in e.content) ≢ no_index → AreTicketsBelow n (list_at t.lists (index_of (data_in e.content)))
   listed_below h some = elim readable_here [
     | inl own ↦ absurd (some (rw own.2 refl))
     | inr own ↦ rw own.3 (rw (seen a, own.3, ne_eqb own.1 no_index (has_place a.at own.3)) at h)
@@ -437,7 +437,7 @@ module _ {T : Type 0} {r : LastBorrow} {t : Table} {es : List (StorageEntry T)} 
       omega (arith, slice_get_within es r.slot e.0 e.1, noted_slot r (length es) on))
 
   pub pushed : IsUnborrowed (data_in e.content) → length now.slots < now.rooms
-      → AreIndexed t (es ++ e ∷ []) × AreNoted r t.lists (es ++ e ∷ [])
+      → AreIndexed t (es ++ e ∷ []) × AreBorrowsNoted r t.lists (es ++ e ∷ [])
       × (length (ds ++ fresh ∷ []) ≡ length (es ++ e ∷ [])) × (length (es ++ e ∷ []) ≤ room)
       × (entries_of r t.lists (es ++ e ∷ []) (ds ++ fresh ∷ []) ≡ now.slots
       ++ record { generation = e.generation; kept = kept_data [] l (data_in e.content); references = 0 } ∷ [])

@@ -1,7 +1,7 @@
 -- What a slot's content says.
 use Rattle.std.specs.Prelude.{ℕ}
-use Rattle.store_cells.specs.declared.entry.Kind.{Kind}
-use Rattle.store_cells.specs.declared.entry.Kind.TheVariants as kind
+use Rattle.store_cells.specs.declared.entry.CellKind.{CellKind}
+use Rattle.store_cells.specs.declared.entry.CellKind.TheVariants as kind
 use Rattle.store_cells.specs.declared.entry.StorageEntryData.{StorageEntryData}
 use Rattle.store_cells.specs.declared.entry.StorageEntryData.TheVariants as content
 
@@ -9,9 +9,9 @@ use Rattle.store_cells.specs.declared.entry.StorageEntryData.TheVariants as cont
 -- lent, with the index of its writer; or a reference, by its target's slot and generation.
 pub data SlotData (T : Type 0) : Type 0 where
   Empty : SlotData T
-  Data : Kind → T → SlotData T
-  Read : Kind → ℕ → T → SlotData T
-  Lent : Kind → ℕ → SlotData T
+  Data : CellKind → T → SlotData T
+  Read : CellKind → ℕ → T → SlotData T
+  Lent : CellKind → ℕ → SlotData T
   Reference : ℕ → ℕ → SlotData T
 
 abbrev pub data_in : {T : Type 0} → StorageEntryData T → SlotData T

@@ -9,13 +9,13 @@ use Rattle.generational_core.specs.Cells.Content.{Here, Lent}
 use Rattle.store_cells.specs.declared.entry.StorageEntry.{StorageEntry}
 use Rattle.store_cells.specs.Data.{SlotData, data_in}
 use Rattle.store_cells.specs.Data.{SlotData as slot}
-use Rattle.store_cells.specs.declared.entry.Kind.TheVariants as kind
-use Rattle.store_cells.specs.declared.entry.Kind.{Kind}
+use Rattle.store_cells.specs.declared.entry.CellKind.TheVariants as kind
+use Rattle.store_cells.specs.declared.entry.CellKind.{CellKind}
 use Rattle.store_cells.specs.declared.entry.EntryDetails.{EntryDetails}
 use Rattle.generational_core.specs.Names.{Name}
 use Rattle.store_cells.specs.Entry.{Entry, Kept}
 use Rattle.store_cells.specs.Entry.Kept.{Empty, Live, Refers}
-use Rattle.store_cells.specs.Latest.{borrows_of, AreNoted}
+use Rattle.store_cells.specs.Latest.{borrows_of, AreBorrowsNoted}
 use Rattle.store_cells.specs.declared.latest.LastBorrow.{LastBorrow}
 use Rattle.store_parts.specs.Lists.{how_many}
 use Rattle.store_parts.specs.Table.{Table, list_at, no_index, IsUsed}
@@ -33,7 +33,7 @@ module _ {T : Type 0} where
   index_of _ = no_index
 
   -- whose the value is, even if it is lent
-  abbrev pub kind_of : SlotData T → Option Kind
+  abbrev pub kind_of : SlotData T → Option CellKind
   kind_of (slot.Data k v) = Some k
   kind_of (slot.Read k i v) = Some k
   kind_of (slot.Lent k i) = Some k
@@ -85,9 +85,9 @@ module _ {T : Type 0} where
   HasListIndex _ = Unit {0}
 
   -- what a reference names
-  abbrev pub named_by : SlotData T → Option Name
-  named_by (slot.Reference s g) = Some (record { slot = s; generation = g })
-  named_by _ = None
+  abbrev pub target_name_of : SlotData T → Option Name
+  target_name_of (slot.Reference s g) = Some (record { slot = s; generation = g })
+  target_name_of _ = None
 
   -- what a box of this name reaches if its cell is such
   abbrev pub lead_of : SlotData T → Name → Option Name
@@ -104,7 +104,7 @@ module _ {T : Type 0} where
   IsUnborrowed _ = ⊥
 
   -- a value that is lent to the first of these borrows; lent to nobody there is none
-  abbrev pub lent_kept : Kind → List Borrow → Location → Kept T
+  abbrev pub lent_kept : CellKind → List Borrow → Location → Kept T
   lent_kept k [] l = Empty
   lent_kept k (w ∷ bs) l = Live k (Lent w) l
 
@@ -168,7 +168,7 @@ pub record AreIndexed {T : Type 0} (t : Table) (es : List (StorageEntry T)) : Ty
 pub record IsListable {T : Type 0} (r : LastBorrow) (t : Table) (es : List (StorageEntry T)) : Type 0
   where
     pub indexed : AreIndexed t es
-    pub noted : AreNoted r t.lists es
+    pub noted : AreBorrowsNoted r t.lists es
     pub room : length es ≤ t.rooms
     pub small : length es < no_index
 
@@ -178,7 +178,7 @@ pub record IsListed {T : Type 0} (r r' : LastBorrow) (t t' : Table)
   pub slots : (ds : List EntryDetails) → length ds ≡ length es
       → entries_of r' t'.lists es' ds ≡ entries_of r t.lists es ds
   pub indexed : AreIndexed t' es'
-  pub noted : AreNoted r' t'.lists es'
+  pub noted : AreBorrowsNoted r' t'.lists es'
   pub rooms : t'.rooms ≡ t.rooms
   pub same : length es' ≡ length es
 

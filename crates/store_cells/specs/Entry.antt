@@ -9,8 +9,8 @@ use Rattle.generational_errors.specs.declared.error.StoreError.TheVariants.{OutO
 use Rattle.generational_errors.specs.declared.error.Refused.{Refused}
 use Rattle.generational_errors.specs.declared.error.Refused.TheVariants as refused
 use Rattle.generational_core.specs.declared.borrow.Borrow.{Borrow}
-use Rattle.store_cells.specs.declared.entry.Kind.{Kind}
-use Rattle.store_cells.specs.declared.entry.Kind.TheVariants as kind
+use Rattle.store_cells.specs.declared.entry.CellKind.{CellKind}
+use Rattle.store_cells.specs.declared.entry.CellKind.TheVariants as kind
 use Rattle.generational_core.specs.Names.{Name}
 use Rattle.generational_core.specs.Cells.{Content, Cell}
 use Rattle.generational_core.specs.Cells.Cell.{Value, Shared, Ref}
@@ -24,7 +24,7 @@ use Rattle.generational_core.specs.Answers.{refusal_of_error, value_of}
 -- reference. The location is where the cell was made.
 pub data Kept (T : Type 0) : Type 0 where
   Empty : Kept T
-  Live : (kind : Kind) (content : Content T) (created : Location) → Kept T
+  Live : (kind : CellKind) (content : Content T) (created : Location) → Kept T
   Refers : (target : Name) (created : Location) → Kept T
 
 -- A slot: the generation of its last cell, that cell while it is live, and how many references
@@ -43,10 +43,10 @@ module _ {T : Type 0} where
   cell_of (Refers m l) = Some (Ref m l)
 
   -- whose value a cell is
-  abbrev pub kind_in : Option (Cell T) → Option Kind
-  kind_in (Some (Value c l)) = Some kind.Value
-  kind_in (Some (Shared c l)) = Some kind.Shared
-  kind_in _ = None
+  abbrev pub cell_kind_in : Option (Cell T) → Option CellKind
+  cell_kind_in (Some (Value c l)) = Some kind.Value
+  cell_kind_in (Some (Shared c l)) = Some kind.Shared
+  cell_kind_in _ = None
 
   -- whether a cell is a value of its own without borrows
   abbrev pub is_unborrowed_value : Option (Cell T) → Bool
@@ -54,9 +54,9 @@ module _ {T : Type 0} where
   is_unborrowed_value _ = false
 
   -- what a cell names, if it is a Ref
-  abbrev pub target_in : Option (Cell T) → Option Name
-  target_in (Some (Ref m l)) = Some m
-  target_in _ = None
+  abbrev pub target_name_in : Option (Cell T) → Option Name
+  target_name_in (Some (Ref m l)) = Some m
+  target_name_in _ = None
 
   -- what is at a generation of a slot
   abbrev pub cell_in : Option (Entry T) → ℕ → Option (Cell T)
@@ -90,9 +90,9 @@ module _ {T : Type 0} where
   is_live _ = true
 
   -- another content of a live cell
-  abbrev pub with_content : (Content T → Content T) → Kept T → Kept T
-  with_content f (Live k c l) = Live k (f c) l
-  with_content f kept = kept
+  abbrev pub with_cell_content : (Content T → Content T) → Kept T → Kept T
+  with_cell_content f (Live k c l) = Live k (f c) l
+  with_cell_content f kept = kept
 
   -- a reference that names another cell
   abbrev pub referring : Name → Kept T → Kept T
@@ -105,7 +105,7 @@ module _ {T : Type 0} where
   one_read b (Lent w) = Lent w
 
   abbrev pub with_reader : Borrow → Kept T → Kept T
-  with_reader b = with_content (one_read b)
+  with_reader b = with_cell_content (one_read b)
 
   -- the readers without the ticket's own
   abbrev pub less_read : ℕ → Content T → Content T
@@ -113,7 +113,7 @@ module _ {T : Type 0} where
   less_read t (Lent w) = Lent w
 
   abbrev pub without_reader_in : ℕ → Kept T → Kept T
-  without_reader_in t = with_content (less_read t)
+  without_reader_in t = with_cell_content (less_read t)
 
   -- whether a content has no borrows
   abbrev pub has_no_borrow : Option (Content T) → Bool
@@ -122,11 +122,11 @@ module _ {T : Type 0} where
 
   -- the content lent to a writer
   abbrev pub lend_to : Borrow → Kept T → Kept T
-  lend_to w = with_content (λ c. Lent w)
+  lend_to w = with_cell_content (λ c. Lent w)
 
   -- a value without borrows
   abbrev pub with_value : T → Kept T → Kept T
-  with_value v = with_content (λ c. Here v [])
+  with_value v = with_cell_content (λ c. Here v [])
 
   -- a cell of this generation, without borrows
   abbrev pub IsAlone : ℕ → Option (Entry T) → Type 0

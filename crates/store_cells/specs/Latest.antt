@@ -65,7 +65,7 @@ module _ {T : Type 0} where
   HasWriterAt r k (Some e) = HasWriter r k (data_in e.content)
 
 -- What holds of a store's slots and the noted borrow.
-pub record AreNoted {T : Type 0} (r : LastBorrow) (lists : List (List Borrow))
+pub record AreBorrowsNoted {T : Type 0} (r : LastBorrow) (lists : List (List Borrow))
     (es : List (StorageEntry T)) : Type 0 where
   -- it is at the cell that it names
   pub noted : is_noted r.noted ≡ true → IsNoted r lists (slice_get es r.slot)

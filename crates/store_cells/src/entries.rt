@@ -20,15 +20,15 @@ ghost use Rattle.generational_core.specs.declared.rows.BaseRow.TheVariants as ro
 ghost use Rattle.generational_errors.specs.declared.error.BorrowMutError.TheVariants as writes;
 ghost use Rattle.generational_errors.specs.declared.error.Refused.TheVariants as refused;
 ghost use Rattle.generational_errors.specs.declared.error.StoreError.TheVariants.{OutOfMemory};
-ghost use Rattle.store_parts.specs.Borrows.{AreBelow};
+ghost use Rattle.store_parts.specs.Borrows.{AreTicketsBelow};
 ghost use Rattle.store_parts.specs.CellNames.{name_of_cell};
 ghost use Rattle.store_parts.specs.Table.{no_index, list_at, IsClosed, IsUsed};
 ghost use Rattle.store_cells.specs.Data.{data_in};
 ghost use Rattle.store_cells.specs.Entries.{index_of, kept_data, listed_beside};
 ghost use Rattle.store_cells.specs.Entries.{IsListable, IsListed, IsUnborrowed};
 ghost use Rattle.store_cells.specs.Entry.{cell_under, cell_of, change_entry, content_in};
-ghost use Rattle.store_cells.specs.Entry.{has_no_borrow, is_unborrowed_value, kind_in};
-ghost use Rattle.store_cells.specs.Entry.{lend_to, readers_of, referring, target_in};
+ghost use Rattle.store_cells.specs.Entry.{has_no_borrow, is_unborrowed_value, cell_kind_in};
+ghost use Rattle.store_cells.specs.Entry.{lend_to, readers_of, referring, target_name_in};
 ghost use Rattle.store_cells.specs.Entry.{value_for, with_reader, with_value};
 ghost use Rattle.store_cells.specs.Entry.{without_reader_in, FoundBorrowed, FoundReaders};
 ghost use Rattle.store_cells.specs.Entry.{IsAlone, IsReadable};
@@ -36,7 +36,7 @@ ghost use Rattle.store_cells.specs.Entry.Kept.{Empty};
 ghost use Rattle.store_cells.specs.Latest.{cleared, is_noted};
 ghost use Rattle.store_cells.specs.declared.entry.StorageEntryData.TheVariants as content;
 
-use crate::entry::{EntryDetails, Kind, StorageEntry, StorageEntryData};
+use crate::entry::{CellKind, EntryDetails, StorageEntry, StorageEntryData};
 use crate::latest::{LastBorrow, Noted};
 use generational_core::parts::Borrow;
 use generational_core::{
@@ -73,7 +73,7 @@ impl<T> Model for Entries<T> {
     ghost use Rattle.std.specs.Prelude.{◌≡◌, ◌≤◌, length, vec_capacity};
     ghost use Rattle.store_cells.specs.Entries.{EntryList, entries_of, AreIndexed};
     ghost use Rattle.store_cells.specs.Entries.{AreRoomy};
-    ghost use Rattle.store_cells.specs.Latest.{AreNoted};
+    ghost use Rattle.store_cells.specs.Latest.{AreBorrowsNoted};
 
     ghost Value = { EntryList T };
 
@@ -83,7 +83,7 @@ impl<T> Model for Entries<T> {
     } };
 
     ghost invariant = { λ e. AreIndexed e.borrows e.entries.items
-        × AreNoted e.last e.borrows.lists e.entries.items
+        × AreBorrowsNoted e.last e.borrows.lists e.entries.items
         × (length e.details.items ≡ length e.entries.items)
         × AreRoomy e.room (length e.entries.items) (vec_capacity e.entries)
         (vec_capacity e.details) e.borrows.rooms };
@@ -152,8 +152,8 @@ impl<T> Entries<T> {
 
     /// Whose the value of this name is, even if it is being written.
     #[inline(always)]
-    pub fn kind(&self, name: CellName) -> Option<Kind>
-        ensures { result ≡ kind_in (cell_under self.now.slots (name_of_cell name)) }
+    pub fn kind(&self, name: CellName) -> Option<CellKind>
+        ensures { result ≡ cell_kind_in (cell_under self.now.slots (name_of_cell name)) }
     {
         match self.entries.get(name.slot) {
             Some(entry) => entry.kind(name.generation),
@@ -165,7 +165,7 @@ impl<T> Entries<T> {
     #[inline(always)]
     pub fn target(&self, name: CellName) -> Option<CellName>
         ensures { option_map name_of_cell result
-            ≡ target_in (cell_under self.now.slots (name_of_cell name)) }
+            ≡ target_name_in (cell_under self.now.slots (name_of_cell name)) }
     {
         match self.entries.get(name.slot) {
             Some(entry) => entry.target(name.generation),
@@ -316,10 +316,10 @@ impl<T> Entries<T> {
         }
     }
 
-    /// Whether no borrow is noted.
+    /// Whether a borrow is noted apart from the lists.
     #[inline(always)]
-    pub fn is_settled(&self) -> bool {
-        !self.last.is_noted()
+    pub fn has_noted(&self) -> bool {
+        self.last.is_noted()
     }
 
     /// The slot's value, unless a writer has it.
@@ -491,7 +491,7 @@ impl<T: Drop> Entries<T> {
     ) -> Result<(), AllocError>
         requires there { IsReadable name.generation (slice_get self.old.slots name.slot) }
         requires ascends { IfSome (slice_get self.old.slots name.slot)
-            (λ e. AreBelow borrow.ticket (readers_of (content_in e.kept))) }
+            (λ e. AreTicketsBelow borrow.ticket (readers_of (content_in e.kept))) }
         requires alone { is_unborrowed ≡ true → IsAlone name.generation
             (slice_get self.old.slots name.slot) }
         ensures ok { OnOk result (self.new.slots ≡ change_entry self.old.slots name.slot
@@ -734,7 +734,7 @@ impl<T: Drop> Entries<T> {
         requires within { slot < length self.old.slots }
         requires target { target < length self.old.slots }
         requires refers { IfSome (slice_get self.old.slots slot)
-            (λ e. is_some (target_in (cell_of e.kept)) ≡ true) }
+            (λ e. is_some (target_name_in (cell_of e.kept)) ≡ true) }
         ensures slots { IfSome (slice_get self.old.slots target)
             (λ t. self.new.slots ≡ change_entry self.old.slots slot (λ e. record e {
               kept = referring (record { slot = target; generation = t.generation }) e.kept;
@@ -825,7 +825,7 @@ fn list_beside<T>(
 ) -> Result<(), AllocError>
     requires within { index_of (data_in entry.now.content) ≢ no_index
         → index_of (data_in entry.now.content) < length borrows.old.lists }
-    requires ascends { index_of (data_in entry.now.content) ≢ no_index → AreBelow reader.ticket
+    requires ascends { index_of (data_in entry.now.content) ≢ no_index → AreTicketsBelow reader.ticket
         (list_at borrows.old.lists (index_of (data_in entry.now.content))) }
     ensures ok { OnOk result (borrows.new
         ≡ listed_beside reader (index_of (data_in entry.now.content)) borrows.old) }

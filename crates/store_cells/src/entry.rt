@@ -9,7 +9,7 @@ ghost use Rattle.store_cells.specs.Data.{data_in};
 ghost use Rattle.store_cells.specs.Entries.{full_data, is_lent_data, is_unborrowed_data};
 ghost use Rattle.store_cells.specs.Entries.{lent_data};
 ghost use Rattle.store_cells.specs.Entries.{read_data, unread_data, unread_in};
-ghost use Rattle.store_cells.specs.Entries.{index_of, lead_of, kind_of, named_by};
+ghost use Rattle.store_cells.specs.Entries.{index_of, lead_of, kind_of, target_name_of};
 ghost use Rattle.store_cells.specs.Entries.{data_value};
 ghost use Rattle.store_parts.specs.CellNames.{name_of_cell};
 
@@ -20,7 +20,7 @@ use store_parts::table::NO_INDEX;
 
 /// Whose a value is: a box's own, or shared by all references to its cell.
 #[derive(Clone, Copy, Drop)]
-pub enum Kind {
+pub enum CellKind {
     Value,
     Shared,
 }
@@ -53,7 +53,7 @@ pub enum StorageEntryData<T> {
     Shared(T),
     Read(u32, T),
     SharedRead(u32, T),
-    Lent(u32, Kind),
+    Lent(u32, CellKind),
     Reference(u32, u64),
     Empty,
 }
@@ -82,7 +82,7 @@ impl<T> StorageEntry<T> {
         if let StorageEntryData::Read(_, _) = &self.content {
             return Some(name);
         }
-        if let StorageEntryData::Lent(_, Kind::Value) = &self.content {
+        if let StorageEntryData::Lent(_, CellKind::Value) = &self.content {
             return Some(name);
         }
         None
@@ -90,7 +90,7 @@ impl<T> StorageEntry<T> {
 
     /// Whose the slot's value is, even if it is being written, if the slot's cell has this generation.
     #[inline(always)]
-    pub fn kind(&self, generation: u64) -> Option<Kind>
+    pub fn kind(&self, generation: u64) -> Option<CellKind>
         ensures { result ≡ if nat_eq self.now.generation generation
             then kind_of (data_in self.now.content) else None }
     {
@@ -98,8 +98,10 @@ impl<T> StorageEntry<T> {
             return None;
         }
         match &self.content {
-            StorageEntryData::Data(_) | StorageEntryData::Read(_, _) => Some(Kind::Value),
-            StorageEntryData::Shared(_) | StorageEntryData::SharedRead(_, _) => Some(Kind::Shared),
+            StorageEntryData::Data(_) | StorageEntryData::Read(_, _) => Some(CellKind::Value),
+            StorageEntryData::Shared(_) | StorageEntryData::SharedRead(_, _) => Some(
+                CellKind::Shared,
+            ),
             StorageEntryData::Lent(_, kind) => Some(*kind),
             _ => None,
         }
@@ -122,7 +124,7 @@ impl<T> StorageEntry<T> {
     #[inline(always)]
     pub fn target(&self, generation: u64) -> Option<CellName>
         ensures { option_map name_of_cell result ≡ if nat_eq self.now.generation generation
-            then named_by (data_in self.now.content) else None }
+            then target_name_of (data_in self.now.content) else None }
     {
         if self.generation != generation {
             return None;
@@ -163,7 +165,7 @@ impl<T> StorageEntryData<T> {
     /// The cell's target, if it is a reference.
     #[inline(always)]
     pub fn target(&self) -> Option<CellName>
-        ensures { option_map name_of_cell result ≡ named_by (data_in self.now) }
+        ensures { option_map name_of_cell result ≡ target_name_of (data_in self.now) }
     {
         match self {
             StorageEntryData::Reference(slot, generation) => Some(CellName {
@@ -196,8 +198,8 @@ impl<T> StorageEntryData<T> {
         ensures lent { data_in self.new ≡ lent_data (data_in self.old) }
     {
         let kind = match self {
-            StorageEntryData::Data(_) => Kind::Value,
-            StorageEntryData::Shared(_) => Kind::Shared,
+            StorageEntryData::Data(_) => CellKind::Value,
+            StorageEntryData::Shared(_) => CellKind::Shared,
             _ => unreachable!(),
         };
         match mem::replace(self, StorageEntryData::Lent(NO_INDEX, kind)) {
@@ -215,8 +217,8 @@ impl<T> StorageEntryData<T> {
         ensures { data_in self.new ≡ full_data value (data_in self.old) }
     {
         *self = match self {
-            StorageEntryData::Lent(_, Kind::Value) => StorageEntryData::Data(value),
-            StorageEntryData::Lent(_, Kind::Shared) => StorageEntryData::Shared(value),
+            StorageEntryData::Lent(_, CellKind::Value) => StorageEntryData::Data(value),
+            StorageEntryData::Lent(_, CellKind::Shared) => StorageEntryData::Shared(value),
             _ => unreachable!(),
         };
     }

@@ -112,7 +112,7 @@ module _ {T : Type 0} where
   IsReferredTo slots k (Some s) = has_shared s.cell ≡ true → is_referred_to slots k ≡ true
 
   -- An image that a store can have.
-  pub record IsWhole (i : Image T) : Type 0 where
+  pub record IsWholeImage (i : Image T) : Type 0 where
     pub begun : (k : ℕ) → HasBegun i.start (slice_get i.slots.items k)
     pub targets : (k : ℕ) → HasTarget i.slots.items (slice_get i.slots.items k)
     pub shared : (k : ℕ) → IsReferredTo i.slots.items k (slice_get i.slots.items k)

@@ -3,7 +3,7 @@
 ghost use Rattle.std.specs.Prelude.{◌≡◌, ◌<◌, ℕ, false, Some, IfSome, IfNone, IfErr, OnOk};
 ghost use Rattle.std.specs.Prelude.{length, slice_get};
 ghost use Rattle.store_parts.specs.Lists.{how_many};
-ghost use Rattle.store_images.specs.Images.{HasBegun, HasTarget, IsLoadError, IsReferredTo, IsWhole};
+ghost use Rattle.store_images.specs.Images.{HasBegun, HasTarget, IsLoadError, IsReferredTo, IsWholeImage};
 ghost use Rattle.store_images.specs.Images.{has_shared, is_referred_to, is_shared_in, is_usable};
 
 use crate::image::{CellImage, Image, ImageFault, LoadError, SlotImage};
@@ -16,7 +16,7 @@ use std::alloc::Global;
 /// The image's first fault, in the order of `ImageFault`'s variants except for the peak, which is checked
 /// before references; or `OutOfMemory`.
 pub fn check_image<T>(alloc: Global, image: &Image<T>) -> Result<(), LoadError>
-    ensures ok { OnOk result (IsWhole image.now) }
+    ensures ok { OnOk result (IsWholeImage image.now) }
     ensures err { IfErr result (λ e. IsLoadError image.now e) }
 {
     let slots = image.slots.as_slice();

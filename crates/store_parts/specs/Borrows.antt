@@ -9,8 +9,8 @@ use Rattle.store_parts.specs.declared.borrows.OneOrSeveral.{OneOrSeveral}
 use Rattle.store_parts.specs.declared.borrows.OneOrSeveral.TheVariants.{One, Several}
 
 -- each ticket of the list is below n
-abbrev pub AreBelow : ℕ → List Borrow → Type 0
-AreBelow n bs = (t : ℕ) → list_any (λ b. nat_eq b.ticket t) bs ≡ true → t < n
+abbrev pub AreTicketsBelow : ℕ → List Borrow → Type 0
+AreTicketsBelow n bs = (t : ℕ) → list_any (λ b. nat_eq b.ticket t) bs ≡ true → t < n
 
 -- one borrow, or those of a queue
 abbrev pub borrows_in : OneOrSeveral → List Borrow

@@ -1,7 +1,7 @@
 pub mod Borrows
 pub mod CellNames
 pub mod Lists
-pub mod OwnerPlaces
+pub mod KeptRecords
 pub mod OwnerRecords
 pub mod PackedOwners
 pub mod Pools

@@ -36,17 +36,12 @@ abbrev pub add_to_list_in : Owners → Option OwnerName → Name → Owners
 add_to_list_in owners None n = owners
 add_to_list_in owners (Some o) n = change owners o.key (one_listed n)
 
--- another name on the list of an owner that is known, if there is an owner
-abbrev pub IsListed : ℕ → Owners → Owners → Option OwnerName → Name → Type 0
-IsListed number old new o n =
-    (permits number old o ≡ true) × (new ≡ add_to_list_in old o n)
-
 -- Each record represents at least one owner value, and no more than tickets were issued. Its key was one
 -- of them. No box is twice on its list.
-abbrev pub IsCounted : ℕ → ℕ → Option Ownership → Type 0
-IsCounted next key None = Unit {0}
-IsCounted next key (Some h) =
+abbrev pub IsOwnerCounted : ℕ → ℕ → Option Ownership → Type 0
+IsOwnerCounted next key None = Unit {0}
+IsOwnerCounted next key (Some h) =
     (0 < h.count) × (h.count ≤ next) × (key < next) × IsDistinct is_name h.names
 
-pub record AreCounted (next : ℕ) (owners : Owners) : Type 0 where
-  pub each : (key : ℕ) → IsCounted next key (map.get owners key)
+pub record AreOwnersCounted (next : ℕ) (owners : Owners) : Type 0 where
+  pub each : (key : ℕ) → IsOwnerCounted next key (map.get owners key)

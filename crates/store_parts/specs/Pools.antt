@@ -20,11 +20,11 @@ pub record IsPool (slots : List ℕ) (rooms : ℕ) : Type 0 where
   pub below : (slot : ℕ) → list_any (nat_eq slot) slots ≡ true → slot < rooms
 
 -- so many slots, from a first one on: each slot's link leads to the next one
-abbrev pub chain : List ℕ → ℕ → ℕ → List ℕ
-chain links first zero = []
-chain links first (suc count) = first ∷ chain links (slice_index_or links first 0) count
+abbrev pub slot_chain : List ℕ → ℕ → ℕ → List ℕ
+slot_chain links first zero = []
+slot_chain links first (suc count) = first ∷ slot_chain links (slice_index_or links first 0) count
 
 -- the last of a list, or else x
-abbrev pub last_of : ℕ → List ℕ → ℕ
-last_of x [] = x
-last_of x (y ∷ ys) = last_of y ys
+abbrev pub last_slot_of : ℕ → List ℕ → ℕ
+last_slot_of x [] = x
+last_slot_of x (y ∷ ys) = last_slot_of y ys

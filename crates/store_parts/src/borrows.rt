@@ -4,7 +4,7 @@ ghost use Rattle.std.specs.Prelude.{◌≡◌, ◌∷◌, ◌++◌, [], IfOk, On
 ghost use Rattle.std.specs.Prelude.{slice_get, Some};
 ghost use Rattle.std.specs.List.{list_any};
 ghost use Rattle.generational_core.specs.Rows.{reader_row};
-ghost use Rattle.store_parts.specs.Borrows.{AreBelow, IsRemoval};
+ghost use Rattle.store_parts.specs.Borrows.{AreTicketsBelow, IsRemoval};
 
 use crate::queue::{Queue, reader_row};
 use generational_core::parts::Borrow;
@@ -76,7 +76,7 @@ impl Borrows {
     #[cold]
     #[inline(never)]
     pub fn push(&mut self, alloc: Global, borrow: Borrow) -> Result<(), AllocError>
-        requires { AreBelow borrow.ticket self.old }
+        requires { AreTicketsBelow borrow.ticket self.old }
         ensures ok { OnOk result (self.new ≡ self.old ++ borrow ∷ []) }
         ensures err { OnErr result (self.new ≡ self.old) }
     {
@@ -130,13 +130,13 @@ impl Borrows {
     #[cold]
     #[inline(never)]
     pub fn locations(&self, alloc: Global) -> Result<Vec<Location>, AllocError>
-        ensures { IfOk result (λ places. places.items ≡ map (λ b. b.location) self.now) }
+        ensures { IfOk result (λ locations. locations.items ≡ map (λ b. b.location) self.now) }
     {
         match &self.standing {
             OneOrSeveral::One(borrow) => {
-                let mut places = Vec::with_capacity(alloc, 1)?;
-                places.push_reserved(borrow.location);
-                Ok(places)
+                let mut locations = Vec::with_capacity(alloc, 1)?;
+                locations.push_reserved(borrow.location);
+                Ok(locations)
             }
             OneOrSeveral::Several(queue) => queue.locations(alloc),
         }

@@ -5,7 +5,7 @@ ghost use Rattle.std.specs.Prelude.{OnOk, OnErr, drop, length, max, slice_get, �
 ghost use Rattle.std.specs.Prelude.{if◌then◌else◌, is_ok, replicate, take, vec_len};
 ghost use Rattle.std.specs.FinSet as set;
 ghost use Rattle.generational_errors.specs.declared.error.StoreError.TheVariants.{OutOfMemory};
-ghost use Rattle.store_parts.specs.Pools.{last_of, members_of};
+ghost use Rattle.store_parts.specs.Pools.{last_slot_of, members_of};
 
 use generational_core::StoreError;
 use std::alloc::{AllocError, Global};
@@ -24,16 +24,16 @@ pub struct FreeList {
 
 impl Model for FreeList {
     ghost use Rattle.std.specs.Prelude.{◌≤◌, length};
-    ghost use Rattle.store_parts.specs.Pools.{chain, IsPool, Pool};
+    ghost use Rattle.store_parts.specs.Pools.{slot_chain, IsPool, Pool};
 
     ghost Value = { Pool };
 
     ghost view = { λ l. record {
-      slots = chain l.links.items l.first l.count;
+      slots = slot_chain l.links.items l.first l.count;
       rooms = length l.links.items;
     } };
 
-    ghost invariant = { λ l. IsPool (chain l.links.items l.first l.count) (length l.links.items)
+    ghost invariant = { λ l. IsPool (slot_chain l.links.items l.first l.count) (length l.links.items)
         × (length l.links.items ≤ 4294967295) };
 }
 
@@ -115,7 +115,7 @@ impl FreeList {
     pub fn put_last(&mut self, slot: usize, last: usize)
         requires room { slot < self.old.rooms }
         requires absent { set.contains (members_of self.old) slot ≡ false }
-        requires last { last_of last self.old.slots ≡ last }
+        requires last { last_slot_of last self.old.slots ≡ last }
         ensures slots { self.new.slots ≡ self.old.slots ++ slot ∷ [] }
         ensures rooms { self.new.rooms ≡ self.old.rooms }
         ensures added { members_of self.new ≡ set.insert (members_of self.old) slot }

@@ -11,12 +11,12 @@ ghost use Rattle.generational_core.specs.Names.{change};
 ghost use Rattle.store_parts.specs.CellNames.{name_of_cell};
 ghost use Rattle.store_parts.specs.OwnerRecords.{knows, permits, record_of};
 ghost use Rattle.store_parts.specs.OwnerRecords.{add_to_list_in, IsRefusal};
-ghost use Rattle.store_parts.specs.OwnerPlaces.{with_ownership, with_rooms};
-ghost use Rattle.store_parts.specs.OwnerPlaces.{change_place, change_record, key_at, rooms_at};
-ghost use Rattle.store_parts.specs.OwnerPlaces.{HasRoom, IsFilled, IsFilledWith, IsReserved};
+ghost use Rattle.store_parts.specs.KeptRecords.{with_ownership, with_rooms};
+ghost use Rattle.store_parts.specs.KeptRecords.{change_ownership, change_record, owner_key_in, rooms_in};
+ghost use Rattle.store_parts.specs.KeptRecords.{HasNameRoom, IsFilled, IsFilledWith, IsReserved};
 ghost use Rattle.generational_core.specs.Machine.{OwnerName};
-ghost use Rattle.store_parts.specs.OwnerPlaces.{owners_of};
-ghost use Rattle.store_parts.specs.OwnerPlaces.{record_at, HasRecord};
+ghost use Rattle.store_parts.specs.KeptRecords.{owners_of};
+ghost use Rattle.store_parts.specs.KeptRecords.{record_at, HasRecord};
 
 mod packed;
 mod rows;
@@ -41,7 +41,7 @@ pub struct OwnerRecord {
 
 impl Model for OwnerRecord {
     ghost use Rattle.std.specs.Prelude.{map as list_map, vec_capacity};
-    ghost use Rattle.store_parts.specs.OwnerPlaces.{KeyedOwnership};
+    ghost use Rattle.store_parts.specs.KeptRecords.{KeyedOwnership};
     ghost use Rattle.store_parts.specs.CellNames.{name_of_cell};
 
     ghost Value = { KeyedOwnership };
@@ -126,29 +126,29 @@ impl OwnerRecord {
 
 /// The records of a store's owners. Contracts model them as a map by their keys.
 ///
-/// Each stays at its index until it is removed, and an owner carries that index as a hint. So an owner of
-/// this very store is looked up in one step. All indexes are searched only for an owner that another
+/// Each stays at its position until it is removed, and an owner carries that position as a hint. So an owner of
+/// this very store is looked up in one step. All positions are searched only for an owner that another
 /// store with the same number made, since the number is compared first.
 #[derive(Drop)]
 pub struct OwnerRecords {
-    places: Vec<Option<OwnerRecord>>,
-    // the places without a record
+    records: Vec<Option<OwnerRecord>>,
+    // the positions without a record
     vacant: LastFirst,
 }
 
 impl Model for OwnerRecords {
     ghost use Rattle.std.specs.Coded.{codes};
     ghost use Rattle.std.specs.FinMap as map;
-    ghost use Rattle.store_parts.specs.OwnerPlaces.{owners_of, ArePlaced, Records};
+    ghost use Rattle.store_parts.specs.KeptRecords.{owners_of, AreSoundRecords, KeptOwners};
     ghost use Rattle.store_parts.specs.Pools.{members_of};
 
-    ghost Value = { Records };
+    ghost Value = { KeptOwners };
 
     ghost coded = { Prim.hlevel (codes, map.code) };
 
-    ghost view = { λ r. record { owners = owners_of r.places.items; places = r.places.items } };
+    ghost view = { λ r. record { owners = owners_of r.records.items; records = r.records.items } };
 
-    ghost invariant = { λ r. ArePlaced (members_of r.vacant) r.vacant.rooms r.places.items };
+    ghost invariant = { λ r. AreSoundRecords (members_of r.vacant) r.vacant.rooms r.records.items };
 }
 
 impl OwnerRecords {
@@ -157,43 +157,43 @@ impl OwnerRecords {
         ensures { result.owners ≡ map.empty }
     {
         OwnerRecords {
-            places: Vec::new(alloc),
+            records: Vec::new(alloc),
             vacant: LastFirst::new(alloc),
         }
     }
 
-    /// Whether there is no record. Checks all indexes.
+    /// Whether there is no record. Checks all positions.
     pub fn is_empty(&self) -> bool
         ensures { IsTrue result ↔ (self.now.owners ≡ map.empty) }
     {
-        are_vacant(self.places.as_slice())
+        are_vacant(self.records.as_slice())
     }
 
-    /// The place of the owner's record, and the record, if the owner is of a store with this number
+    /// The position of the owner's record, and the record, if the owner is of a store with this number
     /// and these records.
     #[inline(always)]
     pub fn find(&self, number: u64, owner: &Owner) -> Option<(usize, &OwnerRecord)>
         ensures record { option_map (λ found. found.1.now.ownership) result
             ≡ record_of number self.now.owners owner.now }
-        ensures place { IfSome result (λ found.
-            slice_get self.now.places found.0 ≡ Some (Some found.1.now)) }
+        ensures position { IfSome result (λ found.
+            slice_get self.now.records found.0 ≡ Some (Some found.1.now)) }
         ensures key { IfSome result (λ found. found.1.now.key ≡ owner.now.key) }
     {
         if number_of(owner) != number {
             return None;
         }
-        let place = match find_place(&self.places, owner) {
-            Some(place) => place,
+        let position = match find_position(&self.records, owner) {
+            Some(position) => position,
             None => return None,
         };
-        match &self.places[place] {
-            Some(record) => Some((place, record)),
+        match &self.records[position] {
+            Some(record) => Some((position, record)),
             None => unreachable!(),
         }
     }
 
     /// The record of an owner's id, if it is of a store with this number and these records. An id has no
-    /// hint of its record's index, so all are searched.
+    /// hint of its record's position, so all are searched.
     pub fn find_id(&self, number: u64, id: OwnerId) -> Option<&OwnerRecord>
         ensures { option_map (λ r. r.ownership) (option_copied result) ≡
             record_of number self.now.owners (owner_of id) }
@@ -201,8 +201,8 @@ impl OwnerRecords {
         if id.store != number {
             return None;
         }
-        match search_place(&self.places, id.key) {
-            Some(place) => self.places[place].as_ref(),
+        match search_position(&self.records, id.key) {
+            Some(position) => self.records[position].as_ref(),
             None => None,
         }
     }
@@ -225,7 +225,7 @@ impl OwnerRecords {
         }
     }
 
-    /// Reserves room for another box on the owner's list, if there is an owner. Returns the index of its
+    /// Reserves room for another box on the owner's list, if there is an owner. Returns the position of its
     /// record. No record changes.
     #[inline(always)]
     pub fn reserve(
@@ -236,7 +236,7 @@ impl OwnerRecords {
         ensures same { self.new.owners ≡ self.old.owners }
         ensures known { OnOk result (permits number self.old.owners (option_copied owner.entry)
             ≡ true) }
-        ensures ok { IfOk result (λ place. IsReserved self.new (option_copied owner.entry) place) }
+        ensures ok { IfOk result (λ position. IsReserved self.new (option_copied owner.entry) position) }
         ensures refused { IfErr result (λ cause. IsRefusal number self.old.owners
             (option_copied owner.entry) cause) }
     {
@@ -246,195 +246,195 @@ impl OwnerRecords {
         }
     }
 
-    // Reserves room for a name in the list of an owner, and returns the index of its record.
+    // Reserves room for a name in the list of an owner, and returns the position of its record.
     fn reserve_for(&mut self, number: u64, owner: &Owner) -> Result<Option<usize>, StoreError>
         ensures same { self.new.owners ≡ self.old.owners }
         ensures known { OnOk result (knows number self.old.owners owner.now ≡ true) }
-        ensures ok { IfOk result (λ place. IsReserved self.new (Some owner.now) place) }
+        ensures ok { IfOk result (λ position. IsReserved self.new (Some owner.now) position) }
         ensures refused { IfErr result (λ cause. IsRefusal number self.old.owners
             (Some owner.now) cause) }
     {
-        let place = match self.find(number, owner) {
-            Some((place, _)) => place,
+        let position = match self.find(number, owner) {
+            Some((position, _)) => position,
             None => return Err(StoreError::UnknownOwner),
         };
-        match reserve_at(&mut self.places, place) {
+        match reserve_at(&mut self.records, position) {
             Ok(()) => {}
             Err(_) => return Err(StoreError::OutOfMemory),
         }
-        Ok(Some(place))
+        Ok(Some(position))
     }
 
-    /// Puts a box at the end of the list of the record at an index, which must have room for it, if an
-    /// index is passed.
+    /// Puts a box at the end of the list of the record at a position, which must have room for it, if an
+    /// position is passed.
     #[inline(always)]
-    pub fn list(&mut self, place: Option<usize>, name: CellName)
-        requires { IfSome place (λ i. HasRoom (slice_get self.old.places i)) }
-        ensures { (o : Option OwnerName) → IsReserved self.old o place
+    pub fn list(&mut self, position: Option<usize>, name: CellName)
+        requires { IfSome position (λ i. HasNameRoom (slice_get self.old.records i)) }
+        ensures { (o : Option OwnerName) → IsReserved self.old o position
             → self.new.owners ≡ add_to_list_in self.old.owners o (name_of_cell name) }
     {
-        if let Some(place) = place {
-            list_at(&mut self.places, place, name);
+        if let Some(position) = position {
+            list_at(&mut self.records, position, name);
         }
     }
 
-    /// Adds a record for one owner value under a key that has none, and returns its index. If an
+    /// Adds a record for one owner value under a key that has none, and returns its position. If an
     /// allocation fails, no record changes.
     pub fn add(&mut self, alloc: Global, key: u64) -> Result<usize, AllocError>
         requires { map.get self.old.owners key ≡ None }
         ensures ok { OnOk result (self.new.owners ≡ map.insert self.old.owners key
             (record { names = []; count = 1 })) }
-        ensures place { IfOk result (λ place.
-            HasRecord key (slice_get self.new.places place)) }
+        ensures position { IfOk result (λ position.
+            HasRecord key (slice_get self.new.records position)) }
         ensures err { OnErr result (self.new.owners ≡ self.old.owners) }
     {
         let added = OwnerRecord::new(alloc, key);
         match self.vacant.take() {
-            Some(place) => {
-                self.places[place] = Some(added);
-                Ok(place)
+            Some(position) => {
+                self.records[position] = Some(added);
+                Ok(position)
             }
             None => {
-                match make_room(&mut self.places, &mut self.vacant) {
+                match make_room(&mut self.records, &mut self.vacant) {
                     Ok(()) => {}
                     Err(_) => return Err(AllocError),
                 }
-                let place = self.places.len();
-                self.places.push_reserved(Some(added));
-                Ok(place)
+                let position = self.records.len();
+                self.records.push_reserved(Some(added));
+                Ok(position)
             }
         }
     }
 
-    /// Removes the record at an index, with its list. Doesn't allocate.
-    pub fn remove(&mut self, place: usize)
-        requires { IsFilled (slice_get self.old.places place) }
+    /// Removes the record at a position, with its list. Doesn't allocate.
+    pub fn remove(&mut self, position: usize)
+        requires { IsFilled (slice_get self.old.records position) }
         ensures { self.new.owners
-            ≡ map.remove self.old.owners (key_at (slice_get self.old.places place)) }
+            ≡ map.remove self.old.owners (owner_key_in (slice_get self.old.records position)) }
     {
-        self.places[place] = None;
-        self.vacant.put(place);
+        self.records[position] = None;
+        self.vacant.put(position);
     }
 
-    /// Counts another owner value of the record at an index.
-    pub fn count_up(&mut self, place: usize)
+    /// Counts another owner value of the record at a position.
+    pub fn count_up(&mut self, position: usize)
         requires { IsFilledWith (λ r. r.ownership.count < 18446744073709551615)
-            (slice_get self.old.places place) }
+            (slice_get self.old.records position) }
         ensures { self.new.owners
-            ≡ change self.old.owners (key_at (slice_get self.old.places place)) one_more }
+            ≡ change self.old.owners (owner_key_in (slice_get self.old.records position)) one_more }
     {
-        count_up_at(&mut self.places, place);
+        count_up_at(&mut self.records, position);
     }
 
-    /// One owner value less of the record at a place.
-    pub fn count_down(&mut self, place: usize)
-        requires { IsFilledWith (λ r. 0 < r.ownership.count) (slice_get self.old.places place) }
+    /// One owner value less of the record at a position.
+    pub fn count_down(&mut self, position: usize)
+        requires { IsFilledWith (λ r. 0 < r.ownership.count) (slice_get self.old.records position) }
         ensures { self.new.owners
-            ≡ change self.old.owners (key_at (slice_get self.old.places place)) one_less }
+            ≡ change self.old.owners (owner_key_in (slice_get self.old.records position)) one_less }
     {
-        count_down_at(&mut self.places, place);
+        count_down_at(&mut self.records, position);
     }
 }
 
-// The index of the owner's record: the owner's hint, or another.
+// The position of the owner's record: the owner's hint, or another.
 #[inline(always)]
-fn find_place(places: &Vec<Option<OwnerRecord>>, owner: &Owner) -> Option<usize>
-    ensures found { IfSome result (λ place.
-        HasRecord owner.now.key (slice_get places.now.items place)) }
-    ensures none { IfNone result ((place : ℕ) →
-        record_at owner.now.key (slice_get places.now.items place) ≡ None) }
+fn find_position(records: &Vec<Option<OwnerRecord>>, owner: &Owner) -> Option<usize>
+    ensures found { IfSome result (λ position.
+        HasRecord owner.now.key (slice_get records.now.items position)) }
+    ensures none { IfNone result ((position : ℕ) →
+        record_at owner.now.key (slice_get records.now.items position) ≡ None) }
 {
-    let (key, place) = (owner.id().key, place_of(owner));
-    if has_record(places, place, key) {
-        return Some(place);
+    let (key, position) = (owner.id().key, place_of(owner));
+    if has_record(records, position, key) {
+        return Some(position);
     }
-    search_place(places, key)
+    search_position(records, key)
 }
 
-// The index of the record under a key. Searches all.
+// The position of the record under a key. Searches all.
 #[cold]
 #[inline(never)]
-fn search_place(places: &Vec<Option<OwnerRecord>>, key: u64) -> Option<usize>
-    ensures found { IfSome result (λ place. HasRecord key (slice_get places.now.items place)) }
-    ensures none { IfNone result ((place : ℕ) →
-        record_at key (slice_get places.now.items place) ≡ None) }
+fn search_position(records: &Vec<Option<OwnerRecord>>, key: u64) -> Option<usize>
+    ensures found { IfSome result (λ position. HasRecord key (slice_get records.now.items position)) }
+    ensures none { IfNone result ((position : ℕ) →
+        record_at key (slice_get records.now.items position) ≡ None) }
 {
-    for place in 0..places.len() {
-        if has_record(places, place, key) {
-            return Some(place);
+    for position in 0..records.len() {
+        if has_record(records, position, key) {
+            return Some(position);
         }
     }
     None
 }
 
-// Whether the record under a key is at an index.
+// Whether the record under a key is at a position.
 #[inline(always)]
-fn has_record(places: &Vec<Option<OwnerRecord>>, place: usize, key: u64) -> bool
-    ensures { result ≡ is_some (record_at key (slice_get places.now.items place)) }
+fn has_record(records: &Vec<Option<OwnerRecord>>, position: usize, key: u64) -> bool
+    ensures { result ≡ is_some (record_at key (slice_get records.now.items position)) }
 {
-    match places.get(place) {
+    match records.get(position) {
         Some(Some(found)) => key == found.key(),
         _ => false,
     }
 }
 
-// Whether there is no record at any index.
-fn are_vacant(places: &[Option<OwnerRecord>]) -> bool
-    ensures { IsTrue result ↔ (owners_of places.now ≡ map.empty) }
+// Whether there is no record at any position.
+fn are_vacant(records: &[Option<OwnerRecord>]) -> bool
+    ensures { IsTrue result ↔ (owners_of records.now ≡ map.empty) }
 {
-    for place in places {
-        if place.is_some() {
+    for position in records {
+        if position.is_some() {
             return false;
         }
     }
     true
 }
 
-// Reserves room for another box on the list of the record at an index.
+// Reserves room for another box on the list of the record at a position.
 #[inline(always)]
-fn reserve_at(places: &mut Vec<Option<OwnerRecord>>, place: usize) -> Result<(), AllocError>
-    requires { IsFilled (slice_get places.old.items place) }
-    ensures same { places.new.items ≡ change_record places.old.items place
-        (with_rooms (rooms_at (slice_get places.new.items place))) }
-    ensures ok { OnOk result (HasRoom (slice_get places.new.items place)) }
+fn reserve_at(records: &mut Vec<Option<OwnerRecord>>, position: usize) -> Result<(), AllocError>
+    requires { IsFilled (slice_get records.old.items position) }
+    ensures same { records.new.items ≡ change_record records.old.items position
+        (with_rooms (rooms_in (slice_get records.new.items position))) }
+    ensures ok { OnOk result (HasNameRoom (slice_get records.new.items position)) }
 {
-    match &mut places[place] {
+    match &mut records[position] {
         Some(found) => found.reserve(),
         None => unreachable!(),
     }
 }
 
-// Puts a box at the end of the list of the record at an index, which must have room.
+// Puts a box at the end of the list of the record at a position, which must have room.
 #[inline(always)]
-fn list_at(places: &mut Vec<Option<OwnerRecord>>, place: usize, name: CellName)
-    requires { HasRoom (slice_get places.old.items place) }
-    ensures { places.new.items
-        ≡ change_place places.old.items place (one_listed (name_of_cell name)) }
+fn list_at(records: &mut Vec<Option<OwnerRecord>>, position: usize, name: CellName)
+    requires { HasNameRoom (slice_get records.old.items position) }
+    ensures { records.new.items
+        ≡ change_ownership records.old.items position (one_listed (name_of_cell name)) }
 {
-    match &mut places[place] {
+    match &mut records[position] {
         Some(found) => found.list(name),
         None => unreachable!(),
     }
 }
 
-// Counts another owner value of the record at an index.
-fn count_up_at(places: &mut Vec<Option<OwnerRecord>>, place: usize)
+// Counts another owner value of the record at a position.
+fn count_up_at(records: &mut Vec<Option<OwnerRecord>>, position: usize)
     requires { IsFilledWith (λ r. r.ownership.count < 18446744073709551615)
-        (slice_get places.old.items place) }
-    ensures { places.new.items ≡ change_place places.old.items place one_more }
+        (slice_get records.old.items position) }
+    ensures { records.new.items ≡ change_ownership records.old.items position one_more }
 {
-    match &mut places[place] {
+    match &mut records[position] {
         Some(found) => found.count_up(),
         None => unreachable!(),
     }
 }
 
-// One owner value less of the record at a place.
-fn count_down_at(places: &mut Vec<Option<OwnerRecord>>, place: usize)
-    requires { IsFilledWith (λ r. 0 < r.ownership.count) (slice_get places.old.items place) }
-    ensures { places.new.items ≡ change_place places.old.items place one_less }
+// One owner value less of the record at a position.
+fn count_down_at(records: &mut Vec<Option<OwnerRecord>>, position: usize)
+    requires { IsFilledWith (λ r. 0 < r.ownership.count) (slice_get records.old.items position) }
+    ensures { records.new.items ≡ change_ownership records.old.items position one_less }
 {
-    match &mut places[place] {
+    match &mut records[position] {
         Some(found) => found.count_down(),
         None => unreachable!(),
     }

@@ -139,13 +139,13 @@ pub struct OldestFirst {
 
 impl Model for OldestFirst {
     ghost use Rattle.std.specs.Prelude.{◌≡◌};
-    ghost use Rattle.store_parts.specs.Pools.{last_of, Pool};
+    ghost use Rattle.store_parts.specs.Pools.{last_slot_of, Pool};
 
     ghost Value = { Pool };
 
     ghost view = { λ p. p.list };
 
-    ghost invariant = { λ p. last_of p.last p.list.slots ≡ p.last };
+    ghost invariant = { λ p. last_slot_of p.last p.list.slots ≡ p.last };
 }
 
 impl SlotPool for OldestFirst {

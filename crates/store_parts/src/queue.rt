@@ -6,8 +6,8 @@ ghost use Rattle.std.specs.Prelude.{not, nat_eq, true};
 ghost use Rattle.std.specs.VecDeque.{deque_len, deque_capacity};
 ghost use Rattle.std.specs.List.{list_any, filter};
 ghost use Rattle.generational_core.specs.Rows.{reader_row};
-ghost use Rattle.store_parts.specs.Borrows.{AreBelow};
-ghost use Rattle.store_parts.specs.Queues.{standing_at, TicketsAscend, StandsAt, IsOwnPlace, AreKept};
+ghost use Rattle.store_parts.specs.Borrows.{AreTicketsBelow};
+ghost use Rattle.store_parts.specs.Queues.{standing_in, TicketsAscend, StandsAt, IsOwnSeat, AreSeatsKept};
 
 use generational_core::parts::Borrow;
 use generational_core::{BaseRow, GenerationalBoxId, Location};
@@ -25,15 +25,15 @@ use store_room::push_more;
 /// time of the search.
 #[derive(Drop)]
 pub struct Queue {
-    // the first and the last place live
-    places: VecDeque<Place>,
-    // how many places live: half of them at least
+    // the first and the last seat live
+    seats: VecDeque<Seat>,
+    // how many seats live: half of them at least
     live: usize,
 }
 
 /// A borrow, and whether it is active.
 #[derive(Clone, Copy, Drop)]
-struct Place {
+struct Seat {
     borrow: Borrow,
     stands: bool,
 }
@@ -41,25 +41,25 @@ struct Place {
 impl Model for Queue {
     ghost use Rattle.std.specs.Prelude.{List};
     ghost use Rattle.generational_core.specs.declared.borrow.Borrow.{Borrow};
-    ghost use Rattle.store_parts.specs.Queues.{standing_at, IsQueue};
+    ghost use Rattle.store_parts.specs.Queues.{standing_in, IsQueue};
 
     ghost Value = { List Borrow };
 
-    ghost view = { λ q. standing_at q.places.items };
+    ghost view = { λ q. standing_in q.seats.items };
 
-    ghost invariant = { λ q. IsQueue q.places.items q.live };
+    ghost invariant = { λ q. IsQueue q.seats.items q.live };
 }
 
 impl Queue {
     /// Two borrows, in order.
     pub fn of_two(alloc: Global, first: Borrow, second: Borrow) -> Result<Box<Queue>, AllocError>
-        requires { AreBelow second.ticket (first ∷ []) }
+        requires { AreTicketsBelow second.ticket (first ∷ []) }
         ensures { IfOk result (λ queue. queue.value ≡ first ∷ second ∷ []) }
     {
-        let mut places = VecDeque::with_capacity(alloc, 2)?;
-        places.push_back_reserved(Place::new(first));
-        places.push_back_reserved(Place::new(second));
-        let queue = Box::new(alloc, Queue { places, live: 2 })?;
+        let mut seats = VecDeque::with_capacity(alloc, 2)?;
+        seats.push_back_reserved(Seat::new(first));
+        seats.push_back_reserved(Seat::new(second));
+        let queue = Box::new(alloc, Queue { seats, live: 2 })?;
         Ok(queue)
     }
 
@@ -75,17 +75,17 @@ impl Queue {
         requires { self.now ≢ [] }
         ensures { slice_get self.now 0 ≡ Some result }
     {
-        self.places[0].borrow
+        self.seats[0].borrow
     }
 
     /// Adds a borrow at the end. An allocation can fail only if no entry is dead; nothing changes then.
     pub fn push(&mut self, borrow: Borrow) -> Result<(), AllocError>
-        requires { AreBelow borrow.ticket self.old }
+        requires { AreTicketsBelow borrow.ticket self.old }
         ensures ok { OnOk result (self.new ≡ self.old ++ borrow ∷ []) }
         ensures err { OnErr result (self.new ≡ self.old) }
     {
-        make_room(&mut self.places)?;
-        self.places.push_back_reserved(Place::new(borrow));
+        make_room(&mut self.seats)?;
+        self.seats.push_back_reserved(Seat::new(borrow));
         self.live += 1;
         Ok(())
     }
@@ -94,7 +94,7 @@ impl Queue {
     pub fn contains(&self, ticket: u64) -> bool
         ensures { result ≡ list_any (λ b. nat_eq b.ticket ticket) self.now }
     {
-        find(&self.places, ticket).is_some()
+        find(&self.seats, ticket).is_some()
     }
 
     /// Removes the ticket's borrow. Returns whether there was one. Doesn't allocate.
@@ -105,24 +105,24 @@ impl Queue {
         ensures after { self.new ≡ filter (λ b. not (nat_eq b.ticket ticket)) self.old }
         ensures others { length self.old ≤ length self.new + 1 }
     {
-        let Some(index) = find(&self.places, ticket) else {
+        let Some(index) = find(&self.seats, ticket) else {
             return false;
         };
-        self.places[index].stands = false;
+        self.seats[index].stands = false;
         self.live -= 1;
-        drop_dead_before(&mut self.places);
-        drop_dead_behind(&mut self.places);
-        if self.places.len() - self.live > self.live {
-            drop_dead(&mut self.places);
+        drop_dead_before(&mut self.seats);
+        drop_dead_behind(&mut self.seats);
+        if self.seats.len() - self.live > self.live {
+            drop_dead(&mut self.seats);
         }
         true
     }
 
     /// Where the borrows began, in order.
     pub fn locations(&self, alloc: Global) -> Result<Vec<Location>, AllocError>
-        ensures { IfOk result (λ places. places.items ≡ map (λ b. b.location) self.now) }
+        ensures { IfOk result (λ seats. seats.items ≡ map (λ b. b.location) self.now) }
     {
-        locations_of(&self.places, self.live, alloc)
+        locations_of(&self.seats, self.live, alloc)
     }
 
     /// Appends a row for each borrow in order, as a reader of the value with this id.
@@ -133,16 +133,16 @@ impl Queue {
     ) -> Result<(), AllocError>
         ensures { OnOk result (rows.new.items ≡ rows.old.items ++ map (reader_row id) self.now) }
     {
-        push_all(&self.places, id, rows)
+        push_all(&self.seats, id, rows)
     }
 }
 
-impl Place {
+impl Seat {
     // The entry of a borrow that begins.
-    fn new(borrow: Borrow) -> Place
+    fn new(borrow: Borrow) -> Seat
         ensures { result ≡ record { borrow = borrow; stands = true } }
     {
-        Place {
+        Seat {
             borrow,
             stands: true,
         }
@@ -158,101 +158,101 @@ pub fn reader_row(id: GenerationalBoxId, borrow: &Borrow) -> BaseRow
 
 // Reserves room for another borrow: mostly it doubles the entries. If an allocation fails, the dead
 // entries are removed first.
-fn make_room(places: &mut VecDeque<Place>) -> Result<(), AllocError>
-    ensures ok { OnOk result (deque_len places.new < deque_capacity places.new) }
-    ensures kept { AreKept places.old.items places.new.items }
+fn make_room(seats: &mut VecDeque<Seat>) -> Result<(), AllocError>
+    ensures ok { OnOk result (deque_len seats.new < deque_capacity seats.new) }
+    ensures kept { AreSeatsKept seats.old.items seats.new.items }
 {
-    if places.reserve(1).is_ok() {
+    if seats.reserve(1).is_ok() {
         return Ok(());
     }
-    drop_dead(places);
-    let beside = places.len().saturating_sub(1) / 2;
-    reserve_beside(places, beside)
+    drop_dead(seats);
+    let beside = seats.len().saturating_sub(1) / 2;
+    reserve_beside(seats, beside)
 }
 
 // Reserves room for another borrow, and for so many in addition, or for half of those and so on.
 #[cold]
 #[inline(never)]
-fn reserve_beside(places: &mut VecDeque<Place>, beside: usize) -> Result<(), AllocError>
-    ensures items { places.new.items ≡ places.old.items }
-    ensures ok { OnOk result (deque_len places.new < deque_capacity places.new) }
+fn reserve_beside(seats: &mut VecDeque<Seat>, beside: usize) -> Result<(), AllocError>
+    ensures items { seats.new.items ≡ seats.old.items }
+    ensures ok { OnOk result (deque_len seats.new < deque_capacity seats.new) }
 {
-    if places.reserve_exact(beside.saturating_add(1)).is_ok() {
+    if seats.reserve_exact(beside.saturating_add(1)).is_ok() {
         return Ok(());
     }
     if beside == 0 {
         return Err(AllocError);
     }
-    reserve_beside(places, beside / 2)
+    reserve_beside(seats, beside / 2)
 }
 
 // The index of the ticket's borrow.
-fn find(places: &VecDeque<Place>, ticket: u64) -> Option<usize>
-    requires { TicketsAscend places.now.items }
+fn find(seats: &VecDeque<Seat>, ticket: u64) -> Option<usize>
+    requires { TicketsAscend seats.now.items }
     ensures known { is_some result
-        ≡ list_any (λ b. nat_eq b.ticket ticket) (standing_at places.now.items) }
-    ensures there { IfSome result (λ i. IsOwnPlace ticket places.now.items i) }
+        ≡ list_any (λ b. nat_eq b.ticket ticket) (standing_in seats.now.items) }
+    ensures there { IfSome result (λ i. IsOwnSeat ticket seats.now.items i) }
 {
-    match places.binary_search_by_key(&ticket, |place| place.borrow.ticket) {
-        Ok(index) if places[index].stands => Some(index),
+    match seats.binary_search_by_key(&ticket, |seat| seat.borrow.ticket) {
+        Ok(index) if seats[index].stands => Some(index),
         _ => None,
     }
 }
 
 // Removes the dead entries that come first.
-fn drop_dead_before(places: &mut VecDeque<Place>)
-    requires { TicketsAscend places.old.items }
-    ensures same { standing_at places.new.items ≡ standing_at places.old.items }
-    ensures ascend { TicketsAscend places.new.items }
-    ensures first { StandsAt 0 places.new.items }
+fn drop_dead_before(seats: &mut VecDeque<Seat>)
+    requires { TicketsAscend seats.old.items }
+    ensures same { standing_in seats.new.items ≡ standing_in seats.old.items }
+    ensures ascend { TicketsAscend seats.new.items }
+    ensures first { StandsAt 0 seats.new.items }
 {
-    while let Some(place) = places.front() {
-        if place.stands {
+    while let Some(seat) = seats.front() {
+        if seat.stands {
             return;
         }
-        places.pop_front();
+        seats.pop_front();
     }
 }
 
 // Removes the dead entries that come last.
-fn drop_dead_behind(places: &mut VecDeque<Place>)
-    requires ascend { TicketsAscend places.old.items }
-    requires first { StandsAt 0 places.old.items }
-    ensures same { standing_at places.new.items ≡ standing_at places.old.items }
-    ensures ascend { TicketsAscend places.new.items }
-    ensures first { StandsAt 0 places.new.items }
-    ensures last { StandsAt (length places.new.items - 1) places.new.items }
+fn drop_dead_behind(seats: &mut VecDeque<Seat>)
+    requires ascend { TicketsAscend seats.old.items }
+    requires first { StandsAt 0 seats.old.items }
+    ensures same { standing_in seats.new.items ≡ standing_in seats.old.items }
+    ensures ascend { TicketsAscend seats.new.items }
+    ensures first { StandsAt 0 seats.new.items }
+    ensures last { StandsAt (length seats.new.items - 1) seats.new.items }
 {
-    while let Some(place) = places.back() {
-        if place.stands {
+    while let Some(seat) = seats.back() {
+        if seat.stands {
             return;
         }
-        places.pop_back();
+        seats.pop_back();
     }
 }
 
 // Removes all dead entries.
-fn drop_dead(places: &mut VecDeque<Place>)
-    ensures { places.new.items ≡ filter (λ p. p.stands) places.old.items }
+fn drop_dead(seats: &mut VecDeque<Seat>)
+    ensures { seats.new.items ≡ filter (λ p. p.stands) seats.old.items }
 {
-    places.retain(|place| place.stands);
+    seats.retain(|seat| seat.stands);
 }
 
 // Where the active borrows began, in order; there are so many.
 fn locations_of(
-    places: &VecDeque<Place>,
+    seats: &VecDeque<Seat>,
     live: usize,
     alloc: Global,
 ) -> Result<Vec<Location>, AllocError>
     ensures { IfOk result
-        (λ found. found.items ≡ map (λ b. b.location) (standing_at places.now.items)) }
+        (λ found. found.items ≡ map (λ b. b.location) (standing_in seats.now.items)) }
 {
     let mut locations = Vec::new(alloc);
     // if the whole length can't be allocated, the list grows as it fills
     let _whole = locations.reserve_exact(live);
-    for place in places.iter() {
-        if place.stands {
-            push_more(&mut locations, place.borrow.location)?;
+    for seat in seats.iter() {
+        if seat.stands {
+            push_more(&mut locations, seat.borrow.location)?;
         }
     }
     Ok(locations)
@@ -260,16 +260,16 @@ fn locations_of(
 
 // Appends a row for each active borrow, in order.
 fn push_all(
-    places: &VecDeque<Place>,
+    seats: &VecDeque<Seat>,
     id: GenerationalBoxId,
     rows: &mut Vec<BaseRow>,
 ) -> Result<(), AllocError>
     ensures { OnOk result (rows.new.items
-        ≡ rows.old.items ++ map (reader_row id) (standing_at places.now.items)) }
+        ≡ rows.old.items ++ map (reader_row id) (standing_in seats.now.items)) }
 {
-    for place in places.iter() {
-        if place.stands {
-            push_more(rows, reader_row(id, &place.borrow))?;
+    for seat in seats.iter() {
+        if seat.stands {
+            push_more(rows, reader_row(id, &seat.borrow))?;
         }
     }
     Ok(())

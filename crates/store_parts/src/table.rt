@@ -5,7 +5,7 @@ ghost use Rattle.std.specs.Prelude.{slice_get, slice_set, Some, IfErr, OnOk, OnE
 ghost use Rattle.std.specs.List.{list_any, filter};
 ghost use Rattle.std.specs.FinSet as set;
 ghost use Rattle.generational_errors.specs.declared.error.StoreError.TheVariants.{OutOfMemory};
-ghost use Rattle.store_parts.specs.Borrows.{AreBelow};
+ghost use Rattle.store_parts.specs.Borrows.{AreTicketsBelow};
 ghost use Rattle.store_parts.specs.Table.{list_at, put_list, IsClosed, IsUsed, IsVacant};
 ghost use Rattle.store_parts.specs.Table.{Releases};
 
@@ -159,7 +159,7 @@ impl BorrowTable {
     #[inline(always)]
     pub fn push(&mut self, index: u32, borrow: Borrow) -> Result<(), AllocError>
         requires within { index < length self.old.lists }
-        requires ascends { AreBelow borrow.ticket (list_at self.old.lists index) }
+        requires ascends { AreTicketsBelow borrow.ticket (list_at self.old.lists index) }
         ensures ok { OnOk result (self.new ≡ record self.old {
           lists = slice_set self.old.lists
               index (list_at self.old.lists index ++ borrow ∷ []);
@@ -179,12 +179,12 @@ impl BorrowTable {
         ensures after { Releases self.old self.new index.old index.new
             (filter (λ b. not (nat_eq b.ticket ticket)) (list_at self.old.lists index.old)) }
     {
-        let place = *index;
-        match self.lists[place as usize].remove(ticket) {
+        let freed = *index;
+        match self.lists[freed as usize].remove(ticket) {
             Removal::None => false,
             Removal::One => true,
             Removal::Last => {
-                self.free.put(place);
+                self.free.put(freed);
                 *index = NO_INDEX;
                 true
             }

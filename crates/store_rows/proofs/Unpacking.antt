@@ -10,7 +10,7 @@ use Rattle.std.proofs.{Math.Seq.drop-nil, Math.ListN.set, lemmas.Option.slice_ge
 use Rattle.std.proofs.{Math.Seq.take-nil}
 use Rattle.std.specs.{Prelude.map as list_map, List.zip}
 use Rattle.store_parts.proofs.records.{no_owners}
-use Rattle.store_parts.specs.OwnerPlaces.{owners_of, Place}
+use Rattle.store_parts.specs.KeptRecords.{owners_of, MaybeRecord}
 use Rattle.store_rows.specs.Packed.{unpack, unpack_all, whole_in, whole_of}
 use Rattle.store_rows.specs.Past.{ArePast, ArePastSlots, AreSlotsOf, IsPastSlot}
 use Rattle.store_rows.specs.declared.packed.PackedSlot.{PackedSlot}
@@ -108,7 +108,7 @@ module _ (number : ℕ) where
 
 -- no slots and no owners have no rows
 pub no_rows : (number : ℕ) (whole : List BaseRow) (slots : List (PackedSlot × Location))
-    (owners : List Place) → slots ≡ [] → owners ≡ []
+    (owners : List MaybeRecord) → slots ≡ [] → owners ≡ []
     → unpack_all number whole 0 slots ++ owner_rows number (map.entries (owners_of owners)) ≡ []
 no_rows number whole slots owners none nobody = rw (none, nobody, no_owners) refl
 

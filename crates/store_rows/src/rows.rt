@@ -3,7 +3,7 @@
 ghost use Rattle.std.specs.Prelude.{◌≡◌, ◌++◌, [], IfOk, OnOk};
 ghost use Rattle.std.specs.FinMap as map;
 ghost use Rattle.generational_core.specs.Rows.{owner_rows};
-ghost use Rattle.store_parts.specs.OwnerPlaces.{owners_of};
+ghost use Rattle.store_parts.specs.KeptRecords.{owners_of};
 ghost use Rattle.store_rows.specs.Packed.{unpack_all};
 ghost use Rattle.store_rows.specs.Past.{AreSlotsOf};
 
@@ -15,7 +15,7 @@ use std::marker::Model;
 use store_parts::owners::PackedOwners;
 use store_parts::room::touched;
 
-/// How many slots, whole rows, places of owners' records and names on their lists there are.
+/// How many slots, whole rows, owners' records and names on their lists there are.
 #[derive(Clone, Copy, Debug)]
 pub struct RowCounts {
     pub slots: usize,
@@ -48,7 +48,7 @@ impl Model for PackedRows {
     ghost use Rattle.std.specs.FinMap as map;
     ghost use Rattle.generational_core.specs.Rows.{owner_rows};
     ghost use Rattle.generational_core.specs.declared.rows.BaseRow.{BaseRow};
-    ghost use Rattle.store_parts.specs.OwnerPlaces.{owners_of};
+    ghost use Rattle.store_parts.specs.KeptRecords.{owners_of};
     ghost use Rattle.store_rows.specs.Packed.{unpack_all};
 
     ghost Value = { List BaseRow };

@@ -15,7 +15,7 @@ use Rattle.store_images.specs.Images.{HasBegun, HasTarget, HasTargetIn, has_shar
 use Rattle.store_images.specs.declared.image.CellImage.{CellImage}
 use Rattle.store_images.specs.declared.image.CellImage.TheVariants as saved
 use Rattle.store_slots.specs.ImageSlots.{HasSmallTarget, HaveSmallTargets, kept_told, slot_told}
-use Rattle.store_slots.specs.SlotsState.{count_of, HasBegun as Begun, IsSlotTable, Retirements}
+use Rattle.store_slots.specs.SlotsState.{usable_count, EntryHasBegun, IsSlotTable, Retirements}
 use Rattle.store_cells.specs.Entry.{cell_in}
 use Rattle.std.proofs.Common.{drop, IfSome, option_map}
 use Rattle.std.proofs.lemmas.Option.{slice_get_cases, none-some, same_Some}
@@ -25,7 +25,7 @@ use Rattle.generational_core.specs.Names.{Name}
 use Rattle.generational_core.specs.Cells.{Cell, is_shared, refers_to}
 use Rattle.generational_core.specs.Cells.Cell.{Value, Shared, Ref}
 use Rattle.std.specs.FinMap as map
-use Rattle.store_cells.specs.Entry.{cell_of, cell_under, target_in}
+use Rattle.store_cells.specs.Entry.{cell_of, cell_under, target_name_in}
 use Rattle.store_slots.specs.SlotsState.{AreReferred, count_more, IsReferred, refers}
 use Rattle.store_slots.proofs.states.Counting.{counted_up, reference_to, HasShared, has_shared as shared_slot, recounted_written, references_of}
 use Rattle.store_slots.proofs.states.Counting.Changes.{get_cells, name_here, not_named, referred}
@@ -37,7 +37,7 @@ use Rattle.std.specs.FinSet as set
 use Rattle.store_cells.specs.Entry.{Entry, change_entry, is_live}
 use Rattle.store_parts.specs.Lists.{how_many}
 use Rattle.store_slots.specs.SlotsState.{is_spent}
-use Rattle.store_slots.specs.ImageSlots.{ArePooled, AreRecounted, is_retired_entry, IsWithin}
+use Rattle.store_slots.specs.ImageSlots.{ArePooled, AreRecounted, is_retired_entry, IsTargetWithin}
 
 module _ {X : Type 0} where
   pub last_there : (xs : List X) (x : X) → slice_get (xs ++ x ∷ []) (length xs) ≡ Some x
@@ -239,7 +239,7 @@ module _ {T : Type 0} where
     pub record IsAt (i g : ℕ) : Type 0 where
       pub entry : Entry T
       pub there : slice_get old i ≡ Some entry
-      pub led : target_in (cell_under now (record { slot = i; generation = g })) ≡ target_in (cell_of entry.kept)
+      pub led : target_name_in (cell_under now (record { slot = i; generation = g })) ≡ target_name_in (cell_of entry.kept)
 
     pub at_slot : (i g : ℕ) → i < length old → IfSome (slice_get now i) (λ f. g ≡ f.generation) → IsAt i g
     at_slot i g within is = elim (slice_get_cases old i).1 [
@@ -261,32 +261,32 @@ module _ {T : Type 0} where
     -- what a reference names is shared
     pub target_shared : (i : ℕ) (e : Entry T) (m : Name) (l : Location) → slice_get old i ≡ Some e
         → cell_of e.kept ≡ Some (Ref m l)
-        → IfSome (slice_get old i) (λ e. IsWithin old (cell_of e.kept)) → is_shared (cell_under now m) ≡ true
+        → IfSome (slice_get old i) (λ e. IsTargetWithin old (cell_of e.kept)) → is_shared (cell_under now m) ≡ true
     target_shared i e m l there is within =
         let own : is_shared (cell_under old m) ≡ true = rw (there, is) at within in
         ap is_shared (under m) ∙ own
 
 -- a slot without a target is no reference
-unreferred : {T : Type 0} (c : Option (Cell T)) (q : Name) → target_in c ≡ None → refers_to q c ≡ false
+unreferred : {T : Type 0} (c : Option (Cell T)) (q : Name) → target_name_in c ≡ None → refers_to q c ≡ false
 unreferred None q h = refl
 unreferred (Some (Value c l)) q h = refl
 unreferred (Some (Shared c l)) q h = refl
 unreferred (Some (Ref m l)) q h = absurd (none-some m (sym h))
 
-pub no_reference : {T : Type 0} (e : Entry T) → target_in (cell_of e.kept) ≡ None → (q : Name) → refers q e ≡ false
+pub no_reference : {T : Type 0} (e : Entry T) → target_name_in (cell_of e.kept) ≡ None → (q : Name) → refers q e ≡ false
 no_reference e none q = unreferred (cell_of e.kept) q none
 
 -- one slot of the walk that counts references
 module _ {T : Type 0} (old now : List (Entry T)) (same : AreRecounted old now) (i g : ℕ)
     (counted : AreReferred (left old i) now) (within : i < length old)
     (is : IfSome (slice_get now i) (λ f. g ≡ f.generation))
-    (targets : (k : ℕ) → IfSome (slice_get old k) (λ e. IsWithin old (cell_of e.kept))) where
+    (targets : (k : ℕ) → IfSome (slice_get old k) (λ e. IsTargetWithin old (cell_of e.kept))) where
   pub record IsStep (m : Name) : Type 0 where
     pub may : (m.slot < length now) × IfSome (slice_get now m.slot) (λ f. f.references < length now)
     pub after : AreRecounted old (count_more now (Some m))
     pub left_then : AreReferred (left old (i + 1)) (count_more now (Some m))
 
-  pub step_some : (m : Name) → Some m ≡ target_in (cell_under now (record { slot = i; generation = g })) → IsStep m
+  pub step_some : (m : Name) → Some m ≡ target_name_in (cell_under now (record { slot = i; generation = g })) → IsStep m
   step_some m told =
       let at = at_slot old now same i g within is in
       let ref = reference_to (cell_of at.entry.kept) m (sym at.led ∙ sym told) in
@@ -297,7 +297,7 @@ module _ {T : Type 0} (old now : List (Entry T)) (same : AreRecounted old now) (
         left_then = rw add-one (left_counted old now i counted at.entry at.there m ref.0 ref.1 shared);
       }
 
-  pub step_none : None ≡ target_in (cell_under now (record { slot = i; generation = g }))
+  pub step_none : None ≡ target_name_in (cell_under now (record { slot = i; generation = g }))
       → AreReferred (left old (i + 1)) now
   step_none told =
       let at = at_slot old now same i g within is in
@@ -363,7 +363,7 @@ module _ {T : Type 0} where
         at (Some s) = refl
 
     pub within_told : ((k : ℕ) → HasTarget slots (slice_get slots k)) → (k : ℕ)
-        → IfSome (slice_get (list_map slot_told slots) k) (λ e. IsWithin (list_map slot_told slots) (cell_of e.kept))
+        → IfSome (slice_get (list_map slot_told slots) k) (λ e. IsTargetWithin (list_map slot_told slots) (cell_of e.kept))
     within_told targets k = rw (told_at k) (at (slice_get slots k) (targets k))
       where
         shared : (o : Option (SlotImage T)) (g : ℕ) → is_shared_in o g ≡ true
@@ -371,22 +371,22 @@ module _ {T : Type 0} where
         shared None g is = absurd (grind arith)
         shared (Some s) g is = shared_cell s.generation s.cell g is
 
-        cell : (c : CellImage T) → HasTargetIn slots c → IsWithin (list_map slot_told slots) (cell_of (kept_told c))
+        cell : (c : CellImage T) → HasTargetIn slots c → IsTargetWithin (list_map slot_told slots) (cell_of (kept_told c))
         cell saved.Empty h = tt
         cell (saved.Value v l) h = tt
         cell (saved.Shared v l) h = tt
         cell (saved.Reference s g l) h = rw (told_at s) (shared (slice_get slots s) g h)
 
         at : (o : Option (SlotImage T)) → HasTarget slots o
-            → IfSome (option_map slot_told o) (λ e. IsWithin (list_map slot_told slots) (cell_of e.kept))
+            → IfSome (option_map slot_told o) (λ e. IsTargetWithin (list_map slot_told slots) (cell_of e.kept))
         at None h = tt
         at (Some s) h = cell s.cell h
 
     pub begun_told : (start : ℕ) → ((k : ℕ) → HasBegun start (slice_get slots k)) → (k : ℕ)
-        → Begun start (slice_get (list_map slot_told slots) k)
+        → EntryHasBegun start (slice_get (list_map slot_told slots) k)
     begun_told start begun k = rw (told_at k) (at (slice_get slots k) (begun k))
       where
-        at : (o : Option (SlotImage T)) → HasBegun start o → Begun start (option_map slot_told o)
+        at : (o : Option (SlotImage T)) → HasBegun start o → EntryHasBegun start (option_map slot_told o)
         at None h = tt
         at (Some s) h = h
 
@@ -400,7 +400,7 @@ module _ {T : Type 0} where
       long : length (list_map slot_told slots) ≡ length slots
       long = length-map slots slot_told
 
-      pub peak_is : (count_of counts (length (list_map slot_told slots))).peak ≡ peak
+      pub peak_is : (usable_count counts (length (list_map slot_told slots))).peak ≡ peak
       peak_is = let u = usable_are slots in omega (arith, u, pooled.counted, pooled.stocked)
 
       pub retired_few : retired ≤ length (list_map slot_told slots)
@@ -412,7 +412,7 @@ module _ {T : Type 0} where
             free = free;
             rooms = rooms;
             start = start;
-            counts = count_of counts (length (list_map slot_told slots));
+            counts = usable_count counts (length (list_map slot_told slots));
             slots = list_map slot_told slots;
           })
       told_table roomy begun = record {

@@ -17,9 +17,9 @@ use Rattle.generational_core.specs.State.{State}
 use Rattle.store_cells.specs.Entry.{cell_in, cell_of, cell_under, change_entry, change_entry_if}
 use Rattle.store_cells.specs.Entry.{content_in, Entry, is_live, Kept}
 use Rattle.store_cells.specs.Entry.Kept.{Empty, Live, Refers}
-use Rattle.store_cells.specs.declared.entry.Kind.TheVariants as kind
+use Rattle.store_cells.specs.declared.entry.CellKind.TheVariants as kind
 use Rattle.store_images.specs.Images.{HasBegun, HasTarget, HasTargetIn, has_shared, is_referred_to}
-use Rattle.store_images.specs.Images.{is_shared_in, is_usable, IsReferredTo, IsWhole, refers_to_slot, told}
+use Rattle.store_images.specs.Images.{is_shared_in, is_usable, IsReferredTo, IsWholeImage, refers_to_slot, told}
 use Rattle.store_images.specs.Saving.{IsCellCopy, IsStateCopy}
 use Rattle.store_images.specs.declared.image.CellImage.{CellImage}
 use Rattle.store_images.specs.declared.image.Image.{Image}
@@ -27,7 +27,7 @@ use Rattle.store_images.specs.declared.image.SlotImage.{SlotImage}
 use Rattle.store_parts.specs.Lists.{how_many}
 use Rattle.store_slots.specs.ImageSlots.{AreSlotImages, AreUnborrowed, IsCellImage, IsSlotImage}
 use Rattle.store_slots.specs.ImageSlots.{kept_told, slot_told}
-use Rattle.store_slots.specs.SlotsState.{cells_of, given_of, HasBegun as Begun, is_spent, IsSlotTable}
+use Rattle.store_slots.specs.SlotsState.{cells_of, given_of, EntryHasBegun, is_spent, IsSlotTable}
 use Rattle.store_slots.specs.SlotsState.{SlotTable, state_of, with_records}
 use Rattle.store_slots.proofs.loading.{told_at, unwritten}
 use Rattle.store_slots.proofs.states.Counting.Changes.{content_kept, get_cells, get_given, given_in, same_cells, same_names}
@@ -151,7 +151,7 @@ module _ {T : Type 0} (Copies : T → T → Type 0) where
   -- ==== they are whole
 
   begun_image : (start : ℕ) (o : Option (Entry T)) (p : Option (SlotImage T)) → IsImageAt o p
-      → Begun start o → HasBegun start p
+      → EntryHasBegun start o → HasBegun start p
   begun_image start None None is begun = tt
   begun_image start (Some e) (Some s) is begun = rw is.0 begun
   begun_image start None (Some s) is begun = absurd is
@@ -281,7 +281,7 @@ module _ {T : Type 0} (Copies : T → T → Type 0) where
 
   pub images_whole : {p : SlotTable T} (t : IsSlotTable p) (i : Image T)
       → AreSlotImages Copies p.slots i.slots.items → IsLinked (cells_of p.slots)
-      → i.start ≡ p.start → i.peak ≡ p.counts.peak → IsWhole i
+      → i.start ≡ p.start → i.peak ≡ p.counts.peak → IsWholeImage i
   images_whole {p} t i all linked start peak = record {
     begun = λ k. rw start (begun_image p.start (slice_get p.slots k) (slice_get i.slots.items k)
         (image_at p.slots i.slots.items all k) (t.begun k));

@@ -18,7 +18,7 @@ use Rattle.store_images.specs.declared.image.CellImage.{CellImage}
 use Rattle.store_images.specs.declared.image.CellImage.TheVariants as saved
 use Rattle.store_images.specs.declared.image.SlotImage.{SlotImage}
 use Rattle.store_images.specs.Images.{HasBegun, HasTarget, HasTargetIn, has_shared, IsReferredTo, refers_to_slot}
-use Rattle.store_slots.specs.ImageSlots.{kept_told, slot_told, IsWithin}
+use Rattle.store_slots.specs.ImageSlots.{kept_told, slot_told, IsTargetWithin}
 use Rattle.store_slots.specs.SlotsState.{cells_of, refers, state_of, with_records}
 use Rattle.store_slots.proofs.states.Counting.{named_count}
 use Rattle.store_slots.proofs.states.Counting.Changes.{get_cells, get_given, name_test}
@@ -75,7 +75,7 @@ module _ {T : Type 0} where
         let own = rw (get_cells entries n) at is in
         rw (get_cells entries m) (at (slice_get entries n.slot) (within_told slots targets n.slot) own)
       where
-        at : (o : Option (Entry T)) → IfSome o (λ e. IsWithin entries (cell_of e.kept))
+        at : (o : Option (Entry T)) → IfSome o (λ e. IsTargetWithin entries (cell_of e.kept))
             → cell_in o n.generation ≡ Some (Ref m l) → is_shared (cell_under entries m) ≡ true
         at None within is = absurd (none-some _ is)
         at (Some e) within is =

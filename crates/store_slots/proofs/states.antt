@@ -102,7 +102,7 @@ module _ {T : Type 0} where
       → record { state = state_of start peak slots; spare = spare } ≡ now → IsLinked now.state.cells
       → (n : Name) (led : CellName × Bool)
       → Some (name_of_cell led.0) ≡ leads_to (cell_under slots n) n
-      → led.1 ≡ is_some (target_in (cell_under slots n)) → IsLed slots now.state n led
+      → led.1 ≡ is_some (target_name_in (cell_under slots n)) → IsLed slots now.state n led
   led_by {slots = slots} view linked n led leads names =
       let way = reached_in view linked leads in
       let seen = cell_seen slots view n in
@@ -283,10 +283,10 @@ module _ {T : Type 0} where
 -- ==== another cell: in a free slot, or in a new one
 
 -- another slot is made
-pub one_made : (r : Retirements) (made : ℕ) → r.retired ≤ made → count_of r (made + 1)
+pub one_made : (r : Retirements) (made : ℕ) → r.retired ≤ made → usable_count r (made + 1)
     ≡ record {
-      usable = (count_of r made).usable + 1;
-      peak = max (count_of r made).peak ((count_of r made).usable + 1);
+      usable = (usable_count r made).usable + 1;
+      peak = max (usable_count r made).peak ((usable_count r made).usable + 1);
     }
 one_made r made few = grind arith
 
@@ -300,7 +300,7 @@ module _ {T : Type 0} {p : SlotTable T} (s : IsSlotTable p) where
   many = how_many (λ e. is_live e.kept) p.slots
 
   -- the counts with one usable slot more
-  abbrev pub raised : Count
+  abbrev pub raised : UsableCount
   raised = record {
     usable = p.counts.usable + 1;
     peak = max p.counts.peak (p.counts.usable + 1);
@@ -336,12 +336,12 @@ module _ {T : Type 0} {p : SlotTable T} (s : IsSlotTable p) where
 pub record IsPut {T : Type 0} (S : State T) (d : SlotData T) (l : Location) (q : SlotTable T)
     (n : Name) (size : ℕ) : Type 0 where
   pub fits : IsNew S n
-  pub uncounted : IsUncounted q.slots (named_by d)
+  pub uncounted : IsUncounted q.slots (target_name_of d)
   pub added : IfSome (cell_of (kept_data [] l d))
-      (λ c. state_of q.start q.counts.peak (count_more q.slots (named_by d)) ≡ add_cell S n c)
-  pub long : length (count_more q.slots (named_by d)) ≡ size
-  pub table : IsSlotTable (record q { slots = count_more q.slots (named_by d) })
-  pub referred : AreReferred (λ m. 0) (count_more q.slots (named_by d))
+      (λ c. state_of q.start q.counts.peak (count_more q.slots (target_name_of d)) ≡ add_cell S n c)
+  pub long : length (count_more q.slots (target_name_of d)) ≡ size
+  pub table : IsSlotTable (record q { slots = count_more q.slots (target_name_of d) })
+  pub referred : AreReferred (λ m. 0) (count_more q.slots (target_name_of d))
 
 module _ {T : Type 0} (d : SlotData T) (l : Location) where
   abbrev entry : ℕ → Entry T
@@ -353,9 +353,9 @@ module _ {T : Type 0} (d : SlotData T) (l : Location) where
 module _ {T : Type 0} {p : SlotTable T} (s : IsSlotTable p) (r : AreReferred (λ m. 0) p.slots)
     {S : State T} (view : state_of p.start p.counts.peak p.slots ≡ S) (linked : HasTargets S.cells)
     (d : SlotData T) (l : Location) (unborrowed : IsUnborrowed d)
-    (target : IfSome (named_by d) (λ m. is_shared (map.get S.cells m) ≡ true)) where
+    (target : IfSome (target_name_of d) (λ m. is_shared (map.get S.cells m) ≡ true)) where
   -- in a slot that had no cell
-  is_put : (free : set.FinSet nat_cmp) (counts : Count) (slots' : List (Entry T)) (i g size : ℕ)
+  is_put : (free : set.FinSet nat_cmp) (counts : UsableCount) (slots' : List (Entry T)) (i g size : ℕ)
       → counts.peak ≡ max p.counts.peak (many s + 1) → IsWritten p.slots slots' i (entry d l g)
       → ((h : ℕ) → cell_in (slice_get p.slots i) h ≡ None)
       → passes (λ e. is_live e.kept) (slice_get p.slots i) ≡ false
@@ -372,7 +372,7 @@ module _ {T : Type 0} {p : SlotTable T} (s : IsSlotTable p) (r : AreReferred (λ
       let same : counts.peak ≡ max p.counts.peak (map.len (cells_of slots')) = omega arith in
       let cells = cells_put w (λ h e. empty h) cell.0 cell.1 in
       let given = given_put w p.start more in
-      let again = counted_up slots' (named_by d) in
+      let again = counted_up slots' (target_name_of d) in
       let recounted = again.state p.start counts.peak in
       let uncounted = uncounted_made d l w dead r (rw (← view) at linked) (rw (← view) at target) in
       record {

@@ -9,7 +9,7 @@ use Rattle.store_images.specs.declared.image.CellImage.{CellImage}
 use Rattle.store_images.specs.declared.image.CellImage.TheVariants as saved
 use Rattle.store_images.specs.declared.image.Image.{Image}
 use Rattle.store_images.specs.declared.image.SlotImage.{SlotImage}
-use Rattle.store_images.specs.Images.{cell_told, cells_told, entry_told, given_told, names_told, told, IsWhole}
+use Rattle.store_images.specs.Images.{cell_told, cells_told, entry_told, given_told, names_told, told, IsWholeImage}
 use Rattle.generational_core.specs.State.{IsSound}
 use Rattle.store_slots.proofs.sounding.{told_sound}
 use Rattle.store_slots.specs.ImageSlots.{kept_told, slot_told}
@@ -48,7 +48,7 @@ module _ {T : Type 0} where
   tells i = rw (cells_same 0 i.slots.items, given_same i.start 0 i.slots.items) refl
 
   -- so a whole image describes a sound state
-  pub whole_sound : (i : Image T) → IsWhole i → IsSound (told i)
+  pub whole_sound : (i : Image T) → IsWholeImage i → IsSound (told i)
   whole_sound i w =
       subst IsSound (tells i)
       (told_sound i.slots.items i.start i.peak i.number i.next w.begun w.targets w.shared)

@@ -9,14 +9,14 @@ use Rattle.generational_core.specs.Cells.{Cell, is_shared}
 use Rattle.generational_core.specs.Cells.Cell.{Ref}
 use Rattle.store_cells.specs.Entry.{cell_under}
 use Rattle.generational_core.specs.Slots.{last_generation}
-use Rattle.store_cells.specs.declared.entry.Kind.TheVariants as kind
+use Rattle.store_cells.specs.declared.entry.CellKind.TheVariants as kind
 use Rattle.store_cells.specs.Entry.{Entry, Kept, content_in, is_live}
 use Rattle.store_cells.specs.Entry.Kept.{Empty, Live, Refers}
 use Rattle.store_images.specs.declared.image.CellImage.{CellImage}
 use Rattle.store_images.specs.declared.image.CellImage.TheVariants as saved
 use Rattle.store_images.specs.declared.image.SlotImage.{SlotImage}
 use Rattle.store_parts.specs.Lists.{how_many}
-use Rattle.store_slots.specs.SlotsState.{Count, is_reusable, is_spent, IsSlotTable, state_of}
+use Rattle.store_slots.specs.SlotsState.{UsableCount, is_reusable, is_spent, IsSlotTable, state_of}
 
 module _ {T : Type 0} where
   -- what a slot holds that is made of this image
@@ -49,15 +49,15 @@ module _ {T : Type 0} where
     pub counted : how_many (λ e. is_live e.kept) slots + set.len free + retired ≡ length slots
 
   -- what a reference names is a cell of these slots
-  abbrev pub IsWithin : List (Entry T) → Option (Cell T) → Type 0
-  IsWithin slots (Some (Ref m l)) = is_shared (cell_under slots m) ≡ true
-  IsWithin slots c = Unit {0}
+  abbrev pub IsTargetWithin : List (Entry T) → Option (Cell T) → Type 0
+  IsTargetWithin slots (Some (Ref m l)) = is_shared (cell_under slots m) ≡ true
+  IsTargetWithin slots c = Unit {0}
 
   -- the same slots, except for their counts of references: they represent the same state
   pub record AreRecounted (old new : List (Entry T)) : Type 0 where
     pub long : length new ≡ length old
     pub state : (start peak : ℕ) → state_of start peak new ≡ state_of start peak old
-    pub table : {free : set.FinSet nat_cmp} {rooms start : ℕ} {counts : Count}
+    pub table : {free : set.FinSet nat_cmp} {rooms start : ℕ} {counts : UsableCount}
         → IsSlotTable (record { free = free; rooms = rooms; start = start; counts = counts; slots = old })
         → IsSlotTable (record { free = free; rooms = rooms; start = start; counts = counts; slots = new })
     pub kept : (k : ℕ) → option_map (λ e. e.kept) (slice_get new k) ≡ option_map (λ e. e.kept) (slice_get old k)

@@ -39,7 +39,7 @@ pub record SlotsState (T : Type 0) : Type 0 where
   pub spare : ℕ
 
 -- How many slots are live or free, and their peak number.
-pub record Count : Type 0 where
+pub record UsableCount : Type 0 where
   pub usable : ℕ
   pub peak : ℕ
 
@@ -49,8 +49,8 @@ pub record Retirements : Type 0 where
   pub before : ℕ
 
 -- what follows for the slots, if so many were made
-abbrev pub count_of : Retirements → ℕ → Count
-count_of r made =
+abbrev pub usable_count : Retirements → ℕ → UsableCount
+usable_count r made =
     record { usable = made - r.retired; peak = max r.before (made - r.retired) }
 
 -- What a store has of slots: the free ones, for how many there is room, the first generation of
@@ -59,7 +59,7 @@ pub record SlotTable (T : Type 0) : Type 0 where
   pub free : set.FinSet nat_cmp
   pub rooms : ℕ
   pub start : ℕ
-  pub counts : Count
+  pub counts : UsableCount
   pub slots : List (Entry T)
 
 -- count names of a slot, upwards from a generation
@@ -136,16 +136,16 @@ module _ {T : Type 0} where
   read_refusal_of cells (Some m) = read_refusal (content_of (map.get cells m))
 
   -- what a look at a box finds: what the box reaches, and which borrow is there
-  abbrev pub Finds : NameMap (Cell T) → Option Name → Found → Type 0
-  Finds cells r found.Nothing = r ≡ None
-  Finds cells r (found.Unborrowed m) =
+  abbrev pub FindsCell : NameMap (Cell T) → Option Name → Found → Type 0
+  FindsCell cells r found.Nothing = r ≡ None
+  FindsCell cells r (found.Unborrowed m) =
       (r ≡ Some (name_of_cell m))
       × (write_refusal (content_of (map.get cells (name_of_cell m))) ≡ None)
-  Finds cells r (found.Read m) =
+  FindsCell cells r (found.Read m) =
       (r ≡ Some (name_of_cell m))
       × (read_refusal (content_of (map.get cells (name_of_cell m))) ≡ None)
       × (is_some (write_refusal (content_of (map.get cells (name_of_cell m)))) ≡ true)
-  Finds cells r (found.Lent e) = read_refusal_of cells r ≡ Some (BeingWritten e.borrowed_mut_at)
+  FindsCell cells r (found.Lent e) = read_refusal_of cells r ≡ Some (BeingWritten e.borrowed_mut_at)
 
   -- how a read of what a box that was made at l reaches fails, and how a write does
   abbrev pub refusal_to_read_at : State T → Name → Location → Option BorrowRefusal
@@ -156,12 +156,12 @@ module _ {T : Type 0} where
 
   -- the result of a read: what the box reaches, which no writer has, and whether it is known to have no
   -- borrow, or an error
-  abbrev pub IsReadable : State T → Name → Location → Result (CellName × Bool) BorrowError → Type 0
-  IsReadable S n l (Ok r) =
+  abbrev pub IsReadReply : State T → Name → Location → Result (CellName × Bool) BorrowError → Type 0
+  IsReadReply S n l (Ok r) =
       (reached S n ≡ Some (name_of_cell r.0))
       × (read_refusal (content_at S (name_of_cell r.0)) ≡ None)
       × (r.1 ≡ true → write_refusal (content_at S (name_of_cell r.0)) ≡ None)
-  IsReadable S n l (Err e) = refusal_to_read_at S n l ≡ Some (refusal_of_read_error e)
+  IsReadReply S n l (Err e) = refusal_to_read_at S n l ≡ Some (refusal_of_read_error e)
 
   -- the result of a write: what the box reaches, that isn't borrowed, or an error
   abbrev pub IsWritable : State T → Name → Location → Result CellName (Refused BorrowMutError)
@@ -188,9 +188,9 @@ module _ {T : Type 0} where
   is_reusable None = false
   is_reusable (Some e) = is_spent e
 
-  abbrev pub HasBegun : ℕ → Option (Entry T) → Type 0
-  HasBegun start None = Unit {0}
-  HasBegun start (Some e) = start ≤ e.generation
+  abbrev pub EntryHasBegun : ℕ → Option (Entry T) → Type 0
+  EntryHasBegun start None = Unit {0}
+  EntryHasBegun start (Some e) = start ≤ e.generation
 
   -- What holds of a store's slots and of the set of its free slots.
   pub record IsSlotTable (p : SlotTable T) : Type 0 where
@@ -199,7 +199,7 @@ module _ {T : Type 0} where
     -- there is room for all of them
     pub roomy : length p.slots ≤ p.rooms
     -- no slot's generation is below the first one
-    pub begun : (k : ℕ) → HasBegun p.start (slice_get p.slots k)
+    pub begun : (k : ℕ) → EntryHasBegun p.start (slice_get p.slots k)
     -- the slots that are live or free are counted, and the free ones
     pub counted : p.counts.usable ≡ how_many (λ e. is_live e.kept) p.slots + set.len p.free
     pub stocked : set.len p.free ≡ how_many is_spent p.slots
@@ -269,10 +269,10 @@ module _ {T : Type 0} where
 
 -- the result of the end of names: nothing hindered it and they have ended, or the first borrow that does,
 -- and nothing has changed
-abbrev pub HasEnded : {T : Type 0} → State T → State T → List Name
+abbrev pub IsEndReply : {T : Type 0} → State T → State T → List Name
     → Result (Unit {0}) (Refused BorrowMutError) → Type 0
-HasEnded S R names (Ok u) = (hindrance_to S names ≡ None) × (R ≡ close S names)
-HasEnded S R names (Err e) = FoundBorrowed (hindrance_to S names) (Err e) × (R ≡ S)
+IsEndReply S R names (Ok u) = (hindrance_to S names ≡ None) × (R ≡ close S names)
+IsEndReply S R names (Err e) = FoundBorrowed (hindrance_to S names) (Err e) × (R ≡ S)
 
 -- a call that points a reference to another value does and returns what the machine does
 abbrev pub IsTurned : {T : Type 0} → State T → State T → Result (Unit {0}) (Refused BorrowMutError)

@@ -9,14 +9,14 @@ ghost use Rattle.generational_core.specs.Ending.{cells_after, first_hindrance, t
 ghost use Rattle.generational_core.specs.Names.{is_name};
 ghost use Rattle.generational_core.specs.State.{is_named};
 ghost use Rattle.store_cells.specs.Entry.{FoundBorrowed, cell_under, is_unborrowed_value};
-ghost use Rattle.store_cells.specs.Entry.{target_in};
+ghost use Rattle.store_cells.specs.Entry.{target_name_in};
 ghost use Rattle.store_parts.specs.CellNames.{name_of_cell};
 ghost use Rattle.store_slots.specs.SlotsState.{AreReferred, cells_of, would_end, has_other_count};
 ghost use Rattle.store_slots.specs.SlotsState.{borrowed_at, refusal_of};
 
 use generational_core::BorrowMutResult;
 use store_cells::entries::Entries;
-use store_cells::entry::Kind;
+use store_cells::entry::CellKind;
 use store_parts::names::CellName;
 
 /// The value that is removed with a name: its own, or the target's, if nothing else refers to that. The
@@ -29,7 +29,7 @@ pub fn would_end<T: Drop>(
 ) -> Option<CellName>
     requires linked { IsLinked (cells_of entries.now.slots) }
     requires target { option_map name_of_cell target
-        ≡ target_in (cell_under entries.now.slots (name_of_cell name)) }
+        ≡ target_name_in (cell_under entries.now.slots (name_of_cell name)) }
     ensures { option_map name_of_cell result ≡ would_end (has_other_count entries.now.slots 1)
         (cell_under entries.now.slots (name_of_cell name)) (name_of_cell name) }
 {
@@ -40,7 +40,7 @@ pub fn would_end<T: Drop>(
         return None;
     }
     match entries.kind(name) {
-        Some(Kind::Value) => Some(name),
+        Some(CellKind::Value) => Some(name),
         _ => None,
     }
 }
@@ -135,7 +135,7 @@ fn lives_on<T: Drop>(entries: &Entries<T>, names: &[CellName], value: CellName) 
         (name_of_cell value)) }
 {
     match entries.kind(value) {
-        Some(Kind::Shared) => {
+        Some(CellKind::Shared) => {
             references_among(entries, names, value) < entries.details(value.slot).references
         }
         _ => false,

@@ -1,7 +1,7 @@
 //! How many slots a store has, and how many of them were retired.
 
 ghost use Rattle.std.specs.Prelude.{◌≡◌, ◌+◌, ◌<◌, ◌≤◌};
-ghost use Rattle.store_slots.specs.SlotsState.{count_of};
+ghost use Rattle.store_slots.specs.SlotsState.{usable_count};
 
 use std::marker::Model;
 
@@ -22,13 +22,13 @@ pub struct SlotCounts {
 /// was. A slot is usable while it is live or free. Another slot is only made if none is free, so the most
 /// usable slots are also the peak number of live cells.
 #[derive(Drop)]
-pub struct Counts {
+pub struct RetiredSlots {
     retired: usize,
     // the most before a slot was last retired
     before: usize,
 }
 
-impl Model for Counts {
+impl Model for RetiredSlots {
     ghost use Rattle.store_slots.specs.SlotsState.{Retirements};
 
     ghost Value = { Retirements };
@@ -36,23 +36,23 @@ impl Model for Counts {
     ghost view = { λ c. record { retired = c.retired; before = c.before } };
 }
 
-impl Counts {
+impl RetiredSlots {
     /// None.
     #[inline(always)]
-    pub fn new() -> Counts
+    pub fn new() -> RetiredSlots
         ensures { result ≡ record { retired = 0; before = 0 } }
     {
-        Counts {
+        RetiredSlots {
             retired: 0,
             before: 0,
         }
     }
 
     /// So many were retired, and so many were usable at once before the last of them was.
-    pub fn at(retired: usize, before: usize) -> Counts
+    pub fn at(retired: usize, before: usize) -> RetiredSlots
         ensures { result ≡ record { retired = retired; before = before } }
     {
-        Counts { retired, before }
+        RetiredSlots { retired, before }
     }
 
     /// How many were retired.
@@ -67,7 +67,7 @@ impl Counts {
     #[inline(always)]
     pub fn peak(&self, made: usize) -> usize
         requires { self.now.retired ≤ made }
-        ensures { result ≡ (count_of self.now made).peak }
+        ensures { result ≡ (usable_count self.now made).peak }
     {
         self.before.max(made - self.retired)
     }
@@ -77,7 +77,7 @@ impl Counts {
     pub fn retire_one(&mut self, made: usize)
         requires { self.old.retired < made }
         ensures retired { self.new.retired ≡ self.old.retired + 1 }
-        ensures before { self.new.before ≡ (count_of self.old made).peak }
+        ensures before { self.new.before ≡ (usable_count self.old made).peak }
     {
         self.before = self.peak(made);
         self.retired += 1;

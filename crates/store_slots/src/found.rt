@@ -4,7 +4,7 @@ ghost use Rattle.std.specs.FinMap as map;
 ghost use Rattle.generational_core.specs.Borrowing.{leads_to};
 ghost use Rattle.generational_core.specs.Conditions.{IsLinked};
 ghost use Rattle.store_parts.specs.CellNames.{name_of_cell};
-ghost use Rattle.store_slots.specs.SlotsState.{cells_of, Finds};
+ghost use Rattle.store_slots.specs.SlotsState.{cells_of, FindsCell};
 
 use generational_core::AlreadyBorrowedMutError;
 use store_cells::entries::Entries;
@@ -30,7 +30,7 @@ pub enum Found {
 pub(crate) fn look<T: Drop>(entries: &Entries<T>, name: CellName) -> Found
     requires { IsLinked (cells_of entries.now.slots) }
     ensures { let cells = cells_of entries.now.slots in
-        Finds cells (leads_to (map.get cells (name_of_cell name)) (name_of_cell name)) result }
+        FindsCell cells (leads_to (map.get cells (name_of_cell name)) (name_of_cell name)) result }
 {
     let Some(value) = entries.reach(name) else {
         return Found::Nothing;

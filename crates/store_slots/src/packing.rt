@@ -5,13 +5,13 @@ ghost use Rattle.std.specs.Prelude.{length, slice_get};
 ghost use Rattle.std.specs.Bool.{OnTrue};
 ghost use Rattle.store_slots.specs.Packing.{ArePacked, ArePastOf, AreRenewed, IsPacked, IsPastOf};
 ghost use Rattle.store_slots.specs.Packing.{IsSmall, Packs, WasMadeIn};
-ghost use Rattle.generational_errors.specs.declared.error.Location.{Location as Place};
+ghost use Rattle.generational_errors.specs.declared.error.Location.{Location};
 
 use crate::rows::push_slot;
 use generational_core::{BaseRow, Location};
 use std::alloc::AllocError;
 use store_cells::entries::Entries;
-use store_cells::entry::Kind;
+use store_cells::entry::CellKind;
 use store_parts::names::CellName;
 use store_rows::{PackedSlot, PackedSlots};
 
@@ -125,7 +125,7 @@ fn packed_slot<T: Drop>(
 fn stays<T: Drop>(entries: &Entries<T>, slot: usize, past: PackedSlot) -> bool
     requires { slot < length entries.now.slots }
     ensures { OnTrue result (IfSome (slice_get entries.now.slots slot)
-        (λ e. (l : Place) → IsPastOf e (past, l) → IsSmall slot (past, l) e)) }
+        (λ e. (l : Location) → IsPastOf e (past, l) → IsSmall slot (past, l) e)) }
 {
     let name = CellName {
         slot,
@@ -142,7 +142,7 @@ fn stays<T: Drop>(entries: &Entries<T>, slot: usize, past: PackedSlot) -> bool
         }
         PackedSlot::Shared(generation) => {
             generation as u64 == name.generation
-                && matches!(entries.kind(name), Some(Kind::Shared))
+                && matches!(entries.kind(name), Some(CellKind::Shared))
                 && entries.is_unborrowed(slot)
         }
         PackedSlot::Whole(_) => false,
@@ -158,7 +158,7 @@ const MOST: u64 = u32::MAX as u64;
 fn small_slot<T: Drop>(entries: &Entries<T>, slot: usize) -> Option<PackedSlot>
     requires { slot < length entries.now.slots }
     ensures { IfSome result (λ p. IfSome (slice_get entries.now.slots slot)
-        (λ e. (l : Place) → WasMadeIn e l → IsSmall slot (p, l) e)) }
+        (λ e. (l : Location) → WasMadeIn e l → IsSmall slot (p, l) e)) }
 {
     let name = CellName {
         slot,
@@ -168,8 +168,8 @@ fn small_slot<T: Drop>(entries: &Entries<T>, slot: usize) -> Option<PackedSlot>
         return None;
     }
     match entries.kind(name) {
-        Some(Kind::Value) => Some(PackedSlot::Value(name.generation as u32)),
-        Some(Kind::Shared) => Some(PackedSlot::Shared(name.generation as u32)),
+        Some(CellKind::Value) => Some(PackedSlot::Value(name.generation as u32)),
+        Some(CellKind::Shared) => Some(PackedSlot::Shared(name.generation as u32)),
         None => match entries.target(name) {
             Some(_) => None,
             None => Some(PackedSlot::Free(name.generation as u32)),

@@ -7,7 +7,7 @@ ghost use Rattle.store_cells.specs.Entry.{cell_under};
 ghost use Rattle.store_slots.specs.SlotsState.{count_less, count_more};
 
 use store_cells::entries::Entries;
-use store_cells::entry::Kind;
+use store_cells::entry::CellKind;
 use store_parts::names::CellName;
 
 // Whether a live cell of this name has a box: a shared value has none.
@@ -15,7 +15,7 @@ pub(crate) fn is_boxed<T: Drop>(entries: &Entries<T>, name: CellName) -> bool
     ensures { result ≡ is_some (boxed_at (cell_under entries.now.slots (name_of_cell name))) }
 {
     match entries.kind(name) {
-        Some(kind) => matches!(kind, Kind::Value),
+        Some(kind) => matches!(kind, CellKind::Value),
         None => entries.target(name).is_some(),
     }
 }

@@ -9,7 +9,7 @@ ghost use Rattle.store_slots.specs.SlotRows.{entry_rows};
 use generational_core::BaseRow;
 use std::alloc::AllocError;
 use store_cells::entries::Entries;
-use store_cells::entry::Kind;
+use store_cells::entry::CellKind;
 use store_parts::names::CellName;
 use store_room::push_more;
 
@@ -46,8 +46,8 @@ fn push_cell<T: Drop>(
         return push_more(rows, BaseRow::Ref(id, target.id(number), created_at));
     }
     match entries.kind(name) {
-        Some(Kind::Value) => push_more(rows, BaseRow::Value(id, created_at))?,
-        Some(Kind::Shared) => push_more(rows, BaseRow::Shared(id, created_at))?,
+        Some(CellKind::Value) => push_more(rows, BaseRow::Value(id, created_at))?,
+        Some(CellKind::Shared) => push_more(rows, BaseRow::Shared(id, created_at))?,
         None => return Ok(()),
     }
     entries.push_borrows(name.slot, id, rows)

@@ -29,17 +29,17 @@ ghost use Rattle.generational_core.specs.Slots.{slots, free, retired};
 ghost use Rattle.generational_core.specs.State.{content_at, is_named};
 ghost use Rattle.generational_core.specs.StepCalls.{is_hindered};
 ghost use Rattle.store_cells.specs.declared.entry.StorageEntryData.TheVariants as content;
-ghost use Rattle.store_parts.specs.Borrows.{AreBelow};
+ghost use Rattle.store_parts.specs.Borrows.{AreTicketsBelow};
 ghost use Rattle.store_cells.specs.Data.{data_in};
-ghost use Rattle.store_cells.specs.Entries.{IsUnborrowed, kept_data, named_by};
+ghost use Rattle.store_cells.specs.Entries.{IsUnborrowed, kept_data, target_name_of};
 ghost use Rattle.store_cells.specs.Entry.{FoundBorrowed, cell_of, has_no_borrow};
 ghost use Rattle.store_cells.specs.Entry.{is_unborrowed_value};
 ghost use Rattle.store_cells.specs.Entry.{less_read, one_read, readers_of};
 ghost use Rattle.store_parts.specs.CellNames.{name_of_cell};
-ghost use Rattle.store_cells.specs.Entry.{target_in, value_for};
+ghost use Rattle.store_cells.specs.Entry.{target_name_in, value_for};
 ghost use Rattle.store_slots.specs.SlotsState.{change_content, content_reached, reached};
 ghost use Rattle.store_slots.specs.SlotsState.{refusal_to_read_at, refusal_to_refer_at};
-ghost use Rattle.store_slots.specs.SlotsState.{would_end, Finds, HasEnded, IsMade, IsReadable, IsWritable};
+ghost use Rattle.store_slots.specs.SlotsState.{would_end, FindsCell, IsEndReply, IsMade, IsReadReply, IsWritable};
 ghost use Rattle.store_slots.specs.SlotsState.{IsTurned};
 ghost use Rattle.store_slots.specs.Removal.{live_target};
 ghost use Rattle.store_rows.specs.Packed.{unpack_all};
@@ -54,7 +54,7 @@ mod saving;
 use crate::blocking_borrow::{
     are_unborrowed_values, find_blocking_borrow, find_blocking_value, would_end,
 };
-use crate::counts::{Counts, SlotCounts};
+use crate::counts::{RetiredSlots, SlotCounts};
 use crate::found::{Found, look};
 use crate::packing::{pack_ahead, pack_slots};
 use crate::references::{forget, is_boxed, refer};
@@ -67,7 +67,7 @@ pub use loading::{Room, whole_images_are_sound};
 use std::alloc::{AllocError, Global};
 use std::marker::Model;
 use store_cells::entries::Entries;
-use store_cells::entry::{Kind, StorageEntryData};
+use store_cells::entry::{CellKind, StorageEntryData};
 use store_parts::names::CellName;
 use store_parts::pool::{SlotPool, grow_within};
 use store_rows::PackedSlots;
@@ -79,7 +79,7 @@ use store_rows::PackedSlots;
 pub struct Slots<T, P: SlotPool> {
     // the first generation of a slot
     start: u64,
-    counts: Counts,
+    counts: RetiredSlots,
     entries: Entries<T>,
     pool: P,
 }
@@ -90,14 +90,14 @@ impl<T, P: SlotPool> Model for Slots<T, P> {
     ghost use Rattle.std.specs.FinMap as map;
     ghost use Rattle.std.specs.FinSet as set;
     ghost use Rattle.store_slots.specs.SlotsState.{SlotsState, state_of, IsSlotTable, AreReferred};
-    ghost use Rattle.store_slots.specs.SlotsState.{count_of};
+    ghost use Rattle.store_slots.specs.SlotsState.{usable_count};
 
     ghost Value = { SlotsState T };
 
     ghost coded = { Prim.hlevel (codes, map.code) };
 
     ghost view = { λ s. record {
-      state = state_of s.start (count_of s.counts (length s.entries.slots)).peak s.entries.slots;
+      state = state_of s.start (usable_count s.counts (length s.entries.slots)).peak s.entries.slots;
       spare = set.len (P.members s.pool) + (P.rooms s.pool - length s.entries.slots);
     } };
 
@@ -106,7 +106,7 @@ impl<T, P: SlotPool> Model for Slots<T, P> {
           free = P.members s.pool;
           rooms = P.rooms s.pool;
           start = s.start;
-          counts = count_of s.counts (length s.entries.slots);
+          counts = usable_count s.counts (length s.entries.slots);
           slots = s.entries.slots;
         })
         × (P.rooms s.pool ≤ s.entries.rooms) × AreReferred (λ m. 0) s.entries.slots
@@ -121,7 +121,7 @@ impl<T, P: SlotPool> Slots<T, P> {
     {
         Slots {
             start,
-            counts: Counts::new(),
+            counts: RetiredSlots::new(),
             entries: Entries::new(alloc),
             pool: P::new(alloc),
         }
@@ -237,7 +237,7 @@ impl<T: Drop, P: SlotPool> Slots<T, P> {
     #[inline(always)]
     pub fn look(&self, name: CellName) -> Found
         requires { IsLinked self.now.state.cells }
-        ensures { Finds self.now.state.cells (reached self.now.state (name_of_cell name)) result }
+        ensures { FindsCell self.now.state.cells (reached self.now.state (name_of_cell name)) result }
     {
         look(&self.entries, name)
     }
@@ -264,7 +264,7 @@ impl<T: Drop, P: SlotPool> Slots<T, P> {
     /// The target of the reference of this name, if it is one.
     pub fn target(&self, name: CellName) -> Option<CellName>
         ensures { option_map name_of_cell result
-            ≡ target_in (map.get self.now.state.cells (name_of_cell name)) }
+            ≡ target_name_in (map.get self.now.state.cells (name_of_cell name)) }
     {
         self.entries.target(name)
     }
@@ -279,7 +279,7 @@ impl<T: Drop, P: SlotPool> Slots<T, P> {
         created_at: Location,
     ) -> Result<(CellName, bool), BorrowError>
         requires { IsLinked self.now.state.cells }
-        ensures { IsReadable self.now.state (name_of_cell name) created_at result }
+        ensures { IsReadReply self.now.state (name_of_cell name) created_at result }
     {
         if self.entries.has_unborrowed_value(name) {
             return Ok((name, true));
@@ -296,7 +296,7 @@ impl<T: Drop, P: SlotPool> Slots<T, P> {
         created_at: Location,
     ) -> Result<(CellName, bool), BorrowError>
         requires { IsLinked self.now.state.cells }
-        ensures { IsReadable self.now.state (name_of_cell name) created_at result }
+        ensures { IsReadReply self.now.state (name_of_cell name) created_at result }
     {
         match self.look(name) {
             Found::Nothing => Err(dropped(created_at)),
@@ -405,7 +405,7 @@ impl<T: Drop, P: SlotPool> Slots<T, P> {
     /// Whether a borrow is noted apart from the lists.
     #[inline(always)]
     pub fn has_noted(&self) -> bool {
-        !self.entries.is_settled()
+        self.entries.has_noted()
     }
 
     /// Moves the noted borrow, if there is one, to a list. Nothing that contracts model changes.
@@ -429,7 +429,7 @@ impl<T: Drop, P: SlotPool> Slots<T, P> {
         requires free { read_refusal (content_at self.old.state (name_of_cell name)) ≡ None }
         requires alone { is_unborrowed ≡ true
             → write_refusal (content_at self.old.state (name_of_cell name)) ≡ None }
-        requires ascends { AreBelow borrow.ticket
+        requires ascends { AreTicketsBelow borrow.ticket
             (readers_of (content_at self.old.state (name_of_cell name))) }
         ensures ok { OnOk result (IfSome (content_at self.old.state (name_of_cell name))
             (λ c. self.new.state ≡ fill self.old.state (name_of_cell name) (one_read borrow c))) }
@@ -596,7 +596,7 @@ impl<T: Drop, P: SlotPool> Slots<T, P> {
         created_at: Location,
     ) -> Result<CellName, StorageEntryData<T>>
         requires unborrowed { IsUnborrowed (data_in content) }
-        requires target { IfSome (named_by (data_in content))
+        requires target { IfSome (target_name_of (data_in content))
             (λ m. is_shared (map.get self.old.state.cells m) ≡ true) }
         requires linked { HasTargets self.old.state.cells }
         ensures ok { IfOk result (λ n. IsMade self.old self.new
@@ -623,7 +623,7 @@ impl<T: Drop, P: SlotPool> Slots<T, P> {
         requires none { free self.old.state ≡ 0 }
         requires room { 0 < self.old.spare }
         requires unborrowed { IsUnborrowed (data_in content) }
-        requires target { IfSome (named_by (data_in content))
+        requires target { IfSome (target_name_of (data_in content))
             (λ m. is_shared (map.get self.old.state.cells m) ≡ true) }
         requires linked { HasTargets self.old.state.cells }
         ensures { IsMade self.old self.new (cell_of (kept_data [] created_at (data_in content)))
@@ -667,7 +667,7 @@ impl<T: Drop, P: SlotPool> Slots<T, P> {
     fn would_end(&self, name: CellName, target: Option<CellName>) -> Option<CellName>
         requires linked { IsLinked self.now.state.cells }
         requires target { option_map name_of_cell target
-            ≡ target_in (map.get self.now.state.cells (name_of_cell name)) }
+            ≡ target_name_in (map.get self.now.state.cells (name_of_cell name)) }
         ensures { option_map name_of_cell result ≡ would_end
             (is_named (map.remove self.now.state.cells (name_of_cell name)))
             (map.get self.now.state.cells (name_of_cell name)) (name_of_cell name) }
@@ -688,7 +688,7 @@ impl<T: Drop, P: SlotPool> Slots<T, P> {
     fn may_lose(&self, name: CellName, target: Option<CellName>) -> bool
         requires linked { IsLinked self.now.state.cells }
         requires target { option_map name_of_cell target
-            ≡ target_in (map.get self.now.state.cells (name_of_cell name)) }
+            ≡ target_name_in (map.get self.now.state.cells (name_of_cell name)) }
         ensures { result ≡ is_none (hindrance_to self.now.state (name_of_cell name ∷ [])) }
     {
         match self.would_end(name, target) {
@@ -701,7 +701,7 @@ impl<T: Drop, P: SlotPool> Slots<T, P> {
     #[inline(always)]
     pub fn end(&mut self, name: CellName) -> BorrowMutResult<()>
         requires { IsLinked self.old.state.cells }
-        ensures { HasEnded self.old.state self.new.state (name_of_cell name ∷ []) result }
+        ensures { IsEndReply self.old.state self.new.state (name_of_cell name ∷ []) result }
     {
         if self.entries.has_unborrowed_value(name) {
             self.remove(name, None, true);
@@ -808,7 +808,7 @@ impl<T: Drop, P: SlotPool> Slots<T, P> {
     fn take_away(&mut self, name: CellName, target: Option<CellName>, ending: Option<CellName>)
         requires linked { IsLinked self.old.state.cells }
         requires target { option_map name_of_cell target
-            ≡ target_in (map.get self.old.state.cells (name_of_cell name)) }
+            ≡ target_name_in (map.get self.old.state.cells (name_of_cell name)) }
         requires ending { option_map name_of_cell ending ≡ would_end
             (is_named (map.remove self.old.state.cells (name_of_cell name)))
             (map.get self.old.state.cells (name_of_cell name)) (name_of_cell name) }
@@ -859,7 +859,7 @@ impl<T: Drop, P: SlotPool> Slots<T, P> {
     // Points a reference from its old target to the new one, which is shared.
     fn turn(&mut self, name: CellName, old: CellName, new: CellName) -> BorrowMutResult<()>
         requires linked { IsLinked self.old.state.cells }
-        requires refers { target_in (map.get self.old.state.cells (name_of_cell name))
+        requires refers { target_name_in (map.get self.old.state.cells (name_of_cell name))
             ≡ Some (name_of_cell old) }
         requires shared { is_shared (map.get self.old.state.cells (name_of_cell new)) ≡ true }
         ensures { IfSome (location_of (map.get self.old.state.cells (name_of_cell name)))
@@ -885,7 +885,7 @@ impl<T: Drop, P: SlotPool> Slots<T, P> {
     // Points a reference to another shared value.
     fn redirect(&mut self, name: CellName, old: CellName, new: CellName)
         requires linked { IsLinked self.old.state.cells }
-        requires refers { target_in (map.get self.old.state.cells (name_of_cell name))
+        requires refers { target_name_in (map.get self.old.state.cells (name_of_cell name))
             ≡ Some (name_of_cell old) }
         requires shared { is_shared (map.get self.old.state.cells (name_of_cell new)) ≡ true }
         ensures { IfSome (location_of (map.get self.old.state.cells (name_of_cell name)))
@@ -914,7 +914,7 @@ impl<T: Drop, P: SlotPool> Slots<T, P> {
     pub fn end_all(&mut self, names: &[CellName]) -> BorrowMutResult<()>
         requires linked { IsLinked self.old.state.cells }
         requires apart { IsDistinct is_name (list_map name_of_cell names.now) }
-        ensures { HasEnded self.old.state self.new.state (list_map name_of_cell names.now) result }
+        ensures { IsEndReply self.old.state self.new.state (list_map name_of_cell names.now) result }
     {
         if are_unborrowed_values(&self.entries, names) {
             self.remove_all(names);
@@ -943,7 +943,7 @@ impl<T: Drop, P: SlotPool> Slots<T, P> {
     fn end_all_slow(&mut self, names: &[CellName]) -> BorrowMutResult<()>
         requires linked { IsLinked self.old.state.cells }
         requires apart { IsDistinct is_name (list_map name_of_cell names.now) }
-        ensures { HasEnded self.old.state self.new.state (list_map name_of_cell names.now) result }
+        ensures { IsEndReply self.old.state self.new.state (list_map name_of_cell names.now) result }
     {
         match find_blocking_borrow(&self.entries, names) {
             Ok(()) => {}

@@ -2,7 +2,7 @@
 pub mod Common
 use Rattle.store_cells.specs.Data.{SlotData as slot}
 use Rattle.std.specs.FinSet as set
-use Rattle.store_cells.specs.declared.entry.Kind.TheVariants as kind
+use Rattle.store_cells.specs.declared.entry.CellKind.TheVariants as kind
 use Rattle.store_cells.specs.declared.entry.StorageEntryData.TheVariants as content
 unfoldable pub use Common.*
 
@@ -184,7 +184,7 @@ is_free d = true
 module _ {T : Type 0} (d : SlotData T) where
   -- which isn't one with listed readers
   abbrev pub NotRead : Type 0
-  NotRead = (kd : Kind) (x : ℕ) (v : T) → d ≡ slot.Read kd x v → ⊥
+  NotRead = (kd : CellKind) (x : ℕ) (v : T) → d ≡ slot.Read kd x v → ⊥
 
   module _ (free : is_free d ≡ true) where
     pub free_none : index_of d ≡ no_index
@@ -205,7 +205,7 @@ module _ {T : Type 0} (d : SlotData T) where
 -- what holds of the vectors of the slots and of their details, of the table and the noted borrow
 abbrev pub Holds : {T : Type 0} → LastBorrow → Table → List (StorageEntry T) → List EntryDetails → (room x y : ℕ) → Type 0
 Holds r t es ds room x y =
-    AreIndexed t es × AreNoted r t.lists es × (length ds ≡ length es) × AreRoomy room (length es) x y t.rooms
+    AreIndexed t es × AreBorrowsNoted r t.lists es × (length ds ≡ length es) × AreRoomy room (length es) x y t.rooms
 
 -- and their model in contracts
 pub record IsKept {T : Type 0} (r : LastBorrow) (t : Table) (es : List (StorageEntry T)) (ds : List EntryDetails)
@@ -319,7 +319,7 @@ module _ {T : Type 0} {r : LastBorrow} {t : Table} {es : List (StorageEntry T)} 
   used_here = rw a.there at (a.base.indexed.used i)
 
   -- a value with listed readers has an index, and one reader at least
-  module _ {kd : Kind} {x : ℕ} {v : T} (is : data_in e.content ≡ slot.Read kd x v) where
+  module _ {kd : CellKind} {x : ℕ} {v : T} (is : data_in e.content ≡ slot.Read kd x v) where
     pub has_place : x ≢ no_index
     has_place = rw (a.there, is) at (a.base.indexed.listed i)
 
@@ -333,7 +333,7 @@ module _ {T : Type 0} {r : LastBorrow} {t : Table} {es : List (StorageEntry T)} 
     read_some none = used_at.some (sym read_borrows ∙ none)
 
   -- the index of a lent value, if it has one, and its writer
-  module _ {kd : Kind} {x : ℕ} (is : data_in e.content ≡ slot.Lent kd x) where
+  module _ {kd : CellKind} {x : ℕ} (is : data_in e.content ≡ slot.Lent kd x) where
     pub lent_used : x ≢ no_index → IsUsed t x
     lent_used = rw (a.there, is) at (a.base.indexed.used i)
 
@@ -355,7 +355,7 @@ module _ {T : Type 0} {r : LastBorrow} {t : Table} {es : List (StorageEntry T)} 
   pub noted_some : is_noted_at r i ≡ true → standing ≢ []
   noted_some on = grind (arith, nat_tests, none_some r.borrow [], indexed_some)
 
-  pub lent : (kd : Kind) (x : ℕ) → data_in e.content ≡ slot.Lent kd x → standing ≢ []
+  pub lent : (kd : CellKind) (x : ℕ) → data_in e.content ≡ slot.Lent kd x → standing ≢ []
   lent kd x is = ⊎_elim (λ none. noted_some (lent_noted is none)) (λ some. indexed_some (rw is some)) (cases_eq x no_index)
 
   -- what holds if it is noted
@@ -365,14 +365,14 @@ module _ {T : Type 0} {r : LastBorrow} {t : Table} {es : List (StorageEntry T)} 
 
   -- a noted writer's value is lent, without an index
   pub noted_lent : is_noted_at r i ≡ true → is_writer r.noted ≡ true
-      → (kd : Kind) × (data_in e.content ≡ slot.Lent kd no_index)
+      → (kd : CellKind) × (data_in e.content ≡ slot.Lent kd no_index)
   noted_lent on writes = let may = (noted_here on).1 in grind (arith, nat_tests)
 
-  pub noted_index : is_noted_at r i ≡ true → {kd : Kind} {x : ℕ} → data_in e.content ≡ slot.Lent kd x → x ≡ no_index
+  pub noted_index : is_noted_at r i ≡ true → {kd : CellKind} {x : ℕ} → data_in e.content ≡ slot.Lent kd x → x ≡ no_index
   noted_index on is = let may = rw is at (noted_here on).1 in grind (arith, nat_tests)
 
   -- if no borrow is noted, a writer is listed
-  pub lent_listed : {kd : Kind} {x : ℕ} → data_in e.content ≡ slot.Lent kd x → is_noted r.noted ≡ false → x ≢ no_index
+  pub lent_listed : {kd : CellKind} {x : ℕ} → data_in e.content ≡ slot.Lent kd x → is_noted r.noted ≡ false → x ≢ no_index
   lent_listed is nobody none = let on = lent_noted is none in grind arith
 
   -- nothing is in the way of a write if none is noted, listed or lent
@@ -382,7 +382,7 @@ module _ {T : Type 0} {r : LastBorrow} {t : Table} {es : List (StorageEntry T)} 
 
   -- a value without listed readers that isn't lent, if one is noted
   pub noted_data : is_noted_at r i ≡ true → is_free (data_in e.content) ≡ true
-      → (kd : Kind) × (v : T) × (data_in e.content ≡ slot.Data kd v)
+      → (kd : CellKind) × (v : T) × (data_in e.content ≡ slot.Data kd v)
   noted_data on free = let may = (noted_here on).1 in grind arith
 
   -- the noted reader's own ticket opens the value
@@ -428,12 +428,12 @@ module _ {T : Type 0} {r r' : LastBorrow} {i : ℕ} {e' : StorageEntry T} {lists
   notes_apart n k other = grind (arith, nat_tests, noted_slot r i)
 
   module _ {before : List (List Borrow)} {es es' : List (StorageEntry T)} (w : IsWritten es es' i e')
-      (was : AreNoted r before es) (same : SameLists before lists es i) where
+      (was : AreBorrowsNoted r before es) (same : SameLists before lists es i) where
     -- the note is at its cell
     noted_fits : Notes r r' lists i e' → is_noted r'.noted ≡ true → IsNoted r' lists (slice_get es' r'.slot)
     noted_fits n on = grind (arith, nat_tests, w.at r'.slot, same r.slot, was.noted)
 
-    pub noted_after : Notes r r' lists i e' → HasWriter r' i (data_in e'.content) → AreNoted r' lists es'
+    pub noted_after : Notes r r' lists i e' → HasWriter r' i (data_in e'.content) → AreBorrowsNoted r' lists es'
     noted_after n written = record {
       noted = noted_fits n;
       written = λ k. grind (arith, nat_tests, w.at k, was.written k, notes_apart n k);
@@ -517,7 +517,7 @@ module _ {T : Type 0} {r : LastBorrow} {t : Table} {es : List (StorageEntry T)} 
 
   -- nor are there any at a cell without borrows, which is a value
   pub alone : has_no_borrow (content_in (entry_of r t.lists i e d).kept) ≡ true
-      → (is_noted_at r i ≡ false) × ((kd : Kind) × (v : T) × (data_in e.content ≡ slot.Data kd v))
+      → (is_noted_at r i ≡ false) × ((kd : CellKind) × (v : T) × (data_in e.content ≡ slot.Data kd v))
   alone free = let seen = write_seen a.at d.created_at in grind arith
 
   -- readers are in the way
@@ -532,15 +532,15 @@ module _ {T : Type 0} {r : LastBorrow} {t : Table} {es : List (StorageEntry T)} 
   stopped some = grind (arith, write_seen a.at d.created_at, free_none (data_in e.content))
 
   pub kind_seen : (g : ℕ) → cond (nat_eq e.generation g) (kind_of (data_in e.content)) None
-      ≡ kind_in (cell_in (slice_get now.slots i) g)
+      ≡ cell_kind_in (cell_in (slice_get now.slots i) g)
   kind_seen g = rw seen (grind (arith, nat_tests, lent a.at))
 
   pub lead_seen : (n : Name) → cond (nat_eq e.generation n.generation) (lead_of (data_in e.content) n) None
       ≡ leads_to (cell_in (slice_get now.slots i) n.generation) n
   lead_seen n = rw seen (grind (arith, nat_tests, lent a.at))
 
-  pub target_seen : (g : ℕ) → cond (nat_eq e.generation g) (named_by (data_in e.content)) None
-      ≡ target_in (cell_in (slice_get now.slots i) g)
+  pub target_seen : (g : ℕ) → cond (nat_eq e.generation g) (target_name_of (data_in e.content)) None
+      ≡ target_name_in (cell_in (slice_get now.slots i) g)
   target_seen g = rw seen (grind (arith, nat_tests, lent a.at))
 
   pub unborrowed_seen : (g : ℕ) → is_unborrowed_value (cell_in (slice_get now.slots i) g)
@@ -562,15 +562,15 @@ module _ {T : Type 0} {r : LastBorrow} {t : Table} {es : List (StorageEntry T)} 
 
 module _ {T : Type 0} {d : StorageEntryData T} where
   -- a value, one with listed readers, and one that is lent
-  pub data_form : {v : T} → (d ≡ content.Data v) ⊎ (d ≡ content.Shared v) → (kd : Kind) × (data_in d ≡ slot.Data kd v)
+  pub data_form : {v : T} → (d ≡ content.Data v) ⊎ (d ≡ content.Shared v) → (kd : CellKind) × (data_in d ≡ slot.Data kd v)
   data_form is = elim is [ inl own ↦ (kind.Value, ap data_in own) | inr own ↦ (kind.Shared, ap data_in own) ]
 
   pub read_form : {x : ℕ} {v : T} → (d ≡ content.Read x v) ⊎ (d ≡ content.SharedRead x v)
-      → (kd : Kind) × (data_in d ≡ slot.Read kd x v)
+      → (kd : CellKind) × (data_in d ≡ slot.Read kd x v)
   read_form is = elim is [ inl own ↦ (kind.Value, ap data_in own) | inr own ↦ (kind.Shared, ap data_in own) ]
 
   pub index_form : {x : ℕ} → ((v : T) × (d ≡ content.Read x v)) ⊎ ((v : T) × (d ≡ content.SharedRead x v))
-      → (kd : Kind) × (v : T) × (data_in d ≡ slot.Read kd x v)
+      → (kd : CellKind) × (v : T) × (data_in d ≡ slot.Read kd x v)
   index_form is = grind arith
 
   -- what it isn't
@@ -578,7 +578,7 @@ module _ {T : Type 0} {d : StorageEntryData T} where
       → NotRead (data_in d)
   no_read own shared = grind (arith, own, shared)
 
-  module _ (lent : (x : ℕ) (kd : Kind) → d ≡ content.Lent x kd → ⊥) where
+  module _ (lent : (x : ℕ) (kd : CellKind) → d ≡ content.Lent x kd → ⊥) where
     pub no_borrow : ((x : ℕ) (v : T) → d ≡ content.Read x v → ⊥) → ((x : ℕ) (v : T) → d ≡ content.SharedRead x v → ⊥)
         → is_free (data_in d) ≡ true
     no_borrow own shared = grind (arith, own, shared, lent)
@@ -591,7 +591,7 @@ module _ {T : Type 0} {d : StorageEntryData T} where
     no_writer bs l n = grind (arith, lent)
 
   module _ (own : (v : T) → d ≡ content.Data v → ⊥) (shared : (v : T) → d ≡ content.Shared v → ⊥) where
-    pub no_data : {kd : Kind} {v : T} → data_in d ≡ slot.Data kd v → ⊥
+    pub no_data : {kd : CellKind} {v : T} → data_in d ≡ slot.Data kd v → ⊥
     no_data is = grind (arith, own, shared)
 
     -- if there is no value, none is seen
@@ -603,10 +603,10 @@ module _ {T : Type 0} {d : StorageEntryData T} where
 module _ {T : Type 0} {r : LastBorrow} {t : Table} {es : List (StorageEntry T)} {i : ℕ} {e : StorageEntry T}
     (a : IsSlot r t es i e) (on : is_noted_at r i ≡ true) where
   pub noted_placed : ((v : T) → e.content ≡ content.Data v → ⊥) → ((v : T) → e.content ≡ content.Shared v → ⊥)
-      → ((x : ℕ) (kd : Kind) → e.content ≡ content.Lent x kd → ⊥) → index_of (data_in e.content) ≢ no_index
+      → ((x : ℕ) (kd : CellKind) → e.content ≡ content.Lent x kd → ⊥) → index_of (data_in e.content) ≢ no_index
   noted_placed own shared lent none =
       grind (arith, own, shared, lent, noted_here a on, has_place a)
 
 -- readers that have an index stay listed
-pub still_read : {T : Type 0} (kd : Kind) (x : ℕ) (v : T) → x ≢ no_index → slot.Read kd x v ≡ unread_data (slot.Read kd x v)
+pub still_read : {T : Type 0} (kd : CellKind) (x : ℕ) (v : T) → x ≢ no_index → slot.Read kd x v ≡ unread_data (slot.Read kd x v)
 still_read kd x v some = rw (ne_eqb x no_index some) refl

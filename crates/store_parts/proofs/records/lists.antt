@@ -1,7 +1,7 @@
 -- Lists, queues and tables.
 pub mod Common
 use Rattle.std.proofs.lemmas.Bool.{or_right}
-use Rattle.store_parts.specs.declared.queue.Place.{Place as QueuePlace}
+use Rattle.store_parts.specs.declared.queue.Seat.{Seat}
 use Rattle.std.specs.FinMap as map
 use Rattle.std.specs.FinSet as set
 unfoldable pub use Common.*
@@ -24,7 +24,7 @@ module _ {A : Type 0} where
   passes p None = false
   passes p (Some x) = p x
 
-  -- ys is xs with x at the i-th place, which may be the one after the last
+  -- ys is xs with x at index i, which may be the one after the last
   pub record IsWritten (xs ys : List A) (i : ℕ) (x : A) : Type 0 where
     pub at : (k : ℕ) → slice_get ys k ≡ cond (nat_eq k i) (Some x) (slice_get xs k)
     pub count : (p : A → Bool)
@@ -210,14 +210,14 @@ pool_push {xs} {rooms} {slot} p room absent = record {
 
 -- the first of them has a link, which leads to the others
 pub first_within : (links : List ℕ) (first n : ℕ) → 0 < n
-    → IsPool (chain links first n) (length links) → first < length links
+    → IsPool (slot_chain links first n) (length links) → first < length links
 first_within links first zero some p = absurd (omega arith)
 first_within links first (suc n) some p = p.below first (rw (eq-eqb first first refl) refl)
 
 -- if there are others, what is read of its link is their first
 pub chain_read : (links : List ℕ) (first n x : ℕ) → 0 < n
-    → IsPool (chain links first n) (length links) → (1 < n → x ≡ get_or links first x)
-    → chain links first n ≡ first ∷ chain links x (n - 1)
+    → IsPool (slot_chain links first n) (length links) → (1 < n → x ≡ get_or links first x)
+    → slot_chain links first n ≡ first ∷ slot_chain links x (n - 1)
 chain_read links first zero x some p at = absurd (omega arith)
 chain_read links first (suc zero) x some p at = refl
 chain_read links first (suc (suc n)) x some p at =
@@ -227,8 +227,8 @@ chain_read links first (suc (suc n)) x some p at =
 
 -- if the links of its slots are the same, it is the same
 chain_same : (links others : List ℕ) (first n : ℕ)
-    → ((q : ℕ) → holds (chain links first n) q ≡ true → get_or others q 0 ≡ get_or links q 0)
-    → chain others first n ≡ chain links first n
+    → ((q : ℕ) → holds (slot_chain links first n) q ≡ true → get_or others q 0 ≡ get_or links q 0)
+    → slot_chain others first n ≡ slot_chain links first n
 chain_same links others first zero same = refl
 chain_same links others first (suc n) same =
     let rest = chain_same links others (get_or links first 0) n
@@ -236,74 +236,74 @@ chain_same links others first (suc n) same =
     rw (same first (rw (eq-eqb first first refl) refl), rest)
 
 -- more links at the end
-pub chain_grown : (links more : List ℕ) (first n : ℕ) → IsPool (chain links first n) (length links)
-    → chain (links ++ more) first n ≡ chain links first n
+pub chain_grown : (links more : List ℕ) (first n : ℕ) → IsPool (slot_chain links first n) (length links)
+    → slot_chain (links ++ more) first n ≡ slot_chain links first n
 chain_grown links more first n p =
     chain_same links _ first n (λ q there. get_or_append_left links _ 0 q (p.below q there))
 
-last_there : (x : ℕ) (xs : List ℕ) → holds (x ∷ xs) (last_of x xs) ≡ true
+last_there : (x : ℕ) (xs : List ℕ) → holds (x ∷ xs) (last_slot_of x xs) ≡ true
 last_there x [] = rw (eq-eqb x x refl) refl
-last_there x (y ∷ ys) = or_right (nat_eq (last_of y ys) x) _ (last_there y ys)
+last_there x (y ∷ ys) = or_right (nat_eq (last_slot_of y ys) x) _ (last_there y ys)
 
-pub last_pushed : (x : ℕ) (xs : List ℕ) (y : ℕ) → last_of x (xs ++ y ∷ []) ≡ y
+pub last_pushed : (x : ℕ) (xs : List ℕ) (y : ℕ) → last_slot_of x (xs ++ y ∷ []) ≡ y
 last_pushed x [] y = refl
 last_pushed x (z ∷ zs) y = last_pushed z zs y
 
 -- a slot behind the last one, whose link leads to it
 pub chain_put_last : (links : List ℕ) (first n last slot : ℕ) → 0 < n
-    → IsPool (chain links first n) (length links) → last_of last (chain links first n) ≡ last
-    → chain (slice_set links last slot) first (n + 1) ≡ chain links first n ++ slot ∷ []
+    → IsPool (slot_chain links first n) (length links) → last_slot_of last (slot_chain links first n) ≡ last
+    → slot_chain (slice_set links last slot) first (n + 1) ≡ slot_chain links first n ++ slot ∷ []
 chain_put_last links first zero last slot some p ends = absurd (omega arith)
 chain_put_last links first (suc zero) last slot some p ends =
     rw (sym ends) (ap (λ x. first ∷ x ∷ []) (get_or-set_same links first slot 0 (first_within links first 1 some p)))
 chain_put_last links first (suc (suc n)) last slot some p ends =
     let next = get_or links first 0 in
     let other = get_or-set_other links last first slot 0 (λ e. cc (
-      last_there next (chain links (get_or links next 0) n),
-      members-holds (chain links next (suc n)) first,
+      last_there next (slot_chain links (get_or links next 0) n),
+      members-holds (slot_chain links next (suc n)) first,
       head_absent p,
     )) in
     let rest = chain_put_last links next (suc n) last slot (omega arith) (pool_take p) ends in grind (arith, other, rest)
 
 -- a slot before the first one, to which its link leads, unless there was none
 pub chain_put : (links after : List ℕ) (first n slot : ℕ) → slot < length links
-    → set.contains (members (chain links first n)) slot ≡ false
+    → set.contains (members (slot_chain links first n)) slot ≡ false
     → (0 < n → after ≡ slice_set links slot first)
-    → chain after slot (n + 1) ≡ slot ∷ chain links first n
+    → slot_chain after slot (n + 1) ≡ slot ∷ slot_chain links first n
 chain_put links after first zero slot within absent linked = refl
 chain_put links after first (suc n) slot within absent linked =
     let apart = chain_same links (slice_set links slot first) first (suc n)
     (λ q there. get_or-set_other
-    links slot q first 0 (λ e. cc (members-holds (chain links first (suc n)) slot))) in
+    links slot q first 0 (λ e. cc (members-holds (slot_chain links first (suc n)) slot))) in
     grind (arith, linked, get_or-set_same links slot first 0 within)
 
 -- so many slots as are there have a link each
-pub chain_length : (links : List ℕ) (first n : ℕ) → length (chain links first n) ≡ n
+pub chain_length : (links : List ℕ) (first n : ℕ) → length (slot_chain links first n) ≡ n
 chain_length links first zero = refl
 chain_length links first (suc n) = ap suc (chain_length links (get_or links first 0) n)
 
 -- if another slot is in it, there is one more link
-pub chain_room : (links : List ℕ) (first n slot : ℕ) → IsPool (chain links first n) (length links)
-    → slot < length links → set.contains (members (chain links first n)) slot ≡ false
+pub chain_room : (links : List ℕ) (first n slot : ℕ) → IsPool (slot_chain links first n) (length links)
+    → slot < length links → set.contains (members (slot_chain links first n)) slot ≡ false
     → n < length links
 chain_room links first n slot p within absent =
     omega (arith, pool_length (pool_put p within absent), chain_length links first n)
 
 -- the last of them has a link
 pub last_within : (links : List ℕ) (first n last : ℕ) → 0 < n
-    → IsPool (chain links first n) (length links) → last_of last (chain links first n) ≡ last
+    → IsPool (slot_chain links first n) (length links) → last_slot_of last (slot_chain links first n) ≡ last
     → last < length links
 last_within links first zero last some p ends = absurd (omega arith)
 last_within links first (suc n) last some p ends =
-    let there = last_there first (chain links (get_or links first 0) n) in
-    p.below last (sym (ap (holds (chain links first (suc n))) ends) ∙ there)
+    let there = last_there first (slot_chain links (get_or links first 0) n) in
+    p.below last (sym (ap (holds (slot_chain links first (suc n))) ends) ∙ there)
 
 -- links that were added, if the allocation succeeded, change no slot of the list
 pub resized : (ok : Bool) (n : ℕ) (links more after : List ℕ) (first count : ℕ)
     → after ≡ (if ok then take n links ++ more else links) → length links ≤ n
-    → IsPool (chain links first count) (length links)
-    → IsPool (chain after first count) (length after)
-    × (chain after first count ≡ chain links first count)
+    → IsPool (slot_chain links first count) (length links)
+    → IsPool (slot_chain after first count) (length after)
+    × (slot_chain after first count ≡ slot_chain links first count)
 resized true n links more after first count is few p =
     rw (is, take_all n links few, chain_grown links more first count p) (
       record {
@@ -319,7 +319,7 @@ pub resized_few : (ok : Bool) (n links after most : ℕ) → after ≡ (if ok th
     → n ≤ most → links ≤ most → after ≤ most
 resized_few ok n links after most is less few = grind arith
 
-pub last_taken : (x : ℕ) (xs : List ℕ) → last_of x xs ≡ x → last_of x (drop 1 xs) ≡ x
+pub last_taken : (x : ℕ) (xs : List ℕ) → last_slot_of x xs ≡ x → last_slot_of x (drop 1 xs) ≡ x
 last_taken x (y ∷ z ∷ zs) ends = ends
 last_taken x xs ends = refl
 
@@ -368,8 +368,8 @@ module _ {lists : List (List Borrow)} {free : set.FinSet nat_cmp} {rooms capacit
       fits = t.fits;
     }
 
--- ==== places of borrows whose tickets ascend: what a binary search finds in them, and what is there
--- after a push, after a release, and after dead places are removed
+-- ==== seats of borrows whose tickets ascend: what a binary search finds in them, and what is there
+-- after a push, after a release, and after dead seats are removed
 
 abbrev has : ℕ → Borrow → Bool
 has t b = nat_eq b.ticket t
@@ -377,30 +377,30 @@ has t b = nat_eq b.ticket t
 abbrev without : ℕ → List Borrow → List Borrow
 without t = filter (λ b. not (has t b))
 
--- a dead place
-abbrev dead : Borrow → QueuePlace
+-- a dead seat
+abbrev dead : Borrow → Seat
 dead b = record { borrow = b; stands = false }
 
--- a place that lives
-abbrev live : Borrow → QueuePlace
+-- a seat that lives
+abbrev live : Borrow → Seat
 live b = record { borrow = b; stands = true }
 
-tail_ascends : (p : QueuePlace) (ps : List QueuePlace) → TicketsAscend (p ∷ ps) → TicketsAscend ps
+tail_ascends : (p : Seat) (ps : List Seat) → TicketsAscend (p ∷ ps) → TicketsAscend ps
 tail_ascends p ps up i j d before within = up (suc i) (suc j) d (omega arith) (omega arith)
 
-first_below : (p : QueuePlace) (ps : List QueuePlace) → TicketsAscend (p ∷ ps) → (k : ℕ) (d : QueuePlace)
+first_below : (p : Seat) (ps : List Seat) → TicketsAscend (p ∷ ps) → (k : ℕ) (d : Seat)
     → k < length ps → p.borrow.ticket < (get_or ps k d).borrow.ticket
 first_below p ps up k d within = up 0 (suc k) d (omega arith) (omega arith)
 
 -- no ticket is t
-abbrev IsApart : ℕ → List QueuePlace → Type 0
-IsApart t ps = (k : ℕ) (d : QueuePlace) → k < length ps → (get_or ps k d).borrow.ticket ≢ t
+abbrev IsApart : ℕ → List Seat → Type 0
+IsApart t ps = (k : ℕ) (d : Seat) → k < length ps → (get_or ps k d).borrow.ticket ≢ t
 
--- behind a ticket's place there is no other
-behind_apart : (p : QueuePlace) (ps : List QueuePlace) → TicketsAscend (p ∷ ps) → IsApart p.borrow.ticket ps
+-- behind a ticket's seat there is no other
+behind_apart : (p : Seat) (ps : List Seat) → TicketsAscend (p ∷ ps) → IsApart p.borrow.ticket ps
 behind_apart p ps up k d within = let more = first_below p ps up k d within in λ e. omega arith
 
-none_apart : (t : ℕ) (ps : List QueuePlace) → IsApart t ps → list_any (has t) (standing_at ps) ≡ false
+none_apart : (t : ℕ) (ps : List Seat) → IsApart t ps → list_any (has t) (standing_in ps) ≡ false
 none_apart t [] apart = refl
 none_apart t (p ∷ ps) apart =
     let rest = none_apart t ps (λ k d within. apart (suc k) d (omega arith)) in
@@ -411,12 +411,12 @@ pub none_left : (t : ℕ) (bs : List Borrow) → list_any (has t) bs ≡ false �
 none_left t [] none = refl
 none_left t (b ∷ bs) none = grind (arith, none_left t bs)
 
-all_left : (t : ℕ) (ps : List QueuePlace) → IsApart t ps → without t (standing_at ps) ≡ standing_at ps
+all_left : (t : ℕ) (ps : List Seat) → IsApart t ps → without t (standing_in ps) ≡ standing_in ps
 all_left t ps apart = none_left t _ (none_apart t ps apart)
 
--- a ticket's borrow is active exactly if its place is live
-pub stands_there : (t : ℕ) (ps : List QueuePlace) (i : ℕ) (d : QueuePlace) → TicketsAscend ps → i < length ps
-    → HasTicketAt t ps i → list_any (has t) (standing_at ps) ≡ (get_or ps i d).stands
+-- a ticket's borrow is active exactly if its seat is live
+pub stands_there : (t : ℕ) (ps : List Seat) (i : ℕ) (d : Seat) → TicketsAscend ps → i < length ps
+    → HasTicketAt t ps i → list_any (has t) (standing_in ps) ≡ (get_or ps i d).stands
 stands_there t [] i d up within own = absurd (omega arith)
 stands_there t (p ∷ ps) zero d up within own =
     grind (arith, nat_tests, own p, none_apart t ps (rw (own p) at (behind_apart p ps up)))
@@ -425,12 +425,12 @@ stands_there t (p ∷ ps) (suc i) d up within own =
     grind (arith, nat_tests, own p, rest, first_below p ps up i p)
 
 -- what a binary search by ticket returns, if each call of its closure returns a ticket
-module _ {F : Type 0} {g : Mut F (Bor QueuePlace × Unit {0}) ℕ} {f : F} (t : ℕ) (ps : List QueuePlace)
+module _ {F : Type 0} {g : Mut F (Bor Seat × Unit {0}) ℕ} {f : F} (t : ℕ) (ps : List Seat)
     (up : TicketsAscend ps)
-    (calls : (f : F) (p : Bor QueuePlace × Unit {0}) (r : ℕ) (f' : F) → Called g f p r f'
+    (calls : (f : F) (p : Bor Seat × Unit {0}) (r : ℕ) (f' : F) → Called g f p r f'
     → r ≡ p.0.now.borrow.ticket) where
   pub search_finds : (i n : ℕ) → i < n → n ≡ length ps
-      → ((key : QueuePlace → ℕ) → ComputesKey g key f
+      → ((key : Seat → ℕ) → ComputesKey g key f
       → IsBinarySearchResult (λ p. nat_cmp (key p) t) ps (Ok i))
       → (i < length ps) × HasTicketAt t ps i
   search_finds i n within long position = (
@@ -439,9 +439,9 @@ module _ {F : Type 0} {g : Mut F (Bor QueuePlace × Unit {0}) ℕ} {f : F} (t : 
   )
 
   pub search_misses : (i : ℕ)
-      → ((key : QueuePlace → ℕ) → ComputesKey g key f
+      → ((key : Seat → ℕ) → ComputesKey g key f
       → IsBinarySearchResult (λ p. nat_cmp (key p) t) ps (Err i))
-      → list_any (has t) (standing_at ps) ≡ false
+      → list_any (has t) (standing_in ps) ≡ false
   search_misses i position = none_apart t ps (λ k d within.
       let rises : IsNonDecreasingBy (λ p. ordering_index (nat_cmp p.borrow.ticket t)) ps =
       λ i j d le within. grind (arith, nat_tests, up i j d) in
@@ -451,11 +451,11 @@ module _ {F : Type 0} {g : Mut F (Bor QueuePlace × Unit {0}) ℕ} {f : F} (t : 
       (λ after. let more = ranked _ t _ (sym (parts.1 k d after within)) in
       λ e. omega (arith, more, e)) (cases_lt k i))
 
--- a place that dies takes its ticket's borrow away, and no other
+-- a seat that dies takes its ticket's borrow away, and no other
 module _ (t : ℕ) (b : Borrow) where
-  dies : (ps : List QueuePlace) (i : ℕ) → TicketsAscend ps → IsOwnPlace t ps i
-      → (standing_at (slice_set ps i (dead b)) ≡ without t (standing_at ps))
-      × (length (standing_at (slice_set ps i (dead b))) + 1 ≡ length (standing_at ps))
+  dies : (ps : List Seat) (i : ℕ) → TicketsAscend ps → IsOwnSeat t ps i
+      → (standing_in (slice_set ps i (dead b)) ≡ without t (standing_in ps))
+      × (length (standing_in (slice_set ps i (dead b))) + 1 ≡ length (standing_in ps))
   dies [] i up own = absurd (omega (arith, own.0))
   dies (p ∷ ps) zero up own =
       let all = all_left t ps (rw (own.1 p) at (behind_apart p ps up)) in
@@ -464,31 +464,31 @@ module _ (t : ℕ) (b : Borrow) where
       let rest = dies ps i (tail_ascends p ps up) (omega (arith, own.0), own.1, λ d within. own.2 d (omega arith)) in
       grind (arith, nat_tests, own.0, own.1 p, first_below p ps up i p)
 
--- another place at the end
-pub standing_pushed : (ps : List QueuePlace) (p : QueuePlace)
-    → standing_at (ps ++ p ∷ []) ≡ standing_at ps ++ standing_at (p ∷ [])
+-- another seat at the end
+pub standing_pushed : (ps : List Seat) (p : Seat)
+    → standing_in (ps ++ p ∷ []) ≡ standing_in ps ++ standing_in (p ∷ [])
 standing_pushed [] p = refl
 standing_pushed (q ∷ ps) p = grind (arith, standing_pushed ps p)
 
--- of places without dead ones
-abbrev kept : List QueuePlace → List QueuePlace
+-- of seats without dead ones
+abbrev kept : List Seat → List Seat
 kept = filter (λ p. p.stands)
 
-pub standing_kept : (ps : List QueuePlace) → standing_at (kept ps) ≡ standing_at ps
+pub standing_kept : (ps : List Seat) → standing_in (kept ps) ≡ standing_in ps
 standing_kept [] = refl
 standing_kept (p ∷ ps) = let rest = standing_kept ps in grind arith
 
-all_stand : (ps : List QueuePlace) (i : ℕ) → StandsAt i (kept ps)
-all_stand ps i d within = All-get_or (λ (p : QueuePlace). p.stands ≡ true) (kept ps) i d within
+all_stand : (ps : List Seat) (i : ℕ) → StandsAt i (kept ps)
+all_stand ps i d within = All-get_or (λ (p : Seat). p.stands ≡ true) (kept ps) i d within
     (filter_passes (λ p. p.stands) ps)
 
-pub standing_within : (ps : List QueuePlace) → length (standing_at ps) ≤ length ps
+pub standing_within : (ps : List Seat) → length (standing_in ps) ≤ length ps
 standing_within [] = omega arith
 standing_within (p ∷ ps) = let rest = standing_within ps in grind arith
 
--- the last place is live, so a ticket above all active ones is above all
-above_last : (ps : List QueuePlace) (n : ℕ) → IsQueue ps n → (t : ℕ) → AreBelow t (standing_at ps)
-    → (k : ℕ) (d : QueuePlace) → k < length ps → (get_or ps k d).borrow.ticket < t
+-- the last seat is live, so a ticket above all active ones is above all
+above_last : (ps : List Seat) (n : ℕ) → IsQueue ps n → (t : ℕ) → AreTicketsBelow t (standing_in ps)
+    → (k : ℕ) (d : Seat) → k < length ps → (get_or ps k d).borrow.ticket < t
 above_last ps n q t below k d within =
     let m = length ps - 1 in
     let low : m < length ps = omega arith in
@@ -499,7 +499,7 @@ above_last ps n q t below k d within =
     ⊎_elim (λ (before : k < m). omega (arith, q.ascend k m d before low, top))
     (λ (behind : m ≤ k). let same : k ≡ m = omega arith in rw same top) (cases_lt k m)
 
--- no place
+-- no seat
 pub none_queue : IsQueue [] 0
 none_queue = record {
   ascend = λ i j d before within. absurd (omega arith);
@@ -510,29 +510,29 @@ none_queue = record {
 }
 
 -- a borrow begins
-pub pushed : (ps : List QueuePlace) (n : ℕ) (b : Borrow) → IsQueue ps n
-    → AreBelow b.ticket (standing_at ps) → IsQueue (ps ++ live b ∷ []) (n + 1)
+pub pushed : (ps : List Seat) (n : ℕ) (b : Borrow) → IsQueue ps n
+    → AreTicketsBelow b.ticket (standing_in ps) → IsQueue (ps ++ live b ∷ []) (n + 1)
 pushed ps n b q below = record {
   ascend = all_pairs_push (λ p r. p.borrow.ticket < r.borrow.ticket) ps (live b) q.ascend
       (above_last ps n q b.ticket below);
-  count = rw standing_pushed (omega (arith, q.count, length-append (standing_at ps) (b ∷ [])));
+  count = rw standing_pushed (omega (arith, q.count, length-append (standing_in ps) (b ∷ [])));
   first = first ps q;
   last = λ d within. let end : length (ps ++ live b ∷ []) - 1 ≡ length ps =
       omega (arith, length-append ps (live b ∷ [])) in rw (end, get_or-append_seam) refl;
   half = omega (arith, q.half, length-append ps (live b ∷ []));
 }
   where
-    first : (ps : List QueuePlace) → IsQueue ps n → StandsAt 0 (ps ++ live b ∷ [])
+    first : (ps : List Seat) → IsQueue ps n → StandsAt 0 (ps ++ live b ∷ [])
     first [] q d within = refl
     first (p ∷ ps) q d within = q.first d (omega arith)
 
 -- two borrows begin
-pub two_queue : (a b : Borrow) → AreBelow b.ticket (a ∷ []) → IsQueue (live a ∷ live b ∷ []) 2
+pub two_queue : (a b : Borrow) → AreTicketsBelow b.ticket (a ∷ []) → IsQueue (live a ∷ live b ∷ []) 2
 two_queue a b below =
     pushed (live a ∷ []) 1 b (pushed [] 0 a none_queue (λ t h. absurd (false≢true h))) below
 
--- the dead places are removed
-pub kept_queue : (ps : List QueuePlace) (n : ℕ) → TicketsAscend ps → n ≡ length (standing_at ps)
+-- the dead seats are removed
+pub kept_queue : (ps : List Seat) (n : ℕ) → TicketsAscend ps → n ≡ length (standing_in ps)
     → IsQueue (kept ps) n
 kept_queue ps n up count = record {
   ascend = AllPairs-filter (λ p r. p.borrow.ticket < r.borrow.ticket) (λ p. p.stands) ps up;
@@ -543,39 +543,39 @@ kept_queue ps n up count = record {
 }
 
 -- room is made
-pub roomy : (ps qs : List QueuePlace) (n : ℕ) → IsQueue ps n → AreKept ps qs
-    → IsQueue qs n × (standing_at qs ≡ standing_at ps)
+pub roomy : (ps qs : List Seat) (n : ℕ) → IsQueue ps n → AreSeatsKept ps qs
+    → IsQueue qs n × (standing_in qs ≡ standing_in ps)
 roomy ps qs n q = ⊎_elim
     (λ same. rw same (q, refl))
     (λ fewer. rw fewer (kept_queue ps n q.ascend q.count, standing_kept ps))
 
--- a dead place is removed at the end
-pub popped : (before after : List QueuePlace) (end : Option QueuePlace) (p : QueuePlace)
+-- a dead seat is removed at the end
+pub popped : (before after : List Seat) (end : Option Seat) (p : Seat)
     → before ≡ after ++ option_to_list end → end ≡ Some p → p.stands ≡ false
     → TicketsAscend before → StandsAt 0 before
-    → (standing_at after ≡ standing_at before) × TicketsAscend after × StandsAt 0 after
+    → (standing_in after ≡ standing_in before) × TicketsAscend after × StandsAt 0 after
 popped before after end p items some off up first =
     let parts = rw some at items in
     let ascend = rw parts at up in
     let begins = rw parts at first in
     let front = get_or_append_left after (p ∷ []) in
     let long = length-append after (p ∷ []) in (
-      sym (ap (λ ps. standing_at ps) parts ∙ standing_pushed after p ∙ rw off
-          (append-nil (standing_at after))),
+      sym (ap (λ ps. standing_in ps) parts ∙ standing_pushed after p ∙ rw off
+          (append-nil (standing_in after))),
       λ i j d before within. rw (← front d i (omega arith), ← front d j within)
           (ascend i j d before (omega arith)),
       λ d within. rw (← front d 0 within) (begins d (omega arith)),
     )
 
 -- what is left of a queue when a borrow ends
-pub record Left (ps qs : List QueuePlace) (n t : ℕ) : Type 0 where
-  pub standing : standing_at qs ≡ without t (standing_at ps)
-  pub count : n - 1 ≡ length (standing_at qs)
-  pub others : length (standing_at ps) ≤ length (standing_at qs) + 1
+pub record Left (ps qs : List Seat) (n t : ℕ) : Type 0 where
+  pub standing : standing_in qs ≡ without t (standing_in ps)
+  pub count : n - 1 ≡ length (standing_in qs)
+  pub others : length (standing_in ps) ≤ length (standing_in qs) + 1
   pub within : n - 1 ≤ length qs
 
-pub left : (ps qs : List QueuePlace) (n i t : ℕ) (b : Borrow) → IsQueue ps n → IsOwnPlace t ps i
-    → standing_at qs ≡ standing_at (slice_set ps i (dead b)) → Left ps qs n t
+pub left : (ps qs : List Seat) (n i t : ℕ) (b : Borrow) → IsQueue ps n → IsOwnSeat t ps i
+    → standing_in qs ≡ standing_in (slice_set ps i (dead b)) → Left ps qs n t
 left ps qs n i t b q own same =
     let dead = dies t b ps i q.ascend own in
     let fewer = ap (λ bs. length bs + 1) same ∙ dead.1 in record {

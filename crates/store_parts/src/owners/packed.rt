@@ -3,11 +3,11 @@
 ghost use Rattle.std.specs.Prelude.{◌≡◌, ◌++◌, ◌∷◌, [], IfOk, OnOk, drop, length};
 ghost use Rattle.std.specs.FinMap as map;
 ghost use Rattle.generational_core.specs.Rows.{owner_rows};
-ghost use Rattle.store_parts.specs.OwnerPlaces.{HasDistinctKeys, owners_of};
-ghost use Rattle.store_parts.specs.PackedOwners.{bare_place, bare_places, names_in, names_of};
-ghost use Rattle.store_parts.specs.PackedOwners.{unpack_place, unpack_places};
+ghost use Rattle.store_parts.specs.KeptRecords.{HasDistinctKeys, owners_of};
+ghost use Rattle.store_parts.specs.PackedOwners.{bare_record, bare_records, packed_names, packed_names_of};
+ghost use Rattle.store_parts.specs.PackedOwners.{unpack_record, unpack_records};
 
-use super::rows::push_places;
+use super::rows::push_rows_by_key;
 use super::{OwnerRecord, OwnerRecords};
 use crate::names::CellName;
 use crate::room::touched;
@@ -16,11 +16,11 @@ use std::alloc::{AllocError, Global};
 use std::marker::Model;
 use store_room::push_more;
 
-/// The records of owners, index by index, in few bytes. Contracts model them as the records at their
-/// indexes, without room for more names.
+/// The records of owners, position by position, in few bytes. Contracts model them as the records at their
+/// positions, without room for more names.
 #[derive(Drop)]
 pub struct PackedOwners {
-    places: Vec<Option<PackedRecord>>,
+    records: Vec<Option<PackedRecord>>,
     // the names on their lists, one list after the other
     names: Vec<CellName>,
 }
@@ -35,14 +35,14 @@ pub struct PackedRecord {
 
 impl Model for PackedOwners {
     ghost use Rattle.std.specs.Prelude.{List};
-    ghost use Rattle.store_parts.specs.OwnerPlaces.{HasDistinctKeys, Place};
-    ghost use Rattle.store_parts.specs.PackedOwners.{unpack_places};
+    ghost use Rattle.store_parts.specs.KeptRecords.{HasDistinctKeys, MaybeRecord};
+    ghost use Rattle.store_parts.specs.PackedOwners.{unpack_records};
 
-    ghost Value = { List Place };
+    ghost Value = { List MaybeRecord };
 
-    ghost view = { λ p. unpack_places p.names.items p.places.items };
+    ghost view = { λ p. unpack_records p.names.items p.records.items };
 
-    ghost invariant = { λ p. HasDistinctKeys (unpack_places p.names.items p.places.items) };
+    ghost invariant = { λ p. HasDistinctKeys (unpack_records p.names.items p.records.items) };
 }
 
 impl OwnerRecords {
@@ -51,43 +51,47 @@ impl OwnerRecords {
         ensures { IfOk result (λ packed. owners_of packed ≡ self.now.owners) }
     {
         let PackedOwners {
-            mut places,
+            mut records,
             mut names,
         } = past;
-        places.clear();
+        records.clear();
         names.clear();
-        for place in 0..self.places.len() {
-            push_place(&mut places, &mut names, &self.places[place])?;
+        for position in 0..self.records.len() {
+            push_packed(&mut records, &mut names, &self.records[position])?;
         }
-        Ok(PackedOwners { places, names })
+        Ok(PackedOwners { records, names })
     }
 
-    /// How many indexes there are, and how many names are on all lists.
+    /// How many positions there are, and how many names are on all lists.
     pub fn counts(&self) -> (usize, usize) {
         let mut names = 0usize;
-        for place in 0..self.places.len() {
-            if let Some(record) = &self.places[place] {
+        for position in 0..self.records.len() {
+            if let Some(record) = &self.records[position] {
                 names = names.saturating_add(record.boxes.len());
             }
         }
-        (self.places.len(), names)
+        (self.records.len(), names)
     }
 }
 
 impl PackedOwners {
-    /// No places. Doesn't allocate.
+    /// No positions. Doesn't allocate.
     pub fn new(alloc: Global) -> PackedOwners
         ensures { result ≡ [] }
     {
         PackedOwners {
-            places: Vec::new(alloc),
+            records: Vec::new(alloc),
             names: Vec::new(alloc),
         }
     }
 
     /// No records, with room for so many and for so many names, and some more of each. Their memory is
     /// touched.
-    pub fn with_room(alloc: Global, places: usize, names: usize) -> Result<PackedOwners, AllocError>
+    pub fn with_room(
+        alloc: Global,
+        records: usize,
+        names: usize,
+    ) -> Result<PackedOwners, AllocError>
         ensures { IfOk result (λ packed. packed ≡ []) }
     {
         let name = CellName {
@@ -95,14 +99,14 @@ impl PackedOwners {
             generation: 1,
         };
         Ok(PackedOwners {
-            places: touched(alloc, places, None)?,
+            records: touched(alloc, records, None)?,
             names: touched(alloc, names, name)?,
         })
     }
 
     /// Whether the capacity is enough for so many records and names.
-    pub fn has_room(&self, places: usize, names: usize) -> bool {
-        places <= self.places.capacity() && names <= self.names.capacity()
+    pub fn has_room(&self, records: usize, names: usize) -> bool {
+        records <= self.records.capacity() && names <= self.names.capacity()
     }
 
     /// Appends the rows of all records by their keys, with ids of the store with this number.
@@ -115,57 +119,57 @@ impl PackedOwners {
         ensures { OnOk result (rows.new.items
             ≡ rows.old.items ++ owner_rows number (map.entries (owners_of self.now))) }
     {
-        let places = self.unpack(alloc)?;
-        push_places(alloc, places.as_slice(), number, rows)
+        let records = self.unpack(alloc)?;
+        push_rows_by_key(alloc, records.as_slice(), number, rows)
     }
 
-    // The places with their records.
+    // The positions with their records.
     fn unpack(&self, alloc: Global) -> Result<Vec<Option<OwnerRecord>>, AllocError>
-        ensures places { IfOk result (λ places. bare_places places.items ≡ self.now) }
-        ensures apart { IfOk result (λ places. HasDistinctKeys places.items) }
+        ensures records { IfOk result (λ records. bare_records records.items ≡ self.now) }
+        ensures apart { IfOk result (λ records. HasDistinctKeys records.items) }
     {
-        let mut places = Vec::new(alloc);
+        let mut records = Vec::new(alloc);
         let mut rest = self.names.as_slice();
-        for place in 0..self.places.len() {
-            let (unpacked, after) = unpack_place(alloc, rest, self.places[place])?;
-            places.push(unpacked)?;
+        for position in 0..self.records.len() {
+            let (unpacked, after) = unpack_record(alloc, rest, self.records[position])?;
+            records.push(unpacked)?;
             rest = after;
         }
-        Ok(places)
+        Ok(records)
     }
 }
 
-// Packs the next place.
-fn push_place(
-    places: &mut Vec<Option<PackedRecord>>,
+// Packs the next position.
+fn push_packed(
+    records: &mut Vec<Option<PackedRecord>>,
     names: &mut Vec<CellName>,
-    place: &Option<OwnerRecord>,
+    position: &Option<OwnerRecord>,
 ) -> Result<(), AllocError>
-    requires { names_of places.old.items ≡ length names.old.items }
-    ensures more { OnOk result (unpack_places names.new.items places.new.items
-        ≡ unpack_places names.old.items places.old.items ++ bare_place place.now ∷ []) }
-    ensures all { OnOk result (names_of places.new.items ≡ length names.new.items) }
+    requires { packed_names_of records.old.items ≡ length names.old.items }
+    ensures more { OnOk result (unpack_records names.new.items records.new.items
+        ≡ unpack_records names.old.items records.old.items ++ bare_record position.now ∷ []) }
+    ensures all { OnOk result (packed_names_of records.new.items ≡ length names.new.items) }
 {
-    let Some(record) = place else {
-        return push_more(places, None);
+    let Some(record) = position else {
+        return push_more(records, None);
     };
     let packed = PackedRecord {
         key: record.key,
         count: record.count,
         names: record.boxes.len(),
     };
-    push_more(places, Some(packed))?;
+    push_more(records, Some(packed))?;
     names.extend_from_slice(record.boxes.as_slice())
 }
 
 // The record that a packed one represents, if these are the next names, and the names after its own.
-fn unpack_place<'a>(
+fn unpack_record<'a>(
     alloc: Global,
     names: &'a [CellName],
     packed: Option<PackedRecord>,
 ) -> Result<(Option<OwnerRecord>, &'a [CellName]), AllocError>
-    ensures place { IfOk result (λ r. bare_place r.0 ≡ unpack_place names.now packed) }
-    ensures rest { IfOk result (λ r. r.1.now ≡ drop (names_in packed) names.now) }
+    ensures position { IfOk result (λ r. bare_record r.0 ≡ unpack_record names.now packed) }
+    ensures rest { IfOk result (λ r. r.1.now ≡ drop (packed_names packed) names.now) }
 {
     let Some(record) = packed else {
         return Ok((None, names));

@@ -3,7 +3,7 @@ pub mod Changes
 use Rattle.store_cells.specs.Data.{SlotData as slot}
 use Rattle.std.specs.FinMap as map
 use Rattle.std.specs.FinSet as set
-use Rattle.store_cells.specs.declared.entry.Kind.TheVariants as kind
+use Rattle.store_cells.specs.declared.entry.CellKind.TheVariants as kind
 unfoldable pub use Changes.*
 
 -- ==== how many references name a cell, even when some names end
@@ -159,18 +159,18 @@ pub references_of : {T : Type 0} {slots : List (Entry T)} {less : Name → ℕ} 
 references_of referred {m} t = (rw t.there at (referred.each m.slot)) t.shared
 
 -- what names something is a Ref to it
-pub reference_to : {T : Type 0} (cell : Option (Cell T)) (m : Name) → target_in cell ≡ Some m
+pub reference_to : {T : Type 0} (cell : Option (Cell T)) (m : Name) → target_name_in cell ≡ Some m
     → (l : Location) × (cell ≡ Some (Ref m l))
 reference_to cell m h = grind arith
 
 -- each reference of linked cells names a shared value
 pub named_shared : {T : Type 0} (slots : List (Entry T)) → HasTargets (cells_of slots)
-    → (n m : Name) → Some m ≡ target_in (cell_under slots n) → is_shared (map.get (cells_of slots) m) ≡ true
+    → (n m : Name) → Some m ≡ target_name_in (cell_under slots n) → is_shared (map.get (cells_of slots) m) ≡ true
 named_shared slots targets n m target =
     let it = reference_to (cell_under slots n) m (sym target) in targets n m it.0 (get_cells slots n ∙ it.1)
 
 pub found_target : {T : Type 0} (slots : List (Entry T)) → HasTargets (cells_of slots)
-    → (n m : Name) → Some m ≡ target_in (cell_under slots n) → HasShared slots m
+    → (n m : Name) → Some m ≡ target_name_in (cell_under slots n) → HasShared slots m
 found_target slots targets n m target = has_shared slots m (named_shared slots targets n m target)
 
 -- ==== the counts of references when a cell comes or goes, and when a reference names another value
@@ -186,7 +186,7 @@ module _ {T : Type 0} where
   pub record IsRecounted (slots after : List (Entry T)) : Type 0 where
     pub long : length after ≡ length slots
     pub state : (start peak : ℕ) → state_of start peak after ≡ state_of start peak slots
-    pub table : {free : set.FinSet nat_cmp} {rooms start : ℕ} {counts : Count}
+    pub table : {free : set.FinSet nat_cmp} {rooms start : ℕ} {counts : UsableCount}
         → IsSlotTable (record { free = free; rooms = rooms; start = start; counts = counts; slots = slots })
         → IsSlotTable (record { free = free; rooms = rooms; start = start; counts = counts; slots = after })
 
@@ -290,20 +290,20 @@ module _ {T : Type 0} where
       → IsWritten slots after i (record { generation = g; kept = kept_data [] l d; references = 0 })
       → passes (λ e. is_live e.kept) (slice_get slots i) ≡ false → AreReferred (λ m. 0) slots
       → HasTargets (cells_of slots)
-      → IfSome (named_by d) (λ m. is_shared (map.get (cells_of slots) m) ≡ true)
-      → IsUncounted after (named_by d)
+      → IfSome (target_name_of d) (λ m. is_shared (map.get (cells_of slots) m) ≡ true)
+      → IsUncounted after (target_name_of d)
   uncounted_made {slots} {after} {i} {g} d l w dead r targets target = record {
     counted = referred w r (λ q other. grind arith) (λ shared.
         let n : Name = record { slot = i; generation = g } in
         let none = none_refer slots targets n (get_cells slots n ∙ grind arith) in grind arith);
-    shared = IfSome_then (named_by d) target (still_shared w (grind arith));
+    shared = IfSome_then (target_name_of d) target (still_shared w (grind arith));
   }
 
 -- ---- a cell goes, or names another value
 
 -- what a cell refers to is its target
 refers_target : {T : Type 0} (q : Name) (c : Option (Cell T))
-    → refers_to q c ≡ is_target (target_in c) q
+    → refers_to q c ≡ is_target (target_name_in c) q
 refers_target q c = grind arith
 
 -- the slots once what a name refers to, if it's live and shared, counts the reference no more
@@ -321,7 +321,7 @@ may_fall None f = (tt, tt)
 may_fall (Some m) f = (f.within, f.some)
 
 forgotten : {T : Type 0} (slots : List (Entry T)) → AreReferred (λ m. 0) slots → (n : Name)
-    → (target : Option Name) → target ≡ target_in (map.get (cells_of slots) n)
+    → (target : Option Name) → target ≡ target_name_in (map.get (cells_of slots) n)
     → IsForgotten slots target (shared_target slots target)
 forgotten slots r n None is = record { within = tt; some = tt; counted = r }
 forgotten {T} slots r n (Some m) is = by (is_shared (cell_under slots m)) refl
@@ -332,7 +332,7 @@ forgotten {T} slots r n (Some m) is = by (is_shared (cell_under slots m)) refl
         → IsForgotten slots (Some m) (cond b (Some m) None)
     by true shared =
         let t = has_shared slots m (rw (get_cells slots m) shared) in
-        let f = found slots n (λ c. is_some (target_in c)) refl (ap is_some (sym is)) in
+        let f = found slots n (λ c. is_some (target_name_in c)) refl (ap is_some (sym is)) in
         let names : refers_to m (cell_of f.kept) ≡ true =
         grind (arith, refers_target, name_here, f.cell) in
         let some = many_some (refers m) slots n.slot _ f.there names in
@@ -366,13 +366,13 @@ pub record Leaves {T : Type 0} (slots : List (Entry T)) (start peak spare : ℕ)
   pub less : IsRecounted slots (count_less slots named)
   pub view : record { state = state_of start peak (count_less slots named); spare = spare } ≡ now
   pub cell : IsFound (count_less slots named) n
-  pub forgets : IsForgotten slots (target_in (cell_of cell.kept)) named
+  pub forgets : IsForgotten slots (target_name_in (cell_of cell.kept)) named
 
 forgets_of : {T : Type 0} {slots : List (Entry T)} {start peak spare : ℕ} {now : SlotsState T}
     (n : Name) {named : Option Name}
     → record { state = state_of start peak slots; spare = spare } ≡ now
     → named ≡ live_target now.state.cells (map.get now.state.cells n) → AreReferred (λ m. 0) slots
-    → IsForgotten slots (target_in (map.get now.state.cells n)) named
+    → IsForgotten slots (target_name_in (map.get now.state.cells n)) named
 forgets_of {slots = slots} n view is r =
     rw (is, live_seen slots view) (forgotten slots r n _ (rw (← view) refl))
 
@@ -406,7 +406,7 @@ module _ {T : Type 0} {slots : List (Entry T)} {start peak spare : ℕ} {now : S
 
     -- what it names then isn't counted yet
     pub left_counts : is_shared (cell_of (k h.cell.kept)) ≡ false
-        → AreReferred (λ q. bit (is_target (target_in (cell_of (k h.cell.kept))) q)) slots_left
+        → AreReferred (λ q. bit (is_target (target_name_in (cell_of (k h.cell.kept))) q)) slots_left
     left_counts plain =
         referred (rekept_written h.cell.spot k) h.forgets.counted (λ q other. rw (
           h.cell.there,
@@ -442,7 +442,7 @@ module _ {T : Type 0} where
     ending_hinders = let all = one_hindered S n linked _ refl in grind arith
 
     -- a reference stays as it is when the value has gone, and then it goes
-    pub reference_goes : {o : Option Name} → o ≡ target_in (map.get S.cells n) → is_some o ≡ true
+    pub reference_goes : {o : Option Name} → o ≡ target_name_in (map.get S.cells n) → is_some o ≡ true
         → Goes (without S d) n (cond (is_some d) None o) (close S (n ∷ []))
     reference_goes {o} is some =
         let ref : (m : Name) × (l : Location) × (map.get S.cells n ≡ Some (Ref m l)) = grind arith in
@@ -454,7 +454,7 @@ module _ {T : Type 0} where
         record { there = grind arith; named = grind arith; alone = grind arith; closes = grind arith }
 
     -- a value ends alone, and what is neither a value nor a reference changes nothing
-    pub value_closes : is_some (target_in (map.get S.cells n)) ≡ false
+    pub value_closes : is_some (target_name_in (map.get S.cells n)) ≡ false
         → without S d ≡ close S (n ∷ [])
     value_closes h = let ends = close_one S.cells n linked _ refl in grind arith
 

@@ -9,13 +9,13 @@ ghost use Rattle.generational_core.specs.Conditions.{IsBounded};
 ghost use Rattle.generational_core.specs.State.{IsSound, Owners};
 ghost use Rattle.store_cells.specs.Entry.{cell_of, is_live};
 ghost use Rattle.store_cells.specs.Entry.Kept.{Empty};
-ghost use Rattle.store_images.specs.Images.{told, IsWhole};
+ghost use Rattle.store_images.specs.Images.{told, IsWholeImage};
 ghost use Rattle.store_slots.specs.ImageSlots.{is_retired_entry, kept_told, slot_told};
 ghost use Rattle.store_slots.specs.ImageSlots.{ArePooled, AreRecounted, HasSmallTarget};
-ghost use Rattle.store_slots.specs.ImageSlots.{HaveSmallTargets, IsWithin};
+ghost use Rattle.store_slots.specs.ImageSlots.{HaveSmallTargets, IsTargetWithin};
 ghost use Rattle.store_slots.specs.SlotsState.{is_spent, with_records, AreReferred};
 
-use crate::counts::Counts;
+use crate::counts::RetiredSlots;
 use crate::slots::Slots;
 use generational_core::{Location, StoreError};
 use std::alloc::Global;
@@ -69,7 +69,7 @@ impl<T: Drop, P: SlotPool> Room<T, P> {
     /// The slots of a whole image. Doesn't allocate.
     pub fn fill(self, image: Image<T>) -> Slots<T, P>
         requires room { self ≡ length image.slots.items }
-        requires whole { IsWhole image }
+        requires whole { IsWholeImage image }
         ensures { with_records result.state image.number map.empty image.next ≡ told image }
     {
         let Room {
@@ -87,7 +87,7 @@ impl<T: Drop, P: SlotPool> Room<T, P> {
         count_references(&mut entries);
         Slots {
             start,
-            counts: Counts::at(retired, peak),
+            counts: RetiredSlots::at(retired, peak),
             entries,
             pool,
         }
@@ -212,7 +212,7 @@ fn push_empty<T: Drop>(entries: &mut Entries<T>, generation: u64)
 fn count_references<T: Drop>(entries: &mut Entries<T>)
     requires none { (k : ℕ) → IfSome (slice_get entries.old.slots k) (λ e. e.references ≡ 0) }
     requires targets { (k : ℕ) → IfSome (slice_get entries.old.slots k)
-        (λ e. IsWithin entries.old.slots (cell_of e.kept)) }
+        (λ e. IsTargetWithin entries.old.slots (cell_of e.kept)) }
     ensures slots { AreRecounted entries.old.slots entries.new.slots }
     ensures counted { AreReferred (λ m. 0) entries.new.slots }
     ensures rooms { entries.new.rooms ≡ entries.old.rooms }
@@ -237,6 +237,6 @@ impl<T: Drop, P: SlotPool> Slots<T, P> {
 
 /// A whole image describes a sound state.
 pub fn whole_images_are_sound<T>(image: &Image<T>)
-    requires { IsWhole image.now }
+    requires { IsWholeImage image.now }
     ensures { IsSound (told image.now) }
 {}

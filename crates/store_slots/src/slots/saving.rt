@@ -9,7 +9,7 @@ ghost use Rattle.generational_core.specs.Names.{Name};
 ghost use Rattle.generational_core.specs.Slots.{slots};
 ghost use Rattle.generational_core.specs.State.{content_at};
 ghost use Rattle.store_cells.specs.Entry.{content_in};
-ghost use Rattle.store_images.specs.Images.{told, IsWhole};
+ghost use Rattle.store_images.specs.Images.{told, IsWholeImage};
 ghost use Rattle.store_images.specs.Saving.{IsStateCopy};
 ghost use Rattle.store_slots.specs.ImageSlots.{AreSlotImages, AreUnborrowed, IsCellImage};
 ghost use Rattle.store_slots.specs.ImageSlots.{kept_told};
@@ -19,7 +19,7 @@ use crate::slots::Slots;
 use generational_core::parts::Borrow;
 use std::alloc::{AllocError, Global};
 use store_cells::entries::Entries;
-use store_cells::entry::Kind;
+use store_cells::entry::CellKind;
 use store_images::{CellImage, Image, SlotImage};
 use store_parts::names::CellName;
 use store_parts::pool::SlotPool;
@@ -43,7 +43,7 @@ impl<T: Drop, P: SlotPool> Slots<T, P> {
         requires none { images.items ≡ [] }
         requires room { slots self.state ≤ vec_capacity images }
         ensures state { told result ≡ with_records self.state number map.empty next }
-        ensures whole { IsWhole result }
+        ensures whole { IsWholeImage result }
     {
         let made = self.entries.len();
         let Slots {
@@ -72,7 +72,7 @@ impl<T: Drop, P: SlotPool> Slots<T, P> {
         requires free { (n : Name) → write_refusal (content_at self.now.state n) ≡ None }
         ensures copy { IfOk result (λ image. IsStateCopy T.is_clone
             (with_records self.now.state number map.empty next) (told image)) }
-        ensures whole { IfOk result IsWhole }
+        ensures whole { IfOk result IsWholeImage }
     {
         let slots = copy_cells(&self.entries, alloc)?;
         Ok(Image {
@@ -139,8 +139,8 @@ fn take_cell<T: Drop>(entries: &mut Entries<T>, name: CellName) -> CellImage<T>
     );
     entries.end(name.slot, false);
     match kind {
-        Kind::Value => CellImage::Value(value, location),
-        Kind::Shared => CellImage::Shared(value, location),
+        CellKind::Value => CellImage::Value(value, location),
+        CellKind::Shared => CellImage::Shared(value, location),
     }
 }
 
@@ -196,7 +196,7 @@ fn copy_cell<T: Drop + Clone>(
     let value = value.clone()?;
     let location = entries.details(name.slot).created_at;
     match entries.kind(name) {
-        Some(Kind::Shared) => Ok(CellImage::Shared(value, location)),
+        Some(CellKind::Shared) => Ok(CellImage::Shared(value, location)),
         _ => Ok(CellImage::Value(value, location)),
     }
 }

@@ -1,5 +1,5 @@
 use Rattle.std.proofs.Common.{◌∙◌}
-use Rattle.generational_sessions.proofs.callers.{same_id_sees}
+use Rattle.generational_laws.proofs.callers.{same_id_sees}
 use Rattle.handles.proofs.cells.peek.Goals as goal
 
 pub returns : goal.returns

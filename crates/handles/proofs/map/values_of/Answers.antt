@@ -1,7 +1,7 @@
 use Rattle.std.proofs.Common.{ap, arith, refl, sym, ◌∙◌, ◌<◌, length, Some}
 use Rattle.std.proofs.lemmas.List.{length-set, take_all}
 use Rattle.std.proofs.lemmas.Option.{slice_get_read}
-use Rattle.generational_sessions.proofs.callers.{get_set_apart}
+use Rattle.generational_laws.proofs.callers.{get_set_apart}
 use Rattle.handles.proofs.Maps.{room_for, values_more}
 use Rattle.handles.proofs.map.values_of.Goals as goal
 

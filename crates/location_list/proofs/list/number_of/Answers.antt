@@ -1,5 +1,5 @@
 use Rattle.std.proofs.Common.{ap, is_some, refl, sym, ◌∙◌}
-use Rattle.location_list.proofs.Keys.{among, found, inserted, placed, stays}
+use Rattle.location_list.proofs.Keys.{among, found, inserted, kept_at, stays}
 use Rattle.location_list.proofs.list.number_of.Goals as goal
 
 pub returns-in-Some-clause-found : goal.returns-in-Some-clause-found
@@ -19,7 +19,7 @@ returns-in-Ok-clause-added g c =
 pub returns-in-Ok-clause-found : goal.returns-in-Ok-clause-found
 returns-in-Ok-clause-found g c =
     let s = c.in-Ok.ensures.stored in
-    rw (← c.of-key.ensures) (placed c.insert_full.new.self.keys c.in-Ok.number c.of-key.result s.0 s.1 s.2)
+    rw (← c.of-key.ensures) (kept_at c.insert_full.new.self.keys c.in-Ok.number c.of-key.result s.0 s.1 s.2)
 
 pub returns-in-Err-clause-absent : goal.returns-in-Err-clause-absent
 returns-in-Err-clause-absent g c = rw (← c.of-key.ensures)

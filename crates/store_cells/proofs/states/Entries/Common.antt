@@ -25,19 +25,19 @@ pub use Rattle.store_cells.specs.Entries.{AreIndexed, AreRoomy, entries_of, entr
 pub use Rattle.store_cells.specs.Entries.{EntryList, full_data, has_index, HasListIndex, index_in}
 pub use Rattle.store_cells.specs.Entries.{index_of, is_lent_data, is_unborrowed_data, IsListable}
 pub use Rattle.store_cells.specs.Entries.{IsListed, IsUnborrowed, kept_data, kind_of, lead_of}
-pub use Rattle.store_cells.specs.Entries.{lent_data, listed_beside, named_by, unread_data}
+pub use Rattle.store_cells.specs.Entries.{lent_data, listed_beside, target_name_of, unread_data}
 pub use Rattle.store_cells.specs.Entry.{cell_in, cell_of, change_entry, content_in, Entry}
 pub use Rattle.store_cells.specs.Entry.{FoundBorrowed, FoundReaders, has_no_borrow}
-pub use Rattle.store_cells.specs.Entry.{is_unborrowed_value, IsAlone, IsReadable, Kept, kind_in}
-pub use Rattle.store_cells.specs.Entry.{lend_to, readers_of, referring, target_in, value_for}
+pub use Rattle.store_cells.specs.Entry.{is_unborrowed_value, IsAlone, IsReadable, Kept, cell_kind_in}
+pub use Rattle.store_cells.specs.Entry.{lend_to, readers_of, referring, target_name_in, value_for}
 pub use Rattle.store_cells.specs.Entry.{with_reader, with_value, without_reader_in}
-pub use Rattle.store_cells.specs.Latest.{AreNoted, borrows_of, cleared, HasWriter, is_noted}
+pub use Rattle.store_cells.specs.Latest.{AreBorrowsNoted, borrows_of, cleared, HasWriter, is_noted}
 pub use Rattle.store_cells.specs.Latest.{is_noted_at, is_reader, is_writer, IsNoted, may_note}
 pub use Rattle.store_cells.specs.declared.entry.EntryDetails.{EntryDetails}
 pub use Rattle.store_cells.specs.declared.entry.StorageEntry.{StorageEntry}
 pub use Rattle.store_cells.specs.declared.entry.StorageEntryData.{StorageEntryData}
 pub use Rattle.store_cells.specs.declared.latest.LastBorrow.{LastBorrow}
-pub use Rattle.store_cells.specs.{Data.data_in, Entry.Kept.Empty, declared.entry.Kind.Kind}
+pub use Rattle.store_cells.specs.{Data.data_in, Entry.Kept.Empty, declared.entry.CellKind.CellKind}
 pub use Rattle.store_cells.specs.{Entry.Kept.Live, declared.latest.Noted.Noted, Latest.noted_at}
 pub use Rattle.store_cells.specs.{Data.SlotData, Entries.unread_in}
 unfoldable pub use Rattle.store_cells.specs.Entries.{entries_from}
@@ -45,5 +45,5 @@ pub use Rattle.store_parts.proofs.records.lists.{bit, contains-insert_at, contai
 pub use Rattle.store_parts.proofs.records.lists.{fewer_within, IsWritten, passes, push_written}
 pub use Rattle.store_parts.proofs.records.lists.{set-own, set_written}
 pub use Rattle.store_parts.specs.Table.{IsClosed, IsUsed, IsVacant, list_at, no_index, put_list}
-pub use Rattle.store_parts.specs.{Borrows.AreBelow, Lists.how_many, CellNames.name_of_cell}
+pub use Rattle.store_parts.specs.{Borrows.AreTicketsBelow, Lists.how_many, CellNames.name_of_cell}
 pub use Rattle.store_parts.specs.{Table.Releases, Table.Table}

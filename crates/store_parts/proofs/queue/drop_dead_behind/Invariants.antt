@@ -1,12 +1,12 @@
-use Rattle.store_parts.proofs.{standing_at, StandsAt, TicketsAscend, ◌≡◌}
+use Rattle.store_parts.proofs.{standing_in, StandsAt, TicketsAscend, ◌≡◌}
 use Rattle.store_parts.proofs.queue.drop_dead_behind.Given as goal
 
 -- the active borrows are the same, and the first lives
-abbrev pub invariant-loop-place : goal.invariant-loop-place
-invariant-loop-place l =
-    (standing_at l.places.items ≡ standing_at l.fn.places.items)
-    × TicketsAscend l.places.items
-    × StandsAt 0 l.places.items
+abbrev pub invariant-loop-seat : goal.invariant-loop-seat
+invariant-loop-seat l =
+    (standing_in l.seats.items ≡ standing_in l.fn.seats.items)
+    × TicketsAscend l.seats.items
+    × StandsAt 0 l.seats.items
 
-abbrev pub decreases-loop-place : goal.decreases-loop-place
-decreases-loop-place l = l.places.len
+abbrev pub decreases-loop-seat : goal.decreases-loop-seat
+decreases-loop-seat l = l.seats.len

@@ -1,15 +1,15 @@
 use Rattle.store_parts.proofs.{get_or_read, HasTicketAt, length, list_any, nat_eq, rules, search_finds}
-use Rattle.store_parts.proofs.{search_misses, standing_at, stands_there, sym, ◌<◌, ◌∙◌, ◌≡◌}
+use Rattle.store_parts.proofs.{search_misses, standing_in, stands_there, sym, ◌<◌, ◌∙◌, ◌≡◌}
 use Rattle.store_parts.proofs.queue.find.Goals as goal
 use Rattle.store_parts.proofs.queue.find.Goals.{After-index}
 
-found : (c : After-index) → (c.in-Ok.index < length c.args.places.now.items)
-    × HasTicketAt c.args.ticket c.args.places.now.items c.in-Ok.index
+found : (c : After-index) → (c.in-Ok.index < length c.args.seats.now.items)
+    × HasTicketAt c.args.ticket c.args.seats.now.items c.in-Ok.index
 found c = search_finds c.args.ticket _ c.requires (λ f p r f' called. search rules)
-    c.in-Ok.index _ c.in-Ok.ensures.bound c.args.places.now.ok.0 c.in-Ok.ensures.position
+    c.in-Ok.index _ c.in-Ok.ensures.bound c.args.seats.now.ok.0 c.in-Ok.ensures.position
 
 known : (c : After-index) → list_any (λ b. nat_eq b.ticket c.args.ticket)
-    (standing_at c.args.places.now.items)
+    (standing_in c.args.seats.now.items)
     ≡ c.index.result.now.stands
 known c =
     let at = found c in

@@ -1,4 +1,4 @@
--- The names of machine and store that most proofs here cite, passed on from one place.
+-- The names of machine and store that most proofs here cite, passed on from one file.
 use Rattle.store_parts.specs
 use Rattle.std.proofs
 pub use proofs.Common.{OnErr, option_to_list, Result, All, ap, append-nil, arith, Bool, Bor, cond}
@@ -27,14 +27,14 @@ pub use Rattle.std.specs.{Fn.Called, Fn.ComputesKey, Vec.vec_len, VecDeque.Iter.
 pub use Rattle.std.specs.{Map.keys_of, Map.lookup, Option.option_or}
 pub use Rattle.std.specs.List.{AllByRecursion, filter, list_any, remove}
 pub use Rattle.std.specs.List.Sorted.{IsBinarySearchResult, IsNonDecreasingBy}
-pub use specs.{Borrows.AreBelow, declared.names.CellName.CellName, CellNames.name_of_cell}
-pub use specs.{Lists.how_many, Pools.chain, Pools.IsPool, Pools.last_of}
-pub use specs.OwnerPlaces.{ArePlaced, change_place, change_record, change_record_if}
-pub use specs.OwnerPlaces.{HasDistinctKeys, HasRecord, HasRoom, is_vacant, key_at, IsPlaceOf, IsReserved}
-pub use specs.OwnerPlaces.{IsFilledWith, keyed_ownerships, KeyedOwnership, Place, place_rows, record_at}
-pub use specs.OwnerPlaces.{record_in, Records, with_ownership, with_rooms}
+pub use specs.{Borrows.AreTicketsBelow, declared.names.CellName.CellName, CellNames.name_of_cell}
+pub use specs.{Lists.how_many, Pools.slot_chain, Pools.IsPool, Pools.last_slot_of}
+pub use specs.KeptRecords.{AreSoundRecords, change_ownership, change_record, change_record_if}
+pub use specs.KeptRecords.{HasDistinctKeys, HasRecord, HasNameRoom, is_vacant, owner_key_in, IsPositionOf, IsReserved}
+pub use specs.KeptRecords.{IsFilledWith, keyed_ownerships, KeyedOwnership, MaybeRecord, rows_of_record, record_at}
+pub use specs.KeptRecords.{record_in, KeptOwners, with_ownership, with_rooms}
 pub use specs.OwnerRecords.{add_to_list_in, record_of}
-pub use specs.Queues.{HasTicketAt, AreKept, IsOwnPlace, IsQueue, standing_at, StandsAt}
+pub use specs.Queues.{HasTicketAt, AreSeatsKept, IsOwnSeat, IsQueue, standing_in, StandsAt}
 pub use specs.Queues.{TicketsAscend}
 pub use specs.Table.{IsTable}
 pub use Rattle.generational_core.proofs.maps.Maps.{by_number, changed_there, insert_there}
@@ -45,5 +45,5 @@ pub use Rattle.generational_core.specs.State.{one_less, one_listed, one_more, Ow
 pub use Rattle.generational_core.specs.declared.{borrow.Borrow.Borrow, rows.BaseRow.BaseRow}
 pub use denote.Param.Members.{Mut}
 unfoldable pub use Rattle.std.specs.{List.IsDistinct, List.Sorted.IsStrictlySortedBy}
-unfoldable pub use Rattle.store_parts.specs.OwnerPlaces.{owners_of}
+unfoldable pub use Rattle.store_parts.specs.KeptRecords.{owners_of}
 unfoldable pub use Rattle.generational_core.specs.Names.{change}

@@ -2,7 +2,7 @@
 pub mod Common
 use Rattle.std.specs.FinMap as map
 use Rattle.std.specs.FinSet as set
-use Rattle.store_cells.specs.declared.entry.Kind.TheVariants as kind
+use Rattle.store_cells.specs.declared.entry.CellKind.TheVariants as kind
 unfoldable pub use Common.*
 
 -- ==== the state that a store's slots represent: what is at a name, which names were issued, and how many
@@ -239,7 +239,7 @@ module _ {T : Type 0} where
         rw (← view) (ap (λ p. state_of start p slots) unused
         ∙ new_state start slots (nil_from_length slots none))
 
-    pub none_of_fresh : ((k : ℕ) → HasBegun start (slice_get slots k)) → IsFresh S
+    pub none_of_fresh : ((k : ℕ) → EntryHasBegun start (slice_get slots k)) → IsFresh S
         → length slots ≡ 0
     none_of_fresh begun f = at slots (begun 0) (sym (get_given start slots first)
         ∙ (ap (λ (X : State T). set.contains X.given first) (view ∙ f)
@@ -248,7 +248,7 @@ module _ {T : Type 0} where
         first : Name
         first = record { slot = 0; generation = start }
 
-        at : (xs : List (Entry T)) → HasBegun start (slice_get xs 0)
+        at : (xs : List (Entry T)) → EntryHasBegun start (slice_get xs 0)
             → given_in start (slice_get xs 0) start ≡ false → length xs ≡ 0
         at [] b g = refl
         at (e ∷ es) b g = grind (arith, nat_tests)
@@ -337,7 +337,7 @@ module _ {T : Type 0} {slots after : List (Entry T)} {i : ℕ} {t : Entry T}
 module _ {T : Type 0} {p : SlotTable T} (s : IsSlotTable p) {after : List (Entry T)} {i : ℕ}
     {t : Entry T} (w : IsWritten p.slots after i t) where
   -- if the counts are right
-  pub slotted : (free : set.FinSet nat_cmp) (rooms : ℕ) (counts : Count)
+  pub slotted : (free : set.FinSet nat_cmp) (rooms : ℕ) (counts : UsableCount)
       → ((k : ℕ) → set.contains free k ≡ cond (nat_eq k i) (is_spent t) (set.contains p.free k))
       → set.len free + bit (is_reusable (slice_get p.slots i)) ≡ set.len p.free + bit (is_spent t)
       → counts.usable + bit (passes (λ e. is_live e.kept) (slice_get p.slots i))
@@ -351,7 +351,7 @@ module _ {T : Type 0} {p : SlotTable T} (s : IsSlotTable p) {after : List (Entry
         (rw (pooled i, eq-eqb i i refl) refl)
         (λ k other. rw (pooled k, ne_eqb k i other) (s.pooled k));
     roomy = roomy;
-    begun = each_after w (λ k o. HasBegun p.start o) begun (λ k other. s.begun k);
+    begun = each_after w (λ k o. EntryHasBegun p.start o) begun (λ k other. s.begun k);
     counted = let e = w.count (λ e. is_live e.kept) in let c = s.counted in omega arith;
     stocked = let e = w.count is_spent in let c = s.stocked in omega arith;
     few = few;
@@ -390,7 +390,7 @@ pub record IsFound {T : Type 0} (slots : List (Entry T)) (n : Name) : Type 0 whe
 
 -- if it has a value or has lent one
 pub record IsHeld {T : Type 0} (slots : List (Entry T)) (n : Name) : Type 0 where
-  pub kind : Kind
+  pub kind : CellKind
   pub content : Content T
   pub created : Location
   pub spot : IsKept slots n (Live kind content created)
@@ -429,7 +429,7 @@ module _ {T : Type 0} where
   held slots n h =
       let f = found slots n (λ o. is_some (content_of o)) refl h in
       let holds = rw f.cell at h in
-      let is : (kd : Kind) × (c : Content T) × (l : Location) × (f.kept ≡ Live kd c l) = grind arith in
+      let is : (kd : CellKind) × (c : Content T) × (l : Location) × (f.kept ≡ Live kd c l) = grind arith in
       record { kind = is.0; content = is.1; created = is.2; spot = rw is.3 at f.spot }
 
 -- something else is kept in it
@@ -459,7 +459,7 @@ module _ {T : Type 0} {slots : List (Entry T)} {n : Name} {kept : Kept T} (f : I
 module _ {T : Type 0} {slots : List (Entry T)} {n : Name} (f : IsHeld slots n)
     (h : Content T → Content T) where
   abbrev pub changed : List (Entry T)
-  changed = rekept f.spot (with_content h)
+  changed = rekept f.spot (with_cell_content h)
 
   -- another content is the machine's
   pub state_changed : (start peak : ℕ)
@@ -467,15 +467,15 @@ module _ {T : Type 0} {slots : List (Entry T)} {n : Name} (f : IsHeld slots n)
   state_changed start peak =
       let own = live_cells f.kind f.content (h f.content) f.created in
       rw (changed_there by_name (cells_of slots) n (refill (h f.content)) own.0 (f.cell ∙ own.1))
-      (rekept_state f.spot (with_content h) start peak (rekept_put f.spot (with_content h) _ own.2))
+      (rekept_state f.spot (with_cell_content h) start peak (rekept_put f.spot (with_cell_content h) _ own.2))
     where
-      live_cells : (k : Kind) (c d : Content T) (l : Location) → (x : Cell T)
+      live_cells : (k : CellKind) (c d : Content T) (l : Location) → (x : Cell T)
           × (cell_of (Live k c l) ≡ Some x) × (cell_of (Live k d l) ≡ Some (refill d x))
       live_cells kind.Value c d l = (_, refl, refl)
       live_cells kind.Shared c d l = (_, refl, refl)
 
   pub referred_changed : {less : Name → ℕ} → AreReferred less slots → AreReferred less changed
-  referred_changed r = referred (rekept_written f.spot (with_content h)) r
+  referred_changed r = referred (rekept_written f.spot (with_cell_content h)) r
       (λ q other. rw f.there (grind arith))
       (λ shared. let own = rw f.there at (r.each n.slot) in rw f.there (grind (arith, own)))
 
@@ -491,7 +491,7 @@ module _ {T : Type 0} {slots : List (Entry T)} {n : Name} (f : IsFound slots n) 
 
 module _ {T : Type 0} {p : SlotTable T} (s : IsSlotTable p) where
   -- the counts with one usable slot less
-  abbrev pub lowered : Count
+  abbrev pub lowered : UsableCount
   lowered = record p.counts { usable = p.counts.usable - 1 }
 
   module _ {n : Name} (f : IsFound p.slots n) where
@@ -541,9 +541,9 @@ module _ {T : Type 0} {p : SlotTable T} (s : IsSlotTable p) where
 
 -- one more of the slots that were made is retired
 pub one_retired : (r now : Retirements) (made : ℕ) → now.retired ≡ r.retired + 1
-    → now.before ≡ (count_of r made).peak
-    → count_of now made
-    ≡ record { usable = (count_of r made).usable - 1; peak = (count_of r made).peak }
+    → now.before ≡ (usable_count r made).peak
+    → usable_count now made
+    ≡ record { usable = (usable_count r made).usable - 1; peak = (usable_count r made).peak }
 one_retired r now made more most = grind arith
 
 -- what holds of a store's slots, and of the room for them
@@ -553,7 +553,7 @@ Invariant free rooms start r entries = IsSlotTable (record {
   free = free;
   rooms = rooms;
   start = start;
-  counts = count_of r (length entries.slots);
+  counts = usable_count r (length entries.slots);
   slots = entries.slots;
 })
     × (rooms ≤ entries.rooms) × AreReferred (λ m. 0) entries.slots
@@ -565,8 +565,8 @@ pub invariant_changed : {T : Type 0} {free : set.FinSet nat_cmp} {rooms start : 
     (h : Content T → Content T) → Invariant free rooms start r before
     → after.slots ≡ changed f h → after.rooms ≡ before.rooms → Invariant free rooms start r after
 invariant_changed r f h inv slots rooms =
-    let long = rekept_length f.spot (with_content h) in rw (slots, rooms, long) (
-      slotted_still inv.0 (rekept_written f.spot (with_content h)) f.there refl refl long,
+    let long = rekept_length f.spot (with_cell_content h) in rw (slots, rooms, long) (
+      slotted_still inv.0 (rekept_written f.spot (with_cell_content h)) f.there refl refl long,
       inv.1,
       referred_changed f h inv.2,
       inv.3,
@@ -595,13 +595,13 @@ module _ {T : Type 0} {now : SlotsState T} {start peak spare : ℕ} (slots : Lis
   cell_seen n = rw (← view) (sym (get_cells slots n))
 
   -- what a name refers to
-  pub target_told : (n : Name) {o : Option Name} → o ≡ target_in (cell_under slots n)
-      → o ≡ target_in (map.get now.state.cells n)
-  target_told n told = told ∙ ap target_in (cell_seen n)
+  pub target_told : (n : Name) {o : Option Name} → o ≡ target_name_in (cell_under slots n)
+      → o ≡ target_name_in (map.get now.state.cells n)
+  target_told n told = told ∙ ap target_name_in (cell_seen n)
 
   -- a shared value that a cell names is live if the slots have it
   pub live_seen : (c : Option (Cell T))
-      → live_target now.state.cells c ≡ shared_target slots (target_in c)
+      → live_target now.state.cells c ≡ shared_target slots (target_name_in c)
   live_seen a0 = grind (arith, cell_seen)
 
   -- if the slots have no content there, the state has none
@@ -638,11 +638,11 @@ module _ {T : Type 0} {now : SlotsState T} {start peak spare : ℕ} {slots : Lis
 -- another content, for what the state sees
 pub changed_state : {T : Type 0} {now : SlotsState T} {start spare : ℕ} (r : Retirements)
     {slots after : List (Entry T)} {n : Name}
-    → record { state = state_of start (count_of r (length slots)).peak slots; spare = spare } ≡ now
+    → record { state = state_of start (usable_count r (length slots)).peak slots; spare = spare } ≡ now
     → (f : IsSeen slots now.state n) (h : Content T → Content T) → after ≡ changed f.held h
-    → state_of start (count_of r (length after)).peak after ≡ fill now.state n (h f.content)
+    → state_of start (usable_count r (length after)).peak after ≡ fill now.state n (h f.content)
 changed_state r view f h is =
-    rw (is, rekept_length f.spot (with_content h), ← view) (state_changed f.held h _ _)
+    rw (is, rekept_length f.spot (with_cell_content h), ← view) (state_changed f.held h _ _)
 
 -- what holds of a result's two ways
 pub either : {A E : Type 0} (r : Result A E) {P Q X : Type 0} → OnOk r P → OnErr r Q → (P → X)

@@ -2,7 +2,7 @@
 use Rattle.store_cells.proofs.{ap, data_in, EntryDetails, EntryList, found, IsAt, kept, listed, no_read}
 use Rattle.store_cells.proofs.{read_borrows, released, seen, set-own, still_read, unread, used_at}
 use Rattle.std.proofs.Common.{vec_capacity}
-use Rattle.store_cells.specs.declared.entry.Kind.TheVariants as kind
+use Rattle.store_cells.specs.declared.entry.CellKind.TheVariants as kind
 use Rattle.store_cells.proofs.entries.Entries.release_listed.Goals as goal
 use Rattle.store_cells.proofs.entries.Entries.release_listed.Goals.{After-index_mut}
 

@@ -1,5 +1,5 @@
 -- The first slot is taken, and its link leads to the others.
-use Rattle.store_parts.proofs.{arith, chain, chain_read, contains-insert_at, eq-eqb, first_within, members_take}
+use Rattle.store_parts.proofs.{arith, slot_chain, chain_read, contains-insert_at, eq-eqb, first_within, members_take}
 use Rattle.store_parts.proofs.{pool_take, refl, ◌-◌, ◌<◌, ◌∷◌, ◌≡◌}
 use Rattle.store_parts.proofs.free_list.FreeList.take.Goals as goal
 use Rattle.store_parts.proofs.free_list.FreeList.take.Goals.{else-self-gt1, Joined-self-gt1, then-self-gt1}
@@ -11,8 +11,8 @@ index-requires c =
     omega (arith, c.self.inside.links.ok.0, within)
 
 begins : (c : Joined-self-gt1)
-    → (chain c.self.inside.links.items c.self.inside.first c.self.inside.count ≡ c.self.inside.first
-    ∷ chain c.if-self-gt1.self-inside.links.items c.if-self-gt1.self-inside.first (c.if-self-gt1.self-inside.count - 1))
+    → (slot_chain c.self.inside.links.items c.self.inside.first c.self.inside.count ≡ c.self.inside.first
+    ∷ slot_chain c.if-self-gt1.self-inside.links.items c.if-self-gt1.self-inside.first (c.if-self-gt1.self-inside.count - 1))
     × (c.if-self-gt1.self-inside.links ≡ c.self.inside.links)
 begins c =
     let some : 0 < c.self.inside.count = omega (arith, c.if-self-eq0.false) in

@@ -5,7 +5,7 @@ pub invariant_of-self : goal.invariant_of-self
 invariant_of-self c =
     rw (c.in-Some.ensures.taken, c.take.ensures.rooms)
     (filled c.self.invariant _ c.new-added.ensures.key c.new-added.ensures.held
-    (rw (← c.self.view_is) at c.requires) c.in-Some.place c.in-Some.ensures.member).placed
+    (rw (← c.self.view_is) at c.requires) c.in-Some.position c.in-Some.ensures.member).sound
 
 pub invariant_of-self-in-None : goal.invariant_of-self-in-None
 invariant_of-self-in-None c =
@@ -13,16 +13,16 @@ invariant_of-self-in-None c =
     rw (made.pool, c.in-None.ensures.unchanged, c.push_reserved.ensures.items, made.slots)
     (added c.self.invariant _ c.new-added.ensures.key c.new-added.ensures.held
     (rw (← c.self.view_is) at c.requires) c.make_room.new.pool.rooms
-    (omega (arith, ap length made.slots, c.in-Ok.ensures.grown, c.make_room.new.slots.ok.0))).placed
+    (omega (arith, ap length made.slots, c.in-Ok.ensures.grown, c.make_room.new.slots.ok.0))).sound
 
 pub returns-in-Some-clause-ok : goal.returns-in-Some-clause-ok
 returns-in-Some-clause-ok c = rw (← c.self.view_is)
     (filled c.self.invariant _ c.new-added.ensures.key c.new-added.ensures.held
-    (rw (← c.self.view_is) at c.requires) c.in-Some.place c.in-Some.ensures.member).owners
+    (rw (← c.self.view_is) at c.requires) c.in-Some.position c.in-Some.ensures.member).owners
 
 pub returns-in-Ok-clause-ok : goal.returns-in-Ok-clause-ok
 returns-in-Ok-clause-ok c =
     rw (c.push_reserved.ensures.items, c.make_room.ensures.slots, ← c.self.view_is)
     (added c.self.invariant _ c.new-added.ensures.key c.new-added.ensures.held
-    (rw (← c.self.view_is) at c.requires) (length c.self.inside.places.items + 1)
+    (rw (← c.self.view_is) at c.requires) (length c.self.inside.records.items + 1)
     (omega arith)).owners

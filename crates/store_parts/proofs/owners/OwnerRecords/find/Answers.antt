@@ -10,7 +10,7 @@ returns-in-None-clause-record c =
 pub index-requires : goal.index-requires
 index-requires c =
     let within = record_within c.self.invariant _ _ c.in-Some.ensures.found in
-    omega (arith, within, c.self.inside.places.ok.0)
+    omega (arith, within, c.self.inside.records.ok.0)
 
 pub unreachable-requires : goal.unreachable-requires
 unreachable-requires c =
@@ -22,10 +22,10 @@ returns-clause-record c = rw (← c.self.view_is)
     (ap (option_map (λ (r : KeyedOwnership). r.ownership)) (sym c.in-Some-index.is)
     ∙ record_found c.args.number c.args.owner.now
     (sym c.number_of.ensures ∙ c.if-number_of-number.false)
-    _ c.self.invariant c.in-Some.place c.in-Some.ensures.found c.index.result.now c.index.ensures)
+    _ c.self.invariant c.in-Some.position c.in-Some.ensures.found c.index.result.now c.index.ensures)
 
-pub returns-clause-place : goal.returns-clause-place
-returns-clause-place c = rw (← c.self.view_is)
+pub returns-clause-position : goal.returns-clause-position
+returns-clause-position c = rw (← c.self.view_is)
     (value_there c.self.invariant _ _ c.in-Some.ensures.found _ c.index.ensures
     ∙ ap Some c.in-Some-index.is)
 

@@ -3,20 +3,20 @@ use Rattle.store_parts.proofs.owners.rows.push_rows_at.Goals as goal
 
 pub returns-in_default : goal.returns-in_default
 returns-in_default c = rw (
-  slice_get_past c.args.places.now c.args.place (omega (arith, c.in_default.ensures.lookup.3)),
+  slice_get_past c.args.records.now c.args.position (omega (arith, c.in_default.ensures.lookup.3)),
   append-nil c.args.rows.now.items,
 ) refl
 
 pub returns-in-Some-found : goal.returns-in-Some-found
 returns-in-Some-found c =
     let found = c.in-Some.ensures.lookup in
-    rw (slice_get_read c.args.places.now _ c.args.place c.in-Some.found.now refl found.3.0 found.1
+    rw (slice_get_read c.args.records.now _ c.args.position c.in-Some.found.now refl found.3.0 found.1
     ∙ ap Some c.in-Some-found.is) c.push_rows.ensures
 
 pub returns-in-None : goal.returns-in-None
 returns-in-None c =
     let found = c.in-Some.ensures.lookup in
     rw (
-      slice_get_read c.args.places.now _ c.args.place c.in-Some.found.now refl found.3.0 found.1 ∙ ap Some c.in-None.is,
+      slice_get_read c.args.records.now _ c.args.position c.in-Some.found.now refl found.3.0 found.1 ∙ ap Some c.in-None.is,
       append-nil c.args.rows.now.items,
     ) refl

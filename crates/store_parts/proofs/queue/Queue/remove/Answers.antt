@@ -3,8 +3,8 @@ use Rattle.store_parts.proofs.{arith, kept_queue, Left, left, none_left, standin
 use Rattle.store_parts.proofs.queue.Queue.remove.Goals as goal
 use Rattle.store_parts.proofs.queue.Queue.remove.Goals.{After-drop_dead_behind}
 
-gone : (c : After-drop_dead_behind) → Left c.self.inside.places.items
-    c.drop_dead_behind.new.places.items
+gone : (c : After-drop_dead_behind) → Left c.self.inside.seats.items
+    c.drop_dead_behind.new.seats.items
     c.self.inside.live c.args.ticket
 gone c = left _ _ _ _ c.args.ticket _ c.self.invariant c.in-Some.ensures.there
     (c.drop_dead_behind.ensures.same ∙ c.drop_dead_before.ensures.same)
@@ -17,7 +17,7 @@ returns-in_default-clause-after c =
 pub overflow_sub-len : goal.overflow_sub-len
 overflow_sub-len c =
     let l = gone (goal.at.overflow_sub-len c).After-drop_dead_behind in
-    omega (arith, l.within, c.len.ensures, c.drop_dead_behind.new.places.ok.0)
+    omega (arith, l.within, c.len.ensures, c.drop_dead_behind.new.seats.ok.0)
 
 pub invariant_of-self : goal.invariant_of-self
 invariant_of-self c =
@@ -32,7 +32,7 @@ invariant_of-self-else-len-self c =
       count = l.count;
       first = now.first;
       last = now.last;
-      half = omega (arith, c.if-len-self.false, c.len.ensures, c.drop_dead_behind.new.places.ok.0);
+      half = omega (arith, c.if-len-self.false, c.len.ensures, c.drop_dead_behind.new.seats.ok.0);
     }
 
 pub returns-then-len-self-clause-after : goal.returns-then-len-self-clause-after

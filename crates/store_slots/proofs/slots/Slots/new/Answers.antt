@@ -1,4 +1,4 @@
-use Rattle.store_slots.proofs.{ap, arith, count_of, length, nat_cmp, new_state, refl, slotted_new}
+use Rattle.store_slots.proofs.{ap, arith, usable_count, length, nat_cmp, new_state, refl, slotted_new}
 use Rattle.store_slots.proofs.{◌∙◌, ◌≡◌}
 use Rattle.std.specs.FinSet as set
 use Rattle.store_slots.proofs.slots.Slots.new.Goals as goal
@@ -15,7 +15,7 @@ invariant_of-result g c =
 pub returns : goal.returns
 returns g c =
     let none = ap (λ s. s.slots) c.new-2.ensures in
-    let unused : (count_of c.new.result (length c.new-2.result.slots)).peak ≡ 0 =
+    let unused : (usable_count c.new.result (length c.new-2.result.slots)).peak ≡ 0 =
     rw (c.new.ensures, none) refl in
     let empty = ap set.len c.new-3.ensures.empty ∙ set.len-empty nat_cmp in record {
       state = rw unused (new_state c.args.start _ none);

@@ -4,7 +4,7 @@ use Rattle.store_slots.proofs.{counted_up, Entry, has_shared, HasShared, IfSome,
 use Rattle.store_slots.proofs.{IsUncounted, leaves, Leaves, left_counts, left_length, left_state, length, List}
 use Rattle.store_slots.proofs.{live_target, Location, may_rise, Name, name_of_cell, Ref, reference_to, referring}
 use Rattle.store_slots.proofs.{Refers, refl, rekept_length, rekept_put, rekept_written, slice_get, slots_left}
-use Rattle.store_slots.proofs.{SlotsState, slotted_still, Some, state_of, still_shared, sym, target_in, true, ℕ, ◌∙◌}
+use Rattle.store_slots.proofs.{SlotsState, slotted_still, Some, state_of, still_shared, sym, target_name_in, true, ℕ, ◌∙◌}
 use Rattle.store_slots.proofs.{◌≡◌}
 use Rattle.std.specs.FinMap as map
 use Rattle.store_slots.proofs.slots.Slots.redirect.Goals as goal
@@ -20,7 +20,7 @@ record Redirects {T : Type 0} (slots : List (Entry T)) (start peak spare : ℕ) 
 
 redirects : {T : Type 0} {slots : List (Entry T)} {start peak spare : ℕ} {now : SlotsState T}
     {n m o : Name} → record { state = state_of start peak slots; spare = spare } ≡ now
-    → IsLinked now.state.cells → target_in (map.get now.state.cells n) ≡ Some o
+    → IsLinked now.state.cells → target_name_in (map.get now.state.cells n) ≡ Some o
     → is_shared (map.get now.state.cells m) ≡ true → AreReferred (λ q. 0) slots
     → Redirects slots start peak spare now n m o
 redirects {now = now} {n = n} {m = m} {o = o} v linked r s counts =

@@ -51,12 +51,12 @@ pub use Rattle.std.specs.List.{AllByRecursion, list_all, list_any}
 pub use Rattle.std.specs.{Cmp.both_ways, Ordering.eq_by_cmp, Cmp.nat_cmp_total, Option.option_or}
 unfoldable pub use Rattle.std.specs.List.{IsDistinct}
 pub use Rattle.store_cells.proofs.states.{err_from, ok_then, readable, unrefused}
-pub use Rattle.store_cells.specs.Entries.{EntryList, IsUnborrowed, kept_data, named_by}
+pub use Rattle.store_cells.specs.Entries.{EntryList, IsUnborrowed, kept_data, target_name_of}
 pub use Rattle.store_cells.specs.Entry.{cell_in, cell_of, cell_under, change_entry, content_in}
 pub use Rattle.store_cells.specs.Entry.{Entry, has_no_borrow, is_live, is_unborrowed_value, Kept}
-pub use Rattle.store_cells.specs.Entry.{less_read, one_read, referring, target_in, with_content}
+pub use Rattle.store_cells.specs.Entry.{less_read, one_read, referring, target_name_in, with_cell_content}
 pub use Rattle.store_cells.specs.Entry.Kept.{Empty, Live, Refers}
-pub use Rattle.store_cells.specs.{declared.entry.Kind.Kind, Data.SlotData}
+pub use Rattle.store_cells.specs.{declared.entry.CellKind.CellKind, Data.SlotData}
 use Rattle.store_parts.proofs.records.lists
 pub use lists.{bit, cond_same, contains-insert_at, contains-remove_at, contains_own, count_all}
 pub use lists.{IsWritten, len_passing, many_some, many_within, number_test, passes, push_written}
@@ -65,9 +65,9 @@ pub use Rattle.store_parts.specs.declared.names.CellName.{CellName}
 pub use Rattle.store_parts.specs.{Lists.how_many, CellNames.name_of_cell}
 pub use Rattle.store_slots.specs.Removal.{live_target}
 pub use Rattle.store_slots.specs.SlotRows.{all_slot_rows, entry_rows, rows_from}
-pub use Rattle.store_slots.specs.SlotsState.{AreReferred, borrowed_at, content_reached, Count}
-pub use Rattle.store_slots.specs.SlotsState.{count_less, count_more, count_of, given_from}
-pub use Rattle.store_slots.specs.SlotsState.{has_other_count, HasBegun, is_reusable, is_spent}
+pub use Rattle.store_slots.specs.SlotsState.{AreReferred, borrowed_at, content_reached, UsableCount}
+pub use Rattle.store_slots.specs.SlotsState.{count_less, count_more, usable_count, given_from}
+pub use Rattle.store_slots.specs.SlotsState.{has_other_count, EntryHasBegun, is_reusable, is_spent}
 pub use Rattle.store_slots.specs.SlotsState.{IsReferred, IsSlotTable, IsTurned, live_from, names_up}
 pub use Rattle.store_slots.specs.SlotsState.{reached, refers, refusal_of, Retirements}
 pub use Rattle.store_slots.specs.SlotsState.{SlotsState, SlotTable, state_of}
