@@ -1,0 +1,2 @@
+pub mod Stamping
+unfoldable pub use Stamping.*
