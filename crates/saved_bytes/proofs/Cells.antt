@@ -6,7 +6,7 @@ use Rattle.store_images.specs.declared.image.CellImage.TheVariants as saved
 use Rattle.saved_bytes.specs.Forms.{Form, IsForm, spell}
 use Rattle.saved_bytes.specs.Forms.Form.{Number, Both}
 use Rattle.saved_bytes.specs.Images.{cell_form, saved_cell_fields, saved_cell_form, saved_cell_tag}
-use Rattle.saved_bytes.specs.Places.{place_of, saved_location_form}
+use Rattle.saved_bytes.specs.FileNames.{file_index, saved_location_form}
 use Rattle.saved_bytes.specs.Reading.{ReadsAgain}
 use Rattle.saved_bytes.specs.declared.decode.DecodeError.{DecodeError}
 use Rattle.saved_bytes.specs.declared.decode.DecodeError.TheVariants.{OutOfMemory}
@@ -20,9 +20,9 @@ module _ {T : Type 0} where
   -- the cell in the form of a file with these names
   abbrev pub saved_of : List (List ℕ) → CellImage T → SavedCell T
   saved_of names saved.Empty = file.Empty
-  saved_of names (saved.Value v l) = file.Value ((place_of names l.file.now, (l.line, l.column)), v)
-  saved_of names (saved.Shared v l) = file.Shared ((place_of names l.file.now, (l.line, l.column)), v)
-  saved_of names (saved.Reference s g l) = file.Reference (s, (g, (place_of names l.file.now, (l.line, l.column))))
+  saved_of names (saved.Value v l) = file.Value ((file_index names l.file.now, (l.line, l.column)), v)
+  saved_of names (saved.Shared v l) = file.Shared ((file_index names l.file.now, (l.line, l.column)), v)
+  saved_of names (saved.Reference s g l) = file.Reference (s, (g, (file_index names l.file.now, (l.line, l.column))))
 
   pub saved_same : (names : List (List ℕ)) (form : T → Form) (c : CellImage T) → saved_cell_form form (saved_of names c) ≡ cell_form names form c
   saved_same names form saved.Empty = refl

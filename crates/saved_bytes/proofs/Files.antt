@@ -14,7 +14,7 @@ use Rattle.saved_bytes.specs.Files.{file_of, header}
 use Rattle.saved_bytes.specs.Forms.{Appends, Form, IsForm, items_form, spell}
 use Rattle.saved_bytes.specs.Forms.Form.{Text}
 use Rattle.saved_bytes.specs.Images.{IsSlotNamed, location_in}
-use Rattle.saved_bytes.specs.Places.{is_listed, location_form, place_of, saved_location_form, texts, IsFound, IsKnown, IsRelocated}
+use Rattle.saved_bytes.specs.FileNames.{is_listed, location_form, file_index, saved_location_form, texts, IsFound, IsFileKnown, IsRelocated}
 use Rattle.saved_bytes.specs.Reading.{ArePairwise}
 use Rattle.saved_bytes.proofs.Items.{appends_more}
 
@@ -23,21 +23,21 @@ use Rattle.saved_bytes.proofs.Items.{appends_more}
 next : (names : List (Bor (List ℕ))) (i : ℕ) (d : Bor (List ℕ)) → i < length names → drop i names ≡ get_or names i d ∷ drop (i + 1) names
 next names i d below = rw add-one (drop-cons names i d below)
 
-place_on : (names : List (Bor (List ℕ))) (i : ℕ) (d : Bor (List ℕ)) (text : List ℕ) → i < length names
-    → place_of (texts names) text ≡ i + place_of (texts (drop i names)) text
-    → place_of (texts names) text ≡ i + cond (pointwise nat_eq (get_or names i d).now text) 0 (suc (place_of (texts (drop (i + 1) names)) text))
-place_on names i d text below so_far =
-    subst (λ (l : List (Bor (List ℕ))). place_of (texts names) text ≡ i + place_of (texts l) text) (next names i d below) so_far
+index_on : (names : List (Bor (List ℕ))) (i : ℕ) (d : Bor (List ℕ)) (text : List ℕ) → i < length names
+    → file_index (texts names) text ≡ i + file_index (texts (drop i names)) text
+    → file_index (texts names) text ≡ i + cond (pointwise nat_eq (get_or names i d).now text) 0 (suc (file_index (texts (drop (i + 1) names)) text))
+index_on names i d text below so_far =
+    subst (λ (l : List (Bor (List ℕ))). file_index (texts names) text ≡ i + file_index (texts l) text) (next names i d below) so_far
 
-pub place_more : (names : List (Bor (List ℕ))) (i : ℕ) (d : Bor (List ℕ)) (text : List ℕ) → i < length names
-    → place_of (texts names) text ≡ i + place_of (texts (drop i names)) text → pointwise nat_eq (get_or names i d).now text ≡ false
-    → place_of (texts names) text ≡ (i + 1) + place_of (texts (drop (i + 1) names)) text
-place_more names i d text below so_far not = let on = rw not at (place_on names i d text below so_far) in omega arith
+pub index_more : (names : List (Bor (List ℕ))) (i : ℕ) (d : Bor (List ℕ)) (text : List ℕ) → i < length names
+    → file_index (texts names) text ≡ i + file_index (texts (drop i names)) text → pointwise nat_eq (get_or names i d).now text ≡ false
+    → file_index (texts names) text ≡ (i + 1) + file_index (texts (drop (i + 1) names)) text
+index_more names i d text below so_far not = let on = rw not at (index_on names i d text below so_far) in omega arith
 
-pub place_here : (names : List (Bor (List ℕ))) (i : ℕ) (d : Bor (List ℕ)) (text : List ℕ) → i < length names
-    → place_of (texts names) text ≡ i + place_of (texts (drop i names)) text → pointwise nat_eq (get_or names i d).now text ≡ true
-    → i ≡ place_of (texts names) text
-place_here names i d text below so_far is = let on = rw is at (place_on names i d text below so_far) in omega arith
+pub index_here : (names : List (Bor (List ℕ))) (i : ℕ) (d : Bor (List ℕ)) (text : List ℕ) → i < length names
+    → file_index (texts names) text ≡ i + file_index (texts (drop i names)) text → pointwise nat_eq (get_or names i d).now text ≡ true
+    → i ≡ file_index (texts names) text
+index_here names i d text below so_far is = let on = rw is at (index_on names i d text below so_far) in omega arith
 
 listed_on : (files : List (Bor (List ℕ))) (i : ℕ) (d : Bor (List ℕ)) (text : List ℕ) → i < length files
     → is_listed files text ≡ is_listed (drop i files) text
@@ -47,14 +47,14 @@ listed_on files i d text below so_far =
 
 -- ---- a table that grows
 
-pub known_pushed : (names : List (List ℕ)) (text : List ℕ) → IsKnown (names ++ text ∷ []) text
+pub known_pushed : (names : List (List ℕ)) (text : List ℕ) → IsFileKnown (names ++ text ∷ []) text
 known_pushed [] text = rw ((bytes_decides text text).1 refl) (omega arith)
 known_pushed (name ∷ names) text = elim (cases_Bool (pointwise nat_eq name text)) [
   | inl is ↦ rw is (omega arith)
   | inr not ↦ let rest = known_pushed names text in rw not (omega arith)
 ]
 
-pub known_kept : (names : List (List ℕ)) (more text : List ℕ) → IsKnown names text → IsKnown (names ++ more ∷ []) text
+pub known_kept : (names : List (List ℕ)) (more text : List ℕ) → IsFileKnown names text → IsFileKnown (names ++ more ∷ []) text
 known_kept [] more text known = absurd (omega arith)
 known_kept (name ∷ names) more text known = elim (cases_Bool (pointwise nat_eq name text)) [
   | inl is ↦ rw is (omega arith)
@@ -65,11 +65,11 @@ some_kept : {A : Type 0} (P Q : A → Type 0) (o : Option A) → ((x : A) → P 
 some_kept P Q None f h = h
 some_kept P Q (Some x) f h = f x h
 
-pub named_kept : {T : Type 0} (old new : List (List ℕ)) (slots : List (SlotImage T)) → ((text : List ℕ) → IsKnown old text → IsKnown new text)
+pub named_kept : {T : Type 0} (old new : List (List ℕ)) (slots : List (SlotImage T)) → ((text : List ℕ) → IsFileKnown old text → IsFileKnown new text)
     → AllByRecursion (IsSlotNamed old) slots → AllByRecursion (IsSlotNamed new) slots
 named_kept old new [] kept all = all
 named_kept old new (s ∷ slots) kept all = (
-  some_kept (λ l. IsKnown old l.file.now) (λ l. IsKnown new l.file.now) (location_in s.cell) (λ l. kept l.file.now) all.0,
+  some_kept (λ l. IsFileKnown old l.file.now) (λ l. IsFileKnown new l.file.now) (location_in s.cell) (λ l. kept l.file.now) all.0,
   named_kept old new slots kept all.1,
 )
 
@@ -77,9 +77,9 @@ pub all_pushed : {A : Type 0} (P : A → Type 0) (xs : List A) (x : A) → AllBy
 all_pushed P [] x all p = (p, all)
 all_pushed P (y ∷ xs) x all p = (all.0, all_pushed P xs x all.1 p)
 
-pub all_placed : (names : List (List ℕ)) → AllByRecursion (λ name. Unit {0}) names
-all_placed [] = tt
-all_placed (name ∷ names) = (tt, all_placed names)
+pub all_any_names : (names : List (List ℕ)) → AllByRecursion (λ name. Unit {0}) names
+all_any_names [] = tt
+all_any_names (name ∷ names) = (tt, all_any_names names)
 
 -- ---- what is found in a table
 
@@ -90,33 +90,33 @@ found_is files (Some file) name bytes same listed is =
     let e : name ≡ bytes = cc in
     (subst (λ (t : List ℕ). is_listed files t ≡ true) e (sym listed), is ∙ e)
 
-pub found_there : (files : List (Bor (List ℕ))) (names : List (List ℕ)) (places : List (Option (Bor (List ℕ)))) (text : List ℕ)
-    → ArePairwise (IsFound files) names places → IsKnown names text
-    → (p : Option (Bor (List ℕ))) × (slice_get places (place_of names text) ≡ Some p) × IsFound files text p
-found_there files [] places text pairs known = absurd (omega arith)
+pub found_there : (files : List (Bor (List ℕ))) (names : List (List ℕ)) (found_files : List (Option (Bor (List ℕ)))) (text : List ℕ)
+    → ArePairwise (IsFound files) names found_files → IsFileKnown names text
+    → (p : Option (Bor (List ℕ))) × (slice_get found_files (file_index names text) ≡ Some p) × IsFound files text p
+found_there files [] found_files text pairs known = absurd (omega arith)
 found_there files (name ∷ names) [] text pairs known = absurd pairs
-found_there files (name ∷ names) (p ∷ places) text pairs known = elim (cases_Bool (pointwise nat_eq name text)) [
+found_there files (name ∷ names) (p ∷ found_files) text pairs known = elim (cases_Bool (pointwise nat_eq name text)) [
   | inl is ↦ rw is (p, refl, subst (λ (t : List ℕ). IsFound files t p) ((bytes_decides name text).0 is) pairs.0)
-  | inr not ↦ let k = rw not at known in rw not (found_there files names places text pairs.1 (omega arith))
+  | inr not ↦ let k = rw not at known in rw not (found_there files names found_files text pairs.1 (omega arith))
 ]
 
 -- ---- a location of a table
 
 -- what a table has at the index that a location was saved with
-pub location_there : (files : List (Bor (List ℕ))) (names : List (List ℕ)) (places : List (Option (Bor (List ℕ)))) (saved : ℕ × (ℕ × ℕ))
-    (l : Location) → ArePairwise (IsFound files) names places → IsKnown names l.file.now → saved_location_form saved ≡ location_form names l
-    → (p : Option (Bor (List ℕ))) × (slice_get places saved.0 ≡ Some p) × IsFound files l.file.now p × (saved.1.0 ≡ l.line) × (saved.1.1 ≡ l.column)
-location_there files names places saved l pairs known same =
-    let there = found_there files names places l.file.now pairs known in
-    let place : saved.0 ≡ place_of names l.file.now = cc in
-    (there.0, subst (λ (k : ℕ). slice_get places k ≡ Some there.0) (sym place) there.1, there.2, cc, cc)
+pub location_there : (files : List (Bor (List ℕ))) (names : List (List ℕ)) (found_files : List (Option (Bor (List ℕ)))) (saved : ℕ × (ℕ × ℕ))
+    (l : Location) → ArePairwise (IsFound files) names found_files → IsFileKnown names l.file.now → saved_location_form saved ≡ location_form names l
+    → (p : Option (Bor (List ℕ))) × (slice_get found_files saved.0 ≡ Some p) × IsFound files l.file.now p × (saved.1.0 ≡ l.line) × (saved.1.1 ≡ l.column)
+location_there files names found_files saved l pairs known same =
+    let there = found_there files names found_files l.file.now pairs known in
+    let number : saved.0 ≡ file_index names l.file.now = cc in
+    (there.0, subst (λ (k : ℕ). slice_get found_files k ≡ Some there.0) (sym number) there.1, there.2, cc, cc)
 
-pub placed_here : (files : List (Bor (List ℕ))) (here l : Location) → IsFound files l.file.now None → IsRelocated files here l here
-placed_here files here l not = rw not refl
+pub restored_here : (files : List (Bor (List ℕ))) (here l : Location) → IsFound files l.file.now None → IsRelocated files here l here
+restored_here files here l not = rw not refl
 
-pub placed_there : (files : List (Bor (List ℕ))) (here l m : Location) (file : Bor (List ℕ)) → IsFound files l.file.now (Some file)
+pub restored_there : (files : List (Bor (List ℕ))) (here l m : Location) (file : Bor (List ℕ)) → IsFound files l.file.now (Some file)
     → m.file.now ≡ file.now → m.line ≡ l.line → m.column ≡ l.column → IsRelocated files here l m
-placed_there files here l m file is same line column = rw is.0 (same ∙ is.1, line, column)
+restored_there files here l m file is same line column = rw is.0 (same ∙ is.1, line, column)
 
 -- ---- elements of a list
 
@@ -130,9 +130,9 @@ there_is [] i d x e = absurd cc
 there_is (y ∷ xs) zero d x e = cc
 there_is (y ∷ xs) (suc i) d x e = there_is xs i d x e
 
-pub place_most : (names : List (List ℕ)) (text : List ℕ) → place_of names text ≤ length names
-place_most [] text = omega arith
-place_most (name ∷ names) text = let rest = place_most names text in elim (cases_Bool (pointwise nat_eq name text)) [
+pub index_most : (names : List (List ℕ)) (text : List ℕ) → file_index names text ≤ length names
+index_most [] text = omega arith
+index_most (name ∷ names) text = let rest = index_most names text in elim (cases_Bool (pointwise nat_eq name text)) [
   | inl is ↦ rw is (omega arith)
   | inr not ↦ rw not (omega arith)
 ]

@@ -3,7 +3,7 @@ use Rattle.std.specs.Prelude.{◌≡◌, ◌+◌, ◌*◌, ◌/◌, ◌%◌, ◌
 use Rattle.std.specs.Int.{w32, w64, from_le_bytes, rotate_left}
 use Rattle.store_images.specs.declared.image.Image.{Image}
 use Rattle.saved_bytes.specs.Forms.{Form, IsForm, spell}
-use Rattle.saved_bytes.specs.Images.{image_form, IsNamed}
+use Rattle.saved_bytes.specs.Images.{image_form, IsImageNamed}
 use Rattle.saved_bytes.specs.declared.decode.DecodeError.TheVariants.{OutOfMemory}
 use Rattle.saved_bytes.specs.declared.file.ReadError.{ReadError}
 use Rattle.saved_bytes.specs.declared.file.ReadError.TheVariants as read
@@ -40,7 +40,7 @@ file_of bytes = spell (header bytes) bytes
 -- The bytes are a file of the image, with some table of the files' names.
 pub record IsFileOf {T : Type 0} (form : T → Form) (i : Image T) (file : List ℕ) : Type 0 where
   pub names : List (List ℕ)
-  pub named : IsNamed names i
+  pub named : IsImageNamed names i
   pub fits : IsForm (image_form names form i)
   pub header_fits : IsForm (header (spell (image_form names form i) []))
   pub bytes : file ≡ file_of (spell (image_form names form i) [])

@@ -9,7 +9,7 @@ use Rattle.store_images.specs.declared.image.CellImage.TheVariants as saved
 use Rattle.store_images.specs.declared.image.Image.{Image}
 use Rattle.store_images.specs.declared.image.SlotImage.{SlotImage}
 use Rattle.saved_bytes.specs.Forms.{Form, list_form, variant_form}
-use Rattle.saved_bytes.specs.Places.{IsFound, IsKnown, IsRelocated, location_form, saved_location_form}
+use Rattle.saved_bytes.specs.FileNames.{IsFound, IsFileKnown, IsRelocated, location_form, saved_location_form}
 use Rattle.saved_bytes.specs.declared.images.SavedCell.{SavedCell}
 use Rattle.saved_bytes.specs.declared.images.SavedCell.TheVariants as file
 use Rattle.saved_bytes.specs.Reading.{ArePairwise}
@@ -37,13 +37,13 @@ module _ {T : Type 0} where
   module _ (names : List (List ℕ)) where
     -- the location's file is in it
     abbrev pub IsCellNamed : CellImage T → Type 0
-    IsCellNamed c = IfSome (location_in c) (λ l. IsKnown names l.file.now)
+    IsCellNamed c = IfSome (location_in c) (λ l. IsFileKnown names l.file.now)
 
     abbrev pub IsSlotNamed : SlotImage T → Type 0
     IsSlotNamed s = IsCellNamed s.cell
 
-    abbrev pub IsNamed : Image T → Type 0
-    IsNamed i = AllByRecursion IsSlotNamed i.slots.items
+    abbrev pub IsImageNamed : Image T → Type 0
+    IsImageNamed i = AllByRecursion IsSlotNamed i.slots.items
 
   module _ (names : List (List ℕ)) (form : T → Form) where
     abbrev pub cell_fields : CellImage T → Form
@@ -104,7 +104,7 @@ module _ {T : Type 0} where
       pub slots : ArePairwise IsSlotAgain old.slots.items new.slots.items
 
   -- A cell in a file's form for another one is that one again, once it has a location.
-  abbrev pub IsCellPlaced : List (Option (Bor (List ℕ))) → Location → SavedCell T → Option (CellImage T) → Type 0
-  IsCellPlaced places here cell result = (form : T → Form) (files : List (Bor (List ℕ))) (names : List (List ℕ)) (c : CellImage T)
-      → ArePairwise (IsFound files) names places → IsCellNamed names c → saved_cell_form form cell ≡ cell_form names form c
+  abbrev pub IsCellRestored : List (Option (Bor (List ℕ))) → Location → SavedCell T → Option (CellImage T) → Type 0
+  IsCellRestored found_files here cell result = (form : T → Form) (files : List (Bor (List ℕ))) (names : List (List ℕ)) (c : CellImage T)
+      → ArePairwise (IsFound files) names found_files → IsCellNamed names c → saved_cell_form form cell ≡ cell_form names form c
       → IsSomeAnd result (IsCellAgain files here form c)

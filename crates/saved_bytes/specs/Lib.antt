@@ -1,5 +1,5 @@
 pub mod Files
 pub mod Forms
 pub mod Images
-pub mod Places
+pub mod FileNames
 pub mod Reading

@@ -4,20 +4,23 @@ ghost use Rattle.std.specs.Prelude.{◌≡◌, ℕ, List, OnOk, IfOk};
 ghost use Rattle.std.specs.Borrow.{Bor};
 ghost use Rattle.std.specs.List.{AllByRecursion};
 ghost use Rattle.saved_bytes.specs.Forms.{Appends, items_form, unread, written};
-ghost use Rattle.saved_bytes.specs.Images.{cell_form, image_form, location_in, saved_cell_form, slot_form, IsCellPlaced};
-ghost use Rattle.saved_bytes.specs.Images.{IsCellNamed, IsImageAgain, IsNamed, IsSlotAgain, IsSlotNamed};
-ghost use Rattle.saved_bytes.specs.Places.{IsFound, IsKnown, texts};
+ghost use Rattle.saved_bytes.specs.Images.{cell_form, image_form, location_in, saved_cell_form, slot_form, IsCellRestored};
+ghost use Rattle.saved_bytes.specs.Images.{IsCellNamed, IsImageAgain, IsImageNamed, IsSlotAgain, IsSlotNamed};
+ghost use Rattle.saved_bytes.specs.FileNames.{IsFound, IsFileKnown, texts};
 ghost use Rattle.saved_bytes.specs.Reading.{ArePairwise, ItemsReadAs, ReadsAgain, ReadsAs};
 
 use crate::decode::{DecodeError, Decoder, Fault};
 use crate::encode::Encoder;
-use crate::places::{
-    SavedLocation, add_name, decode_places, encode_location, encode_places, placed,
+use crate::file_names::{
+    SavedLocation, add_name, decode_file_names, encode_file_names, encode_location, restored,
 };
 use crate::saved::Saved;
 use generational_core::Location;
 use std::alloc::{AllocError, Global};
 use store_images::{CellImage, Image, SlotImage};
+
+// How many bytes a slot takes at least: its generation, and which cell it has.
+const LEAST: usize = 9;
 
 // The location where the cell was made.
 fn location_in<T>(cell: &CellImage<T>) -> Option<Location>
@@ -34,7 +37,7 @@ fn location_in<T>(cell: &CellImage<T>) -> Option<Location>
 // Adds the name of the cell's file.
 fn add_name_of<T>(names: &mut Vec<&'static str>, cell: &CellImage<T>) -> Result<(), AllocError>
     ensures there { OnOk result (IsCellNamed (texts names.new.items) cell.now) }
-    ensures kept { (text : List ℕ) → IsKnown (texts names.old.items) text → IsKnown (texts names.new.items) text }
+    ensures kept { (text : List ℕ) → IsFileKnown (texts names.old.items) text → IsFileKnown (texts names.new.items) text }
 {
     match location_in(cell) {
         None => Ok(()),
@@ -105,7 +108,7 @@ pub fn encode_image<T: Saved>(
 ) -> Result<(), AllocError>
     ensures { OnOk result (Appends (image_form (texts names.now) T.form image.now) (written out.old) (written out.new)) }
 {
-    encode_places(names, out)?;
+    encode_file_names(names, out)?;
     let numbers = (image.number, (image.start, (image.next, image.peak)));
     numbers.encode(out)?;
     out.put_u64(image.slots.len() as u64)?;
@@ -145,25 +148,25 @@ fn decode_cell<T: Saved>(input: &mut Decoder) -> Result<SavedCell<T>, DecodeErro
 }
 
 // The cell with its location. None if the table of files is too short.
-fn placed_cell<T: Drop>(
+fn restored_cell<T: Drop>(
     cell: SavedCell<T>,
-    places: &[Option<&'static str>],
+    found_files: &[Option<&'static str>],
     here: Location,
 ) -> Option<CellImage<T>>
-    ensures { IsCellPlaced places.now here cell result }
+    ensures { IsCellRestored found_files.now here cell result }
 {
     match cell {
         SavedCell::Empty => Some(CellImage::Empty),
         SavedCell::Value((saved, value)) => {
-            let location = placed(saved, places, here)?;
+            let location = restored(saved, found_files, here)?;
             Some(CellImage::Value(value, location))
         }
         SavedCell::Shared((saved, value)) => {
-            let location = placed(saved, places, here)?;
+            let location = restored(saved, found_files, here)?;
             Some(CellImage::Shared(value, location))
         }
         SavedCell::Reference((slot, (generation, saved))) => {
-            let location = placed(saved, places, here)?;
+            let location = restored(saved, found_files, here)?;
             Some(CellImage::Reference(slot, generation, location))
         }
     }
@@ -172,17 +175,17 @@ fn placed_cell<T: Drop>(
 // Reads a slot.
 fn decode_slot<T: Saved>(
     input: &mut Decoder,
-    places: &[Option<&'static str>],
+    found_files: &[Option<&'static str>],
     here: Location,
 ) -> Result<SlotImage<T>, DecodeError>
-    ensures { (files : List (Bor (List ℕ))) (names : List (List ℕ)) → ArePairwise (IsFound files) names places.now
+    ensures { (files : List (Bor (List ℕ))) (names : List (List ℕ)) → ArePairwise (IsFound files) names found_files.now
         → ReadsAs (IsSlotNamed names) (slot_form names T.form) (IsSlotAgain files here T.form)
         (unread input.old) result (unread input.new) }
 {
     let fault = input.fault(Fault::Place);
     let generation = input.take_u64()?;
     let saved = decode_cell(input)?;
-    match placed_cell(saved, places, here) {
+    match restored_cell(saved, found_files, here) {
         Some(cell) => Ok(SlotImage { generation, cell }),
         None => Err(fault),
     }
@@ -192,16 +195,18 @@ fn decode_slot<T: Saved>(
 fn decode_slots<T: Saved>(
     input: &mut Decoder,
     count: u64,
-    places: &[Option<&'static str>],
+    found_files: &[Option<&'static str>],
     here: Location,
 ) -> Result<Vec<SlotImage<T>>, DecodeError>
-    ensures { (files : List (Bor (List ℕ))) (names : List (List ℕ)) → ArePairwise (IsFound files) names places.now
+    ensures { (files : List (Bor (List ℕ))) (names : List (List ℕ)) → ArePairwise (IsFound files) names found_files.now
         → ItemsReadAs (IsSlotNamed names) (slot_form names T.form) (IsSlotAgain files here T.form) (λ v. v.items) count
         (unread input.old) result (unread input.new) }
 {
-    let mut slots = Vec::new(input.alloc());
+    // A slot takes nine bytes at least, so a wrong count asks for no more room than the bytes could need.
+    let room = (count as usize).min(input.rest().len() / LEAST);
+    let mut slots = Vec::with_capacity(input.alloc(), room)?;
     for _ in 0..count {
-        let slot = decode_slot(input, places, here)?;
+        let slot = decode_slot(input, found_files, here)?;
         slots.push(slot)?;
     }
     Ok(slots)
@@ -213,13 +218,13 @@ pub fn decode_image<T: Saved>(
     files: &[&'static str],
     here: Location,
 ) -> Result<Image<T>, DecodeError>
-    ensures { (names : List (List ℕ)) → ReadsAs (IsNamed names) (image_form names T.form) (IsImageAgain files.now here T.form)
+    ensures { (names : List (List ℕ)) → ReadsAs (IsImageNamed names) (image_form names T.form) (IsImageAgain files.now here T.form)
         (unread input.old) result (unread input.new) }
 {
-    let places = decode_places(input, files)?;
+    let found_files = decode_file_names(input, files)?;
     let numbers = <(u64, (u64, (u64, usize)))>::decode(input)?;
     let count = input.take_u64()?;
-    let slots = decode_slots(input, count, places.as_slice(), here)?;
+    let slots = decode_slots(input, count, found_files.as_slice(), here)?;
     let (number, (start, (next, peak))) = numbers;
     Ok(Image {
         number,

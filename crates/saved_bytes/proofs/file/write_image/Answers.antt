@@ -6,7 +6,7 @@ use Rattle.store_images.specs.declared.image.SlotImage.{SlotImage}
 use Rattle.saved_bytes.specs.Files.{file_of}
 use Rattle.saved_bytes.specs.Forms.{Appends, spell, written}
 use Rattle.saved_bytes.specs.Images.{image_form, IsSlotNamed}
-use Rattle.saved_bytes.specs.Places.{texts}
+use Rattle.saved_bytes.specs.FileNames.{texts}
 use Rattle.saved_bytes.proofs.Files.{adds_both, header_written}
 use Rattle.saved_bytes.proofs.file.write_image.Goals as goal
 

@@ -6,7 +6,7 @@ use Rattle.saved_bytes.proofs.Items.{all_read, none_read, one_more, one_refused}
 use Rattle.saved_bytes.proofs.images.decode_slots.Goals as goal
 
 pub loop-init : goal.loop-init
-loop-init g c = rw c.new-slots.ensures.items (
+loop-init g c = rw c.in_ok-slots.ensures.items (
   refl,
   λ files names pairs.
       none_read (IsSlotNamed names) (slot_form names g.T.Saved.form) (IsSlotAgain files c.args.here g.T.Saved.form) c.args.count
@@ -15,7 +15,7 @@ loop-init g c = rw c.new-slots.ensures.items (
 
 pub returns-in_err-slot : goal.returns-in_err-slot
 returns-in_err-slot g c =
-    let p = err_from_is_err_and c.from_residual.result c.from_residual.ensures.1 in
+    let p = err_from_is_err_and c.from_residual-in_err-slot.result c.from_residual-in_err-slot.ensures.1 in
     λ files names pairs xs rest long here fits is. rw (p.1, p.2)
     (one_refused (IsSlotNamed names) (slot_form names g.T.Saved.form) (IsSlotAgain files c.args.here g.T.Saved.form) c.args.count
     (unread c.args.input.now) c.loop.slots.items (unread c.loop.input) c.in_err-slot.field-0.0

@@ -5,7 +5,7 @@ use Rattle.store_images.specs.declared.image.SlotImage.{SlotImage}
 use Rattle.saved_bytes.specs.Forms.Form.{Number}
 use Rattle.saved_bytes.specs.Forms.{Appends, items_form, written}
 use Rattle.saved_bytes.specs.Images.{cell_form, slot_form}
-use Rattle.saved_bytes.specs.Places.{texts}
+use Rattle.saved_bytes.specs.FileNames.{texts}
 use Rattle.saved_bytes.proofs.Files.{appends_both}
 use Rattle.saved_bytes.proofs.Items.{appends_more}
 use Rattle.saved_bytes.proofs.images.encode_slots.Goals as goal

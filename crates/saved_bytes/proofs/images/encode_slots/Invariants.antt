@@ -1,7 +1,7 @@
 use Rattle.std.proofs.Common.{take}
 use Rattle.saved_bytes.specs.Forms.{Appends, items_form, written}
 use Rattle.saved_bytes.specs.Images.{slot_form}
-use Rattle.saved_bytes.specs.Places.{texts}
+use Rattle.saved_bytes.specs.FileNames.{texts}
 use Rattle.saved_bytes.proofs.images.encode_slots.Given as goal
 
 abbrev pub invariant-loop-slot : goal.invariant-loop-slot

@@ -3,7 +3,7 @@ use Rattle.std.proofs.lemmas.List.{take_more}
 use Rattle.std.specs.List.{AllByRecursion}
 use Rattle.store_images.specs.declared.image.SlotImage.{SlotImage}
 use Rattle.saved_bytes.specs.Images.{IsSlotNamed}
-use Rattle.saved_bytes.specs.Places.{texts}
+use Rattle.saved_bytes.specs.FileNames.{texts}
 use Rattle.saved_bytes.proofs.Files.{all_pushed, named_kept}
 use Rattle.saved_bytes.proofs.images.names_in.Goals as goal
 

@@ -12,18 +12,18 @@ abbrev pub texts : List (Bor (List ℕ)) → List (List ℕ)
 texts files = map (λ file. file.now) files
 
 -- the index of the first name that is this text, or their number
-abbrev pub place_of : List (List ℕ) → List ℕ → ℕ
-place_of [] text = 0
-place_of (name ∷ names) text = cond (pointwise nat_eq name text) 0 (suc (place_of names text))
+abbrev pub file_index : List (List ℕ) → List ℕ → ℕ
+file_index [] text = 0
+file_index (name ∷ names) text = cond (pointwise nat_eq name text) 0 (suc (file_index names text))
 
 -- the text is one of the names
-abbrev pub IsKnown : List (List ℕ) → List ℕ → Type 0
-IsKnown names text = place_of names text < length names
+abbrev pub IsFileKnown : List (List ℕ) → List ℕ → Type 0
+IsFileKnown names text = file_index names text < length names
 
 -- the index of the location's file, the line and the column
 abbrev pub location_form : List (List ℕ) → Location → Form
 location_form names l =
-    Form.Both (Form.Number w32 (place_of names l.file.now)) (Form.Both (Form.Number w32 l.line) (Form.Number w32 l.column))
+    Form.Both (Form.Number w32 (file_index names l.file.now)) (Form.Both (Form.Number w32 l.line) (Form.Number w32 l.column))
 
 abbrev pub saved_location_form : ℕ × (ℕ × ℕ) → Form
 saved_location_form saved =
@@ -34,11 +34,11 @@ abbrev pub is_listed : List (Bor (List ℕ)) → List ℕ → Bool
 is_listed files name = list_any (λ file. pointwise nat_eq file.now name) files
 
 -- any name
-abbrev pub IsPlaced : List ℕ → Type 0
-IsPlaced name = Unit {0}
+abbrev pub IsAnyName : List ℕ → Type 0
+IsAnyName name = Unit {0}
 
-abbrev pub ArePlaced : List (List ℕ) → Type 0
-ArePlaced names = Unit {0}
+abbrev pub AreAnyNames : List (List ℕ) → Type 0
+AreAnyNames names = Unit {0}
 
 -- what a name was found to be among the files
 abbrev pub IsFound : List (Bor (List ℕ)) → List ℕ → Option (Bor (List ℕ)) → Type 0

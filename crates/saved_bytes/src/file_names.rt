@@ -4,8 +4,8 @@ ghost use Rattle.std.specs.Prelude.{◌≡◌, ℕ, List, is_some, OnOk, IfSome,
 ghost use Rattle.std.specs.Borrow.{Bor};
 ghost use Rattle.saved_bytes.specs.Forms.Form.{Text};
 ghost use Rattle.saved_bytes.specs.Forms.{Appends, items_form, list_form, unread, written};
-ghost use Rattle.saved_bytes.specs.Places.{is_listed, location_form, place_of, saved_location_form, texts};
-ghost use Rattle.saved_bytes.specs.Places.{ArePlaced, IsFound, IsKnown, IsPlaced, IsRelocated};
+ghost use Rattle.saved_bytes.specs.FileNames.{is_listed, location_form, file_index, saved_location_form, texts};
+ghost use Rattle.saved_bytes.specs.FileNames.{AreAnyNames, IsFound, IsFileKnown, IsAnyName, IsRelocated};
 ghost use Rattle.saved_bytes.specs.Reading.{ArePairwise, ItemsReadAs, ReadsAs};
 
 use crate::decode::{DecodeError, Decoder};
@@ -14,12 +14,12 @@ use generational_core::Location;
 use std::alloc::AllocError;
 
 /// The index of the first of these names that equals this text, or their number if there is none.
-pub fn place_of(names: &[&'static str], file: &str) -> usize
-    ensures { result ≡ place_of (texts names.now) file.now }
+pub fn file_index(names: &[&'static str], file: &str) -> usize
+    ensures { result ≡ file_index (texts names.now) file.now }
 {
-    for (place, name) in names.iter().enumerate() {
+    for (number, name) in names.iter().enumerate() {
         if *name == file {
-            return place;
+            return number;
         }
     }
     names.len()
@@ -27,10 +27,10 @@ pub fn place_of(names: &[&'static str], file: &str) -> usize
 
 /// Adds a name, unless it is in the list.
 pub fn add_name(names: &mut Vec<&'static str>, file: &'static str) -> Result<(), AllocError>
-    ensures there { OnOk result (IsKnown (texts names.new.items) file.entry.now) }
-    ensures kept { (text : List ℕ) → IsKnown (texts names.old.items) text → IsKnown (texts names.new.items) text }
+    ensures there { OnOk result (IsFileKnown (texts names.new.items) file.entry.now) }
+    ensures kept { (text : List ℕ) → IsFileKnown (texts names.old.items) text → IsFileKnown (texts names.new.items) text }
 {
-    if place_of(names.as_slice(), file) == names.len() {
+    if file_index(names.as_slice(), file) == names.len() {
         names.push(file)?;
     }
     Ok(())
@@ -47,7 +47,7 @@ fn encode_names(names: &[&'static str], out: &mut Encoder) -> Result<(), AllocEr
 }
 
 /// Appends a table of these names.
-pub fn encode_places(names: &[&'static str], out: &mut Encoder) -> Result<(), AllocError>
+pub fn encode_file_names(names: &[&'static str], out: &mut Encoder) -> Result<(), AllocError>
     ensures { OnOk result (Appends (list_form Text (texts names.now)) (written out.old) (written out.new)) }
 {
     out.put_u64(names.len() as u64)?;
@@ -62,11 +62,11 @@ pub fn encode_location(
 ) -> Result<(), AllocError>
     ensures { OnOk result (Appends (location_form (texts names.now) location) (written out.old) (written out.new)) }
 {
-    let place = place_of(names, location.file());
-    if place > u32::MAX as usize {
+    let number = file_index(names, location.file());
+    if number > u32::MAX as usize {
         return Err(AllocError);
     }
-    out.put_u32(place as u32)?;
+    out.put_u32(number as u32)?;
     out.put_u32(location.line())?;
     out.put_u32(location.column())
 }
@@ -90,22 +90,22 @@ fn decode_names(
     count: u64,
     files: &[&'static str],
 ) -> Result<Vec<Option<&'static str>>, DecodeError>
-    ensures { ItemsReadAs IsPlaced Text (IsFound files.now) (λ v. v.items) count (unread input.old) result (unread input.new) }
+    ensures { ItemsReadAs IsAnyName Text (IsFound files.now) (λ v. v.items) count (unread input.old) result (unread input.new) }
 {
-    let mut places = Vec::new(input.alloc());
+    let mut found_files = Vec::new(input.alloc());
     for _ in 0..count {
         let name = input.take_text()?;
-        places.push(find_file(name, files))?;
+        found_files.push(find_file(name, files))?;
     }
-    Ok(places)
+    Ok(found_files)
 }
 
 /// Reads a table of names, and finds each among these files.
-pub fn decode_places(
+pub fn decode_file_names(
     input: &mut Decoder,
     files: &[&'static str],
 ) -> Result<Vec<Option<&'static str>>, DecodeError>
-    ensures { ReadsAs ArePlaced (list_form Text) (λ names v. ArePairwise (IsFound files.now) names v.items)
+    ensures { ReadsAs AreAnyNames (list_form Text) (λ names v. ArePairwise (IsFound files.now) names v.items)
         (unread input.old) result (unread input.new) }
 {
     let count = input.take_u64()?;
@@ -116,17 +116,17 @@ pub fn decode_places(
 pub type SavedLocation = (u32, (u32, u32));
 
 /// The location that was saved, or `here` if its file isn't known. None if the table is too short.
-pub fn placed(
+pub fn restored(
     saved: SavedLocation,
-    places: &[Option<&'static str>],
+    found_files: &[Option<&'static str>],
     here: Location,
 ) -> Option<Location>
-    ensures { (files : List (Bor (List ℕ))) (names : List (List ℕ)) (l : Location) → ArePairwise (IsFound files) names places.now
-        → IsKnown names l.file.now → saved_location_form saved ≡ location_form names l
+    ensures { (files : List (Bor (List ℕ))) (names : List (List ℕ)) (l : Location) → ArePairwise (IsFound files) names found_files.now
+        → IsFileKnown names l.file.now → saved_location_form saved ≡ location_form names l
         → IsSomeAnd result (IsRelocated files here l) }
 {
-    let (place, (line, column)) = saved;
-    match places.get(place as usize) {
+    let (number, (line, column)) = saved;
+    match found_files.get(number as usize) {
         None => None,
         Some(None) => Some(here),
         Some(Some(file)) => Some(Location::new(file, line, column)),
