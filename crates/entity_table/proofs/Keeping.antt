@@ -51,7 +51,7 @@ module _ {E V R : Type 0} (key : R → E) (box : R → GenerationalPointer) (S :
 module _ {E V W : Type 0} (see : E → Option V) where
   -- each is a key with its value, and what is seen of the key
   pub joined_sees : (ps : List (E × W)) (i : ℕ) (e : E) (v : V) (w : W)
-      → slice_get (joined see ps) i ≡ Some (e, v, w)
+      → slice_get (joined_rows see ps) i ≡ Some (e, v, w)
       → (j : ℕ) × (slice_get ps j ≡ Some (e, w)) × (see e ≡ Some v)
   joined_sees [] i e v w is = cc
   joined_sees (p ∷ ps) i e v w is = by_option (see p.0)
@@ -67,7 +67,7 @@ module _ {E V W : Type 0} (see : E → Option V) where
   -- and each key with a value of which something is seen is there
   pub joined_each : (ps : List (E × W)) (i : ℕ) (e : E) (v : V) (w : W)
       → slice_get ps i ≡ Some (e, w) → see e ≡ Some v
-      → (j : ℕ) × (slice_get (joined see ps) j ≡ Some (e, v, w))
+      → (j : ℕ) × (slice_get (joined_rows see ps) j ≡ Some (e, v, w))
   joined_each [] i e v w is sees = cc
   joined_each (p ∷ ps) zero e v w is sees = (0, grind arith)
   joined_each (p ∷ ps) (suc i) e v w is sees =
@@ -75,7 +75,7 @@ module _ {E V W : Type 0} (see : E → Option V) where
       (λ none. (it.0, rw none it.1)) (λ u some. (suc it.0, rw some it.1))
 
   -- and no more are there
-  pub joined_most : (ps : List (E × W)) → length (joined see ps) ≤ length ps
+  pub joined_most : (ps : List (E × W)) → length (joined_rows see ps) ≤ length ps
   joined_most [] = omega arith
   joined_most (p ∷ ps) = let rest = joined_most ps in by_option (see p.0)
       (λ none. rw none (omega (arith, rest))) (λ v some. rw some (omega (arith, rest)))
@@ -83,14 +83,14 @@ module _ {E V W : Type 0} (see : E → Option V) where
   -- what rises in keys still does
   module _ (n : E → ℕ) where
     above : (x : ℕ) (ps : List (E × W)) → All (λ y. x < y) (map (λ p. n p.0) ps)
-        → All (λ y. x < y) (map (λ q. n q.0) (joined see ps))
+        → All (λ y. x < y) (map (λ q. n q.0) (joined_rows see ps))
     above x [] h = h
     above x (p ∷ ps) h =
         let rest = above x ps (All-tail (◌<◌ x) (n p.0) _ h) in by_option (see p.0) (λ none. rw none rest)
         (λ v some. rw some (All-cons (◌<◌ x) (n p.0) _ (All-head (◌<◌ x) (n p.0) _ h) rest))
 
     pairs : (ps : List (E × W)) → AllPairs (λ x y. x < y) (map (λ p. n p.0) ps)
-        → AllPairs (λ x y. x < y) (map (λ q. n q.0) (joined see ps))
+        → AllPairs (λ x y. x < y) (map (λ q. n q.0) (joined_rows see ps))
     pairs [] h = h
     pairs (p ∷ ps) h =
         let rest = pairs ps (λ i j d lt within. h (suc i) (suc j) d (omega (arith, lt)) (omega (arith, within))) in
@@ -98,7 +98,7 @@ module _ {E V W : Type 0} (see : E → Option V) where
         (above (n p.0) ps (λ j d within. h zero (suc j) d (omega arith) (omega (arith, within)))) rest))
 
     pub joined_rise : (ps : List (E × W)) → IsStrictlyIncreasing (map (λ p. n p.0) ps)
-        → IsStrictlyIncreasing (map (λ q. n q.0) (joined see ps))
+        → IsStrictlyIncreasing (map (λ q. n q.0) (joined_rows see ps))
     joined_rise ps h k within =
         pairs ps (AllPairs-from_increasing (map (λ p. n p.0) ps) h) k (k + 1) 0 (omega arith) within
 
@@ -109,7 +109,7 @@ pub one_or_two : {T : Type 0} (a b : Entity T) → IsSame a b ⊎ IsOther a b
 one_or_two a b = grind arith
 
 -- a value that is set leaves each other box
-pub set_others : {T : Type 0} {S R : State T} → IsSound S → IsPlain S → (a b : GenerationalPointer) (v old : T)
+pub set_others : {T : Type 0} {S R : State T} → IsSound S → HasNoReferences S → (a b : GenerationalPointer) (v old : T)
     → Meets S (SetValue a v) (Old old) R → a.id ≢ b.id → value_in R b ≡ value_in S b
 set_others sound plain a b v old m other =
     let saw = (sets _ _ _ m).0 in
@@ -170,13 +170,13 @@ still_told n m s t old e l number le same was is =
     both false other = absurd (none_some l (sym (ap (λ b. if b then slice_get old e.site else None) other) ∙ is))
 
 pub tells_here : {T : Type 0} (n : ℕ) (s : SiteState) (e : Entity T) (here : Location) → e.store ≡ n → e.site < s.told
-    → IsAt s.all e.site here → Tells (told_at n (told_in s) e) here
+    → IsAt s.all e.site here → TellsLocation (told_at n (told_in s) e) here
 tells_here n s e here own lt at =
     (at.kept, rw (own, nat_eq_equiv.refl n) (told_here s e.site at.kept lt at.there), at.alike)
 
 module _ {T : Type 0} where
   pub fresh_kept : (number start next : ℕ)
-      → IsKept {T = T} (fresh number start next) (record { number = number; rows = [] })
+      → IsTableKept {T = T} (fresh number start next) (record { number = number; rows = [] })
   fresh_kept number start next = record {
     simple = fresh_simple number start next;
     number = refl;
@@ -188,21 +188,21 @@ module _ {T : Type 0} where
       no_rows e = grind arith
 
   -- a live entity is held, and one that is held is live
-  pub held_live : {S : State T} {m : MapState (Unit {0})} → IsKept S m → (e : Entity T)
+  pub held_live : {S : State T} {m : MapState (Unit {0})} → IsTableKept S m → (e : Entity T)
       → is_some (value_of m e) ≡ true → IsSeen S (pointer_in e)
   held_live k e is = sym (k.same e) ∙ is
 
-  module _ {S R : State T} {m : MapState (Unit {0})} (s : IsSound S) (k : IsKept S m) where
+  module _ {S R : State T} {m : MapState (Unit {0})} (s : IsSound S) (k : IsTableKept S m) where
     -- if the same entities are live, the rows stay
     pub kept_still : IsSimple R → R.number ≡ S.number
-        → ((b : GenerationalPointer) → is_some (value_in R b) ≡ is_some (value_in S b)) → IsKept R m
+        → ((b : GenerationalPointer) → is_some (value_in R b) ≡ is_some (value_in S b)) → IsTableKept R m
     kept_still simple number same = record {
       simple = simple;
       number = k.number ∙ sym number;
       same = λ e. k.same e ∙ sym (same (pointer_in e));
     }
 
-    pub kept_set : (a : GenerationalPointer) (v old : T) → Meets S (SetValue a v) (Old old) R → IsKept R m
+    pub kept_set : (a : GenerationalPointer) (v old : T) → Meets S (SetValue a v) (Old old) R → IsTableKept R m
     kept_set a v old met = kept_still (simple_still s k.simple _ _ met tt tt) (meets_number _ _ _ _ met)
         (set_seen s k.simple.unborrowed a v old met)
 
@@ -243,7 +243,7 @@ module _ {T : Type 0} where
             (λ apart. ap is_some (set_apart m.number more.rows e f _ apart ∙ same_values m.number m.rows more.rows f rows))
             (key_cases by_number (slot_in e) (slot_in f)))
 
-        pub kept_spawned : IsKept R next
+        pub kept_spawned : IsTableKept R next
         kept_spawned = record {
           simple = made_simple s k.simple v l b met;
           number = after ∙ (number ∙ (k.number ∙ sym (meets_number S R _ _ met)));
@@ -287,7 +287,7 @@ module _ {T : Type 0} where
       ended_others f other = others_left _ _ met a (pointer_in f) (seen_store S a s ended_seen)
           (λ ne. same_value S R _ _ s met (pointer_in f) ne tt) (λ same. other (sym own ∙ same))
 
-      pub kept_ended : IsKept R (record m { rows = slice_set m.rows (slot_in e) Vacant })
+      pub kept_ended : IsTableKept R (record m { rows = slice_set m.rows (slot_in e) Vacant })
       kept_ended = record {
         simple = simple_still s k.simple (End a) Done met tt tt;
         number = k.number ∙ sym (meets_number S R _ _ met);
@@ -320,12 +320,12 @@ module _ {T : Type 0} where
 
   -- ---- what is seen of the rows
 
-  pub all_live : {S : State T} {m : MapState (Unit {0})} → IsKept S m
+  pub all_live : {S : State T} {m : MapState (Unit {0})} → IsTableKept S m
       → AreSeen (λ (p : Entity T × Unit {0}). pointer_in p.0) S (listed m)
   all_live {S} {m} k = all_seen (λ (p : Entity T × Unit {0}). p.0) (λ p. pointer_in p.0) S (listed m)
       (λ i p is. sym (k.same p.0) ∙ ap is_some (listed_shown m i p.0 p.1 is))
 
-  pub kept_dense : {S : State T} {m : MapState (Unit {0})} → IsKept S m → (sites : List Location)
+  pub kept_dense : {S : State T} {m : MapState (Unit {0})} → IsTableKept S m → (sites : List Location)
       → IsDense (record { state = S; rows = map (λ (p : Entity T × Unit {0}). p.0) (listed m); sites = sites })
   kept_dense {S} {m} k sites = record {
     live = λ row e is. let at = mapped (listed m) row e is in
@@ -496,6 +496,86 @@ module _ {T C : Type 0} {table : TableState T} where
       → (e : Entity T) → element_in table e ≡ None → component_in now e ≡ None
   swept {first} s all e dead = by_option (component_in first e) (s.none e)
       (λ v is. s.gone e dead (omega (arith, all, value_within first e (ap is_some is))))
+
+-- ==== components after each slot of a test
+
+-- a row that is of no entity, and one that is
+no_entity : {T C : Type 0} (number slot : ℕ) (row : Row C) → None ≡ handle_of {T = T} {K = EntityKind} number slot row
+    → row ≡ Vacant
+no_entity number slot Vacant is = refl
+no_entity number slot (Held site generation v) is = cc
+
+pub its_slot : {T C : Type 0} (number slot : ℕ) (row : Row C) (p : Entity T)
+    → Some p ≡ handle_of {T = T} {K = EntityKind} number slot row → slot_in p ≡ slot
+its_slot number slot Vacant p is = cc
+its_slot number slot (Held site generation v) p is = grind (arith, same_Some p (at_slot number slot site generation) is)
+
+module _ {T C : Type 0} {answers : C → Bool → Type 0} where
+  pub components_begun : (t : MapState C) → SiftsComponents T answers t t 0
+  components_begun t = record {
+    left = λ e c is. inl is;
+    none = λ e is. is;
+    passed = λ e c is lt. absurd (omega (arith, lt));
+  }
+
+  module _ {first now : MapState C} {slot : ℕ} (s : SiftsComponents T answers first now slot) where
+    -- at a slot without a component
+    pub components_empty : None ≡ handle_of {T = T} {K = EntityKind} now.number slot (row_at now.rows slot)
+        → SiftsComponents T answers first now (slot + 1)
+    components_empty empty = let vacant = no_entity now.number slot (row_at now.rows slot) empty in record {
+      left = s.left;
+      none = s.none;
+      passed = λ e c is lt. ⊎_elim (λ same. grind (arith, vacant)) (λ apart. s.passed e c is (omega (arith, lt, apart)))
+          (key_cases by_number (slot_in e) slot);
+    }
+
+    module _ (p : Entity T) (v : C) (there : component_in now p ≡ Some v) (at : slot_in p ≡ slot) where
+      -- no other entity of the slot has one
+      alone : (e : Entity T) → slot_in e ≡ slot → IsOther p e → component_in now e ≡ None
+      alone e same ne = grind arith
+
+      -- at one that passed
+      pub components_passed : answers v true → SiftsComponents T answers first now (slot + 1)
+      components_passed passes = record {
+        left = s.left;
+        none = s.none;
+        passed = λ e c is lt. ⊎_elim
+            (λ same. ⊎_elim (λ same_one. subst (λ x. answers x true)
+            (same_Some v c (sym there ∙ (same_component now p e same_one ∙ is))) passes)
+            (λ ne. absurd (none-some c (sym (alone e same ne) ∙ is))) (one_or_two p e))
+            (λ apart. s.passed e c is (omega (arith, lt, apart))) (key_cases by_number (slot_in e) slot);
+      }
+
+      -- at one that failed, and was removed
+      pub components_failed : {next : MapState C} → answers v false → component_in next p ≡ None
+          → ((e : Entity T) → IsOther p e → component_in next e ≡ component_in now e)
+          → SiftsComponents T answers first next (slot + 1)
+      components_failed {next} fails gone others = record {
+        left = λ e c is. ⊎_elim
+            (λ same_one. inr (sym (same_component next p e same_one) ∙ gone, failed e c is same_one))
+            (λ ne. ⊎_elim (λ stays. inl (others e ne ∙ stays)) (λ went. inr (others e ne ∙ went.0, went.1)) (s.left e c is))
+            (one_or_two p e);
+        none = λ e is. ⊎_elim (λ same_one. sym (same_component next p e same_one) ∙ gone)
+            (λ ne. others e ne ∙ s.none e is) (one_or_two p e);
+        passed = λ e c is lt. ⊎_elim
+            (λ same_one. absurd (none-some c (sym gone ∙ (same_component next p e same_one ∙ is))))
+            (λ ne. ⊎_elim (λ same. absurd (none-some c (sym (alone e same ne) ∙ (sym (others e ne) ∙ is))))
+            (λ apart. s.passed e c (sym (others e ne) ∙ is) (omega (arith, lt, apart)))
+            (key_cases by_number (slot_in e) slot)) (one_or_two p e);
+      }
+        where
+          failed : (e : Entity T) (c : C) → component_in first e ≡ Some c → IsSame p e → answers c false
+          failed e c is same_one = ⊎_elim
+              (λ stays. subst (λ x. answers x false) (same_Some v c (sym there ∙ (same_component now p e same_one ∙ stays))) fails)
+              (λ went. went.1) (s.left e c is)
+
+  -- past the slots there were no components
+  pub components_sifted : {first now : MapState C} {slot : ℕ} → SiftsComponents T answers first now slot
+      → length first.rows ≤ slot → (e : Entity T) (c : C) → component_in first e ≡ Some c
+      → IsSifted answers c (component_in now e)
+  components_sifted {first} s all e c is = ⊎_elim
+      (λ stays. inl (stays, s.passed e c stays (omega (arith, all, value_within first e (ap is_some is)))))
+      (λ gone. inr gone) (s.left e c is)
 
 -- a list is empty if its length is 0
 pub none_long : {X : Type 0} (xs : List X) (n : ℕ) → n ≡ length xs → (nat_eq n 0 ≡ true) ↔ (xs ≡ [])

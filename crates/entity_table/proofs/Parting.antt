@@ -1,21 +1,18 @@
 -- Tables that are made of a store with values, and rows of components.
-use Rattle.entity_table.proofs.Keeping.Common.{component_in, IsKept, created_at, element_in, Entity, TableState, by_number, by_option, key_cases, name_of, GenerationalPointer, IsSound}
-use Rattle.entity_table.proofs.Keeping.Common.{State, value_in, Location, same_id_sees, seen_store, IsSimple, listed_every, listed_rise, listed_shown, one, put_here, put_lost}
-use Rattle.entity_table.proofs.Keeping.Common.{set_apart, at_slot, id_in, IsOther, IsSame, pointer_in, slot_in, held, listed, MapState, row_at, value_of}
-use Rattle.entity_table.proofs.Keeping.Common.{SiteState, Tells, told_at, told_in, Row, Held, Vacant, ap, arith, Bool, false, length}
+use Rattle.entity_table.proofs.Keeping.Common.{component_in, IsTableKept, element_in, Entity, TableState, by_number, by_option, key_cases, name_of, GenerationalPointer, IsSound}
+use Rattle.entity_table.proofs.Keeping.Common.{State, value_in, Location, same_id_sees, seen_store, IsSimple, listed_every, listed_rise, listed_shown, put_here, put_lost}
+use Rattle.entity_table.proofs.Keeping.Common.{set_apart, at_slot, id_in, IsOther, IsSame, pointer_in, slot_in, listed, MapState, row_at, value_of}
+use Rattle.entity_table.proofs.Keeping.Common.{SiteState, TellsLocation, told_at, told_in, Row, Held, Vacant, ap, arith, Bool, false, length}
 use Rattle.entity_table.proofs.Keeping.Common.{List, map, None, Option, refl, Some, subst, suc, sym, true, zero, ℕ}
-use Rattle.entity_table.proofs.Keeping.Common.{[], ⊎_elim, ◌+◌, ◌<◌, ◌∙◌, ◌∷◌, ◌≡◌, ◌≤◌, true≢false, length-map, AllPairs-from_increasing, same_Some}
-use Rattle.entity_table.proofs.Keeping.Common.{slice_get-map, option_map, nat_eq, GenerationalBoxId, EntityKind, map-map, ◌≢◌, IsStrictlyIncreasing, is_some, slice_get, slice_set, ◌⊎◌}
-use Rattle.entity_table.proofs.Keeping.Common.{AllPairs, told_here, IsAt, IfSome, slice_get_within}
+use Rattle.entity_table.proofs.Keeping.Common.{[], ⊎_elim, ◌+◌, ◌<◌, ◌∙◌, ◌∷◌, ◌≡◌, ◌≤◌, length-map, AllPairs-from_increasing, same_Some}
+use Rattle.entity_table.proofs.Keeping.Common.{slice_get-map, option_map, GenerationalBoxId, EntityKind, map-map, ◌≢◌, IsStrictlyIncreasing, is_some, slice_get, slice_set}
+use Rattle.entity_table.proofs.Keeping.Common.{AllPairs, IsAt, IfSome, slice_get_within}
 use Rattle.entity_table.proofs.Keeping.{no_value, one_or_two, same_component, tells_here}
-use Rattle.entity_table.specs.Parts.{AreRows, AreSited, component_told, is_row_of, IsRowFault}
-use Rattle.generational_core.specs.Conditions.{IsLive}
-use Rattle.generational_core.specs.Keeping.{box_with, boxed_at}
-use Rattle.generational_core.specs.Machine.{own_cell}
+use Rattle.entity_table.specs.Parts.{AreRows, AreEntitiesSited, component_told, is_row_of}
+use Rattle.generational_core.specs.Keeping.{box_with}
 use Rattle.generational_core.specs.Slots.{last_name}
-use Rattle.std.proofs.Common.{cond, slice_index_or, ◌++◌}
+use Rattle.std.proofs.Common.{◌++◌}
 use Rattle.std.specs.FinMap as finite
-use Rattle.generational_sessions.proofs.callers.{get_take, take_within}
 use Rattle.handles.proofs.Maps.{listed_at, listed_row, with_ids}
 use Rattle.handles.specs.Maps.{handle_of}
 use Rattle.std.proofs.lemmas.Option.{get_or_from_slice_get}
@@ -142,7 +139,7 @@ module _ {T : Type 0} (S : State T) (cells : List GenerationalPointer) where
           ap (row_at rows.rows) (ap (λ i. i.slot) (sym it.3)) ∙ (row.1 ∙ ap (λ g. Held row.0 g tt) (ap (λ i. i.generation) it.3)) in
           grind (arith, at, store, own)
 
-      pub given_kept : IsKept S rows
+      pub given_kept : IsTableKept S rows
       given_kept = record {
         simple = simple;
         number = own;
@@ -154,7 +151,7 @@ module _ {T : Type 0} (S : State T) (cells : List GenerationalPointer) where
           same_bool false true h k = k refl
           same_bool false false h k = refl
 
-      pub given_sited : AreSited S all rows
+      pub given_sited : AreEntitiesSited S all rows
       given_sited slot site generation is =
           let it = given.only slot site generation is in (it.0, it.1, it.3, it.4, it.5)
 
@@ -169,10 +166,10 @@ mapped f (x ∷ xs) (suc i) y is = mapped f xs i y is
 
 module _ {T : Type 0} where
   -- each row has the location where its cell was made
-  pub rows_tell : {S : State T} {m : MapState (Unit {0})} (k : IsKept S m) (u : List Location) → AreSited S u m
+  pub rows_tell : {S : State T} {m : MapState (Unit {0})} (k : IsTableKept S m) (u : List Location) → AreEntitiesSited S u m
       → (v : SiteState) → v.all ≡ u → v.told ≡ length u
       → (row : ℕ) (e : Entity T) (b : GenerationalPointer) → slice_get (map (λ (p : Entity T × Unit {0}). p.0) (listed m)) row ≡ Some e
-      → box_with S (id_in e) ≡ Some b → Tells (told_at S.number (told_in v) e) b.created_at
+      → box_with S (id_in e) ≡ Some b → TellsLocation (told_at S.number (told_in v) e) b.created_at
   rows_tell {S} {m} k u sited v all told row e b is found =
       let from = mapped (λ (p : Entity T × Unit {0}). p.0) (listed m) row e is in
       let h = from.0.0 in
@@ -183,8 +180,8 @@ module _ {T : Type 0} where
       let cell : it.0 ≡ b =
       same_Some it.0 b (sym it.1 ∙ (ap (box_with S) same ∙ (ap (λ f. box_with S (id_in f)) from.1 ∙ found))) in
       let lt = slice_get_within u h.site it.4.kept it.4.there in
-      subst (λ f. Tells (told_at S.number (told_in v) f) b.created_at) from.1
-      (subst (λ (d : GenerationalPointer). Tells (told_at S.number (told_in v) h) d.created_at) cell
+      subst (λ f. TellsLocation (told_at S.number (told_in v) f) b.created_at) from.1
+      (subst (λ (d : GenerationalPointer). TellsLocation (told_at S.number (told_in v) h) d.created_at) cell
       (tells_here S.number v h it.0.created_at own (omega (arith, told, lt))
       (subst (λ list. IsAt list h.site it.0.created_at) (sym all) it.4)))
 

@@ -1,5 +1,5 @@
 -- A closure's calls on the elements of live entities, from the first one on.
-use Rattle.entity_table.proofs.Keeping.Common.{AllPairs-from_increasing, Entity, IsKept, IsOther, IsStrictlyIncreasing, List, MapState, None, Option, Some, State}
+use Rattle.entity_table.proofs.Keeping.Common.{AllPairs-from_increasing, Entity, IsTableKept, IsOther, IsStrictlyIncreasing, List, MapState, None, Option, Some, State}
 use Rattle.entity_table.proofs.Keeping.Common.{is_some, listed, listed_shown, true, true≢false}
 use Rattle.entity_table.proofs.Keeping.Common.{ap, arith, inl, inr, length, length-map, map, option_map, pointer_in, refl}
 use Rattle.entity_table.proofs.Keeping.Common.{same_Some, shown_rows, slice_get, slice_get-map, slice_get_within, slot_in}
@@ -116,7 +116,7 @@ module _ {T F : Type 0} (call : F → Entity T → T → T → F → Type 0) whe
 
   -- the next one is live
   pub left_live : {m : MapState (Unit {0})} {S R : State T} {first now : F} {e : Entity T} {left : List (Entity T)}
-      → IsKept R m → IsVisited (map (λ p. p.0) (listed m)) S first R now (e ∷ left)
+      → IsTableKept R m → IsVisited (map (λ p. p.0) (listed m)) S first R now (e ∷ left)
       → is_some (value_in R (pointer_in e)) ≡ true
   left_live {m} {S} {R} {first} {now} {e} {left} kept so = held (slice_get (listed m) (length visited)) refl
     where

@@ -16,8 +16,8 @@ use Rattle.entity_table.specs.declared.parts.RowFault.{RowFault}
 use Rattle.entity_table.specs.declared.parts.RowFault.TheVariants.{Stale, Order, OutOfMemory}
 
 -- each row is a live cell's, at a site of the location where that was made
-abbrev pub AreSited : {T : Type 0} → State T → List Location → MapState (Unit {0}) → Type 0
-AreSited S all rows = (slot site generation : ℕ) → row_at rows.rows slot ≡ Held site generation tt
+abbrev pub AreEntitiesSited : {T : Type 0} → State T → List Location → MapState (Unit {0}) → Type 0
+AreEntitiesSited S all rows = (slot site generation : ℕ) → row_at rows.rows slot ≡ Held site generation tt
     → (b : GenerationalPointer) × (box_with S b.id ≡ Some b) × (b.id.slot ≡ slot)
     × (b.id.generation ≡ generation) × IsAt all site b.created_at
 

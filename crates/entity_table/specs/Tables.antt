@@ -39,8 +39,8 @@ module _ {T : Type 0} where
   created_at t e = told_at t.state.number t.sites e
 
   -- the table keeps each location of an entity
-  abbrev pub KeepsTelling : TableState T → TableState T → Type 0
-  KeepsTelling old new =
+  abbrev pub KeepsEntityLocations : TableState T → TableState T → Type 0
+  KeepsEntityLocations old new =
       (e : Entity T) (l : Location) → created_at old e ≡ Some l → created_at new e ≡ Some l
 
   -- each row is a live entity, each live entity is a row, and their slots rise

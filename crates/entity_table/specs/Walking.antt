@@ -27,6 +27,6 @@ module _ {E V W : Type 0} where
   joined_first e (Some v) w rest = (e, v, w) ∷ rest
 
   -- keys with values, each with what is found for its key, if there is something, in order
-  abbrev pub joined : (E → Option V) → List (E × W) → List (E × V × W)
-  joined see [] = []
-  joined see (p ∷ rest) = joined_first p.0 (see p.0) p.1 (joined see rest)
+  abbrev pub joined_rows : (E → Option V) → List (E × W) → List (E × V × W)
+  joined_rows see [] = []
+  joined_rows see (p ∷ rest) = joined_first p.0 (see p.0) p.1 (joined_rows see rest)

@@ -4,7 +4,7 @@ ghost use Rattle.std.specs.Prelude.{◌≡◌, ◌≢◌, ◌↔◌, ◌<◌, �
 ghost use Rattle.std.specs.Prelude.{OnOk, IfErr, OnErr, IsErrAnd, IfSome, IfNone, IsTrue, slice_get, length};
 ghost use Rattle.std.specs.Prelude.{map as list_map};
 ghost use Rattle.std.specs.Borrow.{MutBor};
-ghost use Rattle.std.specs.Fn.{FnOnceReturnsAtMut};
+ghost use Rattle.std.specs.Fn.{FnReturnsAt, FnOnceReturnsAtMut};
 ghost use Rattle.std.specs.List.Sorted.{IsStrictlyIncreasing};
 ghost use Rattle.generational_errors.specs.declared.error.StoreError.TheVariants.{OutOfMemory};
 ghost use Rattle.handles.specs.declared.map.Row.TheVariants.{Vacant};
@@ -14,8 +14,8 @@ ghost use Rattle.handles.specs.Visits.{AreChanged, CalledOn, CalledOnBoth};
 ghost use Rattle.entity_table.specs.declared.entity.EntityKind.{EntityKind};
 ghost use Rattle.entity_table.specs.declared.components.AttachError.TheVariants as attach;
 ghost use Rattle.entity_table.specs.Components.{component_in};
-ghost use Rattle.entity_table.specs.Sweeping.{Sweeps};
-ghost use Rattle.entity_table.specs.Tables.{Entity, created_at, element_in};
+ghost use Rattle.entity_table.specs.Sweeping.{SiftsComponents, Sweeps};
+ghost use Rattle.entity_table.specs.Tables.{Entity, IsSifted, created_at, element_in};
 
 use crate::entity::{Entity, EntityKind};
 use crate::table::EntityTable;
@@ -84,6 +84,28 @@ impl<T, C> ComponentTable<T, C> {
     {
         ComponentTable {
             map: HandleMap::new(alloc, table.number()),
+        }
+    }
+
+    /// Makes room for the components of entities whose slots are lower than a number, such as
+    /// [`EntityTable::slots`]: inserting those doesn't allocate. Every component is unchanged. O(slots).
+    ///
+    /// # Errors
+    ///
+    /// `OutOfMemory` is the only possible error.
+    ///
+    /// ```rust
+    /// names.reserve(table.slots())?;
+    /// ```
+    pub fn reserve(&mut self, slots: usize) -> Result<(), StoreError>
+        ensures same { (e : Entity T) → component_in self.new e ≡ component_in self.old e }
+        ensures number { self.new.number ≡ self.old.number }
+        ensures short { IfErr result (λ cause. cause ≡ OutOfMemory) }
+    {
+        if slots == 0 || self.map.reserve(slots - 1) {
+            Ok(())
+        } else {
+            Err(StoreError::OutOfMemory)
         }
     }
 
@@ -400,6 +422,48 @@ impl<T, C> ComponentTable<T, C> {
         ensures number { self.new.number ≡ self.old.number }
     {
         self.map.take(entity)
+    }
+
+    /// Drops each component that fails a test, in the order of the entities' slots. Every other component
+    /// is unchanged. Never fails. Doesn't allocate, and is O(n) for n slots.
+    ///
+    /// ```rust
+    /// names.retain(|name| *name < 100);
+    /// ```
+    pub fn retain<F: Fn(&C) -> bool>(&mut self, test: F)
+    where
+        C: Drop,
+        requires { F.IsAlwaysCallable test }
+        ensures sifted { (e : Entity T) (c : C) → component_in self.old e ≡ Some c →
+            IsSifted (FnReturnsAt F.Fn test) c (component_in self.new e) }
+        ensures none { (e : Entity T) → component_in self.old e ≡ None →
+            component_in self.new e ≡ None }
+        ensures number { self.new.number ≡ self.old.number }
+    {
+        for slot in 0..self.map.slots() {
+            self.sift_slot(slot, &test);
+        }
+    }
+
+    // Drops the component of a slot if it fails a test. The slots before it were tested.
+    fn sift_slot<F: Fn(&C) -> bool>(&mut self, slot: usize, test: &F)
+    where
+        C: Drop,
+        requires { F.IsAlwaysCallable test.now }
+        ensures sifted { (first : MapState C) →
+            SiftsComponents T (FnReturnsAt F.Fn test.now) first self.old slot →
+            SiftsComponents T (FnReturnsAt F.Fn test.now) first self.new (slot + 1) }
+        ensures number { self.new.number ≡ self.old.number }
+    {
+        let Some(entity) = self.map.at(slot) else {
+            return;
+        };
+        let Some(component) = self.map.get(entity) else {
+            unreachable!();
+        };
+        if !test(component) {
+            self.remove(entity);
+        }
     }
 
     /// Drops the components of all entities that aren't live in a table: those of entities removed since

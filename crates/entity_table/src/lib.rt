@@ -7,19 +7,25 @@
 //! says which element every entity has afterwards.
 #![tactic(auto)]
 
+mod component_set;
 mod components;
 mod entity;
 mod laws;
+mod pair;
 mod parts;
+mod sparse;
 mod table;
 mod walk;
 
+pub use crate::component_set::ComponentSet;
 pub use crate::components::{AttachError, ComponentTable};
 pub use crate::entity::{Entity, EntityKind};
 pub use crate::laws::{
     changed_components, changed_elements, changed_pairs, equal_entities_show_the_same,
 };
+pub use crate::pair::PairError;
 pub use crate::parts::{EntityParts, RowFault};
+pub use crate::sparse::{SparseIter, SparseJoin, SparseJoinWith, SparseTable};
 pub use crate::table::EntityTable;
 pub use crate::walk::{ComponentIter, Iter, Join};
 pub use generational_core::HandedBack;

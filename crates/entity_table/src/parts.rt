@@ -9,16 +9,16 @@ ghost use Rattle.generational_errors.specs.declared.error.Location.{Location};
 ghost use Rattle.handles.specs.declared.map.Row.TheVariants.{Held};
 ghost use Rattle.handles.specs.Handles.{id_in, slot_in};
 ghost use Rattle.handles.specs.Maps.{row_at, value_of};
-ghost use Rattle.handles.specs.Sites.{Tells, told_at, told_in};
+ghost use Rattle.handles.specs.Sites.{TellsLocation, told_at, told_in};
 ghost use Rattle.generational_core.specs.declared.boxes.GenerationalBoxId.{GenerationalBoxId};
-ghost use Rattle.generational_sessions.specs.PlainStores.{IsSimple};
+ghost use Rattle.generational_laws.specs.PlainStores.{IsSimple};
 ghost use Rattle.live_cells.specs.Cells.{IsCellFault};
 ghost use Rattle.live_cells.specs.declared.cells.CellFault.TheVariants as cell;
 ghost use Rattle.location_list.specs.Locations.{IsAt};
 ghost use Rattle.entity_table.specs.declared.entity.EntityKind.{EntityKind};
 ghost use Rattle.entity_table.specs.Components.{component_in};
-ghost use Rattle.entity_table.specs.Keeping.{IsKept};
-ghost use Rattle.entity_table.specs.Parts.{AreRows, AreSited, IsRowFault, component_told};
+ghost use Rattle.entity_table.specs.Keeping.{IsTableKept};
+ghost use Rattle.entity_table.specs.Parts.{AreRows, AreEntitiesSited, IsRowFault, component_told};
 ghost use Rattle.entity_table.specs.Tables.{Entity, created_at, element_in};
 ghost use Rattle.entity_table.specs.declared.parts.RowFault.TheVariants as row;
 
@@ -118,7 +118,7 @@ impl<T, S: Storage<T>> EntityTable<T, S> {
             told_at (S.state parts.store).number (told_in parts.sites) e ≡ Some l → created_at table e ≡ Some l) }
         ensures here { IfOk result (λ table. (row : ℕ) (e : Entity T) (b : GenerationalPointer) →
             slice_get table.rows row ≡ Some e → box_with table.state (id_in e) ≡ Some b →
-            Tells (created_at table e) b.created_at) }
+            TellsLocation (created_at table e) b.created_at) }
         ensures store { IfErr result (λ refusal. refusal.value.store ≡ parts.store) }
         ensures sites { IfErr result (λ refusal. told_in refusal.value.sites ≡ told_in parts.sites) }
         ensures fault { IfErr result (λ refusal. IsCellFault (S.state parts.store) refusal.cause) }
@@ -164,8 +164,8 @@ fn live_rows<T, S: Storage<T>>(
     store: &S,
     sites: &mut Sites,
 ) -> Result<HandleMap<T, EntityKind, ()>, CellFault>
-    ensures kept { IfOk result (λ rows. IsKept {T = T} (S.state store.now) rows) }
-    ensures sited { IfOk result (λ rows. AreSited (S.state store.now) sites.new.all rows) }
+    ensures kept { IfOk result (λ rows. IsTableKept {T = T} (S.state store.now) rows) }
+    ensures sited { IfOk result (λ rows. AreEntitiesSited (S.state store.now) sites.new.all rows) }
     ensures told { told_in sites.new ≡ told_in sites.old }
     ensures all { (site : ℕ) (l : Location) → slice_get sites.old.all site ≡ Some l →
         slice_get sites.new.all site ≡ Some l }

@@ -8,11 +8,12 @@ ghost use Rattle.std.specs.Fn.{FnReturnsAt, FnOnceReturnsAtMut};
 ghost use Rattle.generational_core.specs.Conditions.{IsFresh};
 ghost use Rattle.generational_errors.specs.declared.error.StoreError.TheVariants.{OutOfMemory};
 ghost use Rattle.handles.specs.Handles.{slot_in, IsOther, IsSame};
-ghost use Rattle.handles.specs.Sites.{Tells};
+ghost use Rattle.handles.specs.Sites.{TellsLocation};
 ghost use Rattle.handles.specs.Visits.{AreChanged, CalledOn};
 ghost use Rattle.entity_table.specs.Tables.{Entity, TableState, created_at, element_in, elements_in};
-ghost use Rattle.entity_table.specs.Tables.{IsDense, IsSifted, KeepsTelling, Sifts, WasSpawned};
+ghost use Rattle.entity_table.specs.Tables.{IsDense, IsSifted, KeepsEntityLocations, Sifts, WasSpawned};
 
+use crate::component_set::ComponentSet;
 use crate::entity::{Entity, EntityKind};
 use crate::walk::Iter;
 use generational_core::{HandedBack, Location, Refusal, Storage, StoreError};
@@ -39,7 +40,7 @@ impl<T, S: Storage<T>> Model for EntityTable<T, S> {
     ghost use Rattle.handles.specs.Maps.{listed};
     ghost use Rattle.handles.specs.Sites.{told_in};
     ghost use Rattle.entity_table.specs.Tables.{TableState};
-    ghost use Rattle.entity_table.specs.Keeping.{IsKept};
+    ghost use Rattle.entity_table.specs.Keeping.{IsTableKept};
 
     ghost Value = { TableState T };
 
@@ -51,7 +52,7 @@ impl<T, S: Storage<T>> Model for EntityTable<T, S> {
       sites = told_in t.sites;
     } };
 
-    ghost invariant = { λ t. IsKept (S.state t.store) t.rows };
+    ghost invariant = { λ t. IsTableKept (S.state t.store) t.rows };
 }
 
 impl<T, S: Storage<T>> EntityTable<T, S> {
@@ -85,6 +86,32 @@ impl<T, S: Storage<T>> EntityTable<T, S> {
         self.rows.number()
     }
 
+    /// Makes room for more entities in the table's own list: the next `additional` calls of `spawn` don't
+    /// allocate there, only in the store, or for a location from which no entity came yet. Every entity is
+    /// unchanged. O(additional).
+    ///
+    /// # Errors
+    ///
+    /// `OutOfMemory` is the only possible error.
+    ///
+    /// ```rust
+    /// table.reserve(100)?;
+    /// ```
+    pub fn reserve(&mut self, additional: usize) -> Result<(), StoreError>
+        ensures same { self.new ≡ self.old }
+        ensures short { IfErr result (λ cause. cause ≡ OutOfMemory) }
+    {
+        if additional == 0 {
+            return Ok(());
+        }
+        let last = self.store.slots().saturating_add(additional - 1);
+        if self.rows.reserve(last) {
+            Ok(())
+        } else {
+            Err(StoreError::OutOfMemory)
+        }
+    }
+
     /// Adds an entity with this element, and returns its handle, which was never issued before. Every
     /// other entity is unchanged. The table says for its whole lifetime where the entity was made.
     /// Amortised O(1). Allocates only if no slot is free, or for a location from which no entity came
@@ -106,8 +133,8 @@ impl<T, S: Storage<T>> EntityTable<T, S> {
             element_in self.new f ≡ element_in self.old f }
         ensures new { IfOk result (λ e. WasSpawned self.old e → ⊥) }
         ensures spawned { IfOk result (λ e. WasSpawned self.new e) }
-        ensures here { IfOk result (λ e. Tells (created_at self.new e) here) }
-        ensures tells { KeepsTelling self.old self.new }
+        ensures here { IfOk result (λ e. TellsLocation (created_at self.new e) here) }
+        ensures tells { KeepsEntityLocations self.old self.new }
         ensures rows { OnOk result (length self.new.rows ≡ length self.old.rows + 1) }
         ensures kept { (f : Entity T) → WasSpawned self.old f → WasSpawned self.new f }
         ensures refused { OnErr result (self.new ≡ self.old) }
@@ -157,6 +184,43 @@ impl<T, S: Storage<T>> EntityTable<T, S> {
             Ok(()) => Ok(()),
             Err(_) => unreachable!(),
         }
+    }
+
+    /// Removes an entity like [`EntityTable::despawn`], and drops its components in a set of component
+    /// tables: one, or a tuple of them. Every other component is unchanged. Doesn't allocate, and is O(k)
+    /// for k tables.
+    ///
+    /// # Errors
+    ///
+    /// `Stale` if the entity was removed, or belongs to another table. The table and the component tables
+    /// are unchanged then.
+    ///
+    /// ```rust
+    /// let mut components = (names, scores);
+    /// table.despawn_with(entity, &mut components)?;
+    /// ```
+    pub fn despawn_with<C: ComponentSet<T>>(
+        &mut self,
+        entity: Entity<T>,
+        components: &mut C,
+    ) -> Result<(), Stale>
+        ensures gone { element_in self.new entity ≡ None }
+        ensures others { (f : Entity T) → IsOther entity f →
+            element_in self.new f ≡ element_in self.old f }
+        ensures dropped { OnOk result (C.has_none components.new entity) }
+        ensures beside { OnOk result ((f : Entity T) → IsOther entity f →
+            C.has_same components.old components.new f) }
+        ensures rows { OnOk result (length self.new.rows + 1 ≡ length self.old.rows) }
+        ensures kept { (f : Entity T) → WasSpawned self.old f → WasSpawned self.new f }
+        ensures tells { (f : Entity T) → created_at self.new f ≡ created_at self.old f }
+        ensures stale { IsErr result ↔ element_in self.old entity ≡ None }
+        ensures told { IfErr result (λ stale. stale.created_at ≡ created_at self.old entity) }
+        ensures refused { OnErr result (self.new ≡ self.old) }
+        ensures refused_components { OnErr result (components.new ≡ components.old) }
+    {
+        self.despawn(entity)?;
+        components.remove_in_all(entity);
+        Ok(())
     }
 
     /// Removes an entity and returns its element. The handle is stale from then on, and never refers to

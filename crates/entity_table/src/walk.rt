@@ -5,7 +5,7 @@ ghost use Rattle.std.specs.Iterator.{UpTo, YieldsFirstBy, item_count};
 ghost use Rattle.std.specs.Iterator.SizeHint.{IsWithinCount};
 ghost use Rattle.handles.specs.Handles.{pointer_in};
 ghost use Rattle.entity_table.specs.Tables.{element_in};
-ghost use Rattle.entity_table.specs.Walking.{AreSeen, joined, shown_rows};
+ghost use Rattle.entity_table.specs.Walking.{AreSeen, joined_rows, shown_rows};
 
 use crate::entity::{Entity, EntityKind};
 use crate::table::EntityTable;
@@ -88,11 +88,11 @@ pub struct Join<'a, T, C, E: Storage<T>> {
 impl<'a, T, C, E: Storage<T>> Model for Join<'a, T, C, E> {
     ghost use Rattle.std.specs.Prelude.{List};
     ghost use Rattle.entity_table.specs.Tables.{Entity, element_in};
-    ghost use Rattle.entity_table.specs.Walking.{joined};
+    ghost use Rattle.entity_table.specs.Walking.{joined_rows};
 
     ghost Value = { List (Entity T × T × C) };
 
-    ghost view = { λ it. joined (element_in it.table.now) it.components };
+    ghost view = { λ it. joined_rows (element_in it.table.now) it.components };
 }
 
 impl<'a, T, C, E: Storage<T>> Iterator for Join<'a, T, C, E> {
@@ -125,7 +125,7 @@ fn first_joined<'a, T, C, E: Storage<T>>(
     components: &mut ComponentIter<'a, T, C>,
     table: &'a EntityTable<T, E>,
 ) -> Option<(Entity<T>, &'a T, &'a C)>
-    ensures { YieldsFirstBy (λ item. (item.0, item.1.now, item.2.now)) (joined (element_in table.now))
+    ensures { YieldsFirstBy (λ item. (item.0, item.1.now, item.2.now)) (joined_rows (element_in table.now))
         components.old result components.new }
 {
     while let Some((entity, component)) = components.next() {

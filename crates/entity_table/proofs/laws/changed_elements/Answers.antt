@@ -1,4 +1,4 @@
-use Rattle.entity_table.proofs.{all_seen, ap, id_in, refl, Entity, changed_at, element_in, pointer_in, same_id_sees, shown_each, shown_sees, sym, ◌∙◌}
+use Rattle.entity_table.proofs.{all_seen, ap, id_in, refl, Entity, changed_at, pointer_in, same_id_sees, shown_each, shown_sees, sym, ◌∙◌}
 use Rattle.handles.specs.Visits.{CalledOn}
 use Rattle.entity_table.proofs.laws.changed_elements.Goals as goal
 

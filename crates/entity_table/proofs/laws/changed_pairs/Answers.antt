@@ -1,4 +1,4 @@
-use Rattle.entity_table.proofs.{ap, both_every, both_shown, changed_at, same_component, sym, ◌∙◌}
+use Rattle.entity_table.proofs.{both_every, both_shown, changed_at, same_component, sym, ◌∙◌}
 use Rattle.handles.specs.Visits.{CalledOnBoth}
 use Rattle.entity_table.proofs.laws.changed_pairs.Goals as goal
 

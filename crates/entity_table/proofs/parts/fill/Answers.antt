@@ -1,4 +1,4 @@
-use Rattle.std.proofs.Common.{ap, arith, length, map, slice_get, subst, sym, true, ◌≡◌, ◌∙◌, ◌∷◌, ◌++◌, ◌<◌, is_some}
+use Rattle.std.proofs.Common.{ap, arith, length, map, slice_get, subst, sym, ◌≡◌, ◌∙◌, ◌∷◌, ◌++◌, ◌<◌, is_some}
 use Rattle.std.proofs.lemmas.Bool.{true≢false}
 use Rattle.std.proofs.lemmas.List.{length-set}
 use Rattle.std.specs.List.Sorted.{IsStrictlyIncreasing}
