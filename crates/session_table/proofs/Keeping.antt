@@ -18,33 +18,33 @@ unfolding IsDistinct
 none_twice = tt
 
 -- no rows
-abbrev pub no_rows : {I : Type 0} → I → Option Held
+abbrev pub no_rows : {I : Type 0} → I → Option RowNames
 no_rows _ = None
 
 module _ {I T : Type 0} (eq : I → I → Bool) where
-  pub fresh_kept : (number start next : ℕ) → IsKept (fresh {T = T} number start next) eq no_rows
+  pub fresh_kept : (number start next : ℕ) → AreSessionsKept (fresh {T = T} number start next) eq no_rows
   fresh_kept number start next =
       let simple = fresh_simple {T = T} number start next in
       let sees = fresh_sees {T = T} number start next in
       grind (arith, simple, sees, map.get-empty {X = Ownership} nat_cmp)
 
   -- without rows no box shows a value
-  pub empty_shows : (S : State T) → IsKept S eq no_rows → (b : GenerationalPointer) → value_in S b ≡ None
+  pub empty_shows : (S : State T) → AreSessionsKept S eq no_rows → (b : GenerationalPointer) → value_in S b ≡ None
   empty_shows S k b = by_option (value_in S b) (λ none. none) (λ v is. let was = k.kept b (ap is_some is) in cc)
 
 -- rows that are the same
-pub same_kept : {I T : Type 0} {eq : I → I → Bool} {S : State T} {rows after : I → Option Held}
-    → IsKept S eq rows → ((i : I) → after i ≡ rows i) → IsKept S eq after
-same_kept {I} {T} {eq} {S} k same = subst (IsKept S eq) (λ j i. sym (same i) j) k
+pub same_kept : {I T : Type 0} {eq : I → I → Bool} {S : State T} {rows after : I → Option RowNames}
+    → AreSessionsKept S eq rows → ((i : I) → after i ≡ rows i) → AreSessionsKept S eq after
+same_kept {I} {T} {eq} {S} k same = subst (AreSessionsKept S eq) (λ j i. sym (same i) j) k
 
 -- what a store has for a row
-pub record IsRow {T : Type 0} (S : State T) (h : Held) : Type 0 where
+pub record IsRow {T : Type 0} (S : State T) (h : RowNames) : Type 0 where
   pub once : IsDistinct is_name h.names
   pub own : AllByRecursion (λ n. n ≡ S.number) h.stores
-  pub live : (b : GenerationalPointer) → among h.names (name_of b) ≡ true → b.id.store ≡ S.number → Shows S b
+  pub live : (b : GenerationalPointer) → among h.names (name_of b) ≡ true → b.id.store ≡ S.number → ShowsSomething S b
 
 -- the names of a row, if there is one
-abbrev pub listed_in : Option Held → List Name
+abbrev pub listed_in : Option RowNames → List Name
 listed_in None = []
 listed_in (Some h) = h.names
 
@@ -52,41 +52,41 @@ listed_in (Some h) = h.names
 pub grown : (names : List Name) (new n : Name) → among (names ++ new ∷ []) n ≡ (among names n || is_name n new)
 grown names new n = grind (arith, list_any-append)
 
-module _ {I T : Type 0} {eq : I → I → Bool} (S R : State T) {rows : I → Option Held} (k : IsKept S eq rows) where
+module _ {I T : Type 0} {eq : I → I → Bool} (S R : State T) {rows : I → Option RowNames} (k : AreSessionsKept S eq rows) where
   -- the row of an id changes, is added or is removed, and every other entry is unchanged
   module _ (simple : IsSimple R) (number : R.number ≡ S.number) (owners : (o : OwnerName) → ownership R o ≡ ownership S o)
-      (laws : IsEquivalence eq) {after : I → Option Held} (at : I) (was now : Option Held)
+      (laws : IsEquivalence eq) {after : I → Option RowNames} (at : I) (was now : Option RowNames)
       (there : (i : I) → eq at i ≡ true → rows i ≡ was)
       (update : (i : I) → after i ≡ cond (eq at i) now (rows i))
-      (row : (h : Held) → now ≡ Some h → IsRow R h)
-      (left : (i : I) (h : Held) → eq at i ≡ false → rows i ≡ Some h → (b : GenerationalPointer)
-      → among h.names (name_of b) ≡ true → Shows S b → Shows R b)
-      (fresh_names : (i : I) (h : Held) → eq at i ≡ false → rows i ≡ Some h → (n : Name)
+      (row : (h : RowNames) → now ≡ Some h → IsRow R h)
+      (left : (i : I) (h : RowNames) → eq at i ≡ false → rows i ≡ Some h → (b : GenerationalPointer)
+      → among h.names (name_of b) ≡ true → ShowsSomething S b → ShowsSomething R b)
+      (fresh_names : (i : I) (h : RowNames) → eq at i ≡ false → rows i ≡ Some h → (n : Name)
       → among (listed_in now) n ≡ true → among h.names n ≡ true → ⊥)
-      (reached : (b : GenerationalPointer) → Shows R b → (among (listed_in now) (name_of b) ≡ true)
-      ⊎ ((among (listed_in was) (name_of b) ≡ false) × Shows S b)) where
-    split : (i : I) (h : Held) → after i ≡ Some h
+      (reached : (b : GenerationalPointer) → ShowsSomething R b → (among (listed_in now) (name_of b) ≡ true)
+      ⊎ ((among (listed_in was) (name_of b) ≡ false) × ShowsSomething S b)) where
+    split : (i : I) (h : RowNames) → after i ≡ Some h
         → ((eq at i ≡ true) × (now ≡ Some h)) ⊎ ((eq at i ≡ false) × (rows i ≡ Some h))
     split i h is = ⊎_elim (λ t. inl (t, sym (ap (λ b. cond b now (rows i)) t) ∙ (sym (update i) ∙ is)))
         (λ f. inr (f, sym (ap (λ b. cond b now (rows i)) f) ∙ (sym (update i) ∙ is))) (cases_Bool (eq at i))
 
-    here : (h : Held) → now ≡ Some h → after at ≡ Some h
+    here : (h : RowNames) → now ≡ Some h → after at ≡ Some h
     here h is = update at ∙ (ap (λ b. cond b now (rows at)) (laws.refl at) ∙ is)
 
-    stays : (i : I) (h : Held) → eq at i ≡ false → rows i ≡ Some h → after i ≡ Some h
+    stays : (i : I) (h : RowNames) → eq at i ≡ false → rows i ≡ Some h → after i ≡ Some h
     stays i h f is = update i ∙ (ap (λ b. cond b now (rows i)) f ∙ is)
 
-    old_row : (i : I) (h : Held) → eq at i ≡ false → rows i ≡ Some h → IsRow R h
+    old_row : (i : I) (h : RowNames) → eq at i ≡ false → rows i ≡ Some h → IsRow R h
     old_row i h f is = record {
       once = k.once i h is;
       own = subst (λ m. AllByRecursion (λ n. n ≡ m) h.stores) (sym number) (k.own i h is);
       live = λ b listed own. left i h f is b listed (k.live i h is b listed (own ∙ number));
     }
 
-    each_row : (i : I) (h : Held) → after i ≡ Some h → IsRow R h
+    each_row : (i : I) (h : RowNames) → after i ≡ Some h → IsRow R h
     each_row i h is = ⊎_elim (λ new. row h new.1) (λ old. old_row i h old.0 old.1) (split i h is)
 
-    pub changed_kept : IsKept R eq after
+    pub changed_kept : AreSessionsKept R eq after
     changed_kept = record {
       simple = simple;
       unowned = λ o. owners o ∙ k.unowned o;
@@ -107,14 +107,14 @@ module _ {I T : Type 0} {eq : I → I → Bool} (S R : State T) {rows : I → Op
       live = λ i h is. (each_row i h is).live;
     }
       where
-        some_row : (b : GenerationalPointer) (o : Option Held) → now ≡ o → among (listed_in o) (name_of b) ≡ true
-            → (i : I) × (h : Held) × (after i ≡ Some h) × (among h.names (name_of b) ≡ true)
+        some_row : (b : GenerationalPointer) (o : Option RowNames) → now ≡ o → among (listed_in o) (name_of b) ≡ true
+            → (i : I) × (h : RowNames) × (after i ≡ Some h) × (among h.names (name_of b) ≡ true)
         some_row b None is listed = absurd (true≢false (sym listed))
         some_row b (Some h) is listed = (at, h, here h is, listed)
 
   -- ---- a value that is set
 
-  pub set_kept : IsSound S → (b : GenerationalPointer) (v old : T) → Meets S (SetValue b v) (Old old) R → IsKept R eq rows
+  pub set_kept : IsSound S → (b : GenerationalPointer) (v old : T) → Meets S (SetValue b v) (Old old) R → AreSessionsKept R eq rows
   set_kept s a v old m =
       let sees = set_seen s k.simple.unborrowed a v old m in
       let number = meets_number S R (SetValue a v) (Old old) m in
@@ -130,19 +130,19 @@ module _ {I T : Type 0} {eq : I → I → Bool} (S R : State T) {rows : I → Op
 
   -- ---- a session that has a row
 
-  module _ (laws : IsEquivalence eq) (at : I) (x : Held)
+  module _ (laws : IsEquivalence eq) (at : I) (x : RowNames)
       (there : (i : I) → eq at i ≡ true → rows i ≡ Some x) where
     has : rows at ≡ Some x
     has = there at (laws.refl at)
 
     -- another lists none of what this one lists
-    other_names : (i : I) (h : Held) → eq at i ≡ false → rows i ≡ Some h → (n : Name)
+    other_names : (i : I) (h : RowNames) → eq at i ≡ false → rows i ≡ Some h → (n : Name)
         → among x.names n ≡ true → among h.names n ≡ true → ⊥
     other_names i h f is n mine theirs = true≢false (sym (k.apart at i x h has is n mine theirs) ∙ f)
 
     -- ---- a value that is inserted
 
-    module _ (s : IsSound S) {after : I → Option Held} (y : Held)
+    module _ (s : IsSound S) {after : I → Option RowNames} (y : RowNames)
         (update : (i : I) → after i ≡ cond (eq at i) (Some y) (rows i))
         (v : T) (l : Location) (e : Entry T)
         (names : y.names ≡ x.names ++ name_of (pointer_in e) ∷ [])
@@ -161,7 +161,7 @@ module _ {I T : Type 0} {eq : I → I → Bool} (S R : State T) {rows : I → Op
       same_name = ap name_in put.2
 
       -- a box that shows something has another name
-      not_new : (b : GenerationalPointer) → Shows S b → name_of b ≢ new
+      not_new : (b : GenerationalPointer) → ShowsSomething S b → name_of b ≢ new
       not_new b shows is = true≢false (sym (s.given (name_of b) (seen_cell S b shows))
           ∙ (ap (λ n. set.contains S.given n) (is ∙ same_name) ∙ (made_new S R (Make None v l) put.0 put.1).1))
 
@@ -169,7 +169,7 @@ module _ {I T : Type 0} {eq : I → I → Bool} (S R : State T) {rows : I → Op
       put_left b ne = same_value S R (Make None v l) (Made put.0) s put.1 b tt (λ is. ne (sym is ∙ sym same_name))
 
       -- a name that a row lists is that of a box that shows something
-      listed_old : (i : I) (h : Held) → rows i ≡ Some h → (n : Name) → among h.names n ≡ true → n ≢ new
+      listed_old : (i : I) (h : RowNames) → rows i ≡ Some h → (n : Name) → among h.names n ≡ true → n ≢ new
       listed_old i h is n listed same =
           let b : GenerationalPointer = record {
             id = record { store = S.number; slot = n.slot; generation = n.generation };
@@ -177,11 +177,11 @@ module _ {I T : Type 0} {eq : I → I → Bool} (S R : State T) {rows : I → Op
           } in
           not_new b (k.live i h is b listed refl) same
 
-      new_shows : (b : GenerationalPointer) → name_of b ≡ new → b.id.store ≡ R.number → Shows R b
+      new_shows : (b : GenerationalPointer) → name_of b ≡ new → b.id.store ≡ R.number → ShowsSomething R b
       new_shows b name own = ap is_some (same_id_sees R b put.0 (grind (arith, own, number, own_number, put.2))
           ∙ (meets_tells S R (Make None v l) (Made put.0) put.1).1)
 
-      pub put_kept : IsKept R eq after
+      pub put_kept : AreSessionsKept R eq after
       put_kept = changed_kept (made_simple s k.simple v l put.0 put.1) number
           (λ o. keeps_record (Make None v l) (Made put.0) put.1 o tt tt) laws at (Some x) (Some y) there update
           (λ h is. subst (IsRow R) (same_Some y h is) (record {
@@ -220,9 +220,9 @@ module _ {I T : Type 0} {eq : I → I → Bool} (S R : State T) {rows : I → Op
 
     -- ---- a session that ends
 
-    module _ {after : I → Option Held} (update : (i : I) → after i ≡ cond (eq at i) None (rows i))
+    module _ {after : I → Option RowNames} (update : (i : I) → after i ≡ cond (eq at i) None (rows i))
         (lost : HasLost S x.names R) where
-      pub ended_kept : IsKept R eq after
+      pub ended_kept : AreSessionsKept R eq after
       ended_kept = changed_kept lost.simple lost.number lost.owners laws at (Some x) None there update
           (λ h is. absurd (none-some h is))
           (λ i h f is b listed shows. ap is_some (lost.others b
@@ -234,7 +234,7 @@ module _ {I T : Type 0} {eq : I → I → Bool} (S R : State T) {rows : I → Op
 
     -- ---- an entry that is removed
 
-    module _ {after : I → Option Held} (y : Held) (update : (i : I) → after i ≡ cond (eq at i) (Some y) (rows i))
+    module _ {after : I → Option RowNames} (y : RowNames) (update : (i : I) → after i ≡ cond (eq at i) (Some y) (rows i))
         (gone : Name) (lost : HasLost S (gone ∷ []) R)
         (names : (n : Name) → among y.names n ≡ cond (is_name n gone) false (among x.names n)) where
       -- what the row lists it listed, and has another name
@@ -242,7 +242,7 @@ module _ {I T : Type 0} {eq : I → I → Bool} (S R : State T) {rows : I → Op
       named n now = grind (arith, names n)
 
       pub forgotten_kept : IsDistinct is_name y.names → AllByRecursion (λ n. n ≡ S.number) y.stores
-          → among x.names gone ≡ true → IsKept R eq after
+          → among x.names gone ≡ true → AreSessionsKept R eq after
       forgotten_kept once own had = changed_kept lost.simple lost.number lost.owners laws at (Some x) (Some y) there update
           (λ h is. subst (IsRow R) (same_Some y h is) (record {
             once = once;
@@ -265,17 +265,17 @@ module _ {I T : Type 0} {eq : I → I → Bool} (S R : State T) {rows : I → Op
           not_listed : (b : GenerationalPointer) → name_of b ≢ gone → among (gone ∷ []) (name_of b) ≡ false
           not_listed b ne = grind (arith, name_same (name_of b) gone)
 
-          beside : (i : I) (h : Held) → eq at i ≡ false → rows i ≡ Some h → (n : Name) → among h.names n ≡ true
+          beside : (i : I) (h : RowNames) → eq at i ≡ false → rows i ≡ Some h → (n : Name) → among h.names n ≡ true
               → among (gone ∷ []) n ≡ false
           beside i h f is n theirs = false_from_ne_true _ (λ one. other_names i h f is n (grind (arith, name_same n gone)) theirs)
 
 -- ---- a session that starts, and one that gets another id
 
-module _ {I T : Type 0} {eq : I → I → Bool} {S : State T} {rows after : I → Option Held}
-    (kept : IsKept S eq rows) (laws : IsEquivalence eq) where
+module _ {I T : Type 0} {eq : I → I → Bool} {S : State T} {rows after : I → Option RowNames}
+    (kept : AreSessionsKept S eq rows) (laws : IsEquivalence eq) where
   pub login_kept : (at : I)
       → ((i : I) → after i ≡ cond (eq at i) (Some (record { names = []; stores = [] })) (rows i))
-      → ((i : I) → eq at i ≡ true → rows i ≡ None) → IsKept S eq after
+      → ((i : I) → eq at i ≡ true → rows i ≡ None) → AreSessionsKept S eq after
   login_kept at update free = changed_kept S S kept kept.simple refl (λ o. refl) laws at None
       (Some (record { names = []; stores = [] })) free update
       (λ h is. subst (IsRow S) (same_Some _ h is) (record {
@@ -285,20 +285,20 @@ module _ {I T : Type 0} {eq : I → I → Bool} {S : State T} {rows after : I �
       }))
       (λ i h f is b listed shows. shows) (λ i h f is n mine theirs. true≢false (sym mine)) (λ b shows. inr (refl, shows))
 
-module _ {I T : Type 0} {eq : I → I → Bool} {S : State T} {rows after : I → Option Held}
-    (kept : IsKept S eq rows) (laws : IsEquivalence eq) (k t : I) (h : Held)
+module _ {I T : Type 0} {eq : I → I → Bool} {S : State T} {rows after : I → Option RowNames}
+    (kept : AreSessionsKept S eq rows) (laws : IsEquivalence eq) (k t : I) (h : RowNames)
     (update : (i : I) → after i ≡ cond (eq t i) (Some h) (cond (eq k i) None (rows i)))
     (there : (i : I) → eq k i ≡ true → rows i ≡ Some h) (free : (i : I) → eq t i ≡ true → rows i ≡ None)
   where
     -- each row was one, and is one
-    was_row : (i : I) (g : Held) → after i ≡ Some g → (j : I) × (rows j ≡ Some g)
+    was_row : (i : I) (g : RowNames) → after i ≡ Some g → (j : I) × (rows j ≡ Some g)
     was_row i g is = ⊎_elim (λ new. (k, grind (arith, update i, there k, laws.refl k)))
         (λ old. (i, grind (arith, update i))) (cases_Bool (eq t i))
 
-    now_row : (i : I) (g : Held) → rows i ≡ Some g → (j : I) × (after j ≡ Some g)
+    now_row : (i : I) (g : RowNames) → rows i ≡ Some g → (j : I) × (after j ≡ Some g)
     now_row i g is = grind (arith, update, laws.refl t, there i, free i)
 
-    pub renamed_kept : IsKept S eq after
+    pub renamed_kept : AreSessionsKept S eq after
     renamed_kept = record {
       simple = kept.simple;
       unowned = kept.unowned;
@@ -332,7 +332,7 @@ module _ {T : Type 0} where
 
   -- of one, by a box of its id
   pub lost_one : {S R : State T} → IsSound S → IsSimple S → (e : Entry T) (b : GenerationalPointer) → b.id ≡ id_in e
-      → Shows S (pointer_in e) → Meets S (End b) Done R → HasLost S (name_of (pointer_in e) ∷ []) R
+      → ShowsSomething S (pointer_in e) → Meets S (End b) Done R → HasLost S (name_of (pointer_in e) ∷ []) R
   lost_one {S} {R} s k e b own shows m = record {
     simple = simple_still s k (End b) Done m tt tt;
     number = number;
@@ -354,7 +354,7 @@ module _ {T : Type 0} where
       sound : IsSound R
       sound = meets_sound S R (End b) Done s m
 
-      seen : Shows S b
+      seen : ShowsSomething S b
       seen = ap is_some (same_id_sees S b (pointer_in e) own) ∙ shows
 
       gone : value_in R b ≡ None
@@ -363,7 +363,7 @@ module _ {T : Type 0} where
       cases_store : (c : GenerationalPointer) → (c.id.store ≡ S.number) ⊎ (c.id.store ≢ S.number)
       cases_store c = cases_eq c.id.store S.number
 
-      absent : (X : State T) (c : GenerationalPointer) → (Shows X c → ⊥) → value_in X c ≡ None
+      absent : (X : State T) (c : GenerationalPointer) → (ShowsSomething X c → ⊥) → value_in X c ≡ None
       absent X c never = by_option (value_in X c) (λ none. none) (λ v is. absurd (never (ap is_some is)))
 
       not_it : (c : GenerationalPointer) → among (name ∷ []) (name_of c) ≡ false → name_of c ≡ name → ⊥
@@ -377,16 +377,16 @@ module _ {I K T : Type 0} (eq : I → I → Bool) (S : State T) (rows : List (I 
   session_row i = lookup-map_values live (eq i) rows
 
   -- an id keeps what its row lists
-  pub keeps_row : (i : I) (h : Held) (e : Entry T) → held_in eq rows i ≡ Some h
+  pub keeps_row : (i : I) (h : RowNames) (e : Entry T) → held_in eq rows i ≡ Some h
       → keeps eq (table_of S rows sites) i e ≡ among h.names (name_of (pointer_in e))
   keeps_row i h e is = grind (arith, session_row i)
 
   pub kept_row : (i : I) (e : Entry T) → keeps eq (table_of S rows sites) i e ≡ true
-      → (h : Held) × (held_in eq rows i ≡ Some h) × (among h.names (name_of (pointer_in e)) ≡ true)
+      → (h : RowNames) × (held_in eq rows i ≡ Some h) × (among h.names (name_of (pointer_in e)) ≡ true)
   kept_row i e kept = by_option (lookup (eq i) rows) (λ none. cc (session_row i))
       (λ s some. (held_of s, ap (option_map held_of) some, cc (session_row i)))
 
-  module _ (k : IsKept S eq (held_in eq rows)) where
+  module _ (k : AreSessionsKept S eq (held_in eq rows)) where
     -- no entry is kept by two ids
     pub kept_once : (i j : I) (e : Entry T) → eq i j ≡ false → keeps eq (table_of S rows sites) i e ≡ true
         → keeps eq (table_of S rows sites) j e ≡ false
@@ -414,18 +414,18 @@ apart_unnamed m n names apart same =
 module _ {K T : Type 0} (test : K → Bool) where
   -- what is found is among all
   pub found_named : (es : List (K × Entry T)) (e : Entry T) → lookup test es ≡ Some e
-      → among (names_of es) (name_of (pointer_in e)) ≡ true
+      → among (entry_names es) (name_of (pointer_in e)) ≡ true
   found_named [] e is = cc
   found_named (x ∷ es) e is = grind (arith, name_here (name_of (pointer_in e)), found_named es e)
 
   -- without it all the other names are there, and its isn't
   pub named_removed : (es : List (K × Entry T)) (e : Entry T) → lookup test es ≡ Some e
-      → IsDistinct is_name (names_of es) → (n : Name) → among (names_of (remove_entry test es)) n
-      ≡ cond (is_name n (name_of (pointer_in e))) false (among (names_of es) n)
+      → IsDistinct is_name (entry_names es) → (n : Name) → among (entry_names (remove_entry test es)) n
+      ≡ cond (is_name n (name_of (pointer_in e))) false (among (entry_names es) n)
   unfolding IsDistinct
   named_removed [] e is once n = cc
   named_removed (x ∷ es) e is once n =
-      let apart = apart_unnamed (name_of (pointer_in x.1)) n (names_of es) once.0 in
+      let apart = apart_unnamed (name_of (pointer_in x.1)) n (entry_names es) once.0 in
       grind (arith, name_same, found_named es e, named_removed es e, apart)
 
   -- what holds of all of them holds of the one that is found
@@ -440,14 +440,67 @@ module _ {K T : Type 0} (test : K → Bool) where
   removed_all f P es all = recursion_from_All P _ (All-map-remove_entry test f P es (All-from_recursion P _ all))
 
   -- and none of them is there twice
-  pub removed_once : (es : List (K × Entry T)) → IsDistinct is_name (names_of es)
-      → IsDistinct is_name (names_of (remove_entry test es))
+  pub removed_once : (es : List (K × Entry T)) → IsDistinct is_name (entry_names es)
+      → IsDistinct is_name (entry_names (remove_entry test es))
   unfolding IsDistinct
   removed_once [] once = once
   removed_once (x ∷ es) once =
       let apart = λ (n : Name). is_name (name_of (pointer_in x.1)) n ≡ false in
       let left = removed_all (λ y. name_of (pointer_in y.1)) apart es once.0 in
       grind (arith, left, removed_once es once.1)
+
+  -- the index of what is found
+  found_at : (es : List (K × Entry T)) (e : Entry T) → lookup test es ≡ Some e
+      → (i : ℕ) × (k : K) × (position test (keys_of es) ≡ Some i) × (slice_get es i ≡ Some (k, e))
+  found_at [] e is = cc
+  found_at (x ∷ es) e is = ⊎_elim
+      (λ yes. (0, x.0, grind (arith, yes), ap (λ v. Some (x.0, v)) (same_Some x.1 e (grind (arith, yes, is)))))
+      (λ no. let later = found_at es e (grind (arith, no, is)) in (suc later.0, later.1, grind (arith, no, later.2), later.3))
+      (cases_Bool (test x.0))
+
+  -- if the last one takes its place, all are there, in another order
+  moved : (es : List (K × Entry T)) (e : Entry T) → lookup test es ≡ Some e
+      → (k : K) × IsPermutation es ((k, e) ∷ swap_remove_entry test es)
+  moved es e is =
+      let (i, k, at, there) = found_at es e is in (
+        k,
+        rw (swap_remove_entry-found test es i (k, e) at) (IsPermutation-swap_remove es i (k, e)
+            (slice_get_within es i (k, e) there) (sym (get_or_from_slice_get es i (k, e) (k, e) there))),
+      )
+
+  moved_once : (es : List (K × Entry T)) (e : Entry T) → lookup test es ≡ Some e → IsDistinct is_name (entry_names es)
+      → IsDistinct is_name (name_of (pointer_in e) ∷ entry_names (swap_remove_entry test es))
+  moved_once es e is once =
+      let (k, order) = moved es e is in
+      IsDistinct-IsPermutation is_name name_equal.symm _ _
+      (IsPermutation-map (λ (x : K × Entry T). name_of (pointer_in x.1)) es _ order) once
+
+  -- what is left, in order or not: all the other names, and not its own; none twice; and what holds of all
+  pub named_left : (in_order : Bool) (es : List (K × Entry T)) (e : Entry T) → lookup test es ≡ Some e
+      → IsDistinct is_name (entry_names es) → (n : Name) → among (entry_names (left_of in_order test es)) n
+      ≡ cond (is_name n (name_of (pointer_in e))) false (among (entry_names es) n)
+  unfolding IsDistinct
+  named_left true es e is once n = named_removed es e is once n
+  named_left false es e is once n =
+      let (k, order) = moved es e is in
+      let any = list_any-IsPermutation (is_name n) _ _
+      (IsPermutation-map (λ (x : K × Entry T). name_of (pointer_in x.1)) es _ order) in
+      let apart = apart_unnamed (name_of (pointer_in e)) n (entry_names (swap_remove_entry test es)) (moved_once es e is once).0 in
+      grind (arith, any, apart)
+
+  pub left_once : (in_order : Bool) (es : List (K × Entry T)) (e : Entry T) → lookup test es ≡ Some e
+      → IsDistinct is_name (entry_names es) → IsDistinct is_name (entry_names (left_of in_order test es))
+  unfolding IsDistinct
+  left_once true es e is once = removed_once es once
+  left_once false es e is once = (moved_once es e is once).1
+
+  pub left_all : {X : Type 0} (f : K × Entry T → X) (P : X → Type 0) (in_order : Bool) (es : List (K × Entry T))
+      (e : Entry T) → lookup test es ≡ Some e → AllByRecursion P (map f es) → AllByRecursion P (map f (left_of in_order test es))
+  left_all f P true es e is all = removed_all f P es all
+  left_all f P false es e is all =
+      let (k, order) = moved es e is in
+      (recursion_from_All P (f (k, e) ∷ map f (swap_remove_entry test es))
+      (All-map-IsPermutation f P es ((k, e) ∷ swap_remove_entry test es) order (All-from_recursion P _ all))).1
 
 -- ==== rows of which one is removed, and tables whose old sessions end
 
@@ -595,7 +648,7 @@ module _ {I K T : Type 0} (eq : I → I → Bool) (time : ℕ) where
   -- from the one table to the other some old sessions have ended: those before an index are young, and
   -- the others are still to be checked; an id has the same session, or none if that was old, and every
   -- entry is unchanged except for those of such an id
-  pub record Sheds (place : ℕ) (a b : TableState I K T) : Type 0 where
+  pub record Sheds (place : ℕ) (a b : SessionsState I K T) : Type 0 where
     pub within : place ≤ length b.sessions
     pub fewer : length b.sessions ≤ length a.sessions
     pub young : (i : ℕ) (e : I × LiveSession K T) → i < place → slice_get b.sessions i ≡ Some e
@@ -610,7 +663,7 @@ module _ {I K T : Type 0} (eq : I → I → Bool) (time : ℕ) where
     pub told : (e : Entry T) → created_at b e ≡ created_at a e
     pub ticket : b.state.next ≡ a.state.next
 
-  pub none_shed : (a : TableState I K T) → Sheds 0 a a
+  pub none_shed : (a : SessionsState I K T) → Sheds 0 a a
   none_shed a = record {
     within = omega arith;
     fewer = omega arith;
@@ -624,13 +677,13 @@ module _ {I K T : Type 0} (eq : I → I → Bool) (time : ℕ) where
   }
 
 module _ {I K T : Type 0} {eq : I → I → Bool} {time : ℕ} where
-  module _ {place : ℕ} {a b : TableState I K T} (s : Sheds eq time place a b) where
+  module _ {place : ℕ} {a b : SessionsState I K T} (s : Sheds eq time place a b) where
     -- what an id has it had
     had : (id : I) (x : LiveSession K T) → session_in eq b id ≡ Some x → session_in eq a id ≡ Some x
     had id x is = grind (arith, s.sessions id)
 
     -- the session at the index is old, and ends
-    pub sheds_old : IsEquivalence eq → {c : TableState I K T} → (e : EndsAt eq place b c)
+    pub sheds_old : IsEquivalence eq → {c : SessionsState I K T} → (e : EndsAt eq place b c)
         → is_young time e.ended.1 ≡ false → Sheds eq time place a c
     sheds_old laws {c} e old =
         let was = had e.ended.0 e.ended.1 e.found in
@@ -694,21 +747,21 @@ module _ {I K T : Type 0} {eq : I → I → Bool} {time : ℕ} where
 -- ==== a closure that is called on the ids of sessions that end
 
 module _ {I K T F : Type 0} (time : ℕ) (step : F → I → F → Type 0) (first : F) where
-  abbrev ids_from : ℕ → TableState I K T → List I
+  abbrev ids_from : ℕ → SessionsState I K T → List I
   ids_from place b = map (λ row. row.0) (swap_shed (λ row. is_young time row.1) (length b.sessions - place) (drop place b.sessions))
 
   -- if it is called on the ids of those that are still to end, then it was called on those of all
-  pub record AreCalled (place : ℕ) (a b : TableState I K T) (now : F) : Type 0 where
+  pub record AreCalled (place : ℕ) (a b : SessionsState I K T) (now : F) : Type 0 where
     pub whole : (last : F) → FoldsTo step now (ids_from place b) last → FoldsTo step first (expired_ids time a) last
 
-  pub none_called : (a : TableState I K T) → AreCalled 0 a a first
+  pub none_called : (a : SessionsState I K T) → AreCalled 0 a a first
   none_called a = record {
     whole = λ last calls. rw (shed_left (λ (row : I × LiveSession K T). is_young time row.1) a.sessions) calls;
   }
 
-  module _ {place : ℕ} {a b : TableState I K T} {now : F} (so : AreCalled place a b now) where
+  module _ {place : ℕ} {a b : SessionsState I K T} {now : F} (so : AreCalled place a b now) where
     -- one more has ended
-    pub called_old : {eq : I → I → Bool} {c : TableState I K T} → (e : EndsAt eq place b c) → is_young time e.ended.1 ≡ false
+    pub called_old : {eq : I → I → Bool} {c : SessionsState I K T} → (e : EndsAt eq place b c) → is_young time e.ended.1 ≡ false
         → {next : F} → step now e.ended.0 next → AreCalled place a c next
     called_old {c = c} e old {next} called = record {
       whole = λ last calls. so.whole last (rw (shed_old (λ (row : I × LiveSession K T). is_young time row.1) b.sessions
@@ -737,8 +790,8 @@ begun_last eq old k s none is =
 
 -- there are no rows if none are counted
 pub none_left : {I K T : Type 0} {eq : I → I → Bool} (S : State T) (rows : List (I × Session K T)) (sites : List Location)
-    {t : TableState I K T} (n : ℕ) → IsKept S eq (held_in eq rows) → table_of S rows sites ≡ t
-    → n ≡ length t.sessions → n ≤ 0 → IsKept S eq no_rows
+    {t : SessionsState I K T} (n : ℕ) → AreSessionsKept S eq (held_in eq rows) → table_of S rows sites ≡ t
+    → n ≡ length t.sessions → n ≤ 0 → AreSessionsKept S eq no_rows
 none_left S [] sites n k is len low = k
 none_left S (x ∷ rows) sites n k is len low = absurd (omega (arith, ap (λ t. length t.sessions) is))
 
@@ -794,8 +847,8 @@ module _ {I K T : Type 0} {eq : I → I → Bool} {old new : List (I × Session 
   held_after q = grind (arith, c.after q)
 
   -- one whose owner and entries are unchanged
-  pub same_rows : {S : State T} → IsKept S eq (held_in eq old)
-      → option_map held_of now ≡ option_map held_of was → IsKept S eq (held_in eq new)
+  pub same_rows : {S : State T} → AreSessionsKept S eq (held_in eq old)
+      → option_map held_of now ≡ option_map held_of was → AreSessionsKept S eq (held_in eq new)
   same_rows kept same = same_kept kept (λ q. grind (arith, held_after q, held_there q))
 
   pub now_session : (q : I) → lookup (eq q) (map live_row new)
@@ -812,43 +865,43 @@ module _ {I K T : Type 0} {eq : I → I → Bool} {old new : List (I × Session 
 module _ {I K T : Type 0} {eq : I → I → Bool} {old new : List (I × Session K T)} {k : I} {s w : Session K T}
     (c : IsChange eq old new k (Some s) (Some w)) (key : K) (e : Entry T)
     (entries : w.entries.entries ≡ s.entries.entries ++ (key, e) ∷ []) where
-  grown_names : names_of w.entries.entries ≡ names_of s.entries.entries ++ name_of (pointer_in e) ∷ []
+  grown_names : entry_names w.entries.entries ≡ entry_names s.entries.entries ++ name_of (pointer_in e) ∷ []
   grown_names = grind (arith, map-append (λ (x : K × Entry T). name_of (pointer_in x.1)) s.entries.entries ((key, e) ∷ []))
 
   grown_stores : stores_of w.entries.entries ≡ stores_of s.entries.entries ++ (pointer_in e).id.store ∷ []
   grown_stores = grind (arith, map-append (λ (x : K × Entry T). (pointer_in x.1).id.store) s.entries.entries ((key, e) ∷ []))
 
-  pub put_rows : {S R : State T} → IsSound S → IsKept S eq (held_in eq old) → (v : T) (l : Location)
-      → HasPut S v l e R → IsKept R eq (held_in eq new)
+  pub put_rows : {S R : State T} → IsSound S → AreSessionsKept S eq (held_in eq old) → (v : T) (l : Location)
+      → HasPut S v l e R → AreSessionsKept R eq (held_in eq new)
   put_rows {S} {R} sound kept v l put = put_kept S R kept c.laws k (held_of s)
       (held_there c) sound (held_of w) (held_after c) v l e grown_names grown_stores put
 
   -- what is listed is the new entry, and what was
-  grown_listed : (f : Entry T) → among (names_of w.entries.entries) (name_of (pointer_in f))
-      ≡ (among (names_of s.entries.entries) (name_of (pointer_in f))
+  grown_listed : (f : Entry T) → among (entry_names w.entries.entries) (name_of (pointer_in f))
+      ≡ (among (entry_names s.entries.entries) (name_of (pointer_in f))
       || is_name (name_of (pointer_in f)) (name_of (pointer_in e)))
   grown_listed f = grind (arith, grown_names, list_any-append)
 
   -- the id keeps the new entry
-  pub put_keeps : among (names_in (lookup (eq k) (map live_row new))) (name_of (pointer_in e)) ≡ true
+  pub put_keeps : among (entry_names_in (lookup (eq k) (map live_row new))) (name_of (pointer_in e)) ≡ true
   put_keeps = grind (arith, own_session c, grown_listed e, name_here (name_of (pointer_in e)))
 
   module _ (q : I) (f : Entry T) where
     -- what was kept is kept, and nothing else of what was issued
-    pub put_still : among (names_in (lookup (eq q) (map live_row old))) (name_of (pointer_in f)) ≡ true
-        → among (names_in (lookup (eq q) (map live_row new))) (name_of (pointer_in f)) ≡ true
+    pub put_still : among (entry_names_in (lookup (eq q) (map live_row old))) (name_of (pointer_in f)) ≡ true
+        → among (entry_names_in (lookup (eq q) (map live_row new))) (name_of (pointer_in f)) ≡ true
     put_still was = grind (arith, now_session c q, same_id c q, session_of (eq q) old refl, grown_listed f)
 
     pub put_unkept : name_of (pointer_in e) ≢ name_of (pointer_in f)
-        → among (names_in (lookup (eq q) (map live_row old))) (name_of (pointer_in f)) ≡ false
-        → among (names_in (lookup (eq q) (map live_row new))) (name_of (pointer_in f)) ≡ false
+        → among (entry_names_in (lookup (eq q) (map live_row old))) (name_of (pointer_in f)) ≡ false
+        → among (entry_names_in (lookup (eq q) (map live_row new))) (name_of (pointer_in f)) ≡ false
     put_unkept ne was =
         let apart = name_apart (name_of (pointer_in f)) (name_of (pointer_in e)) in
         grind (arith, now_session c q, same_id c q, session_of (eq q) old refl, grown_listed f, apart)
 
 -- an entry that is removed
 module _ {I K T : Type 0} {eq : I → I → Bool} {S : State T} (old : List (I × Session K T)) (k : I)
-    {s : Session K T} (kept : IsKept S eq (held_in eq old)) (found : lookup (eq k) old ≡ Some s) (test : K → Bool)
+    {s : Session K T} (kept : AreSessionsKept S eq (held_in eq old)) (found : lookup (eq k) old ≡ Some s) (test : K → Bool)
     {e : Entry T} (there : lookup test s.entries.entries ≡ Some e) where
   row : held_in eq old k ≡ Some (held_of s)
   row = ap (option_map held_of) found
@@ -858,46 +911,55 @@ module _ {I K T : Type 0} {eq : I → I → Bool} {S : State T} (old : List (I �
   row_own = found_all test (λ (x : Entry T). (pointer_in x).id.store) (λ n. n ≡ S.number) s.entries.entries e there
       (kept.own k (held_of s) row)
 
-  pub row_shows : Shows S (pointer_in e)
+  pub row_shows : ShowsSomething S (pointer_in e)
   row_shows = kept.live k (held_of s) row (pointer_in e) (found_named test s.entries.entries e there) row_own
 
-  pub forgotten_rows : {R : State T} {new : List (I × Session K T)} {w : Session K T}
-      → IsChange eq old new k (Some s) (Some w) → w.entries.entries ≡ remove_entry test s.entries.entries
-      → HasLost S (name_of (pointer_in e) ∷ []) R → IsKept R eq (held_in eq new)
-  forgotten_rows {R} {w = w} c entries lost =
+  pub forgotten_rows : {R : State T} {new : List (I × Session K T)} {w : Session K T} (in_order : Bool)
+      → IsChange eq old new k (Some s) (Some w) → w.entries.entries ≡ left_of in_order test s.entries.entries
+      → HasLost S (name_of (pointer_in e) ∷ []) R → AreSessionsKept R eq (held_in eq new)
+  forgotten_rows {R} {w = w} in_order c entries lost =
       let once = kept.once k (held_of s) row in
       forgotten_kept S R kept c.laws k (held_of s) (held_there c) (held_of w) (held_after c) (name_of (pointer_in e)) lost
-      (λ n. ap (λ es. among (names_of es) n) entries ∙ named_removed test s.entries.entries e there once n)
-      (rw entries (removed_once test s.entries.entries once))
-      (rw entries (removed_all test (λ (x : K × Entry T). (pointer_in x.1).id.store) (λ n. n ≡ S.number)
-      s.entries.entries (kept.own k (held_of s) row)))
+      (λ n. ap (λ es. among (entry_names es) n) entries ∙ named_left test in_order s.entries.entries e there once n)
+      (rw entries (left_once test in_order s.entries.entries e there once))
+      (rw entries (left_all test (λ (x : K × Entry T). (pointer_in x.1).id.store) (λ n. n ≡ S.number) in_order
+      s.entries.entries e there (kept.own k (held_of s) row)))
       (found_named test s.entries.entries e there)
+
+-- an entry that a session has under a key shows something
+pub entry_shows : {I K T : Type 0} {eq : I → I → Bool} {S : State T} {test : I → Bool}
+    → ((x y : I) → IsTrue (test x) → test y ≡ eq x y) → (rows : List (I × Session K T)) → AreSessionsKept S eq (held_in eq rows)
+    → {s : Session K T} → lookup test rows ≡ Some s → (key : K → Bool) (o : Option (Entry T))
+    → o ≡ lookup key s.entries.entries → IfSome o (λ e. ShowsSomething S (pointer_in e))
+entry_shows alike rows kept found key None is = tt
+entry_shows alike rows kept found key (Some e) is =
+    let asked = asked_id alike rows found in row_shows rows asked.0 kept (rw (asked.1) at found) key (sym is)
 
 -- a session that ends
 module _ {I K T : Type 0} {eq : I → I → Bool} {S R : State T} {old new : List (I × Session K T)} {k : I}
-    {s : Session K T} (kept : IsKept S eq (held_in eq old)) (c : IsChange eq old new k (Some s) None)
-    (lost : HasLost S (names_of s.entries.entries) R) where
-  pub ended_rows : IsKept R eq (held_in eq new)
+    {s : Session K T} (kept : AreSessionsKept S eq (held_in eq old)) (c : IsChange eq old new k (Some s) None)
+    (lost : HasLost S (entry_names s.entries.entries) R) where
+  pub ended_rows : AreSessionsKept R eq (held_in eq new)
   ended_rows = ended_kept S R kept c.laws k (held_of s) (held_there c) (held_after c) lost
 
 -- what a row lists is live, and each entry once
 module _ {I K T : Type 0} {eq : I → I → Bool} {S : State T} (rows : List (I × Session K T))
-    (kept : IsKept S eq (held_in eq rows)) (k : I) (s : Session K T) (found : lookup (eq k) rows ≡ Some s) where
+    (kept : AreSessionsKept S eq (held_in eq rows)) (k : I) (s : Session K T) (found : lookup (eq k) rows ≡ Some s) where
   pub row_live : AreLive S s.entries.entries
   row_live = record {
     own = kept.own k (held_of s) (ap (option_map held_of) found);
     live = kept.live k (held_of s) (ap (option_map held_of) found);
   }
 
-  pub row_once : IsDistinct is_name (names_of s.entries.entries)
+  pub row_once : IsDistinct is_name (entry_names s.entries.entries)
   row_once = kept.once k (held_of s) (ap (option_map held_of) found)
 
 -- a session that begins
 pub login_rows : {I K T : Type 0} {eq : I → I → Bool} {S : State T} {old new : List (I × Session K T)}
-    {k : I} {s : Session K T} (kept : IsKept S eq (held_in eq old)) (c : IsChange eq old new k None (Some s))
-    → s.entries.entries ≡ [] → IsKept S eq (held_in eq new)
+    {k : I} {s : Session K T} (kept : AreSessionsKept S eq (held_in eq old)) (c : IsChange eq old new k None (Some s))
+    → s.entries.entries ≡ [] → AreSessionsKept S eq (held_in eq new)
 login_rows {eq = eq} {S} {old = old} {k = k} {s = s} kept c empty = login_kept kept c.laws k
-    (λ q. held_after c q ∙ ap (λ es. cond (eq k q) (Some (record { names = names_of es; stores = stores_of es }))
+    (λ q. held_after c q ∙ ap (λ es. cond (eq k q) (Some (record { names = entry_names es; stores = stores_of es }))
     (held_in eq old q)) empty) (held_there c)
 
 -- an id that had no session has none after another went, and one whose session went to another has none
@@ -913,14 +975,14 @@ left_none {eq = eq} {old = old} {k = k} {t} c d free =
 
 -- a session that gets another id
 pub renamed_rows : {I K T : Type 0} {eq : I → I → Bool} {S : State T} {old mid new : List (I × Session K T)}
-    {k t : I} {s : Session K T} → IsKept S eq (held_in eq old) → IsChange eq old mid k (Some s) None
-    → IsChange eq mid new t None (Some s) → lookup (eq t) old ≡ None → IsKept S eq (held_in eq new)
+    {k t : I} {s : Session K T} → AreSessionsKept S eq (held_in eq old) → IsChange eq old mid k (Some s) None
+    → IsChange eq mid new t None (Some s) → lookup (eq t) old ≡ None → AreSessionsKept S eq (held_in eq new)
 renamed_rows {eq = eq} {old = old} {k = k} {t} {s} kept c d free = renamed_kept kept c.laws k t (held_of s)
     (λ q. held_after d q ∙ ap (cond (eq t q) (Some (held_of s))) (held_after c q)) (held_there c)
     (λ q same. cc (lookup_congr eq c.laws.congr old t q same))
 
 -- a value that is set leaves each other box
-pub set_beside : {T : Type 0} {S R : State T} → IsSound S → IsPlain S → (a b : GenerationalPointer) (v old : T)
+pub set_beside : {T : Type 0} {S R : State T} → IsSound S → HasNoReferences S → (a b : GenerationalPointer) (v old : T)
     → Meets S (SetValue a v) (Old old) R → a.id ≢ b.id → value_in R b ≡ value_in S b
 set_beside sound plain a b v old m other =
     let saw = (sets _ _ _ m).0 in
@@ -930,8 +992,8 @@ set_beside sound plain a b v old m other =
 
 -- a row whose entries are unchanged
 pub same_held : {K T : Type 0} (s w : Session K T) → w.entries.entries ≡ s.entries.entries
-    → ◌≡◌ {A = Option Held} (Some (held_of w)) (Some (held_of s))
-same_held s w entries j = Some (record { names = names_of (entries j); stores = stores_of (entries j) })
+    → ◌≡◌ {A = Option RowNames} (Some (held_of w)) (Some (held_of s))
+same_held s w entries j = Some (record { names = entry_names (entries j); stores = stores_of (entries j) })
 
 -- ==== entries that are removed, one after the other
 
@@ -975,31 +1037,31 @@ take_one xs i x is = rw add-one (take-suc xs i x (slice_get_within xs i x is)
     ∙ ap (λ v. take i xs ++ v ∷ []) (get_or_from_slice_get xs i x x is))
 
 -- an index of a session's entries: the name there, and that it isn't among those before it
-module _ {K T : Type 0} (es : List (K × Entry T)) (once : IsDistinct is_name (names_of es)) (i : ℕ) (p : K × Entry T)
+module _ {K T : Type 0} (es : List (K × Entry T)) (once : IsDistinct is_name (entry_names es)) (i : ℕ) (p : K × Entry T)
     (at : slice_get es i ≡ Some p) where
-  name_at : slice_get (names_of es) i ≡ Some (name_of (pointer_in p.1))
+  name_at : slice_get (entry_names es) i ≡ Some (name_of (pointer_in p.1))
   name_at = slice_get-map (λ (x : K × Entry T). name_of (pointer_in x.1)) es i
       ∙ ap (option_map (λ (x : K × Entry T). name_of (pointer_in x.1))) at
 
-  named_there : among (names_of es) (name_of (pointer_in p.1)) ≡ true
-  named_there = among_at (names_of es) i (name_of (pointer_in p.1)) name_at
+  named_there : among (entry_names es) (name_of (pointer_in p.1)) ≡ true
+  named_there = among_at (entry_names es) i (name_of (pointer_in p.1)) name_at
     where
       among_at : (ns : List Name) (j : ℕ) (n : Name) → slice_get ns j ≡ Some n → among ns n ≡ true
       among_at [] j n is = cc
       among_at (m ∷ ns) zero n is = grind (arith, name_here n, same_Some m n is)
       among_at (m ∷ ns) (suc j) n is = grind (arith, among_at ns j n is)
 
-  module _ {S R : State T} (live : AreLive S es) (lost : HasLost S (take i (names_of es)) R) where
+  module _ {S R : State T} (live : AreLive S es) (lost : HasLost S (take i (entry_names es)) R) where
     -- it still shows something
-    pub still_shows : (own : (pointer_in p.1).id.store ≡ S.number) → Shows R (pointer_in p.1)
+    pub still_shows : (own : (pointer_in p.1).id.store ≡ S.number) → ShowsSomething R (pointer_in p.1)
     still_shows own = ap is_some (lost.others (pointer_in p.1)
-        (front_apart (names_of es) i (name_of (pointer_in p.1)) once name_at))
+        (front_apart (entry_names es) i (name_of (pointer_in p.1)) once name_at))
         ∙ live.live (pointer_in p.1) named_there own
 
     -- and with it those up to it have ended
-    pub lost_next : {Q : State T} → HasLost R (name_of (pointer_in p.1) ∷ []) Q → HasLost S (take (i + 1) (names_of es)) Q
+    pub lost_next : {Q : State T} → HasLost R (name_of (pointer_in p.1) ∷ []) Q → HasLost S (take (i + 1) (entry_names es)) Q
     lost_next {Q} one = subst (λ ns. HasLost S ns Q)
-        (sym (take_one (names_of es) i (name_of (pointer_in p.1)) name_at)) (lost_both lost one)
+        (sym (take_one (entry_names es) i (name_of (pointer_in p.1)) name_at)) (lost_both lost one)
 
 -- the store of each entry
 pub store_at : {K T : Type 0} (P : ℕ → Type 0) (es : List (K × Entry T)) (i : ℕ) (p : K × Entry T)
@@ -1023,7 +1085,7 @@ module _ {T : Type 0} where
       both false other = absurd (none-some l (sym (ap (λ b. cond b (slice_get old e.site) None) other) ∙ is))
 
   pub tells_here : (number : ℕ) (s : SiteState) (e : Entry T) (here : Location) → e.store ≡ number → e.site < s.told
-      → IsAt s.all e.site here → Tells (told_at number (told_in s) e) here
+      → IsAt s.all e.site here → TellsLocation (told_at number (told_in s) e) here
   tells_here number s e here own lt at =
       (at.kept, rw (own, nat_eq_equiv.refl number) (told_here s e.site at.kept lt at.there), at.alike)
 

@@ -12,32 +12,32 @@ use Rattle.generational_core.specs.State.{State, IsGiven}
 use Rattle.generational_core.specs.Steps.{Meets}
 use Rattle.generational_core.specs.declared.boxes.GenerationalPointer.{GenerationalPointer}
 use Rattle.generational_errors.specs.declared.error.Location.{Location}
-use Rattle.generational_sessions.specs.PlainStores.{IsSimple}
+use Rattle.generational_laws.specs.PlainStores.{IsSimple}
 use Rattle.handles.specs.Handles.{id_in}
 use Rattle.session_table.specs.declared.session.Session.{Session}
-use Rattle.session_table.specs.Sessions.{Entry, names_of, stores_of}
+use Rattle.session_table.specs.Sessions.{Entry, entry_names, stores_of}
 
 -- the names of a row's entries, with the numbers of their stores
-pub record Held : Type 0 where
+pub record RowNames : Type 0 where
   pub names : List Name
   pub stores : List ℕ
 
-abbrev pub held_of : {K T : Type 0} → Session K T → Held
-held_of s = record { names = names_of s.entries.entries; stores = stores_of s.entries.entries }
+abbrev pub held_of : {K T : Type 0} → Session K T → RowNames
+held_of s = record { names = entry_names s.entries.entries; stores = stores_of s.entries.entries }
 
 module _ {I K T : Type 0} where
-  abbrev pub held_in : (I → I → Bool) → List (I × Session K T) → I → Option Held
+  abbrev pub held_in : (I → I → Bool) → List (I × Session K T) → I → Option RowNames
   held_in eq rows id = option_map held_of (lookup (eq id) rows)
 
 module _ {T : Type 0} where
   -- a box shows something
-  abbrev pub Shows : State T → GenerationalPointer → Type 0
-  Shows S b = is_some (value_in S b) ≡ true
+  abbrev pub ShowsSomething : State T → GenerationalPointer → Type 0
+  ShowsSomething S b = is_some (value_in S b) ≡ true
 
   -- each entry of a list is of the store, and shows something
   pub record AreLive {K : Type 0} (S : State T) (entries : List (K × Entry T)) : Type 0 where
     pub own : AllByRecursion (λ n. n ≡ S.number) (stores_of entries)
-    pub live : (b : GenerationalPointer) → among (names_of entries) (name_of b) ≡ true → b.id.store ≡ S.number → Shows S b
+    pub live : (b : GenerationalPointer) → among (entry_names entries) (name_of b) ≡ true → b.id.store ≡ S.number → ShowsSomething S b
 
   -- a cell was made with a value, and an entry refers to it
   abbrev pub HasPut : State T → T → Location → Entry T → State T → Type 0
@@ -57,14 +57,14 @@ module _ {I T : Type 0} where
   -- there is no borrow, no cell is a reference, and no owner is known; no two ids list one name; a box
   -- that shows a value is an entry of a row, and an entry of a row is of the store, is there once, and
   -- shows a value
-  pub record IsKept (S : State T) (eq : I → I → Bool) (rows : I → Option Held) : Type 0 where
+  pub record AreSessionsKept (S : State T) (eq : I → I → Bool) (rows : I → Option RowNames) : Type 0 where
     pub simple : IsSimple S
     pub unowned : (o : OwnerName) → ownership S o ≡ None
-    pub apart : (i j : I) (h g : Held) → rows i ≡ Some h → rows j ≡ Some g
+    pub apart : (i j : I) (h g : RowNames) → rows i ≡ Some h → rows j ≡ Some g
         → (n : Name) → among h.names n ≡ true → among g.names n ≡ true → eq i j ≡ true
-    pub once : (i : I) (h : Held) → rows i ≡ Some h → IsDistinct is_name h.names
-    pub own : (i : I) (h : Held) → rows i ≡ Some h → AllByRecursion (λ n. n ≡ S.number) h.stores
-    pub kept : (b : GenerationalPointer) → Shows S b
-        → (i : I) × (h : Held) × (rows i ≡ Some h) × (among h.names (name_of b) ≡ true)
-    pub live : (i : I) (h : Held) → rows i ≡ Some h → (b : GenerationalPointer)
-        → among h.names (name_of b) ≡ true → b.id.store ≡ S.number → Shows S b
+    pub once : (i : I) (h : RowNames) → rows i ≡ Some h → IsDistinct is_name h.names
+    pub own : (i : I) (h : RowNames) → rows i ≡ Some h → AllByRecursion (λ n. n ≡ S.number) h.stores
+    pub kept : (b : GenerationalPointer) → ShowsSomething S b
+        → (i : I) × (h : RowNames) × (rows i ≡ Some h) × (among h.names (name_of b) ≡ true)
+    pub live : (i : I) (h : RowNames) → rows i ≡ Some h → (b : GenerationalPointer)
+        → among h.names (name_of b) ≡ true → b.id.store ≡ S.number → ShowsSomething S b

@@ -1,3 +1,5 @@
+pub mod Bounds
+pub mod Homes
 pub mod Keeping
 pub mod Sessions
 pub mod Tables

@@ -1,6 +1,7 @@
 -- Sessions as a caller knows them.
 use Rattle.std.specs.Prelude.{ℕ, Bool, not, nat_lt, List, [], ◌∷◌, ◌++◌, Option, None, Some, map, if◌then◌else◌}
 use Rattle.std.specs.Map.{lookup, remove_entry}
+use Rattle.indexmap.specs.IndexMap.{swap_remove_entry}
 use Rattle.generational_core.specs.Boxes.{name_of}
 use Rattle.generational_core.specs.Names.{Name}
 use Rattle.handles.specs.Handles.{pointer_in}
@@ -27,9 +28,20 @@ module _ {K T : Type 0} where
   abbrev pub with_entry : K → Entry T → LiveSession K T → LiveSession K T
   with_entry k e s = record s { entries = s.entries ++ (k, e) ∷ [] }
 
-  -- one without the first entry whose key passes a test; the others keep their order
+  -- entries without the first whose key passes a test: the others keep their order, or the last one takes
+  -- its place
+  abbrev pub left_of : Bool → (K → Bool) → List (K × Entry T) → List (K × Entry T)
+  left_of in_order test entries = if in_order then remove_entry test entries else swap_remove_entry test entries
+
+  abbrev pub left_entry : Bool → (K → Bool) → LiveSession K T → LiveSession K T
+  left_entry in_order test s = record s { entries = left_of in_order test s.entries }
+
+  -- a session without that entry, in each of the two ways
   abbrev pub without_entry : (K → Bool) → LiveSession K T → LiveSession K T
   without_entry test s = record s { entries = remove_entry test s.entries }
+
+  abbrev pub swapped_entry : (K → Bool) → LiveSession K T → LiveSession K T
+  swapped_entry test s = record s { entries = swap_remove_entry test s.entries }
 
   -- whether one was used at a time or after it; the session, if it was
   abbrev pub is_young : ℕ → LiveSession K T → Bool
@@ -40,15 +52,15 @@ module _ {K T : Type 0} where
   if_young time (Some s) = if is_young time s then Some s else None
 
   -- the names of entries, and the numbers of their stores
-  abbrev pub names_of : List (K × Entry T) → List Name
-  names_of entries = map (λ e. name_of (pointer_in e.1)) entries
+  abbrev pub entry_names : List (K × Entry T) → List Name
+  entry_names entries = map (λ e. name_of (pointer_in e.1)) entries
 
   abbrev pub stores_of : List (K × Entry T) → List ℕ
   stores_of entries = map (λ e. (pointer_in e.1).id.store) entries
 
-  abbrev pub names_in : Option (LiveSession K T) → List Name
-  names_in None = []
-  names_in (Some s) = names_of s.entries
+  abbrev pub entry_names_in : Option (LiveSession K T) → List Name
+  entry_names_in None = []
+  entry_names_in (Some s) = entry_names s.entries
 
   -- the entry under a key: the first whose key passes a test, and the one under what `==` says of keys
   abbrev pub find_entry : (K → Bool) → Option (LiveSession K T) → Option (Entry T)

@@ -3,18 +3,18 @@
 
 ghost use Rattle.std.specs.Prelude.{◌≡◌, ◌⊎◌, ◌++◌, ◌∷◌, [], true, Some, is_some, slice_get, IfOk, IfErr, IsErrAnd, OnErr, IfNone};
 ghost use Rattle.std.specs.List.{IsDistinct};
-ghost use Rattle.std.specs.Map.{lookup, remove_entry};
+ghost use Rattle.std.specs.Map.{lookup};
 ghost use Rattle.generational_core.specs.Boxes.{name_of};
 ghost use Rattle.generational_core.specs.Names.{is_name};
 ghost use Rattle.generational_core.specs.Seeing.{value_in};
 ghost use Rattle.generational_errors.specs.declared.error.Location.{Location};
 ghost use Rattle.generational_errors.specs.declared.error.StoreError.TheVariants.{OutOfMemory};
-ghost use Rattle.generational_sessions.specs.PlainStores.{IsSimple};
+ghost use Rattle.generational_laws.specs.PlainStores.{IsSimple};
 ghost use Rattle.handles.specs.Handles.{pointer_in};
-ghost use Rattle.handles.specs.Sites.{Tells, told_at, told_in};
+ghost use Rattle.handles.specs.Sites.{TellsLocation, told_at, told_in};
 ghost use Rattle.session_table.specs.declared.entry.PutError.TheVariants as put;
 ghost use Rattle.session_table.specs.Keeping.{AreLive, HasLost, HasPut};
-ghost use Rattle.session_table.specs.Sessions.{Entry, names_of};
+ghost use Rattle.session_table.specs.Sessions.{Entry, left_of, entry_names};
 
 use crate::entry::{Entry, PutError};
 use crate::walk::Entries;
@@ -31,6 +31,8 @@ const SLOTS: usize = 4294967296;
 /// A session that is logged in. Its table stores it under its id.
 pub struct Session<K: Eq + Hash, T> {
     pub(crate) used_at: u64,
+    // by which its entries find its row
+    pub(crate) seat: u32,
     pub(crate) entries: IndexMap<K, Entry<T>>,
 }
 
@@ -59,7 +61,8 @@ impl<K: Eq + Hash, T> Session<K, T> {
         self.entries.get(key).copied()
     }
 
-    /// The entries with their keys, in the order in which they were put. Doesn't allocate, and is O(1).
+    /// The entries with their keys, in the order that `put` and the removals state. Doesn't allocate, and
+    /// is O(1).
     ///
     /// ```rust
     /// if let Some(session) = table.session(&7) {
@@ -93,7 +96,7 @@ impl<K: Eq + Hash, T> Session<K, T> {
         ensures used { self.new.used_at ≡ self.old.used_at }
         ensures put { IfOk result (λ e. HasPut (S.state store.old) value here e (S.state store.new)) }
         ensures here { IfOk result (λ e.
-            Tells (told_at (S.state store.old).number (told_in sites.new) e) here) }
+            TellsLocation (told_at (S.state store.old).number (told_in sites.new) e) here) }
         ensures tells { (e : Entry T) (l : Location) →
             told_at (S.state store.old).number (told_in sites.old) e ≡ Some l →
             told_at (S.state store.old).number (told_in sites.new) e ≡ Some l }
@@ -131,17 +134,22 @@ impl<K: Eq + Hash, T> Session<K, T> {
         }
     }
 
-    /// Removes and returns the entry under a key, if there is one. The others keep their order.
-    pub(crate) fn forget<Q: Equivalent<K>>(&mut self, key: Q) -> Option<Entry<T>>
+    /// Removes and returns the entry under a key, if there is one. The others keep their order, or else the
+    /// last one takes its place.
+    pub(crate) fn forget<Q: Equivalent<K>>(&mut self, key: Q, in_order: bool) -> Option<Entry<T>>
     where
         K: Drop,
         ensures entry { result ≡ lookup (Q.equivalent key) self.old.entries.entries }
         ensures entries { self.new.entries.entries
-            ≡ remove_entry (Q.equivalent key) self.old.entries.entries }
+            ≡ left_of in_order (Q.equivalent key) self.old.entries.entries }
         ensures used { self.new.used_at ≡ self.old.used_at }
         ensures same { IfNone result (self.new.entries.entries ≡ self.old.entries.entries) }
     {
-        self.entries.shift_remove(key)
+        if in_order {
+            self.entries.shift_remove(key)
+        } else {
+            self.entries.swap_remove(key)
+        }
     }
 
     /// Drops all its values.
@@ -150,11 +158,12 @@ impl<K: Eq + Hash, T> Session<K, T> {
         K: Drop,
         requires simple { IsSimple (S.state store.old) }
         requires live { AreLive (S.state store.old) self.entries.entries }
-        requires once { IsDistinct is_name (names_of self.entries.entries) }
-        ensures { HasLost (S.state store.old) (names_of self.entries.entries) (S.state store.new) }
+        requires once { IsDistinct is_name (entry_names self.entries.entries) }
+        ensures { HasLost (S.state store.old) (entry_names self.entries.entries) (S.state store.new) }
     {
         let Session {
             used_at: _,
+            seat: _,
             entries,
         } = self;
         let mut next = 0;

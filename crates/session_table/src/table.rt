@@ -1,8 +1,8 @@
 //! Tables of sessions.
 
-ghost use Rattle.std.specs.Prelude.{◌≡◌, ◌↔◌, ◌⊎◌, ◌<◌, ◌+◌, ◌++◌, ◌∷◌, [], true, false, length};
-ghost use Rattle.std.specs.Prelude.{None, Some, is_some, option_map, option_copied, IfOk, OnOk};
-ghost use Rattle.std.specs.Prelude.{IfErr, IsErrAnd, OnErr, IsErr, IsTrue, IsFalse, IfNone, IsNone, IsSome, slice_get};
+ghost use Rattle.std.specs.Prelude.{ℕ, ◌≡◌, ◌↔◌, ◌⊎◌, ◌<◌, ◌≤◌, ◌/◌, ◌+◌, ◌++◌, ◌∷◌, [], true, false, length};
+ghost use Rattle.std.specs.Prelude.{None, Some, is_some, option_map, option_copied, IfOk, IfSome, OnOk};
+ghost use Rattle.std.specs.Prelude.{Ok, IfErr, IsErrAnd, IsOkAnd, OnErr, IsErr, IsTrue, IsFalse, IfNone, IsNone, IsSome, slice_get};
 ghost use Rattle.std.specs.Prelude.{if◌then◌else◌, not};
 ghost use Rattle.std.specs.Borrow.{MutBor};
 ghost use Rattle.std.specs.Fn.{FnOnceReturnsAtMut};
@@ -14,25 +14,28 @@ ghost use Rattle.generational_core.specs.Seeing.{value_in};
 ghost use Rattle.generational_errors.specs.declared.error.Location.{Location};
 ghost use Rattle.generational_errors.specs.declared.error.StoreError.TheVariants.{OutOfMemory};
 ghost use Rattle.handles.specs.Handles.{pointer_in, IsOther};
-ghost use Rattle.handles.specs.Sites.{Tells};
+ghost use Rattle.handles.specs.Sites.{TellsLocation};
+ghost use Rattle.session_table.specs.Bounds.{AreLowerBounds, AreLowerBoundsBut, bound_at};
+ghost use Rattle.session_table.specs.declared.session.Session.{Session};
 ghost use Rattle.session_table.specs.declared.entry.PutError.TheVariants as put;
 ghost use Rattle.session_table.specs.declared.session.LoginError.TheVariants as login;
 ghost use Rattle.session_table.specs.declared.session.RenameError.TheVariants as rename;
-ghost use Rattle.session_table.specs.Sessions.{Entry, LiveSession, begun, used, with_entry, without_entry, entry_in, find_entry};
+ghost use Rattle.session_table.specs.Sessions.{Entry, LiveSession, begun, used, with_entry, without_entry, entry_in, find_entry, left_entry, swapped_entry};
 ghost use Rattle.session_table.specs.Sessions.{is_young};
-ghost use Rattle.session_table.specs.Tables.{EndsAt, HasExpired, KeepsTelling, TableState, created_at, expired_ids, live, shown_in};
-ghost use Rattle.session_table.specs.Tables.{find_session, keeps, keeps_by, value_at};
-ghost use Rattle.indexmap.specs.IndexMap.{swap_remove_entry};
+ghost use Rattle.session_table.specs.Tables.{EndsAt, HasExpired, KeepsEntryLocations, SessionsState, created_at, expired_ids, live, shown_in, Puts, Replaces};
+ghost use Rattle.session_table.specs.Tables.{find_session, keeps, keeps_by, value_under};
+ghost use Rattle.indexmap.specs.IndexMap.{index_of_by, swap_remove_entry};
 ghost use Rattle.session_table.specs.Tables.{has_session, session_in, WasPut, IsOrderly};
 
-use crate::entry::{Entry, PutError};
-use crate::session::{LoginError, RenameError, Session, not_put};
+use crate::bounds::{Bounds, ROWS};
+use crate::homes::Homes;
+use crate::session::{LoginError, RenameError, Session};
 use crate::walk::Sessions;
 use generational_core::{HandedBack, Location, Storage, StoreError};
-use handles::Stale;
-use handles::parts::{Sites, number_of, peek, pointer_to, site_of};
+use handles::parts::Sites;
 use indexmap::{Equivalent, IndexMap};
 use std::alloc::Global;
+use std::cmp::min;
 use std::hash::Hash;
 use std::marker::{Model, PhantomData};
 
@@ -42,9 +45,13 @@ use std::marker::{Model, PhantomData};
 ///
 /// It has no `Drop`: `finish` must consume it.
 pub struct SessionTable<I: Eq + Hash, K: Eq + Hash, T, S: Storage<T>> {
-    store: S,
-    rows: IndexMap<I, Session<K, T>>,
-    sites: Sites,
+    pub(crate) store: S,
+    pub(crate) rows: IndexMap<I, Session<K, T>>,
+    // by which an expiry skips blocks of rows
+    bounds: Bounds,
+    // by which an entry finds its session
+    pub(crate) homes: Homes,
+    pub(crate) sites: Sites,
     marker: PhantomData<T>,
 }
 
@@ -52,16 +59,18 @@ impl<I: Eq + Hash, K: Eq + Hash, T, S: Storage<T>> Model for SessionTable<I, K, 
     ghost use Rattle.std.specs.Coded.{codes};
     ghost use Rattle.std.specs.FinMap as map;
     ghost use Rattle.handles.specs.Sites.{told_in};
-    ghost use Rattle.session_table.specs.Tables.{TableState, table_of};
-    ghost use Rattle.session_table.specs.Keeping.{IsKept, held_in};
+    ghost use Rattle.session_table.specs.Tables.{SessionsState, table_of};
+    ghost use Rattle.session_table.specs.Bounds.{AreLowerBounds};
+    ghost use Rattle.session_table.specs.Keeping.{AreSessionsKept, held_in};
 
-    ghost Value = { TableState I K T };
+    ghost Value = { SessionsState I K T };
 
     ghost coded = { Prim.hlevel (codes, map.code) };
 
     ghost view = { λ t. table_of (S.state t.store) t.rows.entries (told_in t.sites) };
 
-    ghost invariant = { λ t. IsKept (S.state t.store) I.eq (held_in I.eq t.rows.entries) };
+    ghost invariant = { λ t. AreSessionsKept (S.state t.store) I.eq (held_in I.eq t.rows.entries)
+        × AreLowerBounds t.bounds t.rows.entries };
 }
 
 impl<I: Eq + Hash, K: Eq + Hash, T, S: Storage<T>> SessionTable<I, K, T, S> {
@@ -79,13 +88,38 @@ impl<I: Eq + Hash, K: Eq + Hash, T, S: Storage<T>> SessionTable<I, K, T, S> {
         SessionTable {
             store,
             rows: IndexMap::new(alloc),
+            bounds: Bounds::new(alloc),
+            homes: Homes::new(alloc),
             sites: Sites::new(alloc),
             marker: PhantomData,
         }
     }
 
+    /// Makes room for more sessions: the next `additional` logins don't allocate, and so don't fail. Every
+    /// session and every entry is unchanged. O(n + additional) for n sessions.
+    ///
+    /// # Errors
+    ///
+    /// `OutOfMemory` is the only possible error.
+    ///
+    /// ```rust
+    /// table.reserve(1000)?;
+    /// ```
+    pub fn reserve(&mut self, additional: usize) -> Result<(), StoreError>
+        ensures same { self.new ≡ self.old }
+        ensures short { IfErr result (λ cause. cause ≡ OutOfMemory) }
+    {
+        if self.rows.reserve(additional).is_err() {
+            return Err(StoreError::OutOfMemory);
+        }
+        self.bounds.reserve(additional);
+        self.homes.reserve(additional);
+        Ok(())
+    }
+
     /// Starts an empty session for an id, last used at `now`. It comes last; the other sessions and their
-    /// order are unchanged, and so is every entry. Amortised O(1). Allocates if the rows have no room.
+    /// order are unchanged, and so is every entry. Amortised O(1). Allocates if the rows have no room, or
+    /// for a bound of 64 sessions, by which an expiry skips them.
     ///
     /// # Errors
     ///
@@ -121,287 +155,18 @@ impl<I: Eq + Hash, K: Eq + Hash, T, S: Storage<T>> SessionTable<I, K, T, S> {
             let cause = LoginError::Store(StoreError::OutOfMemory);
             return Err(HandedBack { value: id, cause });
         }
+        let place = self.rows.len();
         let session = Session {
             used_at: now,
+            seat: self.homes.take_seat(place),
             entries: IndexMap::new(*self.rows.allocator()),
         };
+        self.bounds.cover(place);
+        self.bounds.lower(place, now);
         match self.rows.insert(id, session) {
             Ok(None) => Ok(()),
             Ok(Some(_other)) => unreachable!(),
             Err(_full) => unreachable!(),
-        }
-    }
-
-    /// Stores a value under a key in an id's session, and returns its entry, which was never issued
-    /// before. Every other entry and every other session is unchanged. The table says for its whole
-    /// lifetime where the value was put. Amortised O(1). Allocates if no slot is free, if the session has
-    /// no room, or for a location from which nothing was put yet.
-    ///
-    /// # Errors
-    ///
-    /// - `NoSession` if the id has none.
-    /// - `KeyInUse` if the session has an entry under the key.
-    /// - `Store` of `OutOfMemory`.
-    ///
-    /// The key and the value come back then, and the table is unchanged.
-    ///
-    /// ```rust
-    /// let basket = table.put(&7, 1, 42, here)?;
-    /// ```
-    pub fn put<P: Equivalent<I>>(
-        &mut self,
-        id: P,
-        key: K,
-        value: T,
-        here: Location,
-    ) -> Result<Entry<T>, HandedBack<(K, T), PutError>>
-    where
-        K: Drop,
-        ensures shown { IfOk result (λ e. shown_in self.new e ≡ Some value) }
-        ensures kept { IfOk result (λ e. find_session (P.equivalent id) self.new
-            ≡ option_map (with_entry key e) (find_session (P.equivalent id) self.old)) }
-        ensures keeps { IfOk result (λ e. keeps_by (P.equivalent id) self.new e ≡ true) }
-        ensures still { (other : I) (f : Entry T) → keeps I.eq self.old other f ≡ true →
-            keeps I.eq self.new other f ≡ true }
-        ensures unkept { (other : I) (f : Entry T) → WasPut self.old f →
-            keeps I.eq self.old other f ≡ false → keeps I.eq self.new other f ≡ false }
-        ensures others { (other : I) → P.equivalent id other ≡ false →
-            session_in I.eq self.new other ≡ session_in I.eq self.old other }
-        ensures count { length self.new.sessions ≡ length self.old.sessions }
-        ensures beside { IfOk result (λ e. (f : Entry T) → IsOther e f →
-            shown_in self.new f ≡ shown_in self.old f) }
-        ensures left { (f : Entry T) → WasPut self.old f →
-            shown_in self.new f ≡ shown_in self.old f }
-        ensures new { IfOk result (λ e. WasPut self.old e → ⊥) }
-        ensures here { IfOk result (λ e. Tells (created_at self.new e) here) }
-        ensures tells { KeepsTelling self.old self.new }
-        ensures put { (f : Entry T) → WasPut self.old f → WasPut self.new f }
-        ensures given { IfOk result (λ e. WasPut self.new e) }
-        ensures ticket { self.new.state.next ≡ self.old.state.next }
-        ensures unknown { is_some (find_session (P.equivalent id) self.old) ≡ false →
-            IsErrAnd result (λ refusal. refusal.cause ≡ put.NoSession) }
-        ensures in_use { is_some (entry_in K.eq (find_session (P.equivalent id) self.old) key) ≡ true →
-            IsErrAnd result (λ refusal. refusal.cause ≡ put.KeyInUse) }
-        ensures short { IfErr result (λ refusal. (is_some (find_session (P.equivalent id) self.old) ≡ false)
-            ⊎ ((is_some (entry_in K.eq (find_session (P.equivalent id) self.old) key) ≡ true)
-            ⊎ (refusal.cause ≡ put.Store OutOfMemory))) }
-        ensures back { IfErr result (λ refusal. refusal.value ≡ (key, value)) }
-        ensures refused { OnErr result (self.new ≡ self.old) }
-    {
-        let Some(session) = self.rows.get_mut(id) else {
-            return Err(not_put(key, value, PutError::NoSession));
-        };
-        let (store, sites) = (&mut self.store, &mut self.sites);
-        let entry = session.keep(store, sites, key, value, here)?;
-        Ok(entry)
-    }
-
-    /// The entry that an id's session has under a key, if it has one. Doesn't allocate, and is O(1).
-    ///
-    /// ```rust
-    /// if let Some(entry) = table.entry(&7, &1) {
-    ///     println!(rt; "{}", table.get(entry)?)?;
-    /// }
-    /// ```
-    pub fn entry<P: Equivalent<I>, Q: Equivalent<K>>(&self, id: P, key: Q) -> Option<Entry<T>>
-        ensures { result ≡ find_entry (Q.equivalent key) (find_session (P.equivalent id) self.now) }
-    {
-        self.session(id)?.entry(key)
-    }
-
-    /// The value that an id's session has under a key, if it has one. The table is borrowed meanwhile.
-    /// Doesn't allocate, and is O(1).
-    ///
-    /// ```rust
-    /// if let Some(count) = table.get_at(&7, &1) {
-    ///     println!(rt; "{count} in the basket")?;
-    /// }
-    /// ```
-    pub fn get_at<P: Equivalent<I>, Q: Equivalent<K>>(&self, id: P, key: Q) -> Option<&T>
-        ensures { option_copied result ≡ value_at (P.equivalent id) (Q.equivalent key) self.now }
-    {
-        peek(&self.store, self.entry(id, key)?)
-    }
-
-    /// Whether an entry is live: false once it was removed or its session has ended, and for an entry of
-    /// another table whose store has another number. Doesn't allocate, and is O(1).
-    ///
-    /// ```rust
-    /// let is_there = table.shows(basket);
-    /// ```
-    pub fn shows(&self, entry: Entry<T>) -> bool
-        ensures { result ≡ is_some (shown_in self.now entry) }
-    {
-        peek(&self.store, entry).is_some()
-    }
-
-    /// Where an entry's value was put, even after it was removed; None for an entry of another table.
-    /// Doesn't allocate, and is O(1).
-    ///
-    /// ```rust
-    /// if let Some(created_at) = table.created_at(basket) {
-    ///     println!(rt; "put at {created_at}")?;
-    /// }
-    /// ```
-    pub fn created_at(&self, entry: Entry<T>) -> Option<Location>
-        ensures { result ≡ created_at self.now entry }
-    {
-        if number_of(entry) != self.store.number() {
-            return None;
-        }
-        self.sites.get(site_of(entry))
-    }
-
-    // The error for a stale entry, with the location where its value was put.
-    #[cold]
-    #[inline(never)]
-    fn stale(&self, entry: Entry<T>) -> Stale
-        ensures { result.created_at ≡ created_at self.now entry }
-    {
-        Stale {
-            created_at: self.created_at(entry),
-        }
-    }
-
-    /// Borrows an entry's value. Doesn't allocate, and is O(1).
-    ///
-    /// # Errors
-    ///
-    /// `Stale` if the entry was removed, or belongs to another table.
-    ///
-    /// ```rust
-    /// let count = *table.get(basket)?;
-    /// ```
-    pub fn get(&self, entry: Entry<T>) -> Result<&T, Stale>
-        ensures seen { IfOk result (λ value. shown_in self.now entry ≡ Some value.now) }
-        ensures stale { IsErr result ↔ shown_in self.now entry ≡ None }
-        ensures told { IfErr result (λ stale. stale.created_at ≡ created_at self.now entry) }
-    {
-        match peek(&self.store, entry) {
-            Some(value) => Ok(value),
-            None => Err(self.stale(entry)),
-        }
-    }
-
-    /// Replaces an entry's value, and drops the old one. Every other entry and the sessions are
-    /// unchanged.
-    ///
-    /// Doesn't allocate, and is O(1) except for dropping the old value.
-    ///
-    /// # Errors
-    ///
-    /// `Stale` if the entry was removed, or belongs to another table. The value comes back, and the table
-    /// is unchanged.
-    ///
-    /// ```rust
-    /// if let Err(refusal) = table.set(basket, 43) {
-    ///     println!(rt; "{refusal}, and {} comes back", refusal.value)?;
-    /// }
-    /// ```
-    pub fn set(&mut self, entry: Entry<T>, value: T) -> Result<(), HandedBack<T, Stale>>
-    where
-        T: Drop,
-        ensures shown { OnOk result (shown_in self.new entry ≡ Some value) }
-        ensures others { (f : Entry T) → IsOther entry f →
-            shown_in self.new f ≡ shown_in self.old f }
-        ensures sessions { self.new.sessions ≡ self.old.sessions }
-        ensures put { (f : Entry T) → WasPut self.old f → WasPut self.new f }
-        ensures tells { (f : Entry T) → created_at self.new f ≡ created_at self.old f }
-        ensures ticket { self.new.state.next ≡ self.old.state.next }
-        ensures stale { IsErr result ↔ shown_in self.old entry ≡ None }
-        ensures told { IfErr result (λ refusal. refusal.cause.created_at ≡ created_at self.old entry) }
-        ensures back { IfErr result (λ refusal. refusal.value ≡ value) }
-        ensures refused { OnErr result (self.new ≡ self.old) }
-    {
-        if !self.shows(entry) {
-            let cause = self.stale(entry);
-            return Err(HandedBack { value, cause });
-        }
-        self.store.replace_value(pointer_to(entry), value);
-        Ok(())
-    }
-
-    /// Calls a closure once on an entry's value, mutably, and returns the closure's result. Every other
-    /// entry and the sessions are unchanged. Doesn't allocate itself, and is O(1) except for the closure.
-    ///
-    /// # Errors
-    ///
-    /// `Stale` if the entry was removed, or belongs to another table. The closure isn't called then, and
-    /// the table is unchanged.
-    ///
-    /// ```rust
-    /// let more = table.update(basket, |count: &mut u64| {
-    ///     *count = count.wrapping_add(1);
-    ///     *count
-    /// })?;
-    /// ```
-    pub fn update<R, F: FnOnce(&mut T) -> R>(&mut self, entry: Entry<T>, f: F) -> Result<R, Stale>
-        requires { (value : MutBor T) → shown_in self.old entry ≡ Some value.now → F.pre f value }
-        ensures changed { IfOk result (λ answer. (old : T) × (new : T)
-            × (shown_in self.old entry ≡ Some old)
-            × FnOnceReturnsAtMut F.FnOnce f old answer new
-            × (shown_in self.new entry ≡ Some new)) }
-        ensures others { (e : Entry T) → IsOther entry e →
-            shown_in self.new e ≡ shown_in self.old e }
-        ensures sessions { self.new.sessions ≡ self.old.sessions }
-        ensures put { (e : Entry T) → WasPut self.old e → WasPut self.new e }
-        ensures tells { (e : Entry T) → created_at self.new e ≡ created_at self.old e }
-        ensures ticket { self.new.state.next ≡ self.old.state.next }
-        ensures stale { IsErr result ↔ shown_in self.old entry ≡ None }
-        ensures told { IfErr result (λ stale. stale.created_at ≡ created_at self.old entry) }
-        ensures refused { OnErr result (self.new ≡ self.old) }
-    {
-        if !self.shows(entry) {
-            return Err(self.stale(entry));
-        }
-        Ok(self.store.change_value(pointer_to(entry), f))
-    }
-
-    /// Removes and returns the value that an id's session has under a key. Its entry is stale from then
-    /// on, and never refers to a later value. The session's other entries keep their order, and every
-    /// other session and every other entry is unchanged.
-    ///
-    /// `None` if the id has no session, or the session has no entry under the key: nothing changes then.
-    /// Doesn't allocate, and is O(k) for k entries of the session, since those after this one move up.
-    ///
-    /// ```rust
-    /// if let Some(count) = table.remove(&7, &1) {
-    ///     println!(rt; "{count} were in the basket")?;
-    /// }
-    /// ```
-    pub fn remove<P: Equivalent<I>, Q: Equivalent<K>>(&mut self, id: P, key: Q) -> Option<T>
-    where
-        K: Drop,
-        ensures taken { (e : Entry T) →
-            find_entry (Q.equivalent key) (find_session (P.equivalent id) self.old) ≡ Some e →
-            result ≡ shown_in self.old e }
-        ensures none { IsNone result
-            ↔ find_entry (Q.equivalent key) (find_session (P.equivalent id) self.old) ≡ None }
-        ensures kept { IsSome result → find_session (P.equivalent id) self.new
-            ≡ option_map (without_entry (Q.equivalent key)) (find_session (P.equivalent id) self.old) }
-        ensures others { (other : I) → P.equivalent id other ≡ false →
-            session_in I.eq self.new other ≡ session_in I.eq self.old other }
-        ensures count { length self.new.sessions ≡ length self.old.sessions }
-        ensures gone { (e : Entry T) →
-            find_entry (Q.equivalent key) (find_session (P.equivalent id) self.old) ≡ Some e →
-            shown_in self.new e ≡ None }
-        ensures beside { (e : Entry T) →
-            find_entry (Q.equivalent key) (find_session (P.equivalent id) self.old) ≡ Some e →
-            (f : Entry T) → IsOther e f → shown_in self.new f ≡ shown_in self.old f }
-        ensures put { (f : Entry T) → WasPut self.old f → WasPut self.new f }
-        ensures tells { (f : Entry T) → created_at self.new f ≡ created_at self.old f }
-        ensures ticket { self.new.state.next ≡ self.old.state.next }
-        ensures unchanged { IfNone result (self.new ≡ self.old) }
-    {
-        let Some(session) = self.rows.get_mut(id) else {
-            return None;
-        };
-        let Some(entry) = session.forget(key) else {
-            return None;
-        };
-        match self.store.take_value(pointer_to(entry)) {
-            Some(value) => Some(value),
-            None => unreachable!(),
         }
     }
 
@@ -424,7 +189,11 @@ impl<I: Eq + Hash, K: Eq + Hash, T, S: Storage<T>> SessionTable<I, K, T, S> {
         let Some(session) = self.rows.get_mut(id) else {
             return false;
         };
+        let goes_back = now < session.used_at;
         session.used_at = now;
+        if goes_back {
+            lower_at(&mut self.bounds, &self.rows, id, now);
+        }
         true
     }
 
@@ -486,9 +255,13 @@ impl<I: Eq + Hash, K: Eq + Hash, T, S: Storage<T>> SessionTable<I, K, T, S> {
             let cause = RenameError::Store(StoreError::OutOfMemory);
             return Err(HandedBack { value: to, cause });
         }
-        let Some(moved) = self.rows.swap_remove(id) else {
+        let Some((place, _id, moved)) = self.rows.swap_remove_full(id) else {
             unreachable!();
         };
+        settle(&mut self.bounds, &self.rows, place);
+        self.bounds.lower(self.rows.len(), moved.used_at);
+        self.homes.settle(&self.rows, place);
+        self.homes.move_seat(moved.seat, self.rows.len());
         match self.rows.insert(to, moved) {
             Ok(None) => Ok(()),
             Ok(Some(_other)) => unreachable!(),
@@ -529,9 +302,12 @@ impl<I: Eq + Hash, K: Eq + Hash, T, S: Storage<T>> SessionTable<I, K, T, S> {
         ensures ticket { self.new.state.next ≡ self.old.state.next }
         ensures none { IsFalse result → self.new ≡ self.old }
     {
-        let Some(session) = self.rows.swap_remove(id) else {
+        let Some((place, _id, session)) = self.rows.swap_remove_full(id) else {
             return false;
         };
+        settle(&mut self.bounds, &self.rows, place);
+        self.homes.free_seat(session.seat);
+        self.homes.settle(&self.rows, place);
         session.end(&mut self.store);
         true
     }
@@ -547,6 +323,9 @@ impl<I: Eq + Hash, K: Eq + Hash, T, S: Storage<T>> SessionTable<I, K, T, S> {
         prove!(place < self.rows.len());
         match self.rows.swap_remove_index(place) {
             Some((id, session)) => {
+                settle(&mut self.bounds, &self.rows, place);
+                self.homes.free_seat(session.seat);
+                self.homes.settle(&self.rows, place);
                 session.end(&mut self.store);
                 id
             }
@@ -565,12 +344,51 @@ impl<I: Eq + Hash, K: Eq + Hash, T, S: Storage<T>> SessionTable<I, K, T, S> {
         }
     }
 
+    // The first place from one on whose session was last used before a time, or how many sessions there
+    // are if there is none. Skips blocks by their bounds.
+    fn next_old(&mut self, from: usize, before: u64) -> usize
+        requires { from ≤ length self.old.sessions }
+        ensures within { (from ≤ result) × (result ≤ length self.new.sessions) }
+        ensures young { (place : ℕ) (e : I × LiveSession K T) → from ≤ place → place < result →
+            slice_get self.new.sessions place ≡ Some e → is_young before e.1 ≡ true }
+        ensures old { (e : I × LiveSession K T) → slice_get self.new.sessions result ≡ Some e →
+            is_young before e.1 ≡ false }
+        ensures same { self.new ≡ self.old }
+    {
+        let mut place = from;
+        'places: while place < self.len() {
+            if place % ROWS == 0 && self.is_young_block(place, before) {
+                place += min(ROWS, self.len() - place);
+            } else if self.is_old_at(place, before) {
+                return place;
+            } else {
+                place += 1;
+            }
+        }
+        place
+    }
+
+    // Whether no session of a row's block was last used before a time.
+    fn is_young_block(&mut self, row: usize, before: u64) -> bool
+        ensures young { IsTrue result → (place : ℕ) (e : I × LiveSession K T) → place / 64 ≡ row / 64 →
+            slice_get self.new.sessions place ≡ Some e → is_young before e.1 ≡ true }
+        ensures same { self.new ≡ self.old }
+    {
+        if self.bounds.at(row) >= before {
+            return true;
+        }
+        let least = least_use(&self.rows, row);
+        self.bounds.set(row, least);
+        least >= before
+    }
+
     /// Ends every session that was last used before a time, and drops its values. From the front on, the
     /// last remaining session moves into the place of each that ends. Every other session and its entries
     /// are unchanged. Returns how many ended.
     ///
-    /// Never fails, like `logout`. Doesn't allocate. O(n + k) for n sessions and k entries of those that
-    /// end.
+    /// Never fails, like `logout`. Doesn't allocate. Skips 64 sessions at a time if it is known that none
+    /// of them ends: O(n / 64) for n sessions if none ends, and none ended or was used since the last
+    /// call, and O(n + k) at most, for k entries of those that end.
     ///
     /// ```rust
     /// let expired = table.expire(1100);
@@ -602,13 +420,10 @@ impl<I: Eq + Hash, K: Eq + Hash, T, S: Storage<T>> SessionTable<I, K, T, S> {
         ensures count { result + length self.new.sessions ≡ length self.old.sessions }
     {
         let count = self.len();
-        let mut place = 0;
+        let mut place = self.next_old(0, before);
         'places: while place < self.len() {
-            if self.is_old_at(place, before) {
-                f(self.end_at(place));
-            } else {
-                place += 1;
-            }
+            f(self.end_at(place));
+            place = self.next_old(place, before);
         }
         count - self.len()
     }
@@ -634,6 +449,8 @@ impl<I: Eq + Hash, K: Eq + Hash, T, S: Storage<T>> SessionTable<I, K, T, S> {
         let SessionTable {
             store,
             rows,
+            bounds: _,
+            homes: _,
             sites: _,
             marker: _,
         } = self;
@@ -703,4 +520,48 @@ impl<I: Eq + Hash, K: Eq + Hash, T, S: Storage<T>> SessionTable<I, K, T, S> {
     {
         self.rows.len()
     }
+}
+
+// Lowers the bound of the block of an id's row to a time.
+fn lower_at<I: Eq + Hash, K: Eq + Hash, T, P: Equivalent<I>>(
+    bounds: &mut Bounds,
+    rows: &IndexMap<I, Session<K, T>>,
+    id: P,
+    time: u64,
+)
+    ensures here { IfSome (index_of_by (P.equivalent id) rows.now) (λ row. bound_at bounds.new row ≤ time) }
+    ensures others { (row : ℕ) → bound_at bounds.new row ≤ bound_at bounds.old row }
+{
+    if let Some(row) = rows.get_index_of(id) {
+        bounds.lower(row, time);
+    }
+}
+
+// Lowers the bound of a row's block to the row's last use.
+fn settle<I: Eq + Hash, K: Eq + Hash, T>(
+    bounds: &mut Bounds,
+    rows: &IndexMap<I, Session<K, T>>,
+    row: usize,
+)
+    requires { AreLowerBoundsBut row bounds.old rows.now.entries }
+    ensures { AreLowerBounds bounds.new rows.now.entries }
+{
+    if let Some((_, session)) = rows.get_index(row) {
+        bounds.lower(row, session.used_at);
+    }
+}
+
+// The least time of a last use in a row's block.
+fn least_use<I: Eq + Hash, K: Eq + Hash, T>(rows: &IndexMap<I, Session<K, T>>, row: usize) -> u64
+    ensures { (place : ℕ) (e : I × Session K T) → place / 64 ≡ row / 64 →
+        slice_get rows.now.entries place ≡ Some e → result ≤ e.1.used_at }
+{
+    let first = row / ROWS * ROWS;
+    let mut least = u64::MAX;
+    for step in 0..ROWS {
+        if let Some((_, session)) = rows.get_index(first + step) {
+            least = min(least, session.used_at);
+        }
+    }
+    least
 }

@@ -15,19 +15,19 @@ pub use Rattle.generational_core.specs.{Names.Name, Names.name_cmp, Boxes.name_o
 pub use Rattle.generational_core.specs.{State.State, Seeing.value_in}
 unfoldable pub use Rattle.generational_core.specs.{Names.is_name}
 pub use Rattle.generational_errors.specs.declared.error.Location.{Location}
-use Rattle.generational_sessions.proofs.callers as sessions
-pub use sessions.{ended_next, fresh_sees, fresh_simple, get_take, made_next, made_simple, making, others_left, reach_apart}
-pub use sessions.{same_id_sees, seen_cell, seen_store, set_seen, simple_still, simple_taken, taken_seen}
-pub use Rattle.generational_sessions.specs.PlainStores.{IsPlain, IsSimple}
+use Rattle.generational_laws.proofs.callers as laws
+pub use laws.{ended_next, fresh_sees, fresh_simple, get_take, made_next, made_simple, making, others_left, reach_apart}
+pub use laws.{same_id_sees, seen_cell, seen_store, set_seen, simple_still, simple_taken, taken_seen}
+pub use Rattle.generational_laws.specs.PlainStores.{HasNoReferences, IsSimple}
 pub use Rattle.handles.proofs.Told.{told_here, told_more}
 pub use Rattle.handles.specs.Handles.{id_in, IsOther, nowhere, pointer_in}
-pub use Rattle.handles.specs.Sites.{SiteState, Tells, told_at, told_in}
+pub use Rattle.handles.specs.Sites.{SiteState, TellsLocation, told_at, told_in}
 pub use Rattle.location_list.specs.Locations.{IsAt}
-pub use Rattle.session_table.specs.Keeping.{AreLive, HasLost, HasPut, Held, held_in, held_of, IsKept, Shows}
-pub use Rattle.session_table.specs.Sessions.{Entry, if_young, is_young, LiveSession, names_in, names_of}
+pub use Rattle.session_table.specs.Keeping.{AreLive, HasLost, HasPut, RowNames, held_in, held_of, AreSessionsKept, ShowsSomething}
+pub use Rattle.session_table.specs.Sessions.{Entry, if_young, is_young, left_of, LiveSession, entry_names_in, entry_names}
 pub use Rattle.session_table.specs.Sessions.{stores_of}
-pub use Rattle.session_table.specs.Tables.{created_at, EndsAt, has_session, IsOrderly, keeps, KeepsTelling, live, live_row}
-pub use Rattle.session_table.specs.Tables.{session_in, shown_in, table_of, TableState, WasPut}
+pub use Rattle.session_table.specs.Tables.{created_at, EndsAt, has_session, IsOrderly, keeps, KeepsEntryLocations, live, live_row}
+pub use Rattle.session_table.specs.Tables.{session_in, shown_in, table_of, SessionsState, WasPut}
 pub use Rattle.session_table.specs.declared.session.Session.{Session}
 pub use Rattle.std.proofs.Common.{ap, arith, Bool, cond, Err, false, inl, inr, length, List, map}
 pub use Rattle.std.proofs.Common.{None, Ok, Option, refl, rules, Some, subst, sym, take, true, ℕ}
@@ -51,10 +51,14 @@ pub use Rattle.indexmap.proofs.MapLemmas.{absent_from_lookup, insert_entry-absen
 pub use Rattle.indexmap.proofs.MapLemmas.{swap_remove_entry-found, swap_remove_entry-missing}
 pub use Rattle.indexmap.proofs.SetLemmas.{map-swap_remove}
 pub use Rattle.indexmap.specs.IndexMap.{insert_entry, swap_remove_entry}
-pub use Rattle.session_table.specs.Tables.{expired_ids, HasExpired, find_session, swap_retain, swap_shed, value_at}
+pub use Rattle.session_table.specs.Tables.{expired_ids, HasExpired, find_session, swap_retain, swap_shed, value_under}
 pub use Rattle.std.specs.HashMap.Eq.{lookup_congr}
 pub use Rattle.std.specs.Map.{keys_of, lookup, remove_entry, set_value}
 pub use Rattle.std.specs.Prelude.{IfSome, IsTrue, is_some, nat_eq, not, option_map, slice_get, swap_remove}
 pub use Rattle.std.specs.List.{FoldsTo}
 pub use Rattle.std.specs.{List.AllByRecursion, Cmp.IsEquivalence, Ordering.nat_cmp, Prelude.◌⊎◌}
 unfoldable pub use Rattle.std.specs.List.{IsDistinct}
+pub use Rattle.std.proofs.lemmas.List.Sorted.{IsPermutation-map, IsPermutation-swap_remove, list_any-IsPermutation}
+pub use Rattle.std.proofs.lemmas.Map.Keys.{IsDistinct-IsPermutation}
+pub use Rattle.std.proofs.lemmas.Map.Views.{All-map-IsPermutation}
+pub use Rattle.std.specs.List.Sorted.{IsPermutation}

@@ -1,4 +1,4 @@
-use Rattle.session_table.proofs.{arith, HasLost, length-map, lost_next, lost_none, name_of, names_of, pointer_in, row_within}
+use Rattle.session_table.proofs.{arith, HasLost, length-map, lost_next, lost_none, name_of, entry_names, pointer_in, row_within}
 use Rattle.session_table.proofs.{still_shows, store_at, subst, take_all, ◌≡◌}
 use Rattle.session_table.proofs.session.Session.end.Goals as goal
 
@@ -20,6 +20,6 @@ ends-preserved g c =
 
 pub returns : goal.returns
 returns g c =
-    let names = names_of c.args.self.entries.entries in
+    let names = entry_names c.args.self.entries.entries in
     let long = length-map c.args.self.entries.entries (λ (x : _ × _). name_of (pointer_in x.1)) in
     subst (λ ns. HasLost (g.S.AnyStorage.state c.args.store.now) ns (g.S.AnyStorage.state c.ends.store)) (take_all c.ends.next names (grind (arith, long))) c.ends.invariant.1

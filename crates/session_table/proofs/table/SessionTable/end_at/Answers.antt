@@ -1,3 +1,5 @@
+use Rattle.session_table.proofs.{below_swapped, subst}
+use Rattle.session_table.specs.Bounds.{AreLowerBoundsBut}
 use Rattle.session_table.proofs.{ap, changed, ended_rows, length-map, live, live_row, live_swapped, lookup_from_place}
 use Rattle.session_table.proofs.{map, name_of, now_session, option_map, pointer_in, row_live, row_once}
 use Rattle.session_table.proofs.{session_of, slice_get-map, slice_get_within, sym, told_at, told_in, ◌∙◌}
@@ -5,17 +7,20 @@ use Rattle.session_table.proofs.table.SessionTable.end_at.Goals as goal
 
 pub end-requires : goal.end-requires
 end-requires g c = record {
-  simple = c.self.invariant.simple;
-  live = row_live c.self.inside.rows.entries c.self.invariant c.in-Some.id _
+  simple = c.self.invariant.0.simple;
+  live = row_live c.self.inside.rows.entries c.self.invariant.0 c.in-Some.id _
       (lookup_from_place g.met.I.Eq.laws _ c.args.place _ _ c.len.ensures.unique (sym c.in-Some.ensures.entry));
-  once = row_once c.self.inside.rows.entries c.self.invariant c.in-Some.id _
+  once = row_once c.self.inside.rows.entries c.self.invariant.0 c.in-Some.id _
       (lookup_from_place g.met.I.Eq.laws _ c.args.place _ _ c.len.ensures.unique (sym c.in-Some.ensures.entry));
 }
 
 pub invariant_of-self : goal.invariant_of-self
-invariant_of-self g c = ended_rows c.self.invariant
-    (changed g.met.I.Eq.laws c.in-Some.id (lookup_from_place g.met.I.Eq.laws _ c.args.place _ _
-    c.len.ensures.unique (sym c.in-Some.ensures.entry)) c.in-Some.ensures.updates.0) c.end.ensures
+invariant_of-self g c = (
+  ended_rows c.self.invariant.0
+      (changed g.met.I.Eq.laws c.in-Some.id (lookup_from_place g.met.I.Eq.laws _ c.args.place _ _
+      c.len.ensures.unique (sym c.in-Some.ensures.entry)) c.in-Some.ensures.updates.0) c.end.ensures,
+  c.settle.ensures,
+)
 
 pub returns : goal.returns
 returns g c =
@@ -42,3 +47,6 @@ returns g c =
       };
       id = ap (option_map (λ row. row.0)) there;
     })
+
+pub settle-requires : goal.settle-requires
+settle-requires g c = subst (AreLowerBoundsBut _ _) (sym c.in-Some.ensures.entries) (below_swapped c.self.invariant.1 c.args.place _)

@@ -1,3 +1,5 @@
+use Rattle.session_table.proofs.{arith, below_raised, subst}
+use Rattle.session_table.specs.Bounds.{AreLowerBounds}
 use Rattle.session_table.proofs.{ap, asked_id, changed, inr, is_some, length-map, live_row, made_next, map, meets_given}
 use Rattle.session_table.proofs.{meets_number, other_sessions, own_session, put_apart, put_beside, put_fresh, put_given}
 use Rattle.session_table.proofs.{put_keeps, put_leaves, put_rows, put_shown, put_still, put_unkept, rules}
@@ -5,23 +7,29 @@ use Rattle.session_table.proofs.{same_held, same_rows, same_sessions, session_of
 use Rattle.session_table.proofs.table.SessionTable.put.Goals as goal
 
 pub keep-requires : goal.keep-requires
-keep-requires g c = c.self.invariant.simple
+keep-requires g c = c.self.invariant.0.simple
 
 pub invariant_of-self-2 : goal.invariant_of-self-2
 invariant_of-self-2 g c =
     let asked = asked_id (g.met.P.Equivalent.respects_eq c.args.id) c.self.inside.rows.entries (sym c.in-Some.ensures.value) in
-    let found = rw (asked.1) at (sym c.in-Some.ensures.value) in
-    put_rows (changed g.met.I.Eq.laws asked.0 found (rw (asked.1) at ((c.get_mut.follows.holds c.keep.new.self).3 (ap is_some (sym c.in-Some.ensures.value))).0))
-    c.args.key c.in_ok-entry.entry c.in_ok-entry.ensures.entries (g.met.S.AnyStorage.sound c.self.inside.store) c.self.invariant
-    _ _ c.in_ok-entry.ensures.put
+    let found = rw (asked.1) at (sym c.in-Some.ensures.value) in (
+      put_rows (changed g.met.I.Eq.laws asked.0 found (rw (asked.1) at ((c.get_mut.follows.holds c.keep.new.self).3 (ap is_some (sym c.in-Some.ensures.value))).0))
+          c.args.key c.in_ok-entry.entry c.in_ok-entry.ensures.entries (g.met.S.AnyStorage.sound c.self.inside.store) c.self.invariant.0
+          _ _ c.in_ok-entry.ensures.put,
+      subst (AreLowerBounds _) (sym (c.get_mut.follows.holds c.keep.new.self).0) (below_raised c.self.invariant.1
+          (g.P.Equivalent.equivalent c.args.id) c.keep.new.self (sym c.in-Some.ensures.value) (omega (arith, c.keep.ensures.used))),
+    )
 
 pub invariant_of-self-in_err-entry : goal.invariant_of-self-in_err-entry
 invariant_of-self-in_err-entry g c =
     let asked = asked_id (g.met.P.Equivalent.respects_eq c.args.id) c.self.inside.rows.entries (sym c.in-Some.ensures.value) in
-    let found = rw (asked.1) at (sym c.in-Some.ensures.value) in
-    rw c.in_err-entry.ensures.refused (same_rows (changed g.met.I.Eq.laws asked.0 found
-    (rw (asked.1) at ((c.get_mut.follows.holds c.keep.new.self).3 (ap is_some (sym c.in-Some.ensures.value))).0)) c.self.invariant
-    (same_held c.in-Some.session.now c.keep.new.self c.in_err-entry.ensures.same))
+    let found = rw (asked.1) at (sym c.in-Some.ensures.value) in (
+      rw c.in_err-entry.ensures.refused (same_rows (changed g.met.I.Eq.laws asked.0 found
+          (rw (asked.1) at ((c.get_mut.follows.holds c.keep.new.self).3 (ap is_some (sym c.in-Some.ensures.value))).0)) c.self.invariant.0
+          (same_held c.in-Some.session.now c.keep.new.self c.in_err-entry.ensures.same)),
+      subst (AreLowerBounds _) (sym (c.get_mut.follows.holds c.keep.new.self).0) (below_raised c.self.invariant.1
+          (g.P.Equivalent.equivalent c.args.id) c.keep.new.self (sym c.in-Some.ensures.value) (omega (arith, c.keep.ensures.used))),
+    )
 
 pub returns : goal.returns
 returns g c =

@@ -1,3 +1,6 @@
+use Rattle.session_table.proofs.{absent_from_lookup, below_lower, below_pushed, below_removed, insert_entry-absent, subst}
+use Rattle.session_table.specs.Bounds.{AreLowerBounds, AreLowerBoundsBut, bound_at}
+use Rattle.session_table.proofs.{◌≤◌}
 use Rattle.session_table.proofs.{ap, arith, asked_id, begun_last, changed, is_some, left_none, length, length-map}
 use Rattle.session_table.proofs.{live_removed, live_row, map, no_row, none-some, other_sessions, own_session}
 use Rattle.session_table.proofs.{refl, renamed_rows, same_Some, session_of, still_none, sym, true≢false}
@@ -26,9 +29,14 @@ invariant_of-self-2 g c =
     let found = rw (asked.1) at (sym (rw c.reserve.ensures.entries at c.in-Some.ensures.value)) in
     let free = no_row (g.I.PartialEq.eq c.args.to) c.self.inside.rows.entries
     (rw (← c.self.view_is) at (sym c.has-2.ensures ∙ c.if-has.false)) in
-    let gone = changed laws asked.0 found (rw (asked.1) at (rw c.reserve.ensures.entries at c.in-Some.ensures.updates.0)) in
-    renamed_rows c.self.invariant gone (changed laws c.args.to (still_none gone c.args.to free)
-    c.in-Ok-None.ensures.updates.0) free
+    let gone = changed laws asked.0 found (rw (asked.1) at (rw c.reserve.ensures.entries at c.in-Some.ensures.updates.0)) in (
+      renamed_rows c.self.invariant.0 gone (changed laws c.args.to (still_none gone c.args.to free)
+          c.in-Ok-None.ensures.updates.0) free,
+      subst (AreLowerBounds _) (sym (c.in-Ok-None.ensures.entries
+          ∙ insert_entry-absent g.I.PartialEq.eq c.args.to _ _ (absent_from_lookup _ _ (still_none gone c.args.to free))))
+          (below_pushed (below_lower c.settle.ensures c.lower.ensures.others) c.args.to c.in-Some.moved
+          (subst (λ n. bound_at c.lower.new.self n ≤ c.in-Some.moved.used_at) c.len.ensures.len c.lower.ensures.here)),
+    )
 
 pub returns-clause-moved : goal.returns-clause-moved
 returns-clause-moved g c =
@@ -77,3 +85,8 @@ returns-clause-order g c =
     ∙ live_removed (eq asked.0) rows in
     begun_last eq _ c.args.to _ (still_none gone c.args.to free) c.in-Ok-None.ensures.entries
     ∙ (λ j. others j ++ (c.args.to, same_Some _ _ (sym moved ∙ is) j) ∷ []))
+
+pub settle-requires : goal.settle-requires
+settle-requires g c = subst (AreLowerBoundsBut _ _) (sym (rw c.reserve.ensures.entries at c.in-Some.ensures.entries))
+    (below_removed c.self.invariant.1 (g.P.Equivalent.equivalent c.args.id) c.in-Some.place
+    (sym (rw c.reserve.ensures.entries at c.in-Some.ensures.index)))

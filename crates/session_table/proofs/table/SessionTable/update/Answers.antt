@@ -3,7 +3,7 @@ use Rattle.session_table.proofs.table.SessionTable.update.Goals as goal
 
 pub change_value-requires-clause-free : goal.change_value-requires-clause-free
 change_value-requires-clause-free g c =
-    quiet_sees _ c.self.invariant.simple.unborrowed c.pointer_to.result (g.met.S.AnyStorage.sound _)
+    quiet_sees _ c.self.invariant.0.simple.unborrowed c.pointer_to.result (g.met.S.AnyStorage.sound _)
     ∙ (ap is_some (same_id_sees _ c.pointer_to.result (pointer_in c.args.entry) c.pointer_to.ensures)
     ∙ rw (← c.self.view_is) at (sym c.shows.ensures ∙ c.if-not-shows.false))
 
@@ -14,7 +14,7 @@ change_value-requires-clause-callable g c value sees =
 
 pub invariant_of-self : goal.invariant_of-self
 invariant_of-self g c =
-    set_kept _ _ c.self.invariant (g.met.S.AnyStorage.sound _) c.pointer_to.result _ _ c.change_value.ensures.set
+    (set_kept _ _ c.self.invariant.0 (g.met.S.AnyStorage.sound _) c.pointer_to.result _ _ c.change_value.ensures.set, c.self.invariant.1)
 
 pub returns-clause-changed : goal.returns-clause-changed
 returns-clause-changed g c =
@@ -31,5 +31,5 @@ returns-clause-changed g c =
 
 pub returns-clause-others : goal.returns-clause-others
 returns-clause-others g c e other = rw (← c.self.view_is) (set_beside (g.met.S.AnyStorage.sound _)
-    c.self.invariant.simple.plain c.pointer_to.result (pointer_in e) _ _ c.change_value.ensures.set
+    c.self.invariant.0.simple.plain c.pointer_to.result (pointer_in e) _ _ c.change_value.ensures.set
     (λ same. other (sym c.pointer_to.ensures ∙ same)))

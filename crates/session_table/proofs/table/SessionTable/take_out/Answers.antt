@@ -1,8 +1,10 @@
+use Rattle.session_table.proofs.{arith, below_raised, subst}
+use Rattle.session_table.specs.Bounds.{AreLowerBounds}
 use Rattle.session_table.proofs.{ap, asked_id, changed, forgotten_rows, is_some, length-map, live_row, lost_beside, lost_one, map}
 use Rattle.session_table.proofs.{name_of, one_named, other_sessions, own_session, pointer_in, row_own, row_shows}
 use Rattle.session_table.proofs.{rules, same_held, same_id_sees, same_rows, same_sessions, same_Some, session_of}
 use Rattle.session_table.proofs.{simple_taken, Some, sym, told_at, told_in, true≢false, ◌∙◌}
-use Rattle.session_table.proofs.table.SessionTable.remove.Goals as goal
+use Rattle.session_table.proofs.table.SessionTable.take_out.Goals as goal
 
 pub returns-in_default : goal.returns-in_default
 returns-in_default g c =
@@ -12,10 +14,13 @@ returns-in_default g c =
 pub invariant_of-self-in_default-forget : goal.invariant_of-self-in_default-forget
 invariant_of-self-in_default-forget g c =
     let asked = asked_id (g.met.P.Equivalent.respects_eq c.args.id) c.self.inside.rows.entries (sym c.in-Some.ensures.value) in
-    let found = rw (asked.1) at (sym c.in-Some.ensures.value) in
-    same_rows (changed g.met.I.Eq.laws asked.0 found
-    (rw (asked.1) at ((c.get_mut.follows.holds c.forget.new.self).3 (ap is_some (sym c.in-Some.ensures.value))).0)) c.self.invariant
-    (same_held c.in-Some.session.now c.forget.new.self c.in_default-forget.ensures.same)
+    let found = rw (asked.1) at (sym c.in-Some.ensures.value) in (
+      same_rows (changed g.met.I.Eq.laws asked.0 found
+          (rw (asked.1) at ((c.get_mut.follows.holds c.forget.new.self).3 (ap is_some (sym c.in-Some.ensures.value))).0)) c.self.invariant.0
+          (same_held c.in-Some.session.now c.forget.new.self c.in_default-forget.ensures.same),
+      subst (AreLowerBounds _) (sym (c.get_mut.follows.holds c.forget.new.self).0) (below_raised c.self.invariant.1
+          (g.P.Equivalent.equivalent c.args.id) c.forget.new.self (sym c.in-Some.ensures.value) (omega (arith, c.forget.ensures.used))),
+    )
 
 pub returns-in_default-forget : goal.returns-in_default-forget
 returns-in_default-forget g c =
@@ -30,7 +35,7 @@ returns-in_default-forget g c =
 pub unreachable-requires : goal.unreachable-requires
 unreachable-requires g c =
     let sound = g.met.S.AnyStorage.sound c.self.inside.store in
-    let k = c.self.invariant in
+    let k = c.self.invariant.0 in
     let asked = asked_id (g.met.P.Equivalent.respects_eq c.args.id) c.self.inside.rows.entries (sym c.in-Some.ensures.value) in
     let found = rw (asked.1) at (sym c.in-Some.ensures.value) in
     let entry = sym c.in-Some-forget.ensures.entry in
@@ -46,10 +51,13 @@ invariant_of-self-2 g c =
     let found = rw (asked.1) at (sym c.in-Some.ensures.value) in
     let change = changed g.met.I.Eq.laws asked.0 found
     (rw (asked.1) at ((c.get_mut.follows.holds c.forget.new.self).3 (ap is_some (sym c.in-Some.ensures.value))).0) in
-    let seen = row_shows _ _ c.self.invariant found _ (sym c.in-Some-forget.ensures.entry) in
-    forgotten_rows _ _ c.self.invariant found _ (sym c.in-Some-forget.ensures.entry) change c.forget.ensures.entries
-    (lost_one (g.met.S.AnyStorage.sound _) c.self.invariant.simple c.in-Some-forget.entry c.pointer_to.result
-    c.pointer_to.ensures seen c.in-Some-take_value.ensures.ended)
+    let seen = row_shows _ _ c.self.invariant.0 found _ (sym c.in-Some-forget.ensures.entry) in (
+      forgotten_rows _ _ c.self.invariant.0 found _ (sym c.in-Some-forget.ensures.entry) c.args.in_order change c.forget.ensures.entries
+          (lost_one (g.met.S.AnyStorage.sound _) c.self.invariant.0.simple c.in-Some-forget.entry c.pointer_to.result
+          c.pointer_to.ensures seen c.in-Some-take_value.ensures.ended),
+      subst (AreLowerBounds _) (sym (c.get_mut.follows.holds c.forget.new.self).0) (below_raised c.self.invariant.1
+          (g.P.Equivalent.equivalent c.args.id) c.forget.new.self (sym c.in-Some.ensures.value) (omega (arith, c.forget.ensures.used))),
+    )
 
 pub returns : goal.returns
 returns g c =
@@ -59,7 +67,7 @@ returns g c =
     let sound = g.met.S.AnyStorage.sound c.self.inside.store in
     let change = changed g.met.I.Eq.laws asked.0 found
     (rw (asked.1) at ((c.get_mut.follows.holds c.forget.new.self).3 (ap is_some (sym c.in-Some.ensures.value))).0) in
-    let k = c.self.invariant in
+    let k = c.self.invariant.0 in
     let seen = row_shows _ _ k found _ (sym c.in-Some-forget.ensures.entry) in
     let lost = lost_one sound k.simple entry c.pointer_to.result c.pointer_to.ensures seen
     c.in-Some-take_value.ensures.ended in
