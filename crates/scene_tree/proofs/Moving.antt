@@ -39,10 +39,10 @@ module _ {T : Type 0} (fs : List (Family T)) where
         by (suc n) r lt = grind (arith, way_enough n (suc n) r.0 node)
 
     -- and these have slots too
-    pub next_within : (slot : ℕ) → IsWithin fs (parent_at fs slot)
+    pub next_within : (slot : ℕ) → IsNodeWithin fs (parent_at fs slot)
     next_within slot = at (parent_at fs slot) refl
       where
-        at : (o : Option (Node T)) → parent_at fs slot ≡ o → IsWithin fs o
+        at : (o : Option (Node T)) → parent_at fs slot ≡ o → IsNodeWithin fs o
         at None is = tt
         at (Some up) is = above_within fs f slot (slot_in up) (ap slot_of is)
 
@@ -53,7 +53,7 @@ drop_read (y ∷ xs) zero x is = grind arith
 drop_read (y ∷ xs) (suc i) x is = grind (arith, drop_read xs i x is)
 
 -- the way from a live node's parent on has its ancestors
-module _ {T : Type 0} {S : State T} {fs : List (Family T)} (sound : IsSound S) (k : IsKept S fs)
+module _ {T : Type 0} {S : State T} {fs : List (Family T)} (sound : IsSound S) (k : IsTreeKept S fs)
     (sites : List Location) where
   abbrev walked : TreeState T
   walked = record { state = S; families = fs; sites = sites }
@@ -158,8 +158,8 @@ module _ {T : Type 0} where
         none c list (grind (arith, times_more c n list, times_apart c n list)),
       )
 
-module _ {T : Type 0} {S : State T} (sound : IsSound S) (links : List (Link T)) (k : IsKept S (families links))
-    (a : AreNoted S links) (sites : List Location) where
+module _ {T : Type 0} {S : State T} (sound : IsSound S) (links : List (Link T)) (k : IsTreeKept S (families links))
+    (a : AreNodesNoted S links) (sites : List Location) where
   abbrev met_tree : TreeState T
   met_tree = record { state = S; families = families links; sites = sites }
 
@@ -316,7 +316,7 @@ filtered P test (y ∷ xs) each zero x at =
 filtered P test (y ∷ xs) each (suc k) x at = grind (arith, filtered P test xs (λ i. each (suc i)))
 
 module _ {T : Type 0} where
-  pub fresh_kept : (number start next : ℕ) → IsKept (fresh {T = T} number start next) []
+  pub fresh_kept : (number start next : ℕ) → IsTreeKept (fresh {T = T} number start next) []
   fresh_kept number start next = record {
     simple = fresh_simple number start next;
     whole = sym (ap map.len no_slots ∙ map.len-empty nat_cmp ℕ);
@@ -325,7 +325,7 @@ module _ {T : Type 0} where
     children = λ s k c is. absurd (none-some c is);
   }
 
-  module _ {S : State T} {fs : List (Family T)} (k : IsKept S fs) where
+  module _ {S : State T} {fs : List (Family T)} (k : IsTreeKept S fs) where
     -- a slot without a live node is alone
     pub lone : (slot : ℕ) → ((n : Node T) → IsLiveIn S n → slot_in n ≢ slot) → family_at fs slot ≡ alone
     lone slot none = λ i. record { parent = no_some _ root i; children = no_item _ childless i }
@@ -344,13 +344,13 @@ module _ {T : Type 0} where
     -- the same families over a store in which all live nodes are live
     pub kept_same : {R : State T} (gs : List (Family T)) → IsSimple R → length gs ≡ slots R
         → ((s : ℕ) → family_at gs s ≡ family_at fs s)
-        → ((n : Node T) → IsLiveIn S n → IsLiveIn R n) → IsKept R gs
+        → ((n : Node T) → IsLiveIn S n → IsLiveIn R n) → IsTreeKept R gs
     kept_same gs simple whole same live = grind (arith, same_forest fs gs k.forest same)
 
     -- the same families if the same nodes are live
     pub kept_still : {R : State T} → IsSimple R → slots R ≡ slots S
         → ((n : Node T) → is_some (value_in R (pointer_in n)) ≡ is_some (value_in S (pointer_in n)))
-        → IsKept R fs
+        → IsTreeKept R fs
     kept_still simple same live = grind arith
 
     -- a slot that was opened for a new node
@@ -365,7 +365,7 @@ module _ {T : Type 0} where
       pub opened_within : b.id.slot < length gs
       opened_within = grind arith
 
-      pub kept_opened : IsKept R gs
+      pub kept_opened : IsTreeKept R gs
       kept_opened = kept_same gs (made_simple sound k.simple v l b m) opened_whole opened_same
           (λ n live. ap is_some (same_value S R (Make None v l) (Made b) sound m (pointer_in n) tt
           (λ is. made_beside sound k.simple v l b m n live (sym (ap (λ n. n.slot) is)))) ∙ live)
@@ -378,7 +378,7 @@ module _ {T : Type 0} where
     pub kept_attached : (gs : List (Family T)) (parent child : Node T) (spot : Spot T) → IsLiveIn S parent
         → IsLiveIn S child → above fs (slot_in child) ≡ None
         → ((e : ℕ) → IsUnder fs (slot_in child) e (slot_in parent) → ⊥)
-        → IsAttached fs parent spot child gs → IsKept S gs
+        → IsAttached fs parent spot child gs → IsTreeKept S gs
     kept_attached gs parent child spot live lives root apart new =
         grind (arith, attached, each)
       where
@@ -405,7 +405,7 @@ module _ {T : Type 0} where
     spot_in sites sound to up is = grind (arith, sibling_in sites)
 
     pub kept_detached : IsSound S → (gs : List (Family T)) (child : Node T) → IsLiveIn S child
-        → IsDetached fs child gs → IsKept S gs
+        → IsDetached fs child gs → IsTreeKept S gs
     kept_detached sound gs child live new = grind (arith, detached, alike, each)
       where
         each : (s : ℕ) → Each (IsLiveIn S) (children_at gs s)
@@ -422,7 +422,7 @@ module _ {T : Type 0} where
       out : (s : ℕ) → (0 < count_at s list → ⊥) → count_at s list ≡ 0
       out s never = ⊎_elim (λ lt. absurd (never lt)) (λ le. omega (arith, le)) (cases_lt 0 (count_at s list))
 
-      pub kept_cleared : IsSimple R → length gs ≡ slots R → IsKept R gs
+      pub kept_cleared : IsSimple R → length gs ≡ slots R → IsTreeKept R gs
       kept_cleared simple whole = record {
         simple = simple;
         whole = whole;
@@ -458,7 +458,7 @@ module _ {T : Type 0} where
     made_left f was = same_value S R (Make None v l) (Made h.0) sound h.1 (pointer_in f) tt
         (given_other S R (Make None v l) (Made h.0) (pointer_in f) h.1 was)
 
-  module _ {S R : State T} {fs : List (Family T)} (k : IsKept S fs) (sound : IsSound S) (v : T) (l : Location)
+  module _ {S R : State T} {fs : List (Family T)} (k : IsTreeKept S fs) (sound : IsSound S) (v : T) (l : Location)
       (n : Node T) (h : HasMade S v l n R) where
     pub made_apart : (f : Node T) → IsLiveIn S f → slot_in f ≢ slot_in n
     made_apart f live is = made_beside sound k.simple v l h.0 h.1 f live (is ∙ ap (λ i. i.slot) h.2)
@@ -473,7 +473,7 @@ module _ {T : Type 0} where
       opened_at : IsOpened fs h.0.id.slot gs
       opened_at = subst (λ (i : GenerationalBoxId). IsOpened fs i.slot gs) h.2 o
 
-      pub new_kept : IsKept R gs
+      pub new_kept : IsTreeKept R gs
       new_kept = kept_opened k sound v l h.0 h.1 gs opened_at
 
       pub new_alone : family_at gs (slot_in n) ≡ alone
@@ -484,7 +484,7 @@ module _ {T : Type 0} where
           (opened_within k sound v l h.0 h.1 gs opened_at)
 
   -- both: a new child
-  module _ {S R : State T} {fs : List (Family T)} (k : IsKept S fs) (sound : IsSound S) (v : T) (l : Location)
+  module _ {S R : State T} {fs : List (Family T)} (k : IsTreeKept S fs) (sound : IsSound S) (v : T) (l : Location)
       (sites : List Location) (parent child : Node T) (spot : Spot T) (h : HasMade S v l child R)
       (live : IsLiveIn S parent)
       (is : parent_for (record { state = S; families = fs; sites = sites }) spot ≡ Some parent)
@@ -504,7 +504,7 @@ module _ {T : Type 0} where
     shown : IsLiveIn R child
     shown = ap is_some (made_shown v l child h)
 
-    pub kept_added : IsKept R hs
+    pub kept_added : IsTreeKept R hs
     kept_added =
         let opened = new_kept k sound v l child h gs o in
         kept_attached opened hs parent child spot (ap is_some (left parent live) ∙ live) shown
@@ -538,7 +538,7 @@ module _ {T : Type 0} where
           let same = o.same (slot_in n) in
           grind (arith, a.parents (slot_in n) (apart n lives), a.others (slot_in n)))
 
-  module _ {S : State T} (links : List (Link T)) (sound : IsSound S) (k : IsKept S (families links)) where
+  module _ {S : State T} (links : List (Link T)) (sound : IsSound S) (k : IsTreeKept S (families links)) where
     -- a live node's slot has links
     pub live_slot : (n : Node T) → IsLiveIn S n → slot_in n < length links
     live_slot n live = grind (arith, live_within S n sound k.simple live, length-map links (family_in links))
@@ -561,8 +561,8 @@ module _ {T : Type 0} where
 module _ {T : Type 0} {S R : State T} (sound : IsSound S) (node : Node T) (b : GenerationalPointer)
     (own : b.id ≡ id_in node) (v old : T) (m : Meets S (SetValue b v) (Old old) R) where
   pub set_still : {links : List (Link T)} {number : ℕ}
-      → IsKept S (families links) × IsLinked links × AreNoted S links × (number ≡ S.number)
-      → IsKept R (families links) × IsLinked links × AreNoted R links × (number ≡ R.number)
+      → IsTreeKept S (families links) × AreChildrenLinked links × AreNodesNoted S links × (number ≡ S.number)
+      → IsTreeKept R (families links) × AreChildrenLinked links × AreNodesNoted R links × (number ≡ R.number)
   set_still was = (
     kept_still was.0 (simple_still sound was.0.simple _ _ m tt tt) (same_slots _ _ refl m) seen,
     was.1,
@@ -595,7 +595,7 @@ module _ {T : Type 0} {S R : State T} (sound : IsSound S) (node : Node T) (b : G
 -- ==== a tree in which a node was moved, was made a root, or was removed with all below it
 
 module _ {T : Type 0} {S : State T} {fs gs : List (Family T)} (sites : List Location) (sound : IsSound S)
-    (k : IsKept S fs) (node : Node T) (live : IsLiveIn S node) (d : IsDetached fs node gs) where
+    (k : IsTreeKept S fs) (node : Node T) (live : IsLiveIn S node) (d : IsDetached fs node gs) where
   abbrev moved_tree : TreeState T
   moved_tree = record { state = S; families = fs; sites = sites }
 
@@ -642,7 +642,7 @@ module _ {T : Type 0} {S : State T} {fs gs : List (Family T)} (sites : List Loca
     under_before zero s under = under
     under_before (suc e) s under = grind (arith, under_before e under.0 under.2, cases_eq s (slot_in node))
 
-    pub kept_moved : IsKept S hs
+    pub kept_moved : IsTreeKept S hs
     kept_moved =
         let left = kept_detached k sound gs node live d in
         let below = under_below sound k sites node live in
@@ -685,9 +685,9 @@ pub ok_both : {X E : Type 0} {P Q R : X → Type 0} (r : Result X E) → ((x : X
     → IfOk r P → IfOk r Q → IfOk r R
 ok_both r f p q = grind arith
 
-module _ {T : Type 0} {S R : State T} {fs hs : List (Family T)} (sound : IsSound S) (k : IsKept S fs)
+module _ {T : Type 0} {S R : State T} {fs hs : List (Family T)} (sound : IsSound S) (k : IsTreeKept S fs)
     (node : Node T) (live : IsLiveIn S node) (list : List (Node T)) (cut : IsCut fs node list hs)
-    (lost : HasLost S list R) where
+    (lost : HasLostNodes S list R) where
   -- what is listed is below the node, and what is below it is listed
   under : (s : ℕ) → 0 < count_at s list → (e : ℕ) × IsUnder fs (slot_in node) e s
   under = listed_below fs k.forest node list (length list) (part_whole fs k.forest node list cut.level)
@@ -705,7 +705,7 @@ module _ {T : Type 0} {S R : State T} {fs hs : List (Family T)} (sound : IsSound
   same_times : (n : Node T) → IsLiveIn S n → times n list ≡ count_at (slot_in n) list
   same_times n lives = times_live sound k n lives list (list_live sound k node live list cut.level)
 
-  pub kept_cut : IsKept R hs
+  pub kept_cut : IsTreeKept R hs
   kept_cut =
       let left = kept_detached k sound cut.left node live cut.detached in
       kept_cleared left R hs list cut.cleared
@@ -760,7 +760,7 @@ module _ {T : Type 0} where
       both false other = absurd (none-some l (sym (ap (λ b. cond b (slice_get old n.site) None) other) ∙ is))
 
   pub tells_here : (number : ℕ) (s : SiteState) (n : Node T) (here : Location) → n.store ≡ number → n.site < s.told
-      → IsAt s.all n.site here → Tells (told_at number (told_in s) n) here
+      → IsAt s.all n.site here → TellsLocation (told_at number (told_in s) n) here
   tells_here number s n here own lt at =
       (at.kept, rw (own, nat_eq_equiv.refl number) (told_here s n.site at.kept lt at.there), at.alike)
 

@@ -15,9 +15,9 @@ module _ {T : Type 0} where
   first_of None = None
   first_of (Some l) = l.first
 
-  abbrev pub last_of : Option (Link T) → Option ℕ
-  last_of None = None
-  last_of (Some l) = l.last
+  abbrev pub last_link_of : Option (Link T) → Option ℕ
+  last_link_of None = None
+  last_link_of (Some l) = l.last
 
   -- the node that is noted at a slot
   abbrev pub node_in : Option (Link T) → Option (Node T)
@@ -68,7 +68,7 @@ module _ {T : Type 0} where
   -- a list has the children of a slot
   pub record IsHeld (links : List (Link T)) (slot : ℕ) (list : List (Node T)) : Type 0 where
     pub first : first_of (slice_get links slot) ≡ head_or list None
-    pub last : last_of (slice_get links slot) ≡ last_or None list
+    pub last : last_link_of (slice_get links slot) ≡ last_or None list
     pub chain : IsChain links None list None
 
   -- links of which one slot's is changed

@@ -9,7 +9,7 @@ use Rattle.scene_tree.specs.declared.spot.Spot.TheVariants as spot
 use Rattle.scene_tree.specs.Chains.{IsHeld, chain, head_or, last_or}
 use Rattle.handles.specs.Handles.{slot_in}
 use Rattle.scene_tree.specs.Nodes.{Node, without}
-use Rattle.scene_tree.specs.Spots.{place_of, placed}
+use Rattle.scene_tree.specs.Spots.{index_among, placed}
 
 -- a node's parent, if it has one, and its children in order
 pub record Family (T : Type 0) : Type 0 where
@@ -39,8 +39,8 @@ module _ {T : Type 0} where
   children_at fs slot = (family_at fs slot).children
 
   -- the children of each slot lie in the links, both ways
-  abbrev pub IsLinked : List (Link T) → Type 0
-  IsLinked links = (slot : ℕ) → IsHeld links slot (children_at (families links) slot)
+  abbrev pub AreChildrenLinked : List (Link T) → Type 0
+  AreChildrenLinked links = (slot : ℕ) → IsHeld links slot (children_at (families links) slot)
 
   -- the slot of a parent, and of a slot's
   abbrev pub slot_of : Option (Node T) → Option ℕ
@@ -94,7 +94,7 @@ module _ {T : Type 0} where
     pub back : List (Node T)
     pub whole : list ≡ front ++ here ∷ back
     pub slot : slot_in here ≡ slot_in n
-    pub place : place_of n list ≡ length front
+    pub place : index_among n list ≡ length front
 
   -- a spot is among the children of a node: its sibling, if it has one, is one of them
   abbrev pub IsSpotIn : List (Node T) → Spot T → Type 0

@@ -10,7 +10,7 @@ use Rattle.generational_core.specs.Machine.Action.{Make}
 use Rattle.generational_core.specs.Machine.Answer.{Made}
 use Rattle.generational_core.specs.declared.boxes.GenerationalPointer.{GenerationalPointer}
 use Rattle.generational_errors.specs.declared.error.Location.{Location}
-use Rattle.generational_sessions.specs.PlainStores.{IsSimple}
+use Rattle.generational_laws.specs.PlainStores.{IsSimple}
 use Rattle.scene_tree.specs.declared.links.Link.{Link}
 use Rattle.scene_tree.specs.Chains.{noted}
 use Rattle.scene_tree.specs.Families.{Family, IsForest, children_at, parent_at}
@@ -23,7 +23,7 @@ module _ {T : Type 0} where
   IsLiveIn S n = is_some (value_in S (pointer_in n)) ≡ true
 
   -- each live node is noted at its slot, and what is noted at a slot is of that slot
-  pub record AreNoted (S : State T) (links : List (Link T)) : Type 0 where
+  pub record AreNodesNoted (S : State T) (links : List (Link T)) : Type 0 where
     pub live : (n : Node T) → IsLiveIn S n
         → (h : Node T) × (noted links (slot_in n) ≡ Some h) × IsSame h n
     pub placed : (slot : ℕ) (h : Node T) → noted links slot ≡ Some h → slot_in h ≡ slot
@@ -34,7 +34,7 @@ module _ {T : Type 0} where
       × (id_in n ≡ b.id)
 
   -- from one state to another the nodes of a list are removed, and each other node has the same value
-  pub record HasLost (old : State T) (gone : List (Node T)) (new : State T) : Type 0 where
+  pub record HasLostNodes (old : State T) (gone : List (Node T)) (new : State T) : Type 0 where
     pub simple : IsSimple new
     pub same : slots new ≡ slots old
     pub number : new.number ≡ old.number
@@ -46,7 +46,7 @@ module _ {T : Type 0} where
 
   -- no borrow stands, each slot has one live node at most, each slot has a family, the families are
   -- those of a forest, and all that they name is live
-  pub record IsKept (S : State T) (fs : List (Family T)) : Type 0 where
+  pub record IsTreeKept (S : State T) (fs : List (Family T)) : Type 0 where
     pub simple : IsSimple S
     pub whole : length fs ≡ slots S
     pub forest : IsForest fs

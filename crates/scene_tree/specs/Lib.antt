@@ -1,10 +1,13 @@
+pub mod Building
 pub mod Chains
 pub mod Families
 pub mod Keeping
 pub mod Meeting
 pub mod Nodes
 pub mod Packing
+pub mod Parts
 pub mod Rows
+pub mod Siblings
 pub mod Spots
 pub mod Texts
 pub mod Trees

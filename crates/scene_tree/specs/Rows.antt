@@ -34,10 +34,10 @@ module _ {T : Type 0} where
   waiting links (Some row) = row ∷ behind links row.0 (Some (slot_in row.1))
 
   -- a row is of a slot that there is, so many steps below some other
-  abbrev pub IsPlaced : List (Link T) → ℕ → ℕ → Type 0
-  IsPlaced links depth slot =
+  abbrev pub IsRowPlaced : List (Link T) → ℕ → ℕ → Type 0
+  IsRowPlaced links depth slot =
       (top : ℕ) × IsUnder (families links) top depth slot × (slot < length links)
 
   abbrev pub IsRow : List (Link T) → Option (ℕ × Node T) → Type 0
   IsRow links None = Unit {0}
-  IsRow links (Some row) = IsPlaced links row.0 (slot_in row.1)
+  IsRow links (Some row) = IsRowPlaced links row.0 (slot_in row.1)

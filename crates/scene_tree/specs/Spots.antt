@@ -15,12 +15,12 @@ module _ {T : Type 0} where
   named (spot.After sibling) = sibling
 
   -- the index of a node in a list, or the list's length
-  abbrev pub place_of : Node T → List (Node T) → ℕ
-  place_of n list = position_or_len (λ c. is_same c n) list
+  abbrev pub index_among : Node T → List (Node T) → ℕ
+  index_among n list = position_or_len (λ c. is_same c n) list
 
   -- a list of children with another node at a spot
   abbrev pub placed : Spot T → Node T → List (Node T) → List (Node T)
   placed (spot.FirstOf parent) n list = n ∷ list
   placed (spot.LastOf parent) n list = list ++ n ∷ []
-  placed (spot.Before sibling) n list = insert list (place_of sibling list) n
-  placed (spot.After sibling) n list = insert list (place_of sibling list + 1) n
+  placed (spot.Before sibling) n list = insert list (index_among sibling list) n
+  placed (spot.After sibling) n list = insert list (index_among sibling list + 1) n

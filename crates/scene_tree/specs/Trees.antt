@@ -31,8 +31,8 @@ module _ {T : Type 0} where
   is_live t n = is_some (value_of t n)
 
   -- how many nodes are live: each has a cell of the store, and no other is there
-  abbrev pub count_of : TreeState T → ℕ
-  count_of t = map.len t.state.cells
+  abbrev pub live_count : TreeState T → ℕ
+  live_count t = map.len t.state.cells
 
   -- a handle that the tree has issued
   abbrev pub WasMade : TreeState T → Node T → Type 0
@@ -46,8 +46,8 @@ module _ {T : Type 0} where
   stale_of t n = record { created_at = created_at t n }
 
   -- the tree keeps each location of a node
-  abbrev pub KeepsTelling : TreeState T → TreeState T → Type 0
-  KeepsTelling old new =
+  abbrev pub KeepsNodeLocations : TreeState T → TreeState T → Type 0
+  KeepsNodeLocations old new =
       (n : Node T) (l : Location) → created_at old n ≡ Some l → created_at new n ≡ Some l
 
   -- a node's parent and children; a node that was removed has none

@@ -14,9 +14,9 @@ module _ {T : Type 0} where
   way_up fs (suc steps) (Some n) = n ∷ way_up fs steps (parent_at fs (slot_in n))
 
   -- a node, if there is one, has a slot of the families
-  abbrev pub IsWithin : List (Family T) → Option (Node T) → Type 0
-  IsWithin fs None = Unit {0}
-  IsWithin fs (Some n) = slot_in n < length fs
+  abbrev pub IsNodeWithin : List (Family T) → Option (Node T) → Type 0
+  IsNodeWithin fs None = Unit {0}
+  IsNodeWithin fs (Some n) = slot_in n < length fs
 
   -- what is left of a walk over children begins at a slot, and lies in the links up to the last child
   pub record IsRest (links : List (Link T)) (next : Option ℕ) : Type 0 where

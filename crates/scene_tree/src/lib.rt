@@ -8,17 +8,23 @@
 #![tactic(auto)]
 
 mod links;
+mod listing;
 mod node;
 mod nodes;
 mod packed;
+mod parts;
+mod rebuilding;
+mod siblings;
 mod spot;
 mod tree;
 mod walk;
 
 pub use crate::node::{Node, NodeKind, TreeError};
 pub use crate::nodes::{Nodes, Roots};
+pub use crate::parts::{ChildRow, PartsFault, TreeParts};
 pub use crate::spot::Spot;
 pub use crate::tree::SceneTree;
 pub use crate::walk::{Ancestors, Children, Outline};
 pub use generational_core::HandedBack;
-pub use handles::{Handle, Stale};
+pub use handles::{Handle, Sites, Stale};
+pub use live_cells::CellFault;

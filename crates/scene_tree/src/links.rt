@@ -5,9 +5,9 @@ ghost use Rattle.handles.specs.Handles.{is_same, slot_in};
 ghost use Rattle.scene_tree.specs.Chains.{after_put, before_put, changed, noted, tie_of};
 ghost use Rattle.scene_tree.specs.Nodes.{Node, number_in};
 ghost use Rattle.scene_tree.specs.Families.{families, parent_at, children_at, above, alone};
-ghost use Rattle.scene_tree.specs.Families.{IsForest, IsLinked, IsInLevels, IsUnder, IsOpened, IsAttached};
+ghost use Rattle.scene_tree.specs.Families.{IsForest, AreChildrenLinked, IsInLevels, IsUnder, IsOpened, IsAttached};
 ghost use Rattle.scene_tree.specs.Families.{IsDetached, IsCleared, IsCut, IsRooted, count_at, slot_of, IsGap, IsSpotIn};
-ghost use Rattle.scene_tree.specs.Rows.{IsPlaced, IsRow, behind, rows_at, waiting};
+ghost use Rattle.scene_tree.specs.Rows.{IsRowPlaced, IsRow, behind, rows_at, waiting};
 ghost use Rattle.scene_tree.specs.declared.links.Link.{Link};
 
 use crate::node::Node;
@@ -33,13 +33,13 @@ pub(crate) struct Link<T> {
 pub(crate) fn open_slot<T>(links: &mut Links<T>, node: Node<T>)
     requires room { length links.old.items < links.old.room }
     requires fits { length links.old.items < 2 ^ 32 - 1 }
-    requires linked { IsLinked links.old.items }
+    requires linked { AreChildrenLinked links.old.items }
     requires forest { IsForest (families links.old.items) }
     requires number { number_in node ≡ links.old.number }
     requires within { slot_in node ≤ length links.old.items }
     requires root { above (families links.old.items) (slot_in node) ≡ None }
     ensures number { links.new.number ≡ links.old.number }
-    ensures linked { IsLinked links.new.items }
+    ensures linked { AreChildrenLinked links.new.items }
     ensures opened { IsOpened (families links.old.items) (slot_in node) (families links.new.items) }
     ensures longer { length links.old.items ≤ length links.new.items }
     ensures noted { noted links.new.items (slot_in node) ≡ Some node }
@@ -55,7 +55,7 @@ pub(crate) fn open_slot<T>(links: &mut Links<T>, node: Node<T>)
 
 /// Makes a node without a parent a child of another, at a spot among its children.
 pub(crate) fn attach<T>(links: &mut Links<T>, parent: Node<T>, spot: Spot<T>, child: Node<T>)
-    requires linked { IsLinked links.old.items }
+    requires linked { AreChildrenLinked links.old.items }
     requires forest { IsForest (families links.old.items) }
     requires spot { IsSpotIn (children_at (families links.old.items) (slot_in parent)) spot }
     requires parent { slot_in parent < length links.old.items }
@@ -63,7 +63,7 @@ pub(crate) fn attach<T>(links: &mut Links<T>, parent: Node<T>, spot: Spot<T>, ch
     requires numbers { (number_in child ≡ links.old.number) × (number_in parent ≡ links.old.number) }
     requires root { above (families links.old.items) (slot_in child) ≡ None }
     ensures number { links.new.number ≡ links.old.number }
-    ensures linked { IsLinked links.new.items }
+    ensures linked { AreChildrenLinked links.new.items }
     ensures attached { IsAttached (families links.old.items) parent spot child
         (families links.new.items) }
     ensures noted { noted links.new.items (slot_in child) ≡ Some child }
@@ -80,14 +80,14 @@ pub(crate) fn attach<T>(links: &mut Links<T>, parent: Node<T>, spot: Spot<T>, ch
 
 /// Removes a node from its parent's children, if it has a parent.
 pub(crate) fn detach<T>(links: &mut Links<T>, node: Node<T>)
-    requires linked { IsLinked links.old.items }
+    requires linked { AreChildrenLinked links.old.items }
     requires forest { IsForest (families links.old.items) }
     requires node { slot_in node < length links.old.items }
     requires alike { (s k : ℕ) (n : Node T) →
         slice_get (children_at (families links.old.items) s) k ≡ Some n →
         slot_in n ≡ slot_in node → is_same n node ≡ true }
     ensures number { links.new.number ≡ links.old.number }
-    ensures linked { IsLinked links.new.items }
+    ensures linked { AreChildrenLinked links.new.items }
     ensures detached { IsDetached (families links.old.items) node (families links.new.items) }
     ensures noted { (s : ℕ) → noted links.new.items s ≡ noted links.old.items s }
 {
@@ -104,7 +104,7 @@ pub(crate) fn detach<T>(links: &mut Links<T>, node: Node<T>)
 
 // The slots of the children of a slot's node on both sides of a spot.
 fn gap_at<T>(links: &Links<T>, slot: usize, spot: Spot<T>) -> (Option<usize>, Option<usize>)
-    requires linked { IsLinked links.now.items }
+    requires linked { AreChildrenLinked links.now.items }
     requires within { slot < length links.now.items }
     requires spot { IsSpotIn (children_at (families links.now.items) slot) spot }
     ensures { IsGap (children_at (families links.now.items) slot) spot result }
@@ -117,8 +117,8 @@ fn gap_at<T>(links: &Links<T>, slot: usize, spot: Spot<T>) -> (Option<usize>, Op
     }
 }
 
-// The slots of the siblings before and after a slot's node.
-fn sides_at<T>(links: &Links<T>, slot: usize) -> (Option<usize>, Option<usize>)
+/// The slots of the siblings before and after a slot's node.
+pub(crate) fn sides_at<T>(links: &Links<T>, slot: usize) -> (Option<usize>, Option<usize>)
     requires within { slot < length links.now.items }
     ensures { (node : Node T) × (tie_of (slice_get links.now.items slot)
         ≡ Some (node, result.0, result.1)) }
@@ -189,14 +189,14 @@ pub(crate) fn cut<T>(
     links: &mut Links<T>,
     top: Node<T>,
 ) -> Result<Vec<Node<T>>, AllocError>
-    requires linked { IsLinked links.old.items }
+    requires linked { AreChildrenLinked links.old.items }
     requires forest { IsForest (families links.old.items) }
     requires within { slot_in top < length links.old.items }
     requires alike { (s k : ℕ) (n : Node T) →
         slice_get (children_at (families links.old.items) s) k ≡ Some n →
         slot_in n ≡ slot_in top → is_same n top ≡ true }
     ensures number { links.new.number ≡ links.old.number }
-    ensures linked { IsLinked links.new.items }
+    ensures linked { AreChildrenLinked links.new.items }
     ensures cut { IfOk result (λ list.
         IsCut (families links.old.items) top list.items (families links.new.items)) }
     ensures noted { (s : ℕ) → noted links.new.items s ≡ noted links.old.items s }
@@ -210,9 +210,9 @@ pub(crate) fn cut<T>(
 
 // Clears the parents and the children of the nodes of a list.
 fn clear_all<T>(links: &mut Links<T>, nodes: &Vec<Node<T>>)
-    requires linked { IsLinked links.old.items }
+    requires linked { AreChildrenLinked links.old.items }
     requires within { (s : ℕ) → 0 < count_at s nodes.now.items → s < length links.old.items }
-    ensures linked { IsLinked links.new.items }
+    ensures linked { AreChildrenLinked links.new.items }
     ensures number { links.new.number ≡ links.old.number }
     ensures length { length links.new.items ≡ length links.old.items }
     ensures cleared { IsCleared (families links.old.items) (families links.new.items) nodes.now.items }
@@ -303,7 +303,7 @@ pub(crate) fn parent_at<T>(links: &Links<T>, slot: usize) -> Option<Node<T>>
 
 /// The children of a slot's node, in order.
 pub(crate) fn children_at<T>(links: &Links<T>, slot: usize) -> Children<'_, T>
-    requires linked { IsLinked links.now.items }
+    requires linked { AreChildrenLinked links.now.items }
     requires within { slot < length links.now.items }
     ensures { result ≡ children_at (families links.now.items) slot }
 {
@@ -313,9 +313,9 @@ pub(crate) fn children_at<T>(links: &Links<T>, slot: usize) -> Children<'_, T>
 /// The row after that of a slot's node in an outline: its first child, or what follows its whole
 /// subtree.
 pub(crate) fn next_row<T>(links: &Links<T>, depth: usize, slot: usize) -> Option<(usize, Node<T>)>
-    requires linked { IsLinked links.now.items }
+    requires linked { AreChildrenLinked links.now.items }
     requires forest { IsForest (families links.now.items) }
-    requires placed { IsPlaced links.now.items depth slot }
+    requires placed { IsRowPlaced links.now.items depth slot }
     ensures next { waiting links.now.items result
         ≡ rows_at (depth + 1) (children_at (families links.now.items) slot)
         ++ behind links.now.items depth (Some slot) }
@@ -329,9 +329,9 @@ pub(crate) fn next_row<T>(links: &Links<T>, depth: usize, slot: usize) -> Option
 
 // The row after those of the whole subtree of a slot's node.
 fn row_behind<T>(links: &Links<T>, depth: usize, slot: usize) -> Option<(usize, Node<T>)>
-    requires linked { IsLinked links.now.items }
+    requires linked { AreChildrenLinked links.now.items }
     requires forest { IsForest (families links.now.items) }
-    requires placed { IsPlaced links.now.items depth slot }
+    requires placed { IsRowPlaced links.now.items depth slot }
     ensures next { waiting links.now.items result ≡ behind links.now.items depth (Some slot) }
     ensures row { IsRow links.now.items result }
 {
@@ -356,7 +356,7 @@ pub(crate) fn gather<T>(
     links: &Links<T>,
     top: Node<T>,
 ) -> Result<Vec<Node<T>>, AllocError>
-    requires linked { IsLinked links.now.items }
+    requires linked { AreChildrenLinked links.now.items }
     requires forest { IsForest (families links.now.items) }
     requires within { slot_in top < length links.now.items }
     ensures { IfOk result (λ list. IsInLevels (families links.now.items) top list.items) }
@@ -376,7 +376,7 @@ fn push_children<T>(
     links: &Links<T>,
     next: usize,
 ) -> Result<(), AllocError>
-    requires linked { IsLinked links.now.items }
+    requires linked { AreChildrenLinked links.now.items }
     requires listed { next < length list.old.items }
     requires within { (n : Node T) → slice_get list.old.items next ≡ Some n →
         slot_in n < length links.now.items }

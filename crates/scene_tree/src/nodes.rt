@@ -4,7 +4,7 @@ ghost use Rattle.std.specs.Prelude.{◌≡◌, ◌∷◌, [], drop, length, IfSo
 ghost use Rattle.std.specs.Iterator.{UpTo, YieldsFirst, item_count};
 ghost use Rattle.std.specs.Iterator.SizeHint.{IsWithinCount};
 ghost use Rattle.scene_tree.specs.Meeting.{is_met, met};
-ghost use Rattle.scene_tree.specs.Trees.{AreAll, AreRoots, count_of};
+ghost use Rattle.scene_tree.specs.Trees.{AreAll, AreRoots, live_count};
 
 use crate::links::Link;
 use crate::node::Node;
@@ -26,7 +26,7 @@ impl<T, S: Storage<T>> SceneTree<T, S> {
     /// ```
     pub fn nodes(&self) -> Nodes<'_, T, S>
         ensures all { AreAll self.now result }
-        ensures count { length result ≡ count_of self.now }
+        ensures count { length result ≡ live_count self.now }
     {
         Nodes {
             links: &self.links,
@@ -146,9 +146,9 @@ impl<'a, T, S: Storage<T>> Iterator for Roots<'a, T, S> {
 
 impl<'a, T, S: Storage<T>> FusedIterator for Roots<'a, T, S> {}
 
-// Whether the iterator yields a link's node: it is live, and if only roots are yielded, it has no
-// parent.
-fn is_met<T, S: Storage<T>>(store: &S, only_roots: bool, link: &Link<T>) -> bool
+/// Whether the iterator yields a link's node: it is live, and if only roots are yielded, it has no
+/// parent.
+pub(crate) fn is_met<T, S: Storage<T>>(store: &S, only_roots: bool, link: &Link<T>) -> bool
     ensures { result ≡ is_met (S.state store.now) only_roots link.now }
 {
     peek(store, link.node).is_some() && !(only_roots && link.parent.is_some())

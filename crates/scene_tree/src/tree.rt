@@ -9,17 +9,17 @@ ghost use Rattle.generational_core.specs.Conditions.{IsFresh};
 ghost use Rattle.generational_errors.specs.declared.error.StoreError.TheVariants.{OutOfMemory};
 ghost use Rattle.generational_errors.specs.declared.error.Location.{Location};
 ghost use Rattle.handles.specs.Handles.{id_in, pointer_in, slot_in, IsOther};
-ghost use Rattle.handles.specs.Sites.{Tells, told_at, told_in};
+ghost use Rattle.handles.specs.Sites.{TellsLocation, told_at, told_in};
 ghost use Rattle.scene_tree.specs.declared.node.TreeError.TheVariants as error;
 ghost use Rattle.scene_tree.specs.Chains.{noted};
-ghost use Rattle.scene_tree.specs.Families.{IsLinked, IsOpened, alone, families};
-ghost use Rattle.generational_sessions.specs.PlainStores.{IsSimple};
-ghost use Rattle.scene_tree.specs.Keeping.{HasLost, HasMade, IsKept, IsLiveIn};
+ghost use Rattle.scene_tree.specs.Families.{AreChildrenLinked, IsOpened, alone, families};
+ghost use Rattle.generational_laws.specs.PlainStores.{IsSimple};
+ghost use Rattle.scene_tree.specs.Keeping.{HasLostNodes, HasMade, IsTreeKept, IsLiveIn};
 ghost use Rattle.generational_core.specs.Seeing.{value_in};
 ghost use Rattle.scene_tree.specs.Nodes.{Node, number_in, times, without};
 ghost use Rattle.scene_tree.specs.Trees.{TreeState, value_of, is_live, family_of, parent_of};
 ghost use Rattle.scene_tree.specs.Trees.{children_of, created_at, stale_of, WasMade, IsBelow, NodeIsUnchanged, CanMove};
-ghost use Rattle.scene_tree.specs.Trees.{AreAncestors, IsRootedIn, IsSubtree, IsTree, KeepsTelling, count_of, outline_of, parent_for};
+ghost use Rattle.scene_tree.specs.Trees.{AreAncestors, IsRootedIn, IsSubtree, IsTree, KeepsNodeLocations, live_count, outline_of, parent_for};
 ghost use Rattle.scene_tree.specs.Spots.{named, placed};
 
 use crate::links::{
@@ -40,11 +40,11 @@ use std::marker::Model;
 /// where nodes were made.
 #[derive(Drop)]
 pub struct SceneTree<T, S: Storage<T>> {
-    alloc: Global,
+    pub(crate) alloc: Global,
     pub(crate) store: S,
     // of each slot its current or last node, and that node's neighbours
     pub(crate) links: Links<T>,
-    sites: Sites,
+    pub(crate) sites: Sites,
 }
 
 impl<T, S: Storage<T>> Model for SceneTree<T, S> {
@@ -52,8 +52,8 @@ impl<T, S: Storage<T>> Model for SceneTree<T, S> {
     ghost use Rattle.std.specs.FinMap as map;
     ghost use Rattle.std.specs.Prelude.{◌≡◌};
     ghost use Rattle.handles.specs.Sites.{told_in};
-    ghost use Rattle.scene_tree.specs.Families.{IsLinked, families};
-    ghost use Rattle.scene_tree.specs.Keeping.{AreNoted, IsKept};
+    ghost use Rattle.scene_tree.specs.Families.{AreChildrenLinked, families};
+    ghost use Rattle.scene_tree.specs.Keeping.{AreNodesNoted, IsTreeKept};
     ghost use Rattle.scene_tree.specs.Trees.{TreeState};
 
     ghost Value = { TreeState T };
@@ -66,9 +66,9 @@ impl<T, S: Storage<T>> Model for SceneTree<T, S> {
       sites = told_in t.sites;
     } };
 
-    ghost invariant = { λ t. IsKept (S.state t.store) (families t.links.items)
-        × IsLinked t.links.items
-        × AreNoted (S.state t.store) t.links.items
+    ghost invariant = { λ t. IsTreeKept (S.state t.store) (families t.links.items)
+        × AreChildrenLinked t.links.items
+        × AreNodesNoted (S.state t.store) t.links.items
         × (t.links.number ≡ (S.state t.store).number) };
 }
 
@@ -107,14 +107,14 @@ impl<T, S: Storage<T>> SceneTree<T, S> {
     pub fn add_root(&mut self, value: T, here: Location) -> Result<Node<T>, Refusal<T>>
         ensures shown { IfOk result (λ n. value_of self.new n ≡ Some value) }
         ensures alone { IfOk result (λ n. family_of self.new n ≡ alone) }
-        ensures count { OnOk result (count_of self.new ≡ count_of self.old + 1) }
+        ensures count { OnOk result (live_count self.new ≡ live_count self.old + 1) }
         ensures others { IfOk result (λ n. (f : Node T) → IsOther n f →
             NodeIsUnchanged self.old f self.new) }
         ensures left { (f : Node T) → WasMade self.old f → NodeIsUnchanged self.old f self.new }
         ensures new { IfOk result (λ n. WasMade self.old n → ⊥) }
         ensures made { IfOk result (λ n. WasMade self.new n) }
-        ensures here { IfOk result (λ n. Tells (created_at self.new n) here) }
-        ensures tells { KeepsTelling self.old self.new }
+        ensures here { IfOk result (λ n. TellsLocation (created_at self.new n) here) }
+        ensures tells { KeepsNodeLocations self.old self.new }
         ensures kept { (f : Node T) → WasMade self.old f → WasMade self.new f }
         ensures refused { OnErr result (self.new ≡ self.old) }
         ensures back { IfErr result (λ refusal. refusal.value ≡ value) }
@@ -153,14 +153,14 @@ impl<T, S: Storage<T>> SceneTree<T, S> {
           parent = parent_of self.old parent;
           children = children_of self.old parent ++ n ∷ [];
         }) }
-        ensures count { OnOk result (count_of self.new ≡ count_of self.old + 1) }
+        ensures count { OnOk result (live_count self.new ≡ live_count self.old + 1) }
         ensures parent { value_of self.new parent ≡ value_of self.old parent }
         ensures others { IfOk result (λ n. (f : Node T) → IsOther n f → IsOther parent f →
             NodeIsUnchanged self.old f self.new) }
         ensures new { IfOk result (λ n. WasMade self.old n → ⊥) }
         ensures made { IfOk result (λ n. WasMade self.new n) }
-        ensures here { IfOk result (λ n. Tells (created_at self.new n) here) }
-        ensures tells { KeepsTelling self.old self.new }
+        ensures here { IfOk result (λ n. TellsLocation (created_at self.new n) here) }
+        ensures tells { KeepsNodeLocations self.old self.new }
         ensures kept { (f : Node T) → WasMade self.old f → WasMade self.new f }
         ensures stale { value_of self.old parent ≡ None →
             IsErrAnd result (λ refusal. refusal.cause ≡ error.Stale (stale_of self.old parent)) }
@@ -202,14 +202,14 @@ impl<T, S: Storage<T>> SceneTree<T, S> {
               parent = parent_of self.old up;
               children = placed spot n (children_of self.old up);
             })) }
-        ensures count { OnOk result (count_of self.new ≡ count_of self.old + 1) }
+        ensures count { OnOk result (live_count self.new ≡ live_count self.old + 1) }
         ensures others { IfOk result (λ n. (f : Node T) → IsOther n f →
             ((up : Node T) → parent_for self.old spot ≡ Some up → IsOther up f) →
             NodeIsUnchanged self.old f self.new) }
         ensures new { IfOk result (λ n. WasMade self.old n → ⊥) }
         ensures made { IfOk result (λ n. WasMade self.new n) }
-        ensures here { IfOk result (λ n. Tells (created_at self.new n) here) }
-        ensures tells { KeepsTelling self.old self.new }
+        ensures here { IfOk result (λ n. TellsLocation (created_at self.new n) here) }
+        ensures tells { KeepsNodeLocations self.old self.new }
         ensures kept { (f : Node T) → WasMade self.old f → WasMade self.new f }
         ensures stale { value_of self.old (named spot) ≡ None →
             IsErrAnd result (λ refusal. refusal.cause ≡ error.Stale (stale_of self.old (named spot))) }
@@ -308,7 +308,7 @@ impl<T, S: Storage<T>> SceneTree<T, S> {
         T: Drop,
         ensures shown { OnOk result (value_of self.new node ≡ Some value) }
         ensures family { family_of self.new node ≡ family_of self.old node }
-        ensures count { count_of self.new ≡ count_of self.old }
+        ensures count { live_count self.new ≡ live_count self.old }
         ensures others { (f : Node T) → IsOther node f → NodeIsUnchanged self.old f self.new }
         ensures kept { (f : Node T) → WasMade self.old f → WasMade self.new f }
         ensures tells { (f : Node T) → created_at self.new f ≡ created_at self.old f }
@@ -344,7 +344,7 @@ impl<T, S: Storage<T>> SceneTree<T, S> {
             FnOnceReturnsAtMut F.FnOnce f old answer changed ×
             (value_of self.new node ≡ Some changed)) }
         ensures family { family_of self.new node ≡ family_of self.old node }
-        ensures count { count_of self.new ≡ count_of self.old }
+        ensures count { live_count self.new ≡ live_count self.old }
         ensures others { (n : Node T) → IsOther node n → NodeIsUnchanged self.old n self.new }
         ensures kept { (n : Node T) → WasMade self.old n → WasMade self.new n }
         ensures tells { (n : Node T) → created_at self.new n ≡ created_at self.old n }
@@ -407,10 +407,10 @@ impl<T, S: Storage<T>> SceneTree<T, S> {
         self.sites.get(site_of(node))
     }
 
-    // The error for a stale handle, with the location where its node was made.
+    /// The error for a stale handle, with the location where its node was made.
     #[cold]
     #[inline(never)]
-    fn stale(&self, node: Node<T>) -> Stale
+    pub(crate) fn stale(&self, node: Node<T>) -> Stale
         ensures { result ≡ stale_of self.now node }
     {
         Stale {
@@ -424,7 +424,7 @@ impl<T, S: Storage<T>> SceneTree<T, S> {
     /// println!(rt; "{} nodes", tree.len())?;
     /// ```
     pub fn len(&self) -> usize
-        ensures { result ≡ count_of self.now }
+        ensures { result ≡ live_count self.now }
     {
         self.store.len()
     }
@@ -768,7 +768,7 @@ impl<T, S: Storage<T>> SceneTree<T, S> {
         ensures gone { IfOk result (λ list. (n : Node T) → 0 < times n list.items →
             value_of self.new n ≡ None) }
         ensures count { IfOk result (λ list.
-            count_of self.new + length list.items ≡ count_of self.old) }
+            live_count self.new + length list.items ≡ live_count self.old) }
         ensures lost { OnOk result ((up : Node T) → parent_of self.old node ≡ Some up →
             (value_of self.new up ≡ value_of self.old up) × (family_of self.new up ≡ record {
               parent = parent_of self.old up;
@@ -815,7 +815,7 @@ impl<T, S: Storage<T>> SceneTree<T, S> {
         ensures gone { OnOk result ((n : Node T) → IsBelow self.old node n →
             value_of self.new n ≡ None) }
         ensures count { OnOk result ((list : List (Node T)) × IsSubtree self.old node list
-            × (count_of self.new + length list ≡ count_of self.old)) }
+            × (live_count self.new + length list ≡ live_count self.old)) }
         ensures lost { OnOk result ((up : Node T) → parent_of self.old node ≡ Some up →
             (value_of self.new up ≡ value_of self.old up) × (family_of self.new up ≡ record {
               parent = parent_of self.old up;
@@ -852,19 +852,19 @@ fn make<T, S: Storage<T>>(
     value: T,
     here: Location,
 ) -> Result<Node<T>, Refusal<T>>
-    requires kept { IsKept (S.state store.old) (families links.old.items) }
-    requires linked { IsLinked links.old.items }
+    requires kept { IsTreeKept (S.state store.old) (families links.old.items) }
+    requires linked { AreChildrenLinked links.old.items }
     requires number { links.old.number ≡ (S.state store.old).number }
     ensures made { IfOk result (λ n. HasMade (S.state store.old) value here n (S.state store.new)) }
     ensures number { links.new.number ≡ links.old.number }
-    ensures linked { IsLinked links.new.items }
+    ensures linked { AreChildrenLinked links.new.items }
     ensures opened { IfOk result (λ n.
         IsOpened (families links.old.items) (slot_in n) (families links.new.items)) }
     ensures longer { length links.old.items ≤ length links.new.items }
     ensures noted { IfOk result (λ n. noted links.new.items (slot_in n) ≡ Some n) }
     ensures others { IfOk result (λ n. (s : ℕ) → s ≢ slot_in n →
         noted links.new.items s ≡ noted links.old.items s) }
-    ensures here { IfOk result (λ n. Tells (told_at links.old.number (told_in sites.new) n) here) }
+    ensures here { IfOk result (λ n. TellsLocation (told_at links.old.number (told_in sites.new) n) here) }
     ensures tells { (n : Node T) (l : Location) →
         told_at links.old.number (told_in sites.old) n ≡ Some l →
         told_at links.old.number (told_in sites.new) n ≡ Some l }
@@ -907,7 +907,7 @@ fn take_first<T, S: Storage<T>>(store: &mut S, nodes: &Vec<Node<T>>) -> T
     requires once { (n : Node T) → times n nodes.now.items ≤ 1 }
     ensures value { (n : Node T) → slice_get nodes.now.items 0 ≡ Some n →
         value_in (S.state store.old) (pointer_in n) ≡ Some result }
-    ensures lost { HasLost (S.state store.old) nodes.now.items (S.state store.new) }
+    ensures lost { HasLostNodes (S.state store.old) nodes.now.items (S.state store.new) }
 {
     let value = take_value(store, nodes[0]);
     let mut next = 1;
@@ -923,7 +923,7 @@ fn take_value<T, S: Storage<T>>(store: &mut S, node: Node<T>) -> T
     requires simple { IsSimple (S.state store.old) }
     requires live { IsLiveIn (S.state store.old) node }
     ensures value { value_in (S.state store.old) (pointer_in node) ≡ Some result }
-    ensures lost { HasLost (S.state store.old) (node ∷ []) (S.state store.new) }
+    ensures lost { HasLostNodes (S.state store.old) (node ∷ []) (S.state store.new) }
 {
     match store.take_value(pointer_to(node)) {
         Some(value) => value,
@@ -937,7 +937,7 @@ fn end_all<T, S: Storage<T>>(store: &mut S, nodes: &Vec<Node<T>>)
     requires live { (i : ℕ) (n : Node T) → slice_get nodes.now.items i ≡ Some n →
         IsLiveIn (S.state store.old) n }
     requires once { (n : Node T) → times n nodes.now.items ≤ 1 }
-    ensures { HasLost (S.state store.old) nodes.now.items (S.state store.new) }
+    ensures { HasLostNodes (S.state store.old) nodes.now.items (S.state store.new) }
 {
     for node in nodes {
         end(store, *node);
@@ -948,7 +948,7 @@ fn end_all<T, S: Storage<T>>(store: &mut S, nodes: &Vec<Node<T>>)
 fn end<T, S: Storage<T>>(store: &mut S, node: Node<T>)
     requires simple { IsSimple (S.state store.old) }
     requires live { IsLiveIn (S.state store.old) node }
-    ensures { HasLost (S.state store.old) (node ∷ []) (S.state store.new) }
+    ensures { HasLostNodes (S.state store.old) (node ∷ []) (S.state store.new) }
 {
     match store.recycle(pointer_to(node)) {
         Ok(()) => {}

@@ -3,8 +3,8 @@
 ghost use Rattle.std.specs.Prelude.{◌≡◌, ◌<◌, ◌∷◌, [], length, Option, ℕ};
 ghost use Rattle.handles.specs.Handles.{slot_in};
 ghost use Rattle.std.specs.Iterator.{YieldsFirst, item_count};
-ghost use Rattle.scene_tree.specs.Families.{IsForest, IsLinked, families};
-ghost use Rattle.scene_tree.specs.Walking.{IsRest, IsWithin, way_up};
+ghost use Rattle.scene_tree.specs.Families.{IsForest, AreChildrenLinked, families};
+ghost use Rattle.scene_tree.specs.Walking.{IsRest, IsNodeWithin, way_up};
 ghost use Rattle.scene_tree.specs.Chains.{chain};
 ghost use Rattle.scene_tree.specs.Rows.{IsRow, rows, waiting};
 
@@ -28,7 +28,7 @@ impl<'a, T> Model for Ancestors<'a, T> {
     ghost use Rattle.std.specs.Prelude.{List, length};
     ghost use Rattle.scene_tree.specs.Nodes.{Node};
     ghost use Rattle.scene_tree.specs.Families.{IsForest, families};
-    ghost use Rattle.scene_tree.specs.Walking.{IsWithin, way_up};
+    ghost use Rattle.scene_tree.specs.Walking.{IsNodeWithin, way_up};
 
     ghost Value = { List (Node T) };
 
@@ -36,13 +36,13 @@ impl<'a, T> Model for Ancestors<'a, T> {
         (length (families it.links.now.items)) it.next };
 
     ghost invariant = { λ it. IsForest (families it.links.now.items)
-        × IsWithin (families it.links.now.items) it.next };
+        × IsNodeWithin (families it.links.now.items) it.next };
 }
 
 impl<'a, T> Ancestors<'a, T> {
     pub(crate) fn new(links: &'a Links<T>, next: Option<Node<T>>) -> Self
         requires forest { IsForest (families links.now.items) }
-        requires within { IsWithin (families links.now.items) next }
+        requires within { IsNodeWithin (families links.now.items) next }
         ensures { result ≡ way_up (families links.now.items)
             (length (families links.now.items)) next }
     {
@@ -127,7 +127,7 @@ pub struct Outline<'a, T> {
 impl<'a, T> Model for Outline<'a, T> {
     ghost use Rattle.std.specs.Prelude.{List, ℕ};
     ghost use Rattle.scene_tree.specs.Nodes.{Node};
-    ghost use Rattle.scene_tree.specs.Families.{IsForest, IsLinked, families};
+    ghost use Rattle.scene_tree.specs.Families.{IsForest, AreChildrenLinked, families};
     ghost use Rattle.scene_tree.specs.Rows.{IsRow, rows, waiting};
 
     ghost Value = { List (ℕ × Node T) };
@@ -135,14 +135,14 @@ impl<'a, T> Model for Outline<'a, T> {
     ghost view = { λ it. rows (families it.links.now.items) it.left
         (waiting it.links.now.items it.next) };
 
-    ghost invariant = { λ it. IsLinked it.links.now.items
+    ghost invariant = { λ it. AreChildrenLinked it.links.now.items
         × IsForest (families it.links.now.items)
         × IsRow it.links.now.items it.next };
 }
 
 impl<'a, T> Outline<'a, T> {
     pub(crate) fn new(links: &'a Links<T>, node: Node<T>, limit: usize) -> Self
-        requires linked { IsLinked links.now.items }
+        requires linked { AreChildrenLinked links.now.items }
         requires forest { IsForest (families links.now.items) }
         requires within { slot_in node < length links.now.items }
         ensures { result ≡ rows (families links.now.items) limit ((0, node) ∷ []) }

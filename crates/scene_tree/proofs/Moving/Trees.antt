@@ -43,7 +43,7 @@ both_each P [] ys each more i x at = more i x at
 both_each P (z ∷ xs) ys each more zero x at = each 0 x at
 both_each P (z ∷ xs) ys each more (suc i) x at = both_each P xs ys (λ j. each (suc j)) more i x at
 
-flat_each : {X Y : Type 0} (P : Y → Type 0) (f : X → List Y) → ((x : X) → Each P (f x))
+pub flat_each : {X Y : Type 0} (P : Y → Type 0) (f : X → List Y) → ((x : X) → Each P (f x))
     → (xs : List X) → Each P (flat_map f xs)
 flat_each P f each [] i y at = grind arith
 flat_each P f each (x ∷ xs) i y at =
@@ -58,7 +58,7 @@ module _ {T : Type 0} where
   abbrev pub AreLive : State T → List (Node T) → Type 0
   AreLive S list = Each (IsLiveIn S) list
 
-  module _ {S : State T} {fs : List (Family T)} (sound : IsSound S) (k : IsKept S fs) where
+  module _ {S : State T} {fs : List (Family T)} (sound : IsSound S) (k : IsTreeKept S fs) where
     pub times_live : (n : Node T) → IsLiveIn S n → (list : List (Node T)) → AreLive S list
         → times n list ≡ count_at (slot_in n) list
     times_live n live list lives = search (arith, times_at, same_id, one_live)
@@ -72,7 +72,7 @@ module _ {T : Type 0} where
     list_live top live list level = rw level (both_each (IsLiveIn S) (top ∷ []) _ (λ i c at. grind arith)
         (flat_each (IsLiveIn S) (λ n. children_at fs (slot_in n)) (λ n. k.children (slot_in n)) list))
 
-  module _ {S : State T} {fs : List (Family T)} (sound : IsSound S) (k : IsKept S fs) (sites : List Location) where
+  module _ {S : State T} {fs : List (Family T)} (sound : IsSound S) (k : IsTreeKept S fs) (sites : List Location) where
     abbrev tree : TreeState T
     tree = record { state = S; families = fs; sites = sites }
 
@@ -162,7 +162,7 @@ module _ {T : Type 0} where
 
   -- what an opening of a node's slot leaves
   pub record HasOpened (links : List (Link T)) (node : Node T) (new : List (Link T)) : Type 0 where
-    pub linked : IsLinked new
+    pub linked : AreChildrenLinked new
     pub opened : IsOpened (families links) (slot_in node) (families new)
     pub longer : length links ≤ length new
     pub others : (s : ℕ) → s ≢ slot_in node → noted new s ≡ noted links s
@@ -179,7 +179,7 @@ module _ {T : Type 0} where
   noted_before [] l s ne = grind arith
   noted_before (x ∷ links) l s ne = grind (arith, noted_before links)
 
-  pub opened_last : (links : List (Link T)) → IsLinked links → (node : Node T) (l : Link T)
+  pub opened_last : (links : List (Link T)) → AreChildrenLinked links → (node : Node T) (l : Link T)
       → l.node ≡ node → l.parent ≡ None → l.first ≡ None → l.last ≡ None
       → slot_in node ≡ length links → HasOpened links node (links ++ l ∷ [])
   opened_last links linked node l of root first last at = record {
@@ -195,7 +195,7 @@ module _ {T : Type 0} where
   abbrev renoted : List (Link T) → Node T → List (Link T)
   renoted links node = changed links (slot_in node) (λ l. record l { node = node })
 
-  pub opened_old : (links : List (Link T)) → IsLinked links → IsForest (families links)
+  pub opened_old : (links : List (Link T)) → AreChildrenLinked links → IsForest (families links)
       → (node : Node T) → above (families links) (slot_in node) ≡ None → slot_in node < length links
       → HasOpened links node (renoted links node)
   opened_old links linked f node root lt = record {
@@ -221,34 +221,34 @@ module _ {T : Type 0} where
 
   -- ---- the live nodes
 
-  pub none_noted : (S : State T) → ((n : Node T) → IsLiveIn S n → ⊥) → AreNoted S []
+  pub none_noted : (S : State T) → ((n : Node T) → IsLiveIn S n → ⊥) → AreNodesNoted S []
   none_noted S none = grind arith
 
-  module _ {S R : State T} {old new : List (Link T)} (k : AreNoted S old) where
+  module _ {S R : State T} {old new : List (Link T)} (k : AreNodesNoted S old) where
     -- if the same nodes are recorded, and none is live that wasn't
     pub noted_left : ((s : ℕ) → noted new s ≡ noted old s) → ((n : Node T) → IsLiveIn R n → IsLiveIn S n)
-        → AreNoted R new
+        → AreNodesNoted R new
     noted_left same lives = grind arith
 
     -- if one is recorded at its slot, and each live one is this, or was live, and has another slot
     pub noted_put : (child : Node T) → noted new (slot_in child) ≡ Some child
         → ((s : ℕ) → s ≢ slot_in child → noted new s ≡ noted old s)
         → ((n : Node T) → IsLiveIn R n → slot_in n ≡ slot_in child → IsSame child n)
-        → ((n : Node T) → IsLiveIn R n → slot_in n ≢ slot_in child → IsLiveIn S n) → AreNoted R new
+        → ((n : Node T) → IsLiveIn R n → slot_in n ≢ slot_in child → IsLiveIn S n) → AreNodesNoted R new
     noted_put child here others one before = grind arith
 
     -- after a making
     pub noted_made : IsSound S → IsSound R → IsSimple R → (v : T) (l : Location) (child : Node T)
         → HasMade S v l child R → IsLiveIn R child → noted new (slot_in child) ≡ Some child
-        → ((s : ℕ) → s ≢ slot_in child → noted new s ≡ noted old s) → AreNoted R new
+        → ((s : ℕ) → s ≢ slot_in child → noted new s ≡ noted old s) → AreNodesNoted R new
     noted_made s sound simple v l child m lives here others = noted_put child here others
         (λ n now same. one_live R child n sound simple lives now (sym same))
         (λ n now ne. sym (ap is_some (same_value S R (Make None v l) (Made m.0) s m.1 (pointer_in n) tt
         (λ is. ne (sym (ap (λ q. q.slot) is) ∙ sym (ap (λ i. i.slot) m.2))))) ∙ now)
 
     -- and after nodes are removed
-    pub noted_lost : {list : List (Node T)} → HasLost S list R → ((s : ℕ) → noted new s ≡ noted old s)
-        → AreNoted R new
+    pub noted_lost : {list : List (Node T)} → HasLostNodes S list R → ((s : ℕ) → noted new s ≡ noted old s)
+        → AreNodesNoted R new
     noted_lost {list} lost same = grind arith
 
 -- ==== rows of an outline: what follows each, and that they are those of the tree
@@ -266,7 +266,7 @@ module _ {T : Type 0} where
       (c ∷ rest.0, rest.1, rest.2, ap (λ xs. c ∷ xs) rest.3, rest.4))
       (cases_eq (slot_in c) s)
 
-  module _ (links : List (Link T)) (linked : IsLinked links) (f : IsForest (families links)) where
+  module _ (links : List (Link T)) (linked : AreChildrenLinked links) (f : IsForest (families links)) where
     abbrev fs : List (Family T)
     fs = families links
 
@@ -370,17 +370,17 @@ under_has fs top d s lt under = grind arith
 
 module _ {T : Type 0} (links : List (Link T)) where
   -- no row is deeper than there are links
-  pub placed_short : IsForest (families links) → (d s : ℕ) → IsPlaced links d s → d < length links
+  pub placed_short : IsForest (families links) → (d s : ℕ) → IsRowPlaced links d s → d < length links
   placed_short f d s placed =
       let r = f.rooted placed.0 in
       let far = rooted_under (families links) placed.0 r.0 d s placed.1 r.1 in
       grind (arith, length-map, depth_within (families links) f far.0 s far.2)
 
-  module _ (linked : IsLinked links) (f : IsForest (families links)) where
+  module _ (linked : AreChildrenLinked links) (f : IsForest (families links)) where
     -- both cases of a row behind, as the links are read
-    pub sibling_row : (d s : ℕ) → IsPlaced links d s → 0 < d → (l : Link T) → slice_get links s ≡ Some l
+    pub sibling_row : (d s : ℕ) → IsRowPlaced links d s → 0 < d → (l : Link T) → slice_get links s ≡ Some l
         → (at : ℕ) → l.after ≡ Some at → (m : Link T) → slice_get links at ≡ Some m
-        → (waiting links (Some (d, m.node)) ≡ behind links d (Some s)) × IsPlaced links d (slot_in m.node)
+        → (waiting links (Some (d, m.node)) ≡ behind links d (Some s)) × IsRowPlaced links d (slot_in m.node)
     sibling_row zero s placed lt l here at next m there = absurd (omega arith)
     sibling_row (suc d) s placed lt l here at next m there =
         let up = placed.1.0 in
@@ -390,15 +390,15 @@ module _ {T : Type 0} (links : List (Link T)) where
         (row.0, (placed.0, (up, row.1, placed.1.2), row.2))
 
     -- the sibling of a link has one
-    pub sibling_within : (d s : ℕ) → IsPlaced links d s → 0 < d → (l : Link T) → slice_get links s ≡ Some l
+    pub sibling_within : (d s : ℕ) → IsRowPlaced links d s → 0 < d → (l : Link T) → slice_get links s ≡ Some l
         → (at : ℕ) → l.after ≡ Some at → at < length links
     sibling_within zero s placed lt l here at next = absurd (omega arith)
     sibling_within (suc d) s placed lt l here at next =
         after_within links linked f s placed.1.0 at placed.1.1 (ap (λ o. after_tied (tie_of o)) here ∙ next)
 
-    pub behind_up : (d s : ℕ) → IsPlaced links d s → 0 < d → (l : Link T) → slice_get links s ≡ Some l
+    pub behind_up : (d s : ℕ) → IsRowPlaced links d s → 0 < d → (l : Link T) → slice_get links s ≡ Some l
         → l.after ≡ None → (up : ℕ) → above (families links) s ≡ Some up
-        → IsPlaced links (d - 1) up × (behind links (d - 1) (Some up) ≡ behind links d (Some s))
+        → IsRowPlaced links (d - 1) up × (behind links (d - 1) (Some up) ≡ behind links d (Some s))
     behind_up zero s placed lt l read none up is = grind arith
     behind_up (suc d) s placed lt l read none up is =
         grind (arith, length-map, above_within, no_sibling)
@@ -422,7 +422,7 @@ module _ {T : Type 0} (fs : List (Family T)) where
   rows_end left = grind arith
 
 -- rows of live nodes are those of told_tree
-module _ {T : Type 0} {S : State T} {fs : List (Family T)} (sound : IsSound S) (k : IsKept S fs)
+module _ {T : Type 0} {S : State T} {fs : List (Family T)} (sound : IsSound S) (k : IsTreeKept S fs)
     (sites : List Location) where
   abbrev told_tree : TreeState T
   told_tree = record { state = S; families = fs; sites = sites }

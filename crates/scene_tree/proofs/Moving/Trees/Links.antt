@@ -102,7 +102,7 @@ module _ {T : Type 0} where
     beside_first : (s : ℕ) → s ≢ up → first_of (slice_get beside s) ≡ first_of (slice_get links s)
     beside_first s ne = grind (arith, changed_get)
 
-    beside_last : (s : ℕ) → s ≢ up → last_of (slice_get beside s) ≡ last_of (slice_get links s)
+    beside_last : (s : ℕ) → s ≢ up → last_link_of (slice_get beside s) ≡ last_link_of (slice_get links s)
     beside_last s ne = grind (arith, changed_get)
 
     -- an end is set if there is no neighbour
@@ -114,7 +114,7 @@ module _ {T : Type 0} where
       first_put : first_of (slice_get beside up) ≡ unless at next (first_of (slice_get links up))
       first_put = grind (arith, changed_get)
 
-      last_put : last_of (slice_get beside up) ≡ unless by previous (last_of (slice_get links up))
+      last_put : last_link_of (slice_get beside up) ≡ unless by previous (last_link_of (slice_get links up))
       last_put = grind (arith, changed_get)
 
     module _ (s : ℕ) (n : Node T) (b a : Option ℕ)
@@ -201,7 +201,7 @@ module _ {T : Type 0} where
 
   pub held_kept : (old new : List (Link T)) (slot : ℕ) (xs : List (Node T)) → HasTies old new xs
       → first_of (slice_get new slot) ≡ first_of (slice_get old slot)
-      → last_of (slice_get new slot) ≡ last_of (slice_get old slot)
+      → last_link_of (slice_get new slot) ≡ last_link_of (slice_get old slot)
       → IsHeld old slot xs → IsHeld new slot xs
   held_kept old new slot xs same first last held = grind (arith, chain_kept old new None None xs same held.chain)
 
@@ -338,17 +338,17 @@ module _ {T : Type 0} where
 
   -- they are linked if they have the same for each slot, or another list of one
   pub linked_like : (old new_links : List (Link T)) → length old ≤ length new_links
-      → ((s : ℕ) → IsHeld new_links s (children_at (families old) s)) → IsLinked new_links
+      → ((s : ℕ) → IsHeld new_links s (children_at (families old) s)) → AreChildrenLinked new_links
   linked_like old new_links le held s = subst (IsHeld new_links s) (sym (children_like old new_links s le (held s))) (held s)
 
   linked_but : (old new_links : List (Link T)) (up : ℕ) (here : List (Node T)) → length old ≤ length new_links
       → IsHeld new_links up here → length here ≤ length new_links
-      → ((s : ℕ) → s ≢ up → IsHeld new_links s (children_at (families old) s)) → IsLinked new_links
+      → ((s : ℕ) → s ≢ up → IsHeld new_links s (children_at (families old) s)) → AreChildrenLinked new_links
   linked_but old new_links up here le held short others s =
       grind (arith, children_held new_links up here held short, children_like, cases_eq s up)
 
   -- they have the same if one link is changed in no end, and in no tie of a listed slot
-  pub changed_held : (links : List (Link T)) → IsLinked links → (slot : ℕ) (f : Link T → Link T)
+  pub changed_held : (links : List (Link T)) → AreChildrenLinked links → (slot : ℕ) (f : Link T → Link T)
       → ((l : Link T) → (f l).first ≡ l.first) → ((l : Link T) → (f l).last ≡ l.last)
       → ((s : ℕ) → (count_at slot (children_at (families links) s) ≡ 0)
       ⊎ ((l : Link T) → tie_of (Some (f l)) ≡ tie_of (Some l)))
@@ -359,7 +359,7 @@ module _ {T : Type 0} where
       (λ is. let all = ap (λ k. count_at k (children_at (families links) s)) is in
       omega (arith, lt, none, all))))
       (λ same. changed_kept tie_of links slot f same i) (off s))
-      (changed_kept first_of links slot f first s) (changed_kept last_of links slot f last s)
+      (changed_kept first_of links slot f first s) (changed_kept last_link_of links slot f last s)
       (linked s)
 
   -- ---- forests
@@ -426,7 +426,7 @@ module _ {T : Type 0} where
 
   -- ---- the slots beside a spot
 
-  module _ (links : List (Link T)) (up : ℕ) (linked : IsLinked links) where
+  module _ (links : List (Link T)) (up : ℕ) (linked : AreChildrenLinked links) where
     abbrev cs : List (Node T)
     cs = children_at (families links) up
 
@@ -496,7 +496,7 @@ module _ {T : Type 0} where
 
   -- ---- another slot
 
-  module _ (links : List (Link T)) (linked : IsLinked links) (l : Link T) (root : l.parent ≡ None)
+  module _ (links : List (Link T)) (linked : AreChildrenLinked links) (l : Link T) (root : l.parent ≡ None)
       (first : l.first ≡ None) (last : l.last ≡ None) where
     abbrev longer : List (Link T)
     longer = links ++ l ∷ []
@@ -510,9 +510,9 @@ module _ {T : Type 0} where
     grown before after (x ∷ xs) is = grind (arith, tied_within, pushed_old, grown (Some (slot_in x)) after xs is.1)
 
     longer_held : (s : ℕ) → IsHeld longer s (children_at (families links) s)
-    longer_held s = grind (arith, pushed_kept first_of l first links s, pushed_kept last_of l last links s, grown)
+    longer_held s = grind (arith, pushed_kept first_of l first links s, pushed_kept last_link_of l last links s, grown)
 
-    pub opened_linked : IsLinked longer
+    pub opened_linked : AreChildrenLinked longer
     opened_linked = linked_like links longer more longer_held
 
     pub opened_is : (slot : ℕ) → slot ≡ length links → IsOpened (families links) slot (families longer)
@@ -525,13 +525,13 @@ module _ {T : Type 0} where
   -- ---- a slot left alone
 
   pub record IsBared (links : List (Link T)) (slot : ℕ) (new_links : List (Link T)) : Type 0 where
-    pub linked : IsLinked new_links
+    pub linked : AreChildrenLinked new_links
     pub long : length new_links ≡ length links
     pub alone : family_at (families new_links) slot ≡ alone
     pub others : (s : ℕ) → s ≢ slot → family_at (families new_links) s ≡ family_at (families links) s
     pub noted : (s : ℕ) → noted new_links s ≡ noted links s
 
-  module _ (links : List (Link T)) (linked : IsLinked links) (slot : ℕ) (lt : slot < length links) where
+  module _ (links : List (Link T)) (linked : AreChildrenLinked links) (slot : ℕ) (lt : slot < length links) where
     abbrev bare : Link T → Link T
     bare l = record l { parent = None; first = None; last = None }
 
@@ -545,7 +545,7 @@ module _ {T : Type 0} where
     bare_there = let l = link_there links slot lt in (l.0, changed_here links slot bare l.0 l.1)
 
     bared_here : IsHeld bared slot []
-    bared_here = record { first = ap first_of bare_there.1; last = ap last_of bare_there.1; chain = tt }
+    bared_here = record { first = ap first_of bare_there.1; last = ap last_link_of bare_there.1; chain = tt }
 
     bared_apart : (s : ℕ) → s ≢ slot → IsHeld bared s (children_at (families links) s)
     bared_apart s ne =
@@ -569,7 +569,7 @@ module _ {T : Type 0} where
   -- what such links have
   pub record IsAnew (links base : List (Link T)) (up : ℕ) (list : List (Node T))
       (new_links : List (Link T)) : Type 0 where
-    pub linked : IsLinked new_links
+    pub linked : AreChildrenLinked new_links
     pub long : length (families new_links) ≡ length (families links)
     pub here : kids new_links up ≡ list
     pub others : (s : ℕ) → s ≢ up → kids new_links s ≡ kids links s
@@ -647,7 +647,7 @@ module _ {T : Type 0} where
   -- what an attaching leaves
   pub record HasChild (links : List (Link T)) (parent : Node T) (at : Spot T) (child : Node T)
       (final : List (Link T)) : Type 0 where
-    pub linked : IsLinked final
+    pub linked : AreChildrenLinked final
     pub attached : IsAttached (families links) parent at child (families final)
     pub others : (s : ℕ) → s ≢ slot_in child → noted final s ≡ noted links s
     pub noted : noted final (slot_in child) ≡ Some child
@@ -656,7 +656,7 @@ module _ {T : Type 0} where
       → (s : ℕ) → 0 < count_at s (c ∷ []) → (s < n) × (count_at s (c ∷ []) + count_at s cs ≡ 1)
   fresh_at n c cs lc none s lt = grind (arith, count_apart, count_here, cases_eq)
 
-  module _ (links : List (Link T)) (linked : IsLinked links) (f : IsForest (families links))
+  module _ (links : List (Link T)) (linked : AreChildrenLinked links) (f : IsForest (families links))
       (parent child : Node T) (at : Spot T) (within : slot_in parent < length links)
       (lc : slot_in child < length links) (root : above (families links) (slot_in child) ≡ None)
       (b a : Option ℕ) (is : IsGap (kids links (slot_in parent)) at (b, a)) where
@@ -709,11 +709,11 @@ module _ {T : Type 0} where
 
   -- what a detaching leaves
   pub record HasNoParent (links : List (Link T)) (n : Node T) (new_links : List (Link T)) : Type 0 where
-    pub linked : IsLinked new_links
+    pub linked : AreChildrenLinked new_links
     pub detached : IsDetached (families links) n (families new_links)
     pub noted : (s : ℕ) → noted new_links s ≡ noted links s
 
-  module _ (links : List (Link T)) (linked : IsLinked links) (f : IsForest (families links))
+  module _ (links : List (Link T)) (linked : AreChildrenLinked links) (f : IsForest (families links))
       (node parent : Node T) (has : parent_at (families links) (slot_in node) ≡ Some parent)
       (alike : (s k : ℕ) (n : Node T) → slice_get (kids links s) k ≡ Some n
       → slot_in n ≡ slot_in node → is_same n node ≡ true) (n : Node T) (b a : Option ℕ)

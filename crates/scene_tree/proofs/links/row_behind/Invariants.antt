@@ -1,9 +1,9 @@
-use Rattle.scene_tree.proofs.{behind, IsPlaced, Some, ◌≡◌}
+use Rattle.scene_tree.proofs.{behind, IsRowPlaced, Some, ◌≡◌}
 use Rattle.scene_tree.proofs.links.row_behind.Given as goal
 
 abbrev pub invariant-loop-steps : goal.invariant-loop-steps
 invariant-loop-steps g l = record {
-  placed : IsPlaced l.links.items l.steps l.at;
+  placed : IsRowPlaced l.links.items l.steps l.at;
   same : behind l.links.items l.steps (Some l.at) ≡ behind l.links.items l.depth (Some l.slot);
 }
 

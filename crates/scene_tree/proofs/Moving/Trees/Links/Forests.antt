@@ -594,7 +594,7 @@ module _ {T : Type 0} where
 module _ {T : Type 0} where
   -- of one node, by a box of its id
   pub lost_one : {S R : State T} → IsSound S → IsSimple S → (a : Node T) (b : GenerationalPointer) → b.id ≡ id_in a
-      → IsLiveIn S a → Meets S (End b) Done R → HasLost S (a ∷ []) R
+      → IsLiveIn S a → Meets S (End b) Done R → HasLostNodes S (a ∷ []) R
   lost_one {S} {R} s k a b own live m = record {
     simple = simple_still s k (End b) Done m tt tt;
     same = same_slots (End b) Done refl m;
@@ -618,7 +618,7 @@ module _ {T : Type 0} where
 
   -- a node that was live, and stands once in the list, is live until its turn comes
   pub still_live : {S R : State T} {nodes items : List (Node T)} {i : ℕ} (d : Node T)
-      → HasLost S (take i nodes) R → items ≡ nodes → i < length items
+      → HasLostNodes S (take i nodes) R → items ≡ nodes → i < length items
       → ((j : ℕ) (n : Node T) → slice_get nodes j ≡ Some n → IsLiveIn S n)
       → ((n : Node T) → times n nodes ≤ 1) → IsLiveIn R (get_or items i d)
   still_live {S} {R} {nodes} {items} {i} d lost same lt live once =

@@ -20,20 +20,20 @@ pub use Rattle.generational_core.specs.declared.boxes.GenerationalBoxId.{Generat
 pub use Rattle.generational_core.specs.{State.State, Cells.Cell.Value}
 unfoldable pub use Rattle.generational_core.specs.{Names.change, Borrowing.reach, Seeing.value_in}
 pub use Rattle.generational_errors.specs.declared.error.Location.{Location}
-use Rattle.generational_sessions.proofs.callers as sessions
-pub use sessions.{fresh_sees, fresh_simple, get_pushed, made_simple, making, others_left}
-pub use sessions.{pushed_old, reach_apart, same_id_sees, seen_cell, seen_store, set_seen}
-pub use sessions.{simple_still, simple_taken, taken_seen}
-pub use Rattle.generational_sessions.specs.PlainStores.{IsSimple}
+use Rattle.generational_laws.proofs.callers as laws
+pub use laws.{fresh_sees, fresh_simple, get_pushed, made_simple, making, others_left}
+pub use laws.{pushed_old, reach_apart, same_id_sees, seen_cell, seen_store, set_seen}
+pub use laws.{simple_still, simple_taken, taken_seen}
+pub use Rattle.generational_laws.specs.PlainStores.{IsSimple}
 pub use Rattle.scene_tree.specs.Chains.{after_put, after_tied, alone_at, before_put, chain, changed, first_of}
-pub use Rattle.scene_tree.specs.Chains.{head_or, IsChain, IsHeld, LinkState, last_of, last_or, node_in, noted}
+pub use Rattle.scene_tree.specs.Chains.{head_or, IsChain, IsHeld, LinkState, last_link_of, last_or, node_in, noted}
 pub use Rattle.scene_tree.specs.Families.{above, alone, children_at, count_at, families, Family}
 pub use Rattle.scene_tree.specs.Families.{family_at, family_in, IsAmong, IsAttached, IsCleared}
-pub use Rattle.scene_tree.specs.Families.{IsCut, IsDetached, IsForest, IsGap, IsInLevels, IsLinked}
+pub use Rattle.scene_tree.specs.Families.{IsCut, IsDetached, IsForest, IsGap, IsInLevels, AreChildrenLinked}
 pub use Rattle.scene_tree.specs.Families.{IsOpened, IsRooted, IsSpotIn, IsUnder, parent_at, slot_of}
-pub use Rattle.scene_tree.specs.Keeping.{AreNoted, HasLost, HasMade, IsKept, IsLiveIn}
+pub use Rattle.scene_tree.specs.Keeping.{AreNodesNoted, HasLostNodes, HasMade, IsTreeKept, IsLiveIn}
 pub use Rattle.handles.proofs.Told.{told_here, told_more}
-pub use Rattle.handles.specs.Sites.{SiteState, Tells, told_at, told_in}
+pub use Rattle.handles.specs.Sites.{SiteState, TellsLocation, told_at, told_in}
 pub use Rattle.location_list.specs.Locations.{IsAt}
 pub use Rattle.std.specs.Cmp.{nat_eq_equiv}
 pub use Rattle.handles.specs.Handles.{at_slot, id_in, is_same, IsOther, IsSame, pointer_in, slot_in}
@@ -41,12 +41,12 @@ pub use Rattle.scene_tree.specs.Nodes.{Node, number_in, times}
 pub use Rattle.scene_tree.specs.Packing.{parent_in, slot_named, unpacked, unpacked_from}
 pub use Rattle.scene_tree.specs.declared.node.NodeKind.{NodeKind}
 pub use Rattle.scene_tree.specs.declared.packed.PackedLink.{PackedLink}
-pub use Rattle.scene_tree.specs.Rows.{behind, IsPlaced, rows_at, waiting}
-pub use Rattle.scene_tree.specs.Trees.{AreAll, AreAncestors, AreRoots, CanMove, children_of, count_of}
-pub use Rattle.scene_tree.specs.Trees.{created_at, KeepsTelling, stale_of}
+pub use Rattle.scene_tree.specs.Rows.{behind, IsRowPlaced, rows_at, waiting}
+pub use Rattle.scene_tree.specs.Trees.{AreAll, AreAncestors, AreRoots, CanMove, children_of, live_count}
+pub use Rattle.scene_tree.specs.Trees.{created_at, KeepsNodeLocations, stale_of}
 pub use Rattle.scene_tree.specs.Trees.{family_of, is_live, IsBelow, IsRootedIn, IsStepsBelow}
 pub use Rattle.scene_tree.specs.Trees.{IsSubtree, IsTree, NodeIsUnchanged, parent_for, parent_of}
-pub use Rattle.scene_tree.specs.Walking.{IsRest, IsWithin, way_up}
+pub use Rattle.scene_tree.specs.Walking.{IsRest, IsNodeWithin, way_up}
 pub use Rattle.scene_tree.specs.{Meeting.is_met, declared.links.Link.Link, Meeting.met, Spots.named}
 pub use Rattle.scene_tree.specs.{Spots.placed, declared.spot.Spot.Spot}
 pub use Rattle.scene_tree.specs.{Chains.tie_of, Trees.TreeState, Trees.value_of, Nodes.without}
