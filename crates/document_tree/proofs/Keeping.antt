@@ -6,34 +6,34 @@ unfoldable pub use Common.*
 
 -- what has one property has another, and none else has
 pub counted_alike : {X : Type 0} (n : ℕ) (P Q : X → Type 0) → ((x : X) → P x → Q x) → ((x : X) → Q x → P x)
-    → IsCounted n P → IsCounted n Q
+    → AreExactly n P → AreExactly n Q
 counted_alike zero P Q to back none = λ x is. none x (back x is)
 counted_alike (suc n) P Q to back k = (
   k.0,
   to k.0 k.1,
-  counted_alike n (without P k.0) (without Q k.0) (λ x h. (to x h.0, h.1))
+  counted_alike n (without_one P k.0) (without_one Q k.0) (λ x h. (to x h.0, h.1))
       (λ x h. (back x h.0, h.1)) k.2,
 )
 
 module _ {X : Type 0} (same : (x y : X) → (x ≡ y) ⊎ (x ≢ y)) where
   -- without one of them there is one less
-  pub counted_less : (n : ℕ) (P : X → Type 0) (x : X) → P x → IsCounted n P
-      → (m : ℕ) × (n ≡ suc m) × IsCounted m (without P x)
+  pub counted_less : (n : ℕ) (P : X → Type 0) (x : X) → P x → AreExactly n P
+      → (m : ℕ) × (n ≡ suc m) × AreExactly m (without_one P x)
   counted_less zero P x is none = absurd (none x is)
   counted_less (suc n) P x is k = ⊎_elim
       (λ one. (
         n,
         refl,
-        counted_alike n (without P k.0) (without P x) (λ y h. (h.0, λ e. h.1 (e ∙ sym one)))
+        counted_alike n (without_one P k.0) (without_one P x) (λ y h. (h.0, λ e. h.1 (e ∙ sym one)))
             (λ y h. (h.0, λ e. h.1 (e ∙ one))) k.2,
       ))
-      (λ two. let it = counted_less n (without P k.0) x (is, λ e. two (sym e)) k.2 in (
+      (λ two. let it = counted_less n (without_one P k.0) x (is, λ e. two (sym e)) k.2 in (
         suc it.0,
         ap suc it.1,
         (
           k.0,
           (k.1, two),
-          counted_alike it.0 (without (without P k.0) x) (without (without P x) k.0)
+          counted_alike it.0 (without_one (without_one P k.0) x) (without_one (without_one P x) k.0)
               (λ y h. ((h.0.0, h.1), h.0.1)) (λ y h. ((h.0.0, h.1), h.0.1)) it.2,
         ),
       ))
@@ -41,44 +41,44 @@ module _ {X : Type 0} (same : (x y : X) → (x ≡ y) ⊎ (x ≢ y)) where
 
   -- with one more
   pub counted_more : (n : ℕ) (P Q : X → Type 0) (x : X) → Q x → (P x → ⊥) → ((y : X) → P y → Q y)
-      → ((y : X) → y ≢ x → Q y → P y) → IsCounted n P → IsCounted (suc n) Q
+      → ((y : X) → y ≢ x → Q y → P y) → AreExactly n P → AreExactly (suc n) Q
   counted_more n P Q x is free to back k =
-      (x, is, counted_alike n P (without Q x) (λ y h. (to y h, λ e. free (subst P e h))) (λ y h. back y h.1 h.0) k)
+      (x, is, counted_alike n P (without_one Q x) (λ y h. (to y h, λ e. free (subst P e h))) (λ y h. back y h.1 h.0) k)
 
   -- a single one is alone
-  pub counted_one : (P : X → Type 0) (x y : X) → P x → P y → IsCounted 1 P → x ≡ y
+  pub counted_one : (P : X → Type 0) (x y : X) → P x → P y → AreExactly 1 P → x ≡ y
   counted_one P x y is has k =
       let it = counted_less 1 P x is k in
       let few : it.0 ≡ 0 = omega (arith, it.1) in
-      let none = subst (λ m. IsCounted m (without P x)) few it.2 in
+      let none = subst (λ m. AreExactly m (without_one P x)) few it.2 in
       ⊎_elim (λ one. sym one) (λ two. absurd (none y (has, two))) (same y x)
 
-  pub counted_alone : (n : ℕ) (P : X → Type 0) (x : X) → P x → ((y : X) → y ≢ x → P y → ⊥) → IsCounted n P
+  pub counted_alone : (n : ℕ) (P : X → Type 0) (x : X) → P x → ((y : X) → y ≢ x → P y → ⊥) → AreExactly n P
       → n ≡ 1
   counted_alone n P x is alone k = let it = counted_less n P x is k in it.1 ∙ ap suc (nothing it.0 it.2)
     where
-      nothing : (m : ℕ) → IsCounted m (without P x) → m ≡ 0
+      nothing : (m : ℕ) → AreExactly m (without_one P x) → m ≡ 0
       nothing zero none = refl
       nothing (suc m) some = absurd (alone some.0 some.1.1 some.1.0)
 
   -- there are no more of them than slots, if each has one of its own
   module _ (slot : X → ℕ) where
-    found : (n : ℕ) (P : X → Type 0) (s : ℕ) → IsCounted n P
+    found : (n : ℕ) (P : X → Type 0) (s : ℕ) → AreExactly n P
         → ((x : X) × P x × (slot x ≡ s)) ⊎ ((x : X) → P x → slot x ≢ s)
     found zero P s none = inr (λ x is. absurd (none x is))
     found (suc n) P s k = ⊎_elim (λ at. inl (k.0, k.1, at))
         (λ off. ⊎_elim (λ it. inl (it.0, it.1.0, it.2))
         (λ off_all. inr (λ x is at. ⊎_elim (λ one. off (ap slot (sym one) ∙ at)) (λ two. off_all x (is, two) at) (same x k.0)))
-        (found n (without P k.0) s k.2))
+        (found n (without_one P k.0) s k.2))
         (key_cases by_number (slot k.0) s)
 
     pub counted_within : (m n : ℕ) (P : X → Type 0) → ((x : X) → P x → slot x < m)
-        → ((x y : X) → P x → P y → slot x ≡ slot y → x ≡ y) → IsCounted n P → n ≤ m
+        → ((x y : X) → P x → P y → slot x ≡ slot y → x ≡ y) → AreExactly n P → n ≤ m
     counted_within m zero P below one k = omega arith
     counted_within zero (suc n) P below one k = absurd (omega (arith, below k.0 k.1))
     counted_within (suc m) (suc n) P below one k = ⊎_elim
         (λ it. let less = counted_less (suc n) P it.0 it.1 k in
-        let fits = counted_within m less.0 (without P it.0)
+        let fits = counted_within m less.0 (without_one P it.0)
         (λ y h. let lt = below y h.0 in
         let apart : slot y ≢ m = λ at. h.1 (one y it.0 h.0 it.1 (at ∙ sym it.2)) in omega (arith, lt, apart))
         (λ y z h i at. one y z h.0 i.0 at) less.2 in omega (arith, fits, less.1))
@@ -111,24 +111,24 @@ module _ {S R : State ℕ} {x : GenerationalBoxId} {old new : Option ℕ} (m : M
   leads : (y : GenerationalBoxId) → y ≡ x → Leads R key y → new ≡ Some key
   leads y one is = sym m.is ∙ subst (Leads R key) one is
 
-  pub counted_still : (n : ℕ) → old ≢ Some key → new ≢ Some key → IsCounted n (Leads S key)
-      → IsCounted n (Leads R key)
+  pub counted_still : (n : ℕ) → old ≢ Some key → new ≢ Some key → AreExactly n (Leads S key)
+      → AreExactly n (Leads R key)
   counted_still n unled none = counted_alike n (Leads S key) (Leads R key)
       (λ y is. ⊎_elim (λ one. absurd (unled (led y one is))) (λ two. after y two is) (one_or_two y x))
       (λ y is. ⊎_elim (λ one. absurd (none (leads y one is))) (λ two. before y two is) (one_or_two y x))
 
-  pub counted_gain : (n : ℕ) → old ≢ Some key → new ≡ Some key → IsCounted n (Leads S key)
-      → IsCounted (suc n) (Leads R key)
+  pub counted_gain : (n : ℕ) → old ≢ Some key → new ≡ Some key → AreExactly n (Leads S key)
+      → AreExactly (suc n) (Leads R key)
   counted_gain n unled some = counted_more one_or_two n (Leads S key) (Leads R key) x (m.is ∙ some)
       (λ is. unled (sym m.was ∙ is))
       (λ y is. ⊎_elim (λ one. absurd (unled (led y one is))) (λ two. after y two is) (one_or_two y x)) before
 
-  pub counted_loss : (n : ℕ) → old ≡ Some key → new ≢ Some key → IsCounted n (Leads S key)
-      → IsCounted (n - 1) (Leads R key)
+  pub counted_loss : (n : ℕ) → old ≡ Some key → new ≢ Some key → AreExactly n (Leads S key)
+      → AreExactly (n - 1) (Leads R key)
   counted_loss n some none k =
       let it = counted_less one_or_two n (Leads S key) x (m.was ∙ some) k in
       let less : it.0 ≡ n - 1 = omega (arith, it.1) in
-      subst (λ l. IsCounted l (Leads R key)) less (counted_alike it.0 (without (Leads S key) x) (Leads R key)
+      subst (λ l. AreExactly l (Leads R key)) less (counted_alike it.0 (without_one (Leads S key) x) (Leads R key)
       (λ y h. after y h.1 h.0)
       (λ y is. ⊎_elim (λ one. absurd (none (leads y one is))) (λ two. (before y two is, two)) (one_or_two y x)) it.2)
 
@@ -198,8 +198,8 @@ shallow_after p places more waiting rest left children is waits goes all =
     (All-map (λ q. q.0 ≤ length more) (λ q. (p.0 + 1, q)) children (λ k d lt. let le = both.1 in omega arith)))
 
 module _ {T : Type 0} (D : DocumentState T) where
-  pub reading : IsReading (children_in D) (outline_of D)
-  unfolding outline_of
+  pub reading : IsReading (children_in D) (outline_places D)
+  unfolding outline_places
   reading = grind arith
 
   -- the children of a place with its depth, each one step deeper
@@ -212,16 +212,16 @@ module _ {T : Type 0} (D : DocumentState T) where
 
   -- the places of an outline with depths are those of the outline
   pub deep_places : (limit : ℕ) (waiting : List (ℕ × Place))
-      → map (λ p. p.1) (deep_outline_of D limit waiting) ≡ outline_of D limit (map (λ p. p.1) waiting)
-  unfolding outline_of deep_outline_of
+      → map (λ p. p.1) (deep_outline_of D limit waiting) ≡ outline_places D limit (map (λ p. p.1) waiting)
+  unfolding outline_places deep_outline_of
   deep_places (suc limit) (p ∷ waiting) = rw (deep_places limit (deeper p ++ waiting))
       (simp (map-append, map-map, map-id))
   deep_places limit waiting = refl
 
   -- ---- what an outline has
 
-  pub outline_within : (limit : ℕ) (waiting : List Place) → length (outline_of D limit waiting) ≤ limit
-  unfolding outline_of
+  pub outline_within : (limit : ℕ) (waiting : List Place) → length (outline_places D limit waiting) ≤ limit
+  unfolding outline_places
   outline_within (suc limit) (p ∷ waiting) = omega (arith, outline_within limit (children_in D p ++ waiting))
   outline_within limit waiting = omega arith
 
@@ -232,19 +232,19 @@ module _ {T : Type 0} (D : DocumentState T) where
       rw (add-one p.0) (p.1, below, All-contains_itself (children_in D p.1) k d lt))) limit ((0, top) ∷ [])
       (All-cons (λ q. IsBelowBy D q.0 top q.1) (0, top) [] refl (All-nil _))
 
-  pub outline_below : (limit : ℕ) (top : Place) → All (IsBelow D top) (outline_of D limit (top ∷ []))
-  outline_below limit top = all_of reading (IsBelow D top)
+  pub outline_below : (limit : ℕ) (top : Place) → All (IsBelowPlace D top) (outline_places D limit (top ∷ []))
+  outline_below limit top = all_of reading (IsBelowPlace D top)
       (λ p below k d lt. (suc below.0, (p, below.1, All-contains_itself (children_in D p) k d lt))) limit (top ∷ [])
-      (All-cons (IsBelow D top) top [] (0, refl) (All-nil (IsBelow D top)))
+      (All-cons (IsBelowPlace D top) top [] (0, refl) (All-nil (IsBelowPlace D top)))
 
 -- ==== a document's parts after each of its calls
 
 -- the pointer of an id
-abbrev at_id : GenerationalBoxId → GenerationalPointer
+abbrev pub at_id : GenerationalBoxId → GenerationalPointer
 at_id id = record { id = id; created_at = nowhere }
 
 -- a value that is set leaves each other box
-set_others : {S R : State ℕ} → IsSound S → IsPlain S → (a b : GenerationalPointer) (v old : ℕ)
+set_others : {S R : State ℕ} → IsSound S → HasNoReferences S → (a b : GenerationalPointer) (v old : ℕ)
     → Meets S (SetValue a v) (Old old) R → a.id ≢ b.id → value_in R b ≡ value_in S b
 set_others sound plain a b v old m other =
     let saw = (sets _ _ _ m).0 in
@@ -278,7 +278,7 @@ module _ {S R : State ℕ} (s : IsSound S) where
   ended_moves a p own key was met = subst (λ x. Moves S R x (Some key) None) own
       (ended_moves_at a key (same_id_sees S (at_id a.id) (pointer_in p) own ∙ was) met)
 
-  set_moves_at : IsPlain S → (a : GenerationalPointer) (v old : ℕ) → Meets S (SetValue a v) (Old old) R
+  pub set_moves_at : HasNoReferences S → (a : GenerationalPointer) (v old : ℕ) → Meets S (SetValue a v) (Old old) R
       → Moves S R a.id (Some old) (Some v)
   set_moves_at plain a v old met = record {
     was = same_id_sees S (at_id a.id) a refl ∙ (sets a v old met).0;
@@ -286,7 +286,7 @@ module _ {S R : State ℕ} (s : IsSound S) where
     others = λ y other. set_others s plain a (at_id y) v old met (λ one. other (sym one));
   }
 
-  pub set_moves : IsPlain S → (a : GenerationalPointer) (p : Place) → a.id ≡ id_in p → (key v old : ℕ)
+  pub set_moves : HasNoReferences S → (a : GenerationalPointer) (p : Place) → a.id ≡ id_in p → (key v old : ℕ)
       → value_in S (pointer_in p) ≡ Some key → Meets S (SetValue a v) (Old old) R
       → Moves S R (id_in p) (Some key) (Some v)
   set_moves plain a p own key v old was met =
@@ -302,7 +302,7 @@ still_small {x = x} m small all id key is = ⊎_elim (λ one. rw one small)
 -- no more places refer to a part than there are slots
 pub counted_fits : {S : State ℕ} → IsSound S → IsSimple S
     → ((id : GenerationalBoxId) (key : ℕ) → Leads S key id → id.slot < 4294967295)
-    → (n key : ℕ) → IsCounted n (Leads S key) → n ≤ 4294967295
+    → (n key : ℕ) → AreExactly n (Leads S key) → n ≤ 4294967295
 counted_fits {S} s simple small n key = counted_within one_or_two (λ id. id.slot) 4294967295 n (Leads S key)
     (λ id is. small id key is) (λ x y is has at.
     let one = seen_cell S (at_id x) (ap is_some is) in
@@ -316,7 +316,7 @@ key_or_none x y = grind (arith, key_cases by_number)
 
 -- two that are counted are more than one
 pub more_than_one : (n : ℕ) (P : GenerationalBoxId → Type 0) (x y : GenerationalBoxId) → P x → P y → y ≢ x
-    → IsCounted n P → 1 < n
+    → AreExactly n P → 1 < n
 more_than_one zero P x y is has other none = absurd (none x is)
 more_than_one (suc zero) P x y is has other k = absurd (other (sym (counted_one one_or_two P x y is has k)))
 more_than_one (suc (suc n)) P x y is has other k = omega arith
@@ -338,15 +338,15 @@ module _ {T : Type 0} where
       (λ few. ap places_of (left_none part few) ∙ omega (arith, few)) (cases_lt 1 part.places)
 
   left_told : (sites : List Location) (part : Part T) → part.site < length sites → IsTold sites (left part)
-  left_told sites part lt = ⊎_elim (λ more. subst (IsTold sites) (sym (left_some part more)) lt)
+  left_told sites part lt = ⊎_elim (λ more. subst (IsTold sites) (sym (left_some part more)) (lt, omega (arith, more)))
       (λ few. subst (IsTold sites) (sym (left_none part few)) tt) (cases_lt 1 part.places)
 
   told_more_sites : (sites told : List Location) → length sites ≤ length told → (row : Option (Part T))
       → IsTold sites row → IsTold told row
   told_more_sites sites told more None is = tt
-  told_more_sites sites told more (Some part) lt = omega (arith, lt, more)
+  told_more_sites sites told more (Some part) lt = (omega (arith, lt.0, more), lt.1)
 
-  pub fresh_kept : (number start next : ℕ) → IsKept {T = T} (fresh number start next) [] []
+  pub fresh_kept : (number start next : ℕ) → IsDocumentKept {T = T} (fresh number start next) [] []
   fresh_kept number start next = record {
     simple = fresh_simple number start next;
     small = λ id key is. absurd (none-some key (sym (fresh_sees number start next (at_id id)) ∙ is));
@@ -355,86 +355,89 @@ module _ {T : Type 0} where
   }
 
   -- a place refers to a part
-  pub led_part : {S : State ℕ} {parts : List (Option (Part T))} {sites : List Location} → IsKept S parts sites
+  pub led_part : {S : State ℕ} {parts : List (Option (Part T))} {sites : List Location} → IsDocumentKept S parts sites
       → (id : GenerationalBoxId) (key : ℕ) → Leads S key id → (part : Part T) × (row_in parts key ≡ Some part)
   led_part {S} {parts} k id key is = by_option (row_in parts key)
-      (λ none. absurd (subst (λ row. IsCounted (places_of row) (Leads S key)) none (k.counted key) id is))
+      (λ none. absurd (subst (λ row. AreExactly (places_of row) (Leads S key)) none (k.counted key) id is))
       (λ part at. (part, at))
 
-  pub unled : {S : State ℕ} {parts : List (Option (Part T))} {sites : List Location} → IsKept S parts sites
+  pub unled : {S : State ℕ} {parts : List (Option (Part T))} {sites : List Location} → IsDocumentKept S parts sites
       → (key : ℕ) → row_in parts key ≡ None → (id : GenerationalBoxId) → Leads S key id → ⊥
   unled k key none id is = let to = led_part k id key is in none-some to.0 (sym none ∙ to.1)
 
-  module _ {S R : State ℕ} {parts new : List (Option (Part T))} {sites told : List Location} (k : IsKept S parts sites)
+  module _ {S R : State ℕ} {parts new : List (Option (Part T))} {sites told : List Location} (k : IsDocumentKept S parts sites)
       (more : length sites ≤ length told) where
     -- a new place comes to a part
     pub kept_made : IsSimple R → (x : GenerationalBoxId) (key : ℕ) → Moves S R x None (Some key)
         → x.slot < 4294967295 → (part : Part T) → part.places ≡ places_of (row_in parts key) + 1
-        → part.site < length told → Rewrites parts new key (Some part) → IsKept R new told
+        → part.site < length told → Rewrites parts new key (Some part) → IsDocumentKept R new told
     kept_made simple x key m small part places site w = record {
       simple = simple;
       small = still_small m small k.small;
       counted = λ other. ⊎_elim
-          (λ one. subst (λ o. IsCounted (places_of (row_in new o)) (Leads R o)) (sym one) here)
-          (λ two. subst (λ row. IsCounted (places_of row) (Leads R other)) (sym (w.others other two))
+          (λ one. subst (λ o. AreExactly (places_of (row_in new o)) (Leads R o)) (sym one) here)
+          (λ two. subst (λ row. AreExactly (places_of row) (Leads R other)) (sym (w.others other two))
           (counted_still m other _ (λ e. none-some other e) (λ e. two (sym (same_Some key other e))) (k.counted other)))
           (key_cases by_number other key);
-      told = λ other. ⊎_elim (λ one. subst (λ o. IsTold told (row_in new o)) (sym one) (subst (IsTold told) (sym w.at) site))
+      told = λ other. ⊎_elim (λ one. subst (λ o. IsTold told (row_in new o)) (sym one) (subst (IsTold told) (sym w.at) (site, some)))
           (λ two. subst (IsTold told) (sym (w.others other two)) (told_more_sites sites told more _ (k.told other))) (key_cases by_number other key);
     }
       where
+        some : 0 < part.places
+        some = omega (arith, places)
+
         is : suc (places_of (row_in parts key)) ≡ places_of (row_in new key)
         is = omega (arith, places, ap places_of w.at)
 
-        here : IsCounted (places_of (row_in new key)) (Leads R key)
-        here = subst (λ n. IsCounted n (Leads R key)) is
+        here : AreExactly (places_of (row_in new key)) (Leads R key)
+        here = subst (λ n. AreExactly n (Leads R key)) is
             (counted_gain m key _ (λ e. none-some key e) refl (k.counted key))
 
     -- a place that led to a part is gone
     pub kept_ended : IsSimple R → (x : GenerationalBoxId) (key : ℕ) → Moves S R x (Some key) None
         → x.slot < 4294967295 → (part : Part T) → row_in parts key ≡ Some part
-        → Rewrites parts new key (left part) → IsKept R new told
+        → Rewrites parts new key (left part) → IsDocumentKept R new told
     kept_ended simple x key m small part had w = record {
       simple = simple;
       small = still_small m small k.small;
       counted = λ other. ⊎_elim
-          (λ one. subst (λ o. IsCounted (places_of (row_in new o)) (Leads R o)) (sym one) here)
-          (λ two. subst (λ row. IsCounted (places_of row) (Leads R other)) (sym (w.others other two))
+          (λ one. subst (λ o. AreExactly (places_of (row_in new o)) (Leads R o)) (sym one) here)
+          (λ two. subst (λ row. AreExactly (places_of row) (Leads R other)) (sym (w.others other two))
           (counted_still m other _ (λ e. two (sym (same_Some key other e))) (λ e. none-some other e) (k.counted other)))
           (key_cases by_number other key);
       told = λ other. ⊎_elim (λ one. subst (λ o. IsTold told (row_in new o)) (sym one) (subst (IsTold told) (sym w.at) site))
           (λ two. subst (IsTold told) (sym (w.others other two)) (told_more_sites sites told more _ (k.told other))) (key_cases by_number other key);
     }
       where
-        here : IsCounted (places_of (row_in new key)) (Leads R key)
-        here = subst (λ n. IsCounted n (Leads R key))
+        here : AreExactly (places_of (row_in new key)) (Leads R key)
+        here = subst (λ n. AreExactly n (Leads R key))
             (ap (λ row. places_of row - 1) had ∙ (sym (left_places part) ∙ sym (ap places_of w.at)))
             (counted_loss m key _ refl (λ e. none-some key e) (k.counted key))
 
         site : IsTold told (left part)
-        site = left_told told part (told_more_sites sites told more (Some part) (subst (IsTold sites) had (k.told key)))
+        site = left_told told part (told_more_sites sites told more (Some part) (subst (IsTold sites) had (k.told key))).0
 
   -- a place that referred to a part refers to another
-  module _ {S R : State ℕ} {parts mid new : List (Option (Part T))} {sites : List Location} (k : IsKept S parts sites) where
+  module _ {S R : State ℕ} {parts mid new : List (Option (Part T))} {sites : List Location} (k : IsDocumentKept S parts sites) where
     pub kept_led : IsSimple R → (x : GenerationalBoxId) (old key : ℕ) → Moves S R x (Some old) (Some key)
         → old ≢ key → x.slot < 4294967295
         → (part gone : Part T) → row_in parts key ≡ Some part → row_in parts old ≡ Some gone
-        → Rewrites parts mid key (Some (met part)) → Rewrites mid new old (left gone) → IsKept R new sites
+        → Rewrites parts mid key (Some (met part)) → Rewrites mid new old (left gone) → IsDocumentKept R new sites
     kept_led simple x old key m apart small part gone had lost w v = record {
       simple = simple;
       small = still_small m small k.small;
       counted = λ other. ⊎_elim
-          (λ one. subst (λ o. IsCounted (places_of (row_in new o)) (Leads R o)) (sym one) less)
-          (λ two. ⊎_elim (λ one. subst (λ o. IsCounted (places_of (row_in new o)) (Leads R o)) (sym one) more)
-          (λ three. subst (λ row. IsCounted (places_of row) (Leads R other)) (sym (v.others other two ∙ w.others other three))
+          (λ one. subst (λ o. AreExactly (places_of (row_in new o)) (Leads R o)) (sym one) less)
+          (λ two. ⊎_elim (λ one. subst (λ o. AreExactly (places_of (row_in new o)) (Leads R o)) (sym one) more)
+          (λ three. subst (λ row. AreExactly (places_of row) (Leads R other)) (sym (v.others other two ∙ w.others other three))
           (counted_still m other _ (λ e. two (sym (same_Some old other e))) (λ e. three (sym (same_Some key other e)))
           (k.counted other))) (key_cases by_number other key))
           (key_cases by_number other old);
       told = λ other. ⊎_elim
           (λ one. subst (λ o. IsTold sites (row_in new o)) (sym one) (subst (IsTold sites) (sym v.at)
-          (left_told sites gone (subst (IsTold sites) lost (k.told old)))))
+          (left_told sites gone (subst (IsTold sites) lost (k.told old)).0)))
           (λ two. ⊎_elim (λ one. subst (λ o. IsTold sites (row_in new o)) (sym one)
-          (subst (IsTold sites) (sym at_key) (subst (IsTold sites) had (k.told key))))
+          (subst (IsTold sites) (sym at_key) met_told))
           (λ three. subst (IsTold sites) (sym (v.others other two ∙ w.others other three)) (k.told other))
           (key_cases by_number other key))
           (key_cases by_number other old);
@@ -443,36 +446,42 @@ module _ {T : Type 0} where
         at_key : row_in new key ≡ Some (met part)
         at_key = v.others key (λ e. apart (sym e)) ∙ w.at
 
-        less : IsCounted (places_of (row_in new old)) (Leads R old)
-        less = subst (λ n. IsCounted n (Leads R old))
+        met_told : IsTold sites (Some (met part))
+        met_told = let it = subst (IsTold sites) had (k.told key) in (it.0, omega (arith, it.1))
+
+        less : AreExactly (places_of (row_in new old)) (Leads R old)
+        less = subst (λ n. AreExactly n (Leads R old))
             (ap (λ row. places_of row - 1) lost ∙ (sym (left_places gone) ∙ sym (ap places_of v.at)))
             (counted_loss m old _ refl (λ e. apart (sym (same_Some key old e))) (k.counted old))
 
         one_more : suc (places_of (row_in parts key)) ≡ places_of (row_in new key)
         one_more = omega (arith, ap places_of had, ap places_of at_key)
 
-        more : IsCounted (places_of (row_in new key)) (Leads R key)
-        more = subst (λ n. IsCounted n (Leads R key)) one_more
+        more : AreExactly (places_of (row_in new key)) (Leads R key)
+        more = subst (λ n. AreExactly n (Leads R key)) one_more
             (counted_gain m key _ (λ e. apart (same_Some old key e)) refl (k.counted key))
 
   -- a part has changed
-  pub kept_set : {S : State ℕ} {parts new : List (Option (Part T))} {sites : List Location} → IsKept S parts sites
+  pub kept_set : {S : State ℕ} {parts new : List (Option (Part T))} {sites : List Location} → IsDocumentKept S parts sites
       → (key : ℕ) (old part : Part T) → row_in parts key ≡ Some old → part.places ≡ old.places → part.site ≡ old.site
-      → Rewrites parts new key (Some part) → IsKept S new sites
+      → Rewrites parts new key (Some part) → IsDocumentKept S new sites
   kept_set {S} {parts} {new} {sites} k key old part had places site w = record {
     simple = k.simple;
     small = k.small;
     counted = λ other. ⊎_elim
-        (λ one. subst (λ o. IsCounted (places_of (row_in new o)) (Leads S o)) (sym one)
-        (subst (λ n. IsCounted n (Leads S key)) (ap places_of had ∙ (sym places ∙ sym (ap places_of w.at))) (k.counted key)))
-        (λ two. subst (λ row. IsCounted (places_of row) (Leads S other)) (sym (w.others other two)) (k.counted other))
+        (λ one. subst (λ o. AreExactly (places_of (row_in new o)) (Leads S o)) (sym one)
+        (subst (λ n. AreExactly n (Leads S key)) (ap places_of had ∙ (sym places ∙ sym (ap places_of w.at))) (k.counted key)))
+        (λ two. subst (λ row. AreExactly (places_of row) (Leads S other)) (sym (w.others other two)) (k.counted other))
         (key_cases by_number other key);
     told = λ other. ⊎_elim
         (λ one. subst (λ o. IsTold sites (row_in new o)) (sym one) (subst (IsTold sites) (sym w.at)
-        (subst (λ n. n < length sites) (sym site) (subst (IsTold sites) had (k.told key)))))
+        (subst (λ n. n < length sites) (sym site) was.0, subst (λ n. 0 < n) (sym places) was.1)))
         (λ two. subst (IsTold sites) (sym (w.others other two)) (k.told other))
         (key_cases by_number other key);
   }
+    where
+      was : IsTold sites (Some old)
+      was = subst (IsTold sites) had (k.told key)
 
   -- ---- what places have
 
@@ -497,7 +506,7 @@ module _ {T : Type 0} where
   same_part_shown D p q same = ap (λ o. shown_of (part_at D.parts o)) same
 
   -- a place has content exactly if it refers to a part
-  pub live_shows : {S : State ℕ} {parts : List (Option (Part T))} {sites : List Location} → IsKept S parts sites
+  pub live_shows : {S : State ℕ} {parts : List (Option (Part T))} {sites : List Location} → IsDocumentKept S parts sites
       → (p : Place) → is_some (shown_of (part_at parts (value_in S (pointer_in p)))) ≡ is_some (value_in S (pointer_in p))
   live_shows {S} {parts} k p = by_option (value_in S (pointer_in p))
       (λ none. ap (λ o. is_some (shown_of (part_at parts o))) none ∙ sym (ap is_some none))
@@ -507,7 +516,7 @@ module _ {T : Type 0} where
   -- a changed part's content and children
   pub set_changes : {D E : DocumentState T} (p : Place) (key : ℕ) (old part : Part T) → part_in D p ≡ Some key
       → E.state ≡ D.state → row_in D.parts key ≡ Some old → Rewrites D.parts E.parts key (Some part)
-      → Changes D p (shown_by part) E
+      → ChangesPart D p (shown_by part) E
   set_changes {D} {E} p key old part to state had w = record {
     here = λ q same. ap (λ o. shown_of (part_at E.parts o)) (parts q ∙ (same ∙ to)) ∙ ap shown_of w.at;
     others = λ q other. left_by q (parts q)
@@ -520,22 +529,22 @@ module _ {T : Type 0} where
       parts q = ap (λ S. value_in S (pointer_in q)) state
 
   changed_twice : {D E F : DocumentState T} {p : Place} {x y : Option (Shown T)}
-      → Changes D p x E → Changes E p y F → Changes D p y F
+      → ChangesPart D p x E → ChangesPart E p y F → ChangesPart D p y F
   changed_twice {D} {E} {F} {p} first second = grind (arith, first.parts p)
 
   -- if a part's children were removed and put back each place is unchanged
   pub put_back : {D E F : DocumentState T} {p : Place} (list rest after : List Place)
-      → Changes D p (with_children (λ xs. rest) (shown_in D p)) E
-      → Changes E p (with_children (λ xs. after) (shown_in E p)) F → after ≡ list
-      → children_of (shown_in D p) ≡ Some list → (q : Place) → Leaves D q F
+      → ChangesPart D p (with_children (λ xs. rest) (shown_in D p)) E
+      → ChangesPart E p (with_children (λ xs. after) (shown_in E p)) F → after ≡ list
+      → children_shown (shown_in D p) ≡ Some list → (q : Place) → Leaves D q F
   put_back list rest after first second same old q =
       grind (arith, changed_twice, key_or_none, same_part_shown)
 
   -- a part's content and children, after these were filtered while they were out
   pub shows_live : {D E F : DocumentState T} {p : Place} (list rest after : List Place)
-      → Changes D p (with_children (λ xs. rest) (shown_in D p)) E → after ≡ live_among E list
-      → Changes E p (with_children (λ xs. after) (shown_in E p)) F
-      → children_of (shown_in D p) ≡ Some list
+      → ChangesPart D p (with_children (λ xs. rest) (shown_in D p)) E → after ≡ live_among E list
+      → ChangesPart E p (with_children (λ xs. after) (shown_in E p)) F
+      → children_shown (shown_in D p) ≡ Some list
       → (q : Place) → part_in D q ≡ part_in D p
       → shown_in F q ≡ with_children (live_among D) (shown_in D p)
   shows_live {D} {E} {p = p} list rest after first left second old q same =
@@ -564,11 +573,11 @@ module _ {T : Type 0} where
   led_shows old key part had apart w v =
       ap shown_of (v.others key (λ e. apart (sym e)) ∙ w.at) ∙ sym (ap shown_of had)
 
-  module _ {S : State ℕ} {parts : List (Option (Part T))} {sites : List Location} (k : IsKept S parts sites)
+  module _ {S : State ℕ} {parts : List (Option (Part T))} {sites : List Location} (k : IsDocumentKept S parts sites)
       (p : Place) (old : ℕ) (gone : Part T) (lost : row_in parts old ≡ Some gone)
       (was : value_in S (pointer_in p) ≡ Some old) where
-    counted_gone : IsCounted gone.places (Leads S old)
-    counted_gone = subst (λ row. IsCounted (places_of row) (Leads S old)) lost (k.counted old)
+    counted_gone : AreExactly gone.places (Leads S old)
+    counted_gone = subst (λ row. AreExactly (places_of row) (Leads S old)) lost (k.counted old)
 
     -- a part that loses a place has the same content and children, if another place refers to it
     left_shows : (q : Place) → IsOther p q → value_in S (pointer_in q) ≡ Some old
@@ -649,7 +658,7 @@ pub told_own : (n : ℕ) (sites : List Location) (p : Place) → p.store ≡ n �
 told_own n sites p own = rw (own, nat_eq_equiv.refl n) refl
 
 pub tells_here : (n : ℕ) (s : SiteState) (p : Place) (here : Location) → p.store ≡ n → p.site < s.told
-    → IsAt s.all p.site here → Tells (told_at n (told_in s) p) here
+    → IsAt s.all p.site here → TellsLocation (told_at n (told_in s) p) here
 tells_here n s p here own lt at =
     (at.kept, rw (own, nat_eq_equiv.refl n) (told_here s p.site at.kept lt at.there), at.alike)
 

@@ -61,8 +61,8 @@ module _ {T : Type 0} where
   is_site D here = is_among D.sites here
 
   -- the document keeps each location of a place's part
-  abbrev pub KeepsTelling : DocumentState T → DocumentState T → Type 0
-  KeepsTelling old new =
+  abbrev pub KeepsPartLocations : DocumentState T → DocumentState T → Type 0
+  KeepsPartLocations old new =
       (p : Place) (l : Location) → created_at old p ≡ Some l → created_at new p ≡ Some l
 
   -- where the part was added that a place refers to now
@@ -74,18 +74,18 @@ module _ {T : Type 0} where
   added_in D p = site_told D.sites (part_at D.parts (part_in D p))
 
   -- a place's content, and its children
-  abbrev pub content_of : Option (Shown T) → Option T
-  content_of None = None
-  content_of (Some shown) = Some shown.content
+  abbrev pub content_shown : Option (Shown T) → Option T
+  content_shown None = None
+  content_shown (Some shown) = Some shown.content
 
-  abbrev pub children_of : Option (Shown T) → Option (List Place)
-  children_of None = None
-  children_of (Some shown) = Some shown.children
+  abbrev pub children_shown : Option (Shown T) → Option (List Place)
+  children_shown None = None
+  children_shown (Some shown) = Some shown.children
 
   -- the same with another content, and with another child
-  abbrev pub with_content : T → Option (Shown T) → Option (Shown T)
-  with_content c None = None
-  with_content c (Some shown) = Some (record shown { content = c })
+  abbrev pub with_new_content : T → Option (Shown T) → Option (Shown T)
+  with_new_content c None = None
+  with_new_content c (Some shown) = Some (record shown { content = c })
 
   abbrev pub with_child : Place → Option (Shown T) → Option (Shown T)
   with_child p None = None
@@ -100,15 +100,15 @@ module _ {T : Type 0} where
   abbrev pub ChangesContent : {F R : Type 0} → Once F (MutBor T × Unit {0}) (R × (MutBor T × Unit {0}))
       → F → Part T → R → Part T → Type 0
   ChangesContent g f old r new = (changed : T) × FnOnceReturnsAtMut g f old.content r changed
-      × (shown_by new ≡ with_content changed (shown_by old))
+      × (shown_by new ≡ with_new_content changed (shown_by old))
 
   -- a list of places without those that refer to no part
   abbrev pub live_among : DocumentState T → List Place → List Place
   live_among D list = filter (λ p. is_some (part_in D p)) list
 
   -- a place that the document has issued
-  abbrev pub WasMade : DocumentState T → Place → Type 0
-  WasMade D p = IsGiven D.state (name_of (pointer_in p))
+  abbrev pub WasPlaced : DocumentState T → Place → Type 0
+  WasPlaced D p = IsGiven D.state (name_of (pointer_in p))
 
   -- from D to E a place is unchanged: it refers to the same part, and has the same content and children
   pub record Leaves (D : DocumentState T) (p : Place) (E : DocumentState T) : Type 0 where
@@ -116,12 +116,12 @@ module _ {T : Type 0} where
     pub shown : shown_in E p ≡ shown_in D p
 
   -- from D to E the part of a place changes, and all else is unchanged
-  pub record Changes (D : DocumentState T) (p : Place) (shown : Option (Shown T)) (E : DocumentState T)
+  pub record ChangesPart (D : DocumentState T) (p : Place) (shown : Option (Shown T)) (E : DocumentState T)
       : Type 0 where
     pub here : (q : Place) → part_in D q ≡ part_in D p → shown_in E q ≡ shown
     pub others : (q : Place) → part_in D q ≢ part_in D p → Leaves D q E
     pub parts : (q : Place) → part_in E q ≡ part_in D q
-    pub kept : (q : Place) → WasMade D q → WasMade E q
+    pub kept : (q : Place) → WasPlaced D q → WasPlaced E q
 
   -- no other place refers to a place's part
   abbrev pub IsOnlyPlace : DocumentState T → Place → Type 0

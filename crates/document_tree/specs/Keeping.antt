@@ -4,18 +4,18 @@ use Rattle.generational_core.specs.Seeing.{value_in}
 use Rattle.generational_core.specs.State.{State}
 use Rattle.generational_core.specs.declared.boxes.GenerationalBoxId.{GenerationalBoxId}
 use Rattle.generational_errors.specs.declared.error.Location.{Location}
-use Rattle.generational_sessions.specs.PlainStores.{IsSimple}
+use Rattle.generational_laws.specs.PlainStores.{IsSimple}
 use Rattle.handles.specs.Handles.{nowhere}
 use Rattle.document_tree.specs.Parts.{too_many}
 use Rattle.document_tree.specs.declared.part.Part.{Part}
 
 -- so many things, and no more, have a property
-abbrev pub without : {X : Type 0} → (X → Type 0) → X → X → Type 0
-without P x y = P y × (y ≢ x)
+abbrev pub without_one : {X : Type 0} → (X → Type 0) → X → X → Type 0
+without_one P x y = P y × (y ≢ x)
 
-abbrev pub IsCounted : {X : Type 0} → ℕ → (X → Type 0) → Type 0
-IsCounted {X} zero P = (x : X) → P x → ⊥
-IsCounted {X} (suc n) P = (x : X) × P x × IsCounted n (without P x)
+abbrev pub AreExactly : {X : Type 0} → ℕ → (X → Type 0) → Type 0
+AreExactly {X} zero P = (x : X) → P x → ⊥
+AreExactly {X} (suc n) P = (x : X) × P x × AreExactly n (without_one P x)
 
 -- the key in the cell of an id
 abbrev pub key_in : State ℕ → GenerationalBoxId → Option ℕ
@@ -31,14 +31,14 @@ module _ {T : Type 0} where
   places_of None = 0
   places_of (Some part) = part.places
 
-  -- a part was added at a location of the document's
+  -- a part was added at a location of the document's, and has a place
   abbrev pub IsTold : List Location → Option (Part T) → Type 0
   IsTold sites None = Unit {0}
-  IsTold sites (Some part) = part.site < length sites
+  IsTold sites (Some part) = (part.site < length sites) × (0 < part.places)
 
   -- each place refers to a part, and each part counts the places that refer to it
-  pub record IsKept (S : State ℕ) (parts : List (Option (Part T))) (sites : List Location) : Type 0 where
+  pub record IsDocumentKept (S : State ℕ) (parts : List (Option (Part T))) (sites : List Location) : Type 0 where
     pub simple : IsSimple S
     pub small : (id : GenerationalBoxId) (key : ℕ) → Leads S key id → id.slot < too_many
-    pub counted : (key : ℕ) → IsCounted (places_of (slice_index_or parts key None)) (Leads S key)
+    pub counted : (key : ℕ) → AreExactly (places_of (slice_index_or parts key None)) (Leads S key)
     pub told : (key : ℕ) → IsTold sites (slice_index_or parts key None)

@@ -1,5 +1,9 @@
+pub mod Building
+pub mod Counting
 pub mod Documents
 pub mod Keeping
+pub mod Marks
 pub mod Outlines
 pub mod Parts
 pub mod Texts
+pub mod Taking

@@ -1,9 +1,7 @@
 //! Documents.
 
-ghost use Rattle.std.specs.Prelude.{◌≡◌, ◌≢◌, ◌↔◌, ◌⊎◌, ◌+◌, [], ℕ, None, Some, false, true, is_some, option_copied};
-ghost use Rattle.std.specs.Prelude.{Err, IfOk, OnOk, IfErr, OnErr, IsErr, IsTrue, IsFalse, ◌++◌, ◌∷◌, ◌<◌, ◌≤◌, map, reverse};
-ghost use Rattle.std.specs.Prelude.{List, length, slice_get, IfNone, IfSome};
-ghost use Rattle.std.specs.List.{insert, remove};
+ghost use Rattle.std.specs.Prelude.{◌≡◌, ◌≢◌, ◌↔◌, ◌⊎◌, ◌≤◌, [], None, Some, Err, false, true, is_some, option_copied, slice_get};
+ghost use Rattle.std.specs.Prelude.{IfErr, IfOk, IsErr, OnErr, OnOk};
 ghost use Rattle.std.specs.Borrow.{MutBor};
 ghost use Rattle.std.specs.Fn.{FnOnceReturnsAtMut};
 ghost use Rattle.generational_core.specs.Slots.{free, slots};
@@ -11,13 +9,12 @@ ghost use Rattle.generational_core.specs.Conditions.{IsFresh};
 ghost use Rattle.generational_errors.specs.declared.error.Location.{Location};
 ghost use Rattle.generational_errors.specs.declared.error.StoreError.TheVariants.{OutOfMemory};
 ghost use Rattle.handles.specs.Handles.{IsOther, IsSame};
-ghost use Rattle.handles.specs.Sites.{Tells};
-ghost use Rattle.document_tree.specs.Documents.{Place, shown_by, shown_in, shown_of, part_at, part_in, content_of, children_of};
-ghost use Rattle.document_tree.specs.Documents.{with_content, with_child, with_children, live_among, WasMade, Leaves, Changes};
-ghost use Rattle.document_tree.specs.Documents.{added_in, created_at, first_gone, is_site, ChangesContent, EndsPart, IsOnlyPlace, KeepsTelling};
+ghost use Rattle.handles.specs.Sites.{TellsLocation};
+ghost use Rattle.document_tree.specs.Documents.{Place, shown_by, shown_in, shown_of, part_at, part_in, content_shown, children_shown};
+ghost use Rattle.document_tree.specs.Documents.{with_new_content, WasPlaced, Leaves};
+ghost use Rattle.document_tree.specs.Documents.{added_in, created_at, first_gone, is_site, ChangesContent, EndsPart, IsOnlyPlace, KeepsPartLocations};
 ghost use Rattle.document_tree.specs.declared.place.PlaceError.TheVariants as errors;
 ghost use Rattle.document_tree.specs.Parts.{is_full, too_many};
-ghost use Rattle.document_tree.specs.Outlines.{children_in, deep_outline_of, outline_of};
 
 use crate::part::{Part, change_part, leave, make_room, meet};
 use crate::place::{Place, PlaceError};
@@ -25,23 +22,21 @@ use generational_core::{HandedBack, Location, Refusal, Storage, StoreError};
 use handles::Stale;
 use handles::parts::{Sites, handle_at, number_of, peek, pointer_to, site_of};
 use slab::Slab;
-use std::alloc::{AllocError, Global};
+use std::alloc::Global;
 use std::marker::Model;
-use std::mem;
-use store_room::reserve_more;
 
 // Places have lower slots than this, and parts lower keys.
-const LIMIT: usize = 4294967295;
+pub(crate) const LIMIT: usize = 4294967295;
 
 /// A document. Contracts model it as the machine's state, which says which part each place refers to,
 /// the parts, and the locations where they were added.
 #[derive(Drop)]
 pub struct Document<T, S: Storage<u32>> {
     // the key of the part of each place
-    store: S,
-    parts: Slab<Part<T>>,
-    sites: Sites,
-    alloc: Global,
+    pub(crate) store: S,
+    pub(crate) parts: Slab<Part<T>>,
+    pub(crate) sites: Sites,
+    pub(crate) alloc: Global,
 }
 
 impl<T, S: Storage<u32>> Model for Document<T, S> {
@@ -49,7 +44,7 @@ impl<T, S: Storage<u32>> Model for Document<T, S> {
     ghost use Rattle.std.specs.FinMap as map;
     ghost use Rattle.handles.specs.Sites.{told_in};
     ghost use Rattle.document_tree.specs.Documents.{DocumentState};
-    ghost use Rattle.document_tree.specs.Keeping.{IsKept};
+    ghost use Rattle.document_tree.specs.Keeping.{IsDocumentKept};
 
     ghost Value = { DocumentState T };
 
@@ -62,7 +57,7 @@ impl<T, S: Storage<u32>> Model for Document<T, S> {
       sites = told_in d.sites;
     } };
 
-    ghost invariant = { λ d. IsKept (S.state d.store) d.parts.slots (told_in d.sites) };
+    ghost invariant = { λ d. IsDocumentKept (S.state d.store) d.parts.slots (told_in d.sites) };
 }
 
 impl<T, S: Storage<u32>> Document<T, S> {
@@ -115,16 +110,16 @@ impl<T, S: Storage<u32>> Document<T, S> {
             Some (record { content = content; children = [] })) }
         ensures others { IfOk result (λ p. (q : Place) → IsOther p q →
             Leaves self.old q self.new) }
-        ensures left { (q : Place) → WasMade self.old q → Leaves self.old q self.new }
-        ensures alone { IfOk result (λ p. (q : Place) → WasMade self.old q →
+        ensures left { (q : Place) → WasPlaced self.old q → Leaves self.old q self.new }
+        ensures alone { IfOk result (λ p. (q : Place) → WasPlaced self.old q →
             part_in self.new p ≢ part_in self.new q) }
-        ensures new { IfOk result (λ p. (q : Place) → WasMade self.old q → IsOther p q) }
-        ensures made { IfOk result (λ p. WasMade self.new p) }
+        ensures new { IfOk result (λ p. (q : Place) → WasPlaced self.old q → IsOther p q) }
+        ensures made { IfOk result (λ p. WasPlaced self.new p) }
         ensures key { IfOk result (λ p. part_in self.new p ≡ Some self.old.next) }
-        ensures here { IfOk result (λ p. Tells (created_at self.new p) here) }
+        ensures here { IfOk result (λ p. TellsLocation (created_at self.new p) here) }
         ensures added { IfOk result (λ p. added_in self.new p ≡ created_at self.new p) }
-        ensures tells { KeepsTelling self.old self.new }
-        ensures kept { (q : Place) → WasMade self.old q → WasMade self.new q }
+        ensures tells { KeepsPartLocations self.old self.new }
+        ensures kept { (q : Place) → WasPlaced self.old q → WasPlaced self.new q }
         ensures refused { OnErr result (self.new ≡ self.old) }
         ensures back { IfErr result (λ refusal. refusal.value ≡ content) }
         ensures cause { IfErr result (λ refusal. refusal.cause ≡ OutOfMemory) }
@@ -176,11 +171,11 @@ impl<T, S: Storage<u32>> Document<T, S> {
             × (added_in self.old place ≡ Some l) × (created_at self.new p ≡ Some l)) }
         ensures others { IfOk result (λ p. (q : Place) → IsOther p q →
             Leaves self.old q self.new) }
-        ensures left { (q : Place) → WasMade self.old q → Leaves self.old q self.new }
-        ensures new { IfOk result (λ p. (q : Place) → WasMade self.old q → IsOther p q) }
-        ensures made { IfOk result (λ p. WasMade self.new p) }
+        ensures left { (q : Place) → WasPlaced self.old q → Leaves self.old q self.new }
+        ensures new { IfOk result (λ p. (q : Place) → WasPlaced self.old q → IsOther p q) }
+        ensures made { IfOk result (λ p. WasPlaced self.new p) }
         ensures tells { (q : Place) → created_at self.new q ≡ created_at self.old q }
-        ensures kept { (q : Place) → WasMade self.old q → WasMade self.new q }
+        ensures kept { (q : Place) → WasPlaced self.old q → WasPlaced self.new q }
         ensures refused { OnErr result (self.new ≡ self.old) }
         ensures gone { shown_in self.old place ≡ None →
             result ≡ Err (errors.Stale (record { created_at = created_at self.old place })) }
@@ -211,7 +206,7 @@ impl<T, S: Storage<u32>> Document<T, S> {
     /// ```
     pub fn get(&self, place: Place) -> Result<&T, Stale>
         ensures seen { IfOk result (λ content.
-            content_of (shown_in self.now place) ≡ Some content.now) }
+            content_shown (shown_in self.now place) ≡ Some content.now) }
         ensures gone { IsErr result ↔ shown_in self.now place ≡ None }
         ensures told { IfErr result (λ stale. stale.created_at ≡ created_at self.now place) }
     {
@@ -247,7 +242,7 @@ impl<T, S: Storage<u32>> Document<T, S> {
     /// ```
     pub fn children(&self, place: Place) -> Result<&[Place], Stale>
         ensures seen { IfOk result (λ children.
-            children_of (shown_in self.now place) ≡ Some children.now) }
+            children_shown (shown_in self.now place) ≡ Some children.now) }
         ensures gone { IsErr result ↔ shown_in self.now place ≡ None }
         ensures told { IfErr result (λ stale. stale.created_at ≡ created_at self.now place) }
     {
@@ -255,69 +250,6 @@ impl<T, S: Storage<u32>> Document<T, S> {
             Some(part) => Ok(part.children.as_slice()),
             None => Err(self.stale(place)),
         }
-    }
-
-    /// Returns a list of the place and those below it, depth-first: each before its children, and these
-    /// in their order. A part is listed at each place that refers to it, and a removed place is listed
-    /// without children.
-    ///
-    /// Lists at most `limit` places, even if the document has a cycle. Allocates the list, and one of
-    /// the pending places. O(n) for n listed places and their children.
-    ///
-    /// # Errors
-    ///
-    /// If memory runs out.
-    ///
-    /// ```rust
-    /// for place in document.outline(page, 100)?.iter() {
-    ///     println!(rt; "{}", document.get(*place)?)?;
-    /// }
-    /// ```
-    pub fn outline(&self, place: Place, limit: usize) -> Result<Vec<Place>, AllocError>
-        ensures { IfOk result (λ places. places.items ≡ outline_of self.now limit (place ∷ [])) }
-    {
-        let mut places = Vec::new(self.alloc);
-        let mut waiting = vec![in self.alloc; place]?;
-        while places.len() < limit {
-            let Some(next) = waiting.pop() else {
-                break;
-            };
-            places.push(next)?;
-            self.put_children(&mut waiting, next)?;
-        }
-        Ok(places)
-    }
-
-    /// Returns the places of `outline`, each with its depth below the first: 0 for the first, 1 for its
-    /// children. Allocates and takes time like `outline`.
-    ///
-    /// # Errors
-    ///
-    /// If memory runs out.
-    ///
-    /// ```rust
-    /// for (depth, place) in document.outline_with_depth(page, 100)?.iter() {
-    ///     println!(rt; "depth {depth}: {}", document.get(*place)?)?;
-    /// }
-    /// ```
-    pub fn outline_with_depth(
-        &self,
-        place: Place,
-        limit: usize,
-    ) -> Result<Vec<(usize, Place)>, AllocError>
-        ensures { IfOk result (λ places.
-            places.items ≡ deep_outline_of self.now limit ((0, place) ∷ [])) }
-    {
-        let mut places = Vec::new(self.alloc);
-        let mut waiting = vec![in self.alloc; (0, place)]?;
-        while places.len() < limit {
-            let Some((depth, next)) = waiting.pop() else {
-                break;
-            };
-            places.push((depth, next))?;
-            self.put_children_at(&mut waiting, depth + 1, next)?;
-        }
-        Ok(places)
     }
 
     /// Replaces the content of a place's part, and drops the old one. The part keeps its children;
@@ -339,18 +271,18 @@ impl<T, S: Storage<u32>> Document<T, S> {
         T: Drop,
         ensures shown { OnOk result ((q : Place) →
             part_in self.old q ≡ part_in self.old place →
-            shown_in self.new q ≡ with_content content (shown_in self.old place)) }
+            shown_in self.new q ≡ with_new_content content (shown_in self.old place)) }
         ensures others { (q : Place) → part_in self.old q ≢ part_in self.old place →
             Leaves self.old q self.new }
         ensures parts { (q : Place) → part_in self.new q ≡ part_in self.old q }
         ensures tells { (q : Place) → created_at self.new q ≡ created_at self.old q }
-        ensures kept { (q : Place) → WasMade self.old q → WasMade self.new q }
+        ensures kept { (q : Place) → WasPlaced self.old q → WasPlaced self.new q }
         ensures gone { IsErr result ↔ shown_in self.old place ≡ None }
         ensures told { IfErr result (λ refusal. refusal.cause.created_at ≡ created_at self.old place) }
         ensures back { IfErr result (λ refusal. refusal.value ≡ content) }
         ensures refused { OnErr result (self.new ≡ self.old) }
     {
-        let key = match self.find(place) {
+        let key = match self.key_of(place) {
             Ok(key) => key,
             Err(cause) => {
                 return Err(HandedBack {
@@ -384,219 +316,27 @@ impl<T, S: Storage<u32>> Document<T, S> {
     /// ```
     pub fn update<R, F: FnOnce(&mut T) -> R>(&mut self, place: Place, f: F) -> Result<R, Stale>
         requires { (content : MutBor T) →
-            content_of (shown_in self.old place) ≡ Some content.now → F.pre f content }
+            content_shown (shown_in self.old place) ≡ Some content.now → F.pre f content }
         ensures changed { IfOk result (λ answer. (old : T) × (changed : T) ×
-            (content_of (shown_in self.old place) ≡ Some old) ×
+            (content_shown (shown_in self.old place) ≡ Some old) ×
             FnOnceReturnsAtMut F.FnOnce f old answer changed ×
             ((q : Place) → part_in self.old q ≡ part_in self.old place →
-            shown_in self.new q ≡ with_content changed (shown_in self.old place))) }
+            shown_in self.new q ≡ with_new_content changed (shown_in self.old place))) }
         ensures others { (q : Place) → part_in self.old q ≢ part_in self.old place →
             Leaves self.old q self.new }
         ensures parts { (q : Place) → part_in self.new q ≡ part_in self.old q }
         ensures tells { (q : Place) → created_at self.new q ≡ created_at self.old q }
-        ensures kept { (q : Place) → WasMade self.old q → WasMade self.new q }
+        ensures kept { (q : Place) → WasPlaced self.old q → WasPlaced self.new q }
         ensures gone { IsErr result ↔ shown_in self.old place ≡ None }
         ensures told { IfErr result (λ stale. stale.created_at ≡ created_at self.old place) }
         ensures refused { OnErr result (self.new ≡ self.old) }
     {
-        let key = self.find(place)?;
+        let key = self.key_of(place)?;
         Ok(change_part(
             &mut self.parts,
             key as usize,
             |part: &mut Part<T>| change_content(part, f),
         ))
-    }
-
-    /// Adds the child as the last child of the parent's part. Places that refer to other parts are
-    /// unchanged.
-    ///
-    /// The child may already be a child of any part, even of this one. A document may have cycles: a
-    /// part may be below itself.
-    ///
-    /// Amortised O(1).
-    ///
-    /// # Errors
-    ///
-    /// - `Stale` if the parent was removed, or belongs to another document; then the same for the child.
-    /// - `OutOfMemory`.
-    ///
-    /// Every place is unchanged then.
-    ///
-    /// ```rust
-    /// document.append(page, heading)?;
-    /// ```
-    pub fn append(&mut self, parent: Place, child: Place) -> Result<(), PlaceError>
-    where
-        T: Drop,
-        ensures shown { OnOk result ((q : Place) →
-            part_in self.old q ≡ part_in self.old parent →
-            shown_in self.new q ≡ with_child child (shown_in self.old parent)) }
-        ensures others { (q : Place) → part_in self.old q ≢ part_in self.old parent →
-            Leaves self.old q self.new }
-        ensures parts { (q : Place) → part_in self.new q ≡ part_in self.old q }
-        ensures tells { (q : Place) → created_at self.new q ≡ created_at self.old q }
-        ensures kept { (q : Place) → WasMade self.old q → WasMade self.new q }
-        ensures refused { OnErr result ((q : Place) → Leaves self.old q self.new) }
-        ensures gone { (shown_in self.old parent ≡ None) ⊎ (shown_in self.old child ≡ None) →
-            result ≡ Err (errors.Stale (record {
-              created_at = created_at self.old (first_gone (shown_in self.old parent) parent child);
-            })) }
-        ensures cause { IfErr result (λ error. (error ≡ errors.OutOfMemory)
-            ⊎ (shown_in self.old parent ≡ None) ⊎ (shown_in self.old child ≡ None)) }
-    {
-        let key = self.find(parent)?;
-        self.find(child)?;
-        let mut children = self.swap_children(key, Vec::new(self.alloc));
-        let pushed = push_place(&mut children, child);
-        self.swap_children(key, children);
-        if !pushed {
-            return Err(PlaceError::OutOfMemory);
-        }
-        Ok(())
-    }
-
-    /// Adds the child as a child of the parent's part at an index: those after it move up by one. Places
-    /// that refer to other parts are unchanged.
-    ///
-    /// O(c) for c children after it.
-    ///
-    /// # Errors
-    ///
-    /// - `Stale` if the parent was removed, or belongs to another document; then the same for the child.
-    /// - `OutOfRange` if the part has fewer children than the index.
-    /// - `OutOfMemory`.
-    ///
-    /// Every place is unchanged then.
-    ///
-    /// ```rust
-    /// document.insert(page, 0, again)?;
-    /// ```
-    pub fn insert(&mut self, parent: Place, index: usize, child: Place) -> Result<(), PlaceError>
-    where
-        T: Drop,
-        ensures shown { OnOk result ((q : Place) →
-            part_in self.old q ≡ part_in self.old parent →
-            shown_in self.new q
-            ≡ with_children (λ list. insert list index child) (shown_in self.old parent)) }
-        ensures others { (q : Place) → part_in self.old q ≢ part_in self.old parent →
-            Leaves self.old q self.new }
-        ensures parts { (q : Place) → part_in self.new q ≡ part_in self.old q }
-        ensures tells { (q : Place) → created_at self.new q ≡ created_at self.old q }
-        ensures kept { (q : Place) → WasMade self.old q → WasMade self.new q }
-        ensures refused { OnErr result ((q : Place) → Leaves self.old q self.new) }
-        ensures gone { (shown_in self.old parent ≡ None) ⊎ (shown_in self.old child ≡ None) →
-            result ≡ Err (errors.Stale (record {
-              created_at = created_at self.old (first_gone (shown_in self.old parent) parent child);
-            })) }
-        ensures range { is_some (shown_in self.old child) ≡ true →
-            ((list : List Place) → children_of (shown_in self.old parent) ≡ Some list →
-            length list < index → result ≡ Err errors.OutOfRange) }
-        ensures cause { IfErr result (λ error. (error ≡ errors.OutOfMemory)
-            ⊎ (shown_in self.old parent ≡ None) ⊎ (shown_in self.old child ≡ None)
-            ⊎ ((list : List Place) → children_of (shown_in self.old parent) ≡ Some list →
-            length list < index)) }
-    {
-        let key = self.find(parent)?;
-        let count = self.children(parent)?.len();
-        self.find(child)?;
-        if count < index {
-            return Err(PlaceError::OutOfRange);
-        }
-        let mut children = self.swap_children(key, Vec::new(self.alloc));
-        let inserted = insert_place(&mut children, index, child);
-        self.swap_children(key, children);
-        if !inserted {
-            return Err(PlaceError::OutOfMemory);
-        }
-        Ok(())
-    }
-
-    /// Removes the child at an index from the children of the parent's part, and returns it: those after
-    /// it move down by one. The child still refers to its part, and places that refer to other parts than
-    /// the parent's are unchanged.
-    ///
-    /// Doesn't allocate, and is O(c) for c children after it.
-    ///
-    /// # Errors
-    ///
-    /// - `Stale` if the parent was removed, or belongs to another document.
-    /// - `OutOfRange` if the part has no child at the index.
-    ///
-    /// The document is unchanged then.
-    ///
-    /// ```rust
-    /// let taken = document.take_child(page, 0)?;
-    /// ```
-    pub fn take_child(&mut self, parent: Place, index: usize) -> Result<Place, PlaceError>
-        ensures taken { IfOk result (λ child. (list : List Place) →
-            children_of (shown_in self.old parent) ≡ Some list →
-            slice_get list index ≡ Some child) }
-        ensures shown { OnOk result ((q : Place) →
-            part_in self.old q ≡ part_in self.old parent →
-            shown_in self.new q
-            ≡ with_children (λ list. remove list index) (shown_in self.old parent)) }
-        ensures others { (q : Place) → part_in self.old q ≢ part_in self.old parent →
-            Leaves self.old q self.new }
-        ensures parts { (q : Place) → part_in self.new q ≡ part_in self.old q }
-        ensures tells { (q : Place) → created_at self.new q ≡ created_at self.old q }
-        ensures kept { (q : Place) → WasMade self.old q → WasMade self.new q }
-        ensures refused { OnErr result (self.new ≡ self.old) }
-        ensures gone { shown_in self.old parent ≡ None →
-            result ≡ Err (errors.Stale (record { created_at = created_at self.old parent })) }
-        ensures range { (list : List Place) → children_of (shown_in self.old parent) ≡ Some list →
-            length list ≤ index → result ≡ Err errors.OutOfRange }
-        ensures cause { OnErr result ((shown_in self.old parent ≡ None)
-            ⊎ ((list : List Place) → children_of (shown_in self.old parent) ≡ Some list →
-            length list ≤ index)) }
-    {
-        let key = self.find(parent)?;
-        if self.children(parent)?.len() <= index {
-            return Err(PlaceError::OutOfRange);
-        }
-        match change_part(
-            &mut self.parts,
-            key as usize,
-            |part: &mut Part<T>| remove_child(part, index),
-        ) {
-            Some(child) => Ok(child),
-            None => unreachable!(),
-        }
-    }
-
-    /// Removes the removed places from the children of the parent's part. The other children keep their
-    /// order, and places that refer to other parts are unchanged.
-    ///
-    /// Doesn't allocate, and is O(c) for c children.
-    ///
-    /// # Errors
-    ///
-    /// `Stale` if the parent was removed, or belongs to another document. The document is unchanged
-    /// then.
-    ///
-    /// ```rust
-    /// document.clear_gone(page)?;
-    /// ```
-    pub fn clear_gone(&mut self, parent: Place) -> Result<(), Stale>
-    where
-        T: Drop,
-        ensures shown { OnOk result ((q : Place) →
-            part_in self.old q ≡ part_in self.old parent →
-            shown_in self.new q
-            ≡ with_children (λ list. live_among self.old list) (shown_in self.old parent)) }
-        ensures others { (q : Place) → part_in self.old q ≢ part_in self.old parent →
-            Leaves self.old q self.new }
-        ensures parts { (q : Place) → part_in self.new q ≡ part_in self.old q }
-        ensures tells { (q : Place) → created_at self.new q ≡ created_at self.old q }
-        ensures kept { (q : Place) → WasMade self.old q → WasMade self.new q }
-        ensures refused { OnErr result (self.new ≡ self.old) }
-        ensures gone { IsErr result ↔ shown_in self.old parent ≡ None }
-        ensures told { IfErr result (λ stale. stale.created_at ≡ created_at self.old parent) }
-    {
-        let key = self.find(parent)?;
-        let mut children = self.swap_children(key, Vec::new(self.alloc));
-        self.retain_live(&mut children);
-        self.swap_children(key, children);
-        Ok(())
     }
 
     /// Makes a place refer to another place's part, in every list of children that has it. Every other
@@ -623,15 +363,15 @@ impl<T, S: Storage<u32>> Document<T, S> {
         ensures ends { OnOk result (IsOther place other → IsOnlyPlace self.old place →
             EndsPart self.old place self.new) }
         ensures tells { (q : Place) → created_at self.new q ≡ created_at self.old q }
-        ensures kept { (q : Place) → WasMade self.old q → WasMade self.new q }
+        ensures kept { (q : Place) → WasPlaced self.old q → WasPlaced self.new q }
         ensures gone { IsErr result ↔
             (shown_in self.old place ≡ None) ⊎ (shown_in self.old other ≡ None) }
         ensures told { IfErr result (λ stale.
             stale.created_at ≡ created_at self.old (first_gone (shown_in self.old place) place other)) }
         ensures refused { OnErr result (self.new ≡ self.old) }
     {
-        let old = self.find(place)?;
-        let new = self.find(other)?;
+        let old = self.key_of(place)?;
+        let new = self.key_of(other)?;
         self.lead(place, old, new);
         Ok(())
     }
@@ -654,52 +394,18 @@ impl<T, S: Storage<u32>> Document<T, S> {
         ensures ends { OnOk result (IsOnlyPlace self.old place →
             EndsPart self.old place self.new) }
         ensures tells { (q : Place) → created_at self.new q ≡ created_at self.old q }
-        ensures kept { (q : Place) → WasMade self.old q → WasMade self.new q }
+        ensures kept { (q : Place) → WasPlaced self.old q → WasPlaced self.new q }
         ensures gone { IsErr result ↔ shown_in self.old place ≡ None }
         ensures told { IfErr result (λ stale. stale.created_at ≡ created_at self.old place) }
         ensures refused { OnErr result (self.new ≡ self.old) }
     {
-        let key = self.find(place)?;
+        let key = self.key_of(place)?;
         match self.store.recycle(pointer_to(place)) {
             Ok(()) => {}
             Err(_) => unreachable!(),
         }
         leave(&mut self.parts, key as usize);
         Ok(())
-    }
-
-    // Appends the children of a place to a list, the first one last.
-    fn put_children(&self, places: &mut Vec<Place>, place: Place) -> Result<(), AllocError>
-        ensures { OnOk result (
-            places.new.items ≡ places.old.items ++ reverse (children_in self.now place)) }
-    {
-        match self.children(place) {
-            Ok(children) => places.extend(children.iter().rev().copied()),
-            Err(_) => Ok(()),
-        }
-    }
-
-    // Appends the children of a place to a list, each with a depth, the first one last.
-    fn put_children_at(
-        &self,
-        places: &mut Vec<(usize, Place)>,
-        depth: usize,
-        place: Place,
-    ) -> Result<(), AllocError>
-        ensures { OnOk result (places.new.items
-            ≡ places.old.items ++ map (λ q. (depth, q)) (reverse (children_in self.now place))) }
-    {
-        match self.children(place) {
-            Ok(children) => places.extend(children.iter().rev().map(|child| (depth, *child))),
-            Err(_) => Ok(()),
-        }
-    }
-
-    // Removes from a list those that refer to no part.
-    fn retain_live(&self, places: &mut Vec<Place>)
-        ensures { places.new.items ≡ live_among self.now places.old.items }
-    {
-        places.retain(|place| peek(&self.store, *place).is_some());
     }
 
     // Makes a place refer to another part.
@@ -713,7 +419,7 @@ impl<T, S: Storage<u32>> Document<T, S> {
         ensures others { (q : Place) → IsOther place q → Leaves self.old q self.new }
         ensures ends { old ≢ new → IsOnlyPlace self.old place → EndsPart self.old place self.new }
         ensures tells { (q : Place) → created_at self.new q ≡ created_at self.old q }
-        ensures kept { (q : Place) → WasMade self.old q → WasMade self.new q }
+        ensures kept { (q : Place) → WasPlaced self.old q → WasPlaced self.new q }
     {
         if old != new {
             self.store.replace_value(pointer_to(place), new);
@@ -722,23 +428,9 @@ impl<T, S: Storage<u32>> Document<T, S> {
         }
     }
 
-    // Replaces a part's children, and returns the old ones.
-    fn swap_children(&mut self, key: u32, children: Vec<Place>) -> Vec<Place>
-        requires { (place : Place) × (part_in self.old place ≡ Some key) }
-        ensures old { (place : Place) → part_in self.old place ≡ Some key →
-            children_of (shown_in self.old place) ≡ Some result.items }
-        ensures changed { (place : Place) → part_in self.old place ≡ Some key → Changes self.old place
-            (with_children (λ list. children.items) (shown_in self.old place)) self.new }
-        ensures tells { (q : Place) → created_at self.new q ≡ created_at self.old q }
-    {
-        change_part(&mut self.parts, key as usize, |part: &mut Part<T>| {
-            replace_children(part, children)
-        })
-    }
-
     // The part of a place.
     #[inline(always)]
-    fn part(&self, place: Place) -> Option<&Part<T>>
+    pub(crate) fn part(&self, place: Place) -> Option<&Part<T>>
         ensures { option_copied result ≡ part_at self.now.parts (part_in self.now place) }
     {
         let key = peek(&self.store, place)?;
@@ -747,7 +439,7 @@ impl<T, S: Storage<u32>> Document<T, S> {
 
     // The key of a place's part.
     #[inline(always)]
-    fn find(&self, place: Place) -> Result<u32, Stale>
+    pub(crate) fn key_of(&self, place: Place) -> Result<u32, Stale>
         ensures key { IfOk result (λ key. part_in self.now place ≡ Some key) }
         ensures gone { IsErr result ↔ shown_in self.now place ≡ None }
         ensures told { IfErr result (λ stale. stale.created_at ≡ created_at self.now place) }
@@ -759,13 +451,13 @@ impl<T, S: Storage<u32>> Document<T, S> {
     }
 
     // The key of a place's part, and the site where that was added.
-    fn find_added(&self, place: Place) -> Result<(u32, u32), Stale>
+    pub(crate) fn find_added(&self, place: Place) -> Result<(u32, u32), Stale>
         ensures key { IfOk result (λ found. part_in self.now place ≡ Some found.0) }
         ensures site { IfOk result (λ found. added_in self.now place ≡ slice_get self.now.sites found.1) }
         ensures gone { IsErr result ↔ shown_in self.now place ≡ None }
         ensures told { IfErr result (λ stale. stale.created_at ≡ created_at self.now place) }
     {
-        let key = self.find(place)?;
+        let key = self.key_of(place)?;
         match self.parts.get(key as usize) {
             Some(part) => Ok((key, part.site)),
             None => unreachable!(),
@@ -793,7 +485,7 @@ impl<T, S: Storage<u32>> Document<T, S> {
     // The error for a removed place, with the location where its part was added.
     #[cold]
     #[inline(never)]
-    fn stale(&self, place: Place) -> Stale
+    pub(crate) fn stale(&self, place: Place) -> Stale
         ensures { result.created_at ≡ created_at self.now place }
     {
         Stale {
@@ -813,56 +505,9 @@ fn lacking<T>(content: T) -> Refusal<T>
     }
 }
 
-// Appends a place to a list. Whether there was capacity.
-fn push_place(places: &mut Vec<Place>, place: Place) -> bool
-    ensures pushed { IsTrue result → places.new.items ≡ places.old.items ++ place ∷ [] }
-    ensures same { IsFalse result → places.new.items ≡ places.old.items }
-{
-    if reserve_more(places, 1).is_err() {
-        return false;
-    }
-    places.push_reserved(place);
-    true
-}
-
-// Inserts a place at an index of a list. Whether there was capacity.
-fn insert_place(places: &mut Vec<Place>, index: usize, place: Place) -> bool
-    requires { index ≤ length places.old.items }
-    ensures inserted { IsTrue result → places.new.items ≡ insert places.old.items index place }
-    ensures same { IsFalse result → places.new.items ≡ places.old.items }
-{
-    reserve_more(places, 1).is_ok() && places.insert(index, place).is_ok()
-}
-
-// Removes the child at an index of a part, if there is one.
-fn remove_child<T>(part: &mut Part<T>, index: usize) -> Option<Place>
-    ensures removed { IfSome result (λ child.
-        (slice_get part.old.children.items index ≡ Some child)
-        × (shown_by part.new ≡ with_children (λ list. remove list index) (shown_by part.old))) }
-    ensures none { IfNone result (length part.old.children.items ≤ index) }
-    ensures places { part.new.places ≡ part.old.places }
-    ensures site { part.new.site ≡ part.old.site }
-{
-    if part.children.len() <= index {
-        return None;
-    }
-    Some(part.children.remove(index))
-}
-
-// Replaces a part's children, and returns the old ones.
-fn replace_children<T>(part: &mut Part<T>, children: Vec<Place>) -> Vec<Place>
-    ensures old { result ≡ part.old.children }
-    ensures shown { shown_by part.new
-        ≡ with_children (λ list. children.items) (shown_by part.old) }
-    ensures places { part.new.places ≡ part.old.places }
-    ensures site { part.new.site ≡ part.old.site }
-{
-    mem::replace(&mut part.children, children)
-}
-
 // Replaces a part's content.
 fn put_content<T: Drop>(part: &mut Part<T>, content: T)
-    ensures shown { shown_by part.new ≡ with_content content (shown_by part.old) }
+    ensures shown { shown_by part.new ≡ with_new_content content (shown_by part.old) }
     ensures places { part.new.places ≡ part.old.places }
     ensures site { part.new.site ≡ part.old.site }
 {

@@ -7,13 +7,21 @@
 //! content and children every place has afterwards.
 #![tactic(auto)]
 
+mod building;
+mod children;
+mod counts;
 mod document;
 mod laws;
+mod laying;
+mod outlines;
 mod part;
+mod parts;
 mod place;
 
 pub use crate::document::Document;
 pub use crate::laws::{depths_are_steps, outlines_stay_below};
-pub use crate::place::{Place, PlaceError, PlaceKind};
+pub use crate::parts::{DocumentPart, DocumentParts, PartsFault};
+pub use crate::place::{Place, PlaceError, PlaceKind, place_of};
 pub use generational_core::HandedBack;
-pub use handles::{Handle, Stale};
+pub use handles::{Handle, Sites, Stale};
+pub use live_cells::CellFault;

@@ -1,5 +1,10 @@
 //! Places, and why a call with one fails.
 
+ghost use Rattle.std.specs.Prelude.{◌≡◌, ◌≤◌, ◌^◌, IfNone, IfSome};
+ghost use Rattle.handles.specs.Handles.{id_in};
+
+use generational_core::GenerationalBoxId;
+use handles::parts::handle_at;
 use handles::{Handle, Stale};
 use std::error::Error;
 use std::fmt;
@@ -10,6 +15,22 @@ pub enum PlaceKind {}
 /// A place in a document: a handle that is `Copy`, owns nothing, and may outlive its part. It never
 /// refers to a later place's part. Places are equal if their ids are: two that refer to one part aren't.
 pub type Place = Handle<u32, PlaceKind>;
+
+/// The place with an id that was stored, for a list of children. It has no location: `find` of a document
+/// returns a place with one. None if the slot is too high for a place, from 2³² on. Doesn't allocate.
+///
+/// ```rust
+/// let child = place_of(id)?;
+/// ```
+pub fn place_of(id: GenerationalBoxId) -> Option<Place>
+    ensures place { IfSome result (λ p. id_in p ≡ id) }
+    ensures none { IfNone result (2 ^ 32 ≤ id.slot) }
+{
+    if id.slot > u32::MAX as usize {
+        return None;
+    }
+    Some(handle_at(id, u32::MAX))
+}
 
 /// Why a place can't be made, or can't be added as a child.
 #[derive(Clone, Copy, Debug, PartialEq, Eq)]

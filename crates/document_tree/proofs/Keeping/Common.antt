@@ -1,13 +1,13 @@
 -- The names of std, of the machine and of the specs that the proofs here cite, passed on from one place.
-pub use Rattle.document_tree.specs.Documents.{added_in, Changes, ChangesContent, children_of, content_of, created_at}
-pub use Rattle.document_tree.specs.Documents.{DocumentState, EndsPart, IsOnlyPlace, KeepsTelling, Leaves, live_among}
+pub use Rattle.document_tree.specs.Documents.{added_in, ChangesPart, ChangesContent, children_shown, content_shown, created_at}
+pub use Rattle.document_tree.specs.Documents.{DocumentState, EndsPart, IsOnlyPlace, KeepsPartLocations, Leaves, live_among}
 pub use Rattle.document_tree.specs.Documents.{part_at, part_in, Place, Shown, shown_by, shown_in, shown_of, site_told}
-pub use Rattle.document_tree.specs.Documents.{WasMade, with_children, with_content}
-pub use Rattle.document_tree.specs.Keeping.{IsCounted, IsKept, IsTold, key_in, Leads, places_of, without}
-pub use Rattle.document_tree.specs.Outlines.{children_in, IsBelow, IsBelowBy}
+pub use Rattle.document_tree.specs.Documents.{WasPlaced, with_children, with_new_content}
+pub use Rattle.document_tree.specs.Keeping.{AreExactly, IsDocumentKept, IsTold, key_in, Leads, places_of, without_one}
+pub use Rattle.document_tree.specs.Outlines.{children_in, IsBelowPlace, IsBelowBy}
 pub use Rattle.document_tree.specs.Parts.{is_full, left, met}
 pub use Rattle.document_tree.specs.declared.part.Part.{Part}
-unfoldable pub use Rattle.document_tree.specs.Outlines.{deep_outline_of, outline_of}
+unfoldable pub use Rattle.document_tree.specs.Outlines.{deep_outline_of, outline_places}
 pub use Rattle.generational_core.proofs.machine.{given_other, quiet_ends, quiet_sees, same_value, slot_within}
 pub use Rattle.generational_core.proofs.machine.Calls.{ends, meets_tells, refused_make, seen_reached, sets, unseen}
 pub use Rattle.generational_core.proofs.machine.Calls.Steps.{made_new, meets_given, meets_number}
@@ -20,13 +20,13 @@ pub use Rattle.generational_core.specs.declared.boxes.GenerationalPointer.{Gener
 pub use Rattle.generational_core.specs.{Conditions.fresh, Seeing.value_in, Slots.free, Slots.last_name, Slots.slots}
 pub use Rattle.generational_core.specs.{State.IsGiven, State.IsSound, State.State, Steps.Meets}
 pub use Rattle.generational_errors.specs.declared.error.Location.{Location}
-use Rattle.generational_sessions.proofs.callers as sessions
-pub use sessions.{fresh_sees, fresh_simple, IsSeen, made_simple, make_short, making, one_id, others_left, reach_apart}
-pub use sessions.{same_id_sees, seen_cell, seen_store, set_seen, simple_still}
-pub use Rattle.generational_sessions.specs.PlainStores.{IsPlain, IsSimple}
+use Rattle.generational_laws.proofs.callers as laws
+pub use laws.{fresh_sees, fresh_simple, IsSeen, made_simple, make_short, making, one_id, others_left, reach_apart}
+pub use laws.{same_id_sees, seen_cell, seen_store, set_seen, simple_still}
+pub use Rattle.generational_laws.specs.PlainStores.{HasNoReferences, IsSimple}
 pub use Rattle.handles.proofs.Told.{told_here, told_more, untold}
 pub use Rattle.handles.specs.Handles.{at_slot, id_in, IsOther, IsSame, nowhere, pointer_in, slot_in}
-pub use Rattle.handles.specs.Sites.{SiteState, Tells, told_at, told_in}
+pub use Rattle.handles.specs.Sites.{SiteState, TellsLocation, told_at, told_in}
 pub use Rattle.location_list.specs.Locations.{IsAt}
 pub use Rattle.slab.specs.Slab.{Slab, Updates}
 pub use Rattle.std.proofs.Common.{add-one, ap, append_assoc, arith, Bool, cond, count_by, Err, false, inl, inr, length}

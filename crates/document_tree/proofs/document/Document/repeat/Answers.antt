@@ -34,7 +34,7 @@ invariant_of-self-2 g c =
     let slot = ap (λ i. i.slot) own in
     kept_made c.self.invariant (omega arith) (made_simple (g.met.S.AnyStorage.sound _) c.self.invariant.simple _ _ c.in-Ok.raw step) _ _ moves
     (omega (arith, within, slot, c.slots.ensures.count)) _ (sym (ap (λ row. places_of row + 1) to.1))
-    (subst (IsTold _) to.1 (c.self.invariant.told c.in_ok-key.key)) w
+    (subst (IsTold (told_in c.self.inside.sites)) to.1 (c.self.invariant.told c.in_ok-key.key)).0 w
 
 pub returns-clause-part : goal.returns-clause-part
 returns-clause-part g c =
@@ -66,7 +66,7 @@ returns-clause-here g c =
     let sites = told_in c.self.inside.sites in
     let site = rw (← c.self.view_is) at c.in_ok-key.ensures.site in
     let added = ap (λ o. site_told sites (part_at c.self.inside.parts.slots o)) was ∙ ap (site_told sites) to.1 in
-    let at = get_there sites to.0.site (subst (IsTold sites) to.1 (c.self.invariant.told c.in_ok-key.key)) in
+    let at = get_there sites to.0.site (subst (IsTold sites) to.1 (c.self.invariant.told c.in_ok-key.key)).0 in
     rw (← c.self.view_is) (
       at.0,
       added ∙ at.1,
